@@ -1,0 +1,4 @@
+pub mod Bytes
+pub mod Mpis
+pub mod PacketLens
+pub mod SubLens

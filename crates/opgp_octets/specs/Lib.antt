@@ -1,0 +1,10 @@
+pub mod Fault
+pub mod Limits
+pub mod Mpi
+pub mod MpiOwned
+pub mod MpiView
+pub mod Octets
+pub mod PacketLen
+pub mod Ranges
+pub mod Reading
+pub mod SubLen

@@ -1,0 +1,23 @@
+-- What limits show.
+use Rattle.std.specs.Prelude.{ℕ}
+use Rattle.opgp_octets.specs.declared.limits.Limits.{Limits}
+
+-- the most octets of an armored line
+abbrev pub line_limit : Limits → ℕ
+line_limit l = l.line
+
+-- the most octets of a packet's body
+abbrev pub body_limit : Limits → ℕ
+body_limit l = l.body
+
+-- the most octets that a certificate's packets are spelled in
+abbrev pub cert_limit : Limits → ℕ
+cert_limit l = l.cert
+
+-- the most octets of the input
+abbrev pub input_limit : Limits → ℕ
+input_limit l = l.input
+
+-- the most partial lengths of a packet
+abbrev pub pieces_limit : Limits → ℕ
+pieces_limit l = l.pieces

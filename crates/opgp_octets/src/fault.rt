@@ -1,0 +1,196 @@
+//! What is wrong with an input, and where.
+
+ghost use Rattle.std.specs.Prelude.{◌≡◌};
+ghost use Rattle.opgp_octets.specs.Fault.{layer_name, reason_name, reason_number};
+
+/// The layer that refuses an input, lowest first.
+#[derive(Clone, Copy, Debug, PartialEq, Eq)]
+pub enum Layer {
+    /// The octets as such: there are too many.
+    Input,
+    /// The armored text (RFC 9580, 6).
+    Armor,
+    /// The packets' headers and lengths (RFC 9580, 4.2).
+    Framing,
+    /// What a packet holds (RFC 9580, 5).
+    Body,
+    /// The order of packets (RFC 9580, 10.1).
+    Composition,
+}
+
+/// Why an input is refused. Each reason has a number, which stays.
+#[derive(Clone, Copy, Debug, PartialEq, Eq)]
+pub enum Reason {
+    /// The reader has met want of memory before.
+    Spent = 1,
+    /// The octets of a field aren't all there.
+    Short = 2,
+    /// A count of bits isn't that of the most significant bit.
+    MpiBits = 3,
+    /// The text has no armored block.
+    NoBlock = 10,
+    /// A begin line has no label that is known.
+    Label = 11,
+    /// A line among the headers is none.
+    Header = 12,
+    /// A data line has an octet that is no base64 letter.
+    Letters = 13,
+    /// The letters can't become base64 with its padding.
+    Padding = 14,
+    /// Something but blank lines stands between the checksum line and the end line.
+    AfterChecksum = 15,
+    /// A line with a dash in a block's data isn't its end line.
+    EndLabel = 16,
+    /// The text ends within a block.
+    Unfinished = 17,
+    /// A line is longer than the limit.
+    LineTooLong = 18,
+    /// The input is longer than the limit.
+    InputTooLong = 19,
+    /// The first octet of a packet is below 128.
+    NotAPacket = 20,
+    /// A packet of the reserved type 0.
+    TypeZero = 21,
+    /// A packet of compressed data.
+    Compressed = 22,
+    /// A packet of a critical type that isn't known.
+    UnknownCritical = 23,
+    /// A packet of indeterminate length, in the legacy format.
+    Indeterminate = 24,
+    /// The octets of a packet aren't all there.
+    Truncated = 25,
+    /// A partial length where the packet's type allows none.
+    PartialKind = 26,
+    /// A first piece of less than 512 octets.
+    FirstPartial = 27,
+    /// A body longer than the limit.
+    BodyTooLong = 28,
+    /// More partial lengths than the limit.
+    TooManyPieces = 29,
+    /// A key of a version that isn't read.
+    KeyVersion = 30,
+    /// A version 4 key of more octets than its fingerprint can count.
+    KeyTooLong = 31,
+    /// A count of octets isn't that of the octets after it.
+    Count = 32,
+    /// A curve's object identifier of a reserved size.
+    OidSize = 33,
+    /// Key derivation parameters of a reserved size.
+    KdfSize = 34,
+    /// Octets after the last field.
+    Trailing = 35,
+    /// A subpacket of length 0.
+    SubEmpty = 36,
+    /// A subpacket that passes its area.
+    SubShort = 37,
+    /// An area that passes its body.
+    AreaShort = 40,
+    /// A salt of another size than its hash wants.
+    SaltSize = 41,
+    /// A component or signature before the first primary key.
+    NoPrimary = 50,
+    /// A packet that has no place in a keyring.
+    NotInKeyring = 51,
+    /// A certificate of more octets than the limit.
+    CertTooLong = 52,
+    /// The packets aren't a signed literal.
+    NotASignedLiteral = 53,
+    /// A block with another label than is wanted.
+    BlockLabel = 54,
+}
+
+/// The fault of an input. Offsets count from 0.
+#[derive(Clone, Copy, Debug, PartialEq, Eq)]
+pub struct Fault {
+    /// The layer that refuses the input.
+    pub layer: Layer,
+    /// Why it does.
+    pub reason: Reason,
+    /// The armored block; 0 for binary input.
+    pub block: u64,
+    /// Where the line begins in the text, or the packet in its block's octets.
+    pub pos: u64,
+    /// Where the header or field at fault begins within the packet, or within its body.
+    pub inner: u64,
+}
+
+/// The fault of a packet's body.
+#[derive(Clone, Copy, Debug, PartialEq, Eq)]
+pub struct BodyFault {
+    /// Why the body is refused.
+    pub reason: Reason,
+    /// Where the field at fault begins in the body.
+    pub inner: u64,
+}
+
+impl Layer {
+    #[tactic(auto, unfolding(crate::specs::Fault::layer_name))]
+    /// The name in lower case, as a fault's line has it.
+    pub fn name(self) -> &'static str
+        ensures { result.now ≡ layer_name self }
+    {
+        match self {
+            Layer::Input => "input",
+            Layer::Armor => "armor",
+            Layer::Framing => "framing",
+            Layer::Body => "body",
+            Layer::Composition => "composition",
+        }
+    }
+}
+
+impl Reason {
+    /// The number.
+    pub fn number(self) -> u8
+        ensures { result ≡ reason_number self }
+    {
+        self as u8
+    }
+
+    #[tactic(auto, unfolding(crate::specs::Fault::reason_name))]
+    /// The name, as a fault's line has it.
+    pub fn name(self) -> &'static str
+        ensures { result.now ≡ reason_name self }
+    {
+        match self {
+            Reason::Spent => "Spent",
+            Reason::Short => "Short",
+            Reason::MpiBits => "MpiBits",
+            Reason::NoBlock => "NoBlock",
+            Reason::Label => "Label",
+            Reason::Header => "Header",
+            Reason::Letters => "Letters",
+            Reason::Padding => "Padding",
+            Reason::AfterChecksum => "AfterChecksum",
+            Reason::EndLabel => "EndLabel",
+            Reason::Unfinished => "Unfinished",
+            Reason::LineTooLong => "LineTooLong",
+            Reason::InputTooLong => "InputTooLong",
+            Reason::NotAPacket => "NotAPacket",
+            Reason::TypeZero => "TypeZero",
+            Reason::Compressed => "Compressed",
+            Reason::UnknownCritical => "UnknownCritical",
+            Reason::Indeterminate => "Indeterminate",
+            Reason::Truncated => "Truncated",
+            Reason::PartialKind => "PartialKind",
+            Reason::FirstPartial => "FirstPartial",
+            Reason::BodyTooLong => "BodyTooLong",
+            Reason::TooManyPieces => "TooManyPieces",
+            Reason::KeyVersion => "KeyVersion",
+            Reason::KeyTooLong => "KeyTooLong",
+            Reason::Count => "Count",
+            Reason::OidSize => "OidSize",
+            Reason::KdfSize => "KdfSize",
+            Reason::Trailing => "Trailing",
+            Reason::SubEmpty => "SubEmpty",
+            Reason::SubShort => "SubShort",
+            Reason::AreaShort => "AreaShort",
+            Reason::SaltSize => "SaltSize",
+            Reason::NoPrimary => "NoPrimary",
+            Reason::NotInKeyring => "NotInKeyring",
+            Reason::CertTooLong => "CertTooLong",
+            Reason::NotASignedLiteral => "NotASignedLiteral",
+            Reason::BlockLabel => "BlockLabel",
+        }
+    }
+}

@@ -1,0 +1,104 @@
+-- A text of the first form is read in one way.
+use Rattle.std.proofs.Common.{◌≡◌, ◌≢◌, ℕ, List, [], ◌∷◌, ◌++◌, Ok, Result, refl, sym, ap, subst, ◌∙◌}
+use Rattle.std.proofs.lemmas.List.{append_cancel_left, append_cancel_right}
+use Rattle.std.specs.List.{AllByRecursion, concat, flat_map}
+use Rattle.std.specs.Int.{w32, from_be_bytes, to_be_bytes}
+use Rattle.std.proofs.lemmas.Nat.{from_be_bytes-to_be_bytes_4}
+use Rattle.base64.specs.Engines.{standard}
+use Rattle.base64.specs.GeneralPurpose.{decode_of, encode_of}
+use Rattle.base64.specs.declared.decode.DecodeError.{DecodeError}
+use Rattle.base64.proofs.EngineFacts.{decode_of-encode_of}
+use Rattle.opgp_octets.specs.Octets.{IsOctets}
+use Rattle.opgp_frame.specs.Spelled.{PacketValue}
+use Rattle.opgp_frame.specs.Packet.{IsKeyPacket}
+use Rattle.opgp_tool.specs.FirstText.{before_data, after_data, DataLines, IsDataLine, with_feed, base64_of, FirstKeyBody, FirstText}
+use Rattle.opgp_tool.proofs.FirstLines.{no_feed, one_line}
+
+-- what stands between is one
+pub same_data : (text d e : List ℕ) → text ≡ before_data ++ d ++ after_data → text ≡ before_data ++ e ++ after_data → d ≡ e
+same_data text d e k l = append_cancel_left before_data d e (append_cancel_right (before_data ++ d) (before_data ++ e) after_data (sym k ∙ l))
+
+one_lines : (xs ys : List (List ℕ)) → AllByRecursion IsDataLine xs → AllByRecursion IsDataLine ys → flat_map with_feed xs ≡ flat_map with_feed ys → xs ≡ ys
+one_lines [] [] h k e = refl
+one_lines [] (y ∷ ys) h k e = absurd (nothing y e) where
+  nothing : (l : List ℕ) → [] ≡ with_feed l ++ flat_map with_feed ys → ⊥
+  nothing [] k = cc
+  nothing (b ∷ l) k = cc
+one_lines (x ∷ xs) [] h k e = absurd (nothing x e) where
+  nothing : (l : List ℕ) → with_feed l ++ flat_map with_feed xs ≡ [] → ⊥
+  nothing [] k = cc
+  nothing (b ∷ l) k = cc
+one_lines (x ∷ xs) (y ∷ ys) h k e =
+    let both = one_line x y (flat_map with_feed xs) (flat_map with_feed ys) (no_feed x h.0) (no_feed y k.0) e in
+    let first : x ≡ y = both.0 in
+    let others : xs ≡ ys = one_lines xs ys h.1 k.1 both.1 in
+    cc
+
+-- the letters of data lines are one list
+pub same_letters : (o l m : List ℕ) → DataLines o l → DataLines o m → l ≡ m
+same_letters o l m d e = d.letters_are ∙ ap concat (one_lines d.lines e.lines d.each e.each (sym d.octets_are ∙ e.octets_are)) ∙ sym e.letters_are
+
+same_ok : (x y : List ℕ) → ◌≡◌ {A = Result (List ℕ) DecodeError} (Ok x) (Ok y) → x ≡ y
+same_ok x y e = cc
+
+again : (x : List ℕ) → IsOctets x → decode_of standard (encode_of standard x) ≡ Ok x
+again x h = decode_of-encode_of standard x refl h
+
+-- the octets of base64 are one list
+pub same_octets : (x y : List ℕ) → IsOctets x → IsOctets y → base64_of x ≡ base64_of y → x ≡ y
+unfolding base64_of
+same_octets x y h k e = same_ok x y (sym (again x h) ∙ ap (decode_of standard) e ∙ again y k)
+
+pub same_body : (o : List ℕ) (p q : PacketValue) → IsKeyPacket o p → IsKeyPacket o q → p.body ≡ q.body
+same_body o p q h k = let e = sym h.spelled ∙ k.spelled in cc
+
+-- ---- where a step finds nothing, the text isn't of the first form
+
+pub no_letters : (text d : List ℕ) → text ≡ before_data ++ d ++ after_data → ((l : List ℕ) → DataLines d l → ⊥) → (created : ℕ) (body : List ℕ) → FirstText text created body → ⊥
+no_letters text d e none created body f = none f.letters (subst (λ (x : List ℕ). DataLines x f.letters) (same_data text f.«data» d f.text_is e) f.lines)
+
+-- the letters that a text has
+pub letters_of_text : (text d letters : List ℕ) → text ≡ before_data ++ d ++ after_data → DataLines d letters → (created : ℕ) (body : List ℕ) (f : FirstText text created body) → letters ≡ base64_of f.octets
+letters_of_text text d letters e lines created body f =
+    same_letters d letters f.letters lines (subst (λ (x : List ℕ). DataLines x f.letters) (same_data text f.«data» d f.text_is e) f.lines) ∙ f.base64
+
+pub no_octets : (text d letters : List ℕ) → text ≡ before_data ++ d ++ after_data → DataLines d letters → ((o : List ℕ) → IsOctets o → letters ≢ base64_of o)
+    → (created : ℕ) (body : List ℕ) → FirstText text created body → ⊥
+no_octets text d letters e lines none created body f = none f.octets f.each (letters_of_text text d letters e lines created body f)
+
+-- the packet that a text has
+pub packet_of_text : (text d letters octets : List ℕ) → text ≡ before_data ++ d ++ after_data → DataLines d letters → letters ≡ base64_of octets → IsOctets octets
+    → (created : ℕ) (body : List ℕ) → FirstText text created body → IsKeyPacket octets (record { kind = 6; body = body })
+packet_of_text text d letters octets e lines is each created body f =
+    subst (λ (x : List ℕ). IsKeyPacket x (record { kind = 6; body = body })) (same_octets f.octets octets f.each each (sym (letters_of_text text d letters e lines created body f) ∙ is)) f.packet
+
+pub no_body : (text d letters octets : List ℕ) (p : PacketValue) → text ≡ before_data ++ d ++ after_data → DataLines d letters → letters ≡ base64_of octets → IsOctets octets
+    → IsKeyPacket octets p → ((t : ℕ) → FirstKeyBody p.body t → ⊥) → (created : ℕ) (body : List ℕ) → FirstText text created body → ⊥
+no_body text d letters octets p e lines is each packet none created body f =
+    none created (subst (λ (x : List ℕ). FirstKeyBody x created) (same_body octets (record { kind = 6; body = body }) p (packet_of_text text d letters octets e lines is each created body f) packet) f.key)
+
+the_packet : (o : List ℕ) (p : PacketValue) → IsKeyPacket o p → IsKeyPacket o (record { kind = 6; body = p.body })
+the_packet o p k = subst (λ (n : ℕ). IsKeyPacket o (record { kind = n; body = p.body })) k.key k
+
+pub the_text : (text d letters octets : List ℕ) (p : PacketValue) (t : ℕ) → text ≡ before_data ++ d ++ after_data → DataLines d letters → letters ≡ base64_of octets → IsOctets octets
+    → IsKeyPacket octets p → FirstKeyBody p.body t → FirstText text t p.body
+the_text text d letters octets p t e lines is each packet key =
+    record { «data» = d; letters = letters; octets = octets; text_is = e; lines = lines; each = each; base64 = is; packet = the_packet octets p packet; key = key }
+
+pub no_packet : (text d letters octets : List ℕ) → text ≡ before_data ++ d ++ after_data → DataLines d letters → letters ≡ base64_of octets → IsOctets octets
+    → ((p : PacketValue) → IsKeyPacket octets p → ⊥) → (created : ℕ) (body : List ℕ) → FirstText text created body → ⊥
+no_packet text d letters octets e lines is each none created body f = none (record { kind = 6; body = body }) (packet_of_text text d letters octets e lines is each created body f)
+
+-- ---- a text has one key
+
+one_time : (body : List ℕ) (s t : ℕ) → FirstKeyBody body s → FirstKeyBody body t → s ≡ t
+one_time body s t h k =
+    let e = sym h.spelled ∙ k.spelled in
+    let cells : to_be_bytes w32 s ≡ to_be_bytes w32 t = cc in
+    sym (from_be_bytes-to_be_bytes_4 s h.time) ∙ ap (from_be_bytes w32) cells ∙ from_be_bytes-to_be_bytes_4 t k.time
+
+pub one_key : (text : List ℕ) (s t : ℕ) (b c : List ℕ) → FirstText text s b → FirstText text t c → (s ≡ t) × (b ≡ c)
+one_key text s t b c f g =
+    let packet = packet_of_text text f.«data» f.letters f.octets f.text_is f.lines f.base64 f.each t c g in
+    let bodies : b ≡ c = same_body f.octets (record { kind = 6; body = b }) (record { kind = 6; body = c }) f.packet packet in
+    (one_time b s t f.key (subst (λ (x : List ℕ). FirstKeyBody x t) (sym bodies) g.key), bodies)

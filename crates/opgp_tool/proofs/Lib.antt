@@ -1,0 +1,4 @@
+pub mod FirstKeys
+pub mod FirstLines
+pub mod FirstTexts
+pub mod KnownTexts

@@ -1,0 +1,149 @@
+//! The reading of the one form of text that is read so far. The crates of armor and keys replace this file.
+
+ghost use Rattle.std.specs.Prelude.{◌≡◌, ◌≢◌, ◌≤◌, ◌<◌, ◌++◌, ◌∷◌, ◌+◌, ◌^◌, ◌↔◌, ℕ, List, [], IsTrue, take, drop, IfOk, IfSome, IfNone, MatchOption, IfErr, length};
+ghost use Rattle.base64.specs.GeneralPurpose.{IsBytes};
+ghost use Rattle.opgp_octets.specs.Octets.{IsOctets};
+ghost use Rattle.std.specs.Int.{w32, to_be_bytes};
+ghost use Rattle.opgp_octets.specs.Mpi.{MpiValue, IsMpi, mpi_octets};
+ghost use Rattle.opgp_tool.specs.FirstKey.{IsFirstKey};
+ghost use Rattle.opgp_tool.specs.FirstText.{IsDataLine, with_feed, before_data, after_data, DataLines, FirstKeyBody, base64_of};
+
+use base64::DecodeAllocError;
+use base64::engine::general_purpose::STANDARD;
+use memchr::memchr;
+use opgp_frame::{Packet, read_one};
+use opgp_octets::{MpiView, OutOfMemory};
+use std::alloc::Global;
+
+/// A key and when it was created, in seconds from 1970.
+#[derive(Debug, Drop)]
+pub struct FirstKey {
+    pub created: u32,
+    pub packet: Packet,
+}
+
+/// What stands between the two lines at the front and the end line.
+#[tactic(auto, unfolding(crate::specs::FirstText::before_data, crate::specs::FirstText::after_data))]
+fn data_of(text: &[u8]) -> Option<&[u8]>
+    ensures { MatchOption result ((d : List ℕ) → text.now ≢ before_data ++ d ++ after_data) (λ d. text.now ≡ before_data ++ d.now ++ after_data) }
+{
+    let rest = text.strip_prefix(b"-----BEGIN PGP PUBLIC KEY BLOCK-----\n\n")?;
+    rest.strip_suffix(b"-----END PGP PUBLIC KEY BLOCK-----\n")
+}
+
+/// The size of the data line that begins the octets, without the line feed that ends it.
+fn line_size(octets: &[u8]) -> Option<usize>
+    ensures some { IfSome result (λ n. (n < length octets.now) × IsDataLine (take n octets.now)) }
+    ensures split { IfSome result (λ n. octets.now ≡ with_feed (take n octets.now) ++ drop (n + 1) octets.now) }
+    ensures none { IfNone result ((line rest : List ℕ) → IsDataLine line → octets.now ≢ with_feed line ++ rest) }
+{
+    let size = memchr(b'\n', octets)?;
+    if size == 0 || octets[0] == b'=' {
+        return None;
+    }
+    Some(size)
+}
+
+/// The letters of data lines, joined, or None where the octets aren't data lines.
+fn letters_of(alloc: Global, octets: &[u8]) -> Result<Option<Vec<u8>>, OutOfMemory>
+    ensures { IfOk result (λ found. MatchOption found ((l : List ℕ) → DataLines octets.now l → ⊥) (λ v. DataLines octets.now v.items)) }
+{
+    if octets.is_empty() {
+        return Ok(None);
+    }
+    let mut letters = Vec::new(alloc);
+    let mut at = 0;
+    'lines: while at < octets.len() {
+        let Some(size) = line_size(&octets[at..]) else {
+            return Ok(None);
+        };
+        letters.extend_from_slice(&octets[at..at + size])?;
+        at += size + 1;
+    }
+    Ok(Some(letters))
+}
+
+/// The octets of padded base64, or None where the letters are none.
+#[tactic(auto, unfolding(crate::specs::FirstText::base64_of))]
+fn decoded(alloc: Global, letters: &[u8]) -> Result<Option<Vec<u8>>, OutOfMemory>
+    ensures { IfOk result (λ found. MatchOption found ((o : List ℕ) → IsOctets o → letters.now ≢ base64_of o) (λ v. (letters.now ≡ base64_of v.items) × IsOctets v.items)) }
+{
+    match STANDARD.decode(alloc, letters) {
+        Ok(octets) => Ok(Some(octets)),
+        Err(DecodeAllocError::OutOfMemory) => Err(std::alloc::AllocError),
+        Err(_) => Ok(None),
+    }
+}
+
+/// The creation time of a version 4 key of algorithm 22, and what follows the algorithm.
+fn head_of(body: &[u8]) -> Option<(u32, &[u8])>
+    ensures some { IfSome result (λ x. body.now ≡ 4 ∷ (to_be_bytes w32 x.0 ++ (22 ∷ x.1.now))) }
+    ensures none { IfNone result ((t : ℕ) (rest : List ℕ) → t < 2 ^ 32 → body.now ≢ 4 ∷ (to_be_bytes w32 t ++ (22 ∷ rest))) }
+{
+    let [4, a, b, c, d, 22, rest @ ..] = body else {
+        return None;
+    };
+    Some((u32::from_be_bytes([*a, *b, *c, *d]), rest))
+}
+
+/// What follows a curve's object identifier and its size.
+fn point_of(octets: &[u8]) -> Option<&[u8]>
+    ensures some { IfSome result (λ rest. (curve : List ℕ) × (0 < length curve) × (length curve < 255) × (octets.now ≡ length curve ∷ (curve ++ rest.now))) }
+    ensures none { IfNone result ((curve rest : List ℕ) → 0 < length curve → length curve < 255 → octets.now ≢ length curve ∷ (curve ++ rest)) }
+{
+    let [size, rest @ ..] = octets else {
+        return None;
+    };
+    let size = usize::from(*size);
+    if size == 0 || size == 255 || rest.len() < size {
+        return None;
+    }
+    Some(&rest[size..])
+}
+
+/// Whether the octets are one multiprecision integer, and nothing more.
+fn is_point(octets: &[u8]) -> bool
+    ensures { IsTrue result ↔ ((m : MpiValue) × IsMpi m × (octets.now ≡ mpi_octets m)) }
+{
+    match MpiView::read(octets, false) {
+        Ok((_, count)) => count == octets.len(),
+        Err(_) => false,
+    }
+}
+
+/// The creation time of the key that the body is, or None where it is none of the first form.
+fn created_of(body: &[u8]) -> Option<u32>
+    ensures { MatchOption result ((t : ℕ) → FirstKeyBody body.now t → ⊥) (λ t. FirstKeyBody body.now t) }
+{
+    let Some((created, rest)) = head_of(body) else {
+        return None;
+    };
+    let Some(point) = point_of(rest) else {
+        return None;
+    };
+    if is_point(point) { Some(created) } else { None }
+}
+
+/// The key of the text, or None where the text isn't of the first form.
+///
+/// An error is want of memory.
+pub fn first_key(alloc: Global, text: &[u8]) -> Result<Option<FirstKey>, OutOfMemory>
+    ensures { IfOk result (IsFirstKey text.now) }
+{
+    let Some(between) = data_of(text) else {
+        return Ok(None);
+    };
+    let Some(letters) = letters_of(alloc, between)? else {
+        return Ok(None);
+    };
+    let Some(octets) = decoded(alloc, &letters)? else {
+        return Ok(None);
+    };
+    let Some(packet) = read_one(alloc, &octets)? else {
+        return Ok(None);
+    };
+    match created_of(packet.body()) {
+        Some(created) => Ok(Some(FirstKey { created, packet })),
+        None => Ok(None),
+    }
+}

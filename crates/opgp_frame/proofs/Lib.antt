@@ -1,0 +1,14 @@
+pub mod Chains
+pub mod Complete
+pub mod Cuts
+pub mod Faults
+pub mod FedLemmas
+pub mod Headers
+pub mod Holding
+pub mod Lengths
+pub mod Lists
+pub mod Made
+pub mod Packets
+pub mod Shortest
+pub mod Steps
+pub mod Unique

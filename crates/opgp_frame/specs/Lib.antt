@@ -1,2 +1,14 @@
+pub mod Fed
+pub mod Form
+pub mod FormOf
+pub mod Frames
+pub mod Header
+pub mod Held
+pub mod Length
 pub mod Packet
-pub mod Spelled
+pub mod PiecesValue
+pub mod Reframed
+pub mod State
+pub use Rattle.opgp_octets.specs.Limits
+pub use Rattle.opgp_octets.specs.Octets
+pub use Rattle.opgp_octets.specs.PacketLen

@@ -1,18 +1,31 @@
--- What a packet shows, and what one call reads.
-use Rattle.std.specs.Prelude.{◌≡◌, ℕ, List, Option, MatchOption}
-use Rattle.opgp_frame.specs.declared.packet.Packet.{Packet}
-use Rattle.opgp_frame.specs.Spelled.{PacketValue, IsPacket, packet_octets}
+-- Packets and their spellings (RFC 9580, 4.2).
+use Rattle.std.specs.Prelude.{◌≡◌, ℕ, ◌^◌, true, List, [], ◌∷◌, ◌++◌, length, take, drop}
+use Rattle.opgp_octets.specs.Octets.{IsOctets}
+use Rattle.opgp_octets.specs.PacketLen.{packet_len_octets}
+use Rattle.opgp_octets.specs.declared.packet_len.PacketLen.TheVariants as new
+use Rattle.opgp_frame.specs.declared.form.Form.{Form}
+use Rattle.opgp_frame.specs.Form.{FormSpells, form_takes, header_octet, exponents_of, last_length}
+use Rattle.opgp_frame.specs.Header.{is_read_kind}
+use Rattle.opgp_frame.specs.Length.{length_octets}
 
--- a packet's type and body
-abbrev pub packet_value : Packet → PacketValue
-packet_value p = record { kind = p.kind; body = p.body.items }
+-- a packet, without where it lies in memory
+pub record PacketValue : Type 0 where
+  pub form : Form
+  pub kind : ℕ
+  pub body : List ℕ
 
--- the octets are the spelling of the packet, which is a public key
-pub record IsKeyPacket (o : List ℕ) (p : PacketValue) : Type 0 where
-  pub packet : IsPacket p
-  pub key : p.kind ≡ 6
-  pub spelled : o ≡ packet_octets p
+-- its type is read and may have the form, which spells the body's length
+pub record IsPacket (p : PacketValue) : Type 0 where
+  pub kind : is_read_kind p.kind ≡ true
+  pub takes : form_takes p.form p.kind ≡ true
+  pub spells : FormSpells p.form (length p.body)
+  pub octets : IsOctets p.body
 
--- the one public key packet that the octets spell, or none where they spell none
-abbrev pub IsOnePacket : List ℕ → Option Packet → Type 0
-IsOnePacket o found = MatchOption found ((p : PacketValue) → IsKeyPacket o p → ⊥) (λ p. IsKeyPacket o (packet_value p))
+-- A body cut by the exponents: each piece behind its own partial length, then the last length, then the rest.
+abbrev pub cut_body : List ℕ → List ℕ → List ℕ → List ℕ
+cut_body [] last body = last ++ body
+cut_body (k ∷ ks) last body = packet_len_octets (new.Partial k) ++ (take (2 ^ k) body ++ cut_body ks last (drop (2 ^ k) body))
+
+-- the octets of a packet: the header's octet, and the body under its form
+abbrev pub spelling : PacketValue → List ℕ
+spelling p = header_octet p.form p.kind ∷ cut_body (exponents_of p.form) (length_octets (last_length p.form (length p.body))) p.body

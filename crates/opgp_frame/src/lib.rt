@@ -1,11 +1,20 @@
-//! Packets: headers and lengths (RFC 9580, 4.2). So far a packet has one form: the current format with a length of one
-//! octet.
+//! Packets and how they are framed (RFC 9580, 4.2): both formats, partial lengths, any pieces.
 #![tactic(auto)]
 
-mod one;
+mod deframe;
+mod form;
+mod header;
+pub mod laws;
+mod length;
 mod packet;
+mod parts;
+mod pieces;
 #[cfg(test)]
 mod tests;
+mod writing;
 
-pub use one::{read_one, write_packet};
-pub use packet::Packet;
+pub use deframe::Deframe;
+pub use form::Form;
+pub use packet::{Packet, Placed};
+pub use pieces::{LastForm, Pieces};
+pub use writing::{reframe, write_packet};

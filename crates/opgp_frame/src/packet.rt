@@ -1,71 +1,143 @@
-//! A packet in the current format under a length of one octet, and the reading of one public key packet.
+//! Packets (RFC 9580, 4).
 
-ghost use Rattle.std.specs.Prelude.{◌≡◌, ◌<◌, ◌≤◌, ◌++◌, length, IfOk, OnOk, OnErr, IfSome, IfNone, ℕ, List, ◌∷◌, drop};
-ghost use Rattle.opgp_octets.specs.Octets.{IsOctets};
-ghost use Rattle.opgp_frame.specs.Spelled.{packet_octets, PacketValue};
+ghost use Rattle.std.specs.Prelude.{◌≡◌, ◌↔◌, IsSome, IfSome, IfOk, length};
+ghost use Rattle.opgp_frame.specs.Packet.{PacketValue, IsPacket, spelling};
 
-use opgp_octets::{OutOfMemory, PacketLen, read_len};
+use crate::form::Form;
+use crate::header::is_read_kind;
+use opgp_octets::OutOfMemory;
 use std::alloc::Global;
+use std::marker::Model;
 
-/// A packet: its type and its body.
+/// A packet: the form of its header, its type and its body. It doesn't contain its place.
 #[derive(Debug, Drop)]
 pub struct Packet {
+    form: Form,
     kind: u8,
     body: Vec<u8>,
-    ghost kind_fits: { kind < 64 },
-    ghost body_fits: { length body.items ≤ 191 },
-    ghost each: { IsOctets body.items },
+}
+
+impl Model for Packet {
+    ghost use Rattle.opgp_frame.specs.Packet.{PacketValue, IsPacket};
+
+    ghost Value = { PacketValue };
+
+    ghost view = { λ p. record { form = p.form; kind = p.kind; body = p.body.items } };
+
+    ghost invariant = { λ p. IsPacket (record { form = p.form; kind = p.kind; body = p.body.items }) };
+}
+
+/// A packet and where it stands.
+#[derive(Debug, Drop)]
+pub struct Placed {
+    /// The packet.
+    pub packet: Packet,
+    /// The armored block that it is in; 0 for binary input.
+    pub block: u64,
+    /// Where it begins in the block's octets.
+    pub pos: u64,
 }
 
 impl Packet {
-    ghost use Rattle.opgp_frame.specs.Packet.{packet_value};
+    /// This packet, or None unless
+    ///
+    /// - the type is read: below 64, and none of 0, 8, 15, 16, 19, 20 and 22 to 39;
+    /// - the form has it: up to 15 in the legacy format, 9, 11 or 18 under partial lengths;
+    /// - the form spells the body's length, which is at most 4,294,967,295.
+    ///
+    /// Takes no memory.
+    pub fn new(form: Form, kind: u8, body: Vec<u8>) -> Option<Packet>
+        ensures some { IsSome result ↔ IsPacket (record { form = form; kind = kind; body = body.items }) }
+        ensures value { IfSome result (λ p. p ≡ record { form = form; kind = kind; body = body.items }) }
+    {
+        if !is_read_kind(kind) || !form.takes(kind) {
+            return None;
+        }
+        match form.last_length(body.len() as u64) {
+            Some(_) => Some(Packet { form, kind, body }),
+            None => None,
+        }
+    }
 
-    /// The packet's type: 6 is a public key.
+    /// The form of the header, the type and the body.
+    ///
+    /// Takes no memory.
+    pub fn into_parts(self) -> (Form, u8, Vec<u8>)
+        ensures form { result.0 ≡ self.form }
+        ensures kind { result.1 ≡ self.kind }
+        ensures body { result.2.items ≡ self.body }
+        ensures packet { IsPacket self }
+    {
+        let Packet { form, kind, body } = self;
+        (form, kind, body)
+    }
+
+    /// An equal packet.
+    ///
+    /// An error is want of memory.
+    pub fn copy(&self, alloc: Global) -> Result<Packet, OutOfMemory>
+        ensures { IfOk result (λ p. p ≡ self.now) }
+    {
+        let form = self.form.copy(alloc)?;
+        let body = Vec::from_slice(alloc, &self.body)?;
+        Ok(Packet {
+            form,
+            kind: self.kind,
+            body,
+        })
+    }
+
+    /// The form of the header.
+    pub fn form(&self) -> &Form
+        ensures value { result.now ≡ self.now.form }
+        ensures packet { IsPacket self.now }
+    {
+        &self.form
+    }
+
+    /// The type (RFC 9580, 5).
     pub fn kind(&self) -> u8
-        ensures value { result ≡ (packet_value self.now).kind }
-        ensures range { result < 64 }
+        ensures value { result ≡ self.now.kind }
+        ensures packet { IsPacket self.now }
     {
         self.kind
     }
 
-    /// The body's octets.
+    /// The body; of a packet under partial lengths, its pieces joined.
     pub fn body(&self) -> &[u8]
-        ensures value { result.now ≡ (packet_value self.now).body }
-        ensures size { length result.now ≤ 191 }
+        ensures value { result.now ≡ self.now.body }
+        ensures packet { IsPacket self.now }
     {
         self.body.as_slice()
     }
 
-    /// The packet with this type and a copy of this body.
-    pub fn copied(alloc: Global, kind: u8, body: &[u8]) -> Result<Packet, OutOfMemory>
-        requires kind { kind < 64 }
-        requires body { length body.now ≤ 191 }
-        ensures { IfOk result (λ p. packet_value p ≡ record { kind = kind; body = body.now }) }
+    /// How many octets it is spelled in.
+    ///
+    /// Takes no memory.
+    pub fn spelled_len(&self) -> u64
+        ensures { result ≡ length (spelling self.now) }
     {
-        let body = Vec::from_slice(alloc, body)?;
-        Ok(Packet { kind, body })
+        let n = self.body.len() as u64;
+        let pieces = self.form.exponents().len() as u64;
+        match self.form.last_length(n) {
+            Some(length) => 1 + pieces + length.size() + n,
+            None => unreachable!(),
+        }
     }
 }
 
-/// The octets behind a public key packet's header octet and length of one octet, where they are as many as it says.
-pub fn key_body(octets: &[u8]) -> Option<&[u8]>
-    ensures some { IfSome result (λ body. (octets.now ≡ 198 ∷ length body.now ∷ body.now) × (length body.now ≤ 191)) }
-    ensures none { IfNone result ((body : List ℕ) → length body ≤ 191 → octets.now ≡ 198 ∷ length body ∷ body → ⊥) }
-{
-    let [198, rest @ ..] = octets else {
-        return None;
-    };
-    let (len, count) = match read_len(rest) {
-        None => return None,
-        Some(found) => found,
-    };
-    let PacketLen::One(n) = len else {
-        return None;
-    };
-    let body = &rest[count..];
-    if body.len() == usize::from(n) {
-        Some(body)
-    } else {
-        None
+impl Placed {
+    /// An equal packet in the same place.
+    ///
+    /// An error is want of memory.
+    pub fn copy(&self, alloc: Global) -> Result<Placed, OutOfMemory>
+        ensures { IfOk result (λ p. p ≡ self.now) }
+    {
+        let packet = self.packet.copy(alloc)?;
+        Ok(Placed {
+            packet,
+            block: self.block,
+            pos: self.pos,
+        })
     }
 }

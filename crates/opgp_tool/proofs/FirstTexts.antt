@@ -9,9 +9,7 @@ use Rattle.base64.specs.GeneralPurpose.{decode_of, encode_of}
 use Rattle.base64.specs.declared.decode.DecodeError.{DecodeError}
 use Rattle.base64.proofs.EngineFacts.{decode_of-encode_of}
 use Rattle.opgp_octets.specs.Octets.{IsOctets}
-use Rattle.opgp_frame.specs.Spelled.{PacketValue}
-use Rattle.opgp_frame.specs.Packet.{IsKeyPacket}
-use Rattle.opgp_tool.specs.FirstText.{before_data, after_data, DataLines, IsDataLine, with_feed, base64_of, FirstKeyBody, FirstText}
+use Rattle.opgp_tool.specs.FirstText.{IsKeyPacket, before_data, after_data, DataLines, IsDataLine, with_feed, base64_of, FirstKeyBody, FirstText}
 use Rattle.opgp_tool.proofs.FirstLines.{no_feed, one_line}
 
 -- what stands between is one
@@ -49,8 +47,8 @@ pub same_octets : (x y : List ℕ) → IsOctets x → IsOctets y → base64_of x
 unfolding base64_of
 same_octets x y h k e = same_ok x y (sym (again x h) ∙ ap (decode_of standard) e ∙ again y k)
 
-pub same_body : (o : List ℕ) (p q : PacketValue) → IsKeyPacket o p → IsKeyPacket o q → p.body ≡ q.body
-same_body o p q h k = let e = sym h.spelled ∙ k.spelled in cc
+pub same_body : (o b c : List ℕ) → IsKeyPacket o b → IsKeyPacket o c → b ≡ c
+same_body o b c h k = let e = sym h.spelled ∙ k.spelled in cc
 
 -- ---- where a step finds nothing, the text isn't of the first form
 
@@ -68,26 +66,18 @@ no_octets text d letters e lines none created body f = none f.octets f.each (let
 
 -- the packet that a text has
 pub packet_of_text : (text d letters octets : List ℕ) → text ≡ before_data ++ d ++ after_data → DataLines d letters → letters ≡ base64_of octets → IsOctets octets
-    → (created : ℕ) (body : List ℕ) → FirstText text created body → IsKeyPacket octets (record { kind = 6; body = body })
+    → (created : ℕ) (body : List ℕ) → FirstText text created body → IsKeyPacket octets body
 packet_of_text text d letters octets e lines is each created body f =
-    subst (λ (x : List ℕ). IsKeyPacket x (record { kind = 6; body = body })) (same_octets f.octets octets f.each each (sym (letters_of_text text d letters e lines created body f) ∙ is)) f.packet
+    subst (λ (x : List ℕ). IsKeyPacket x body) (same_octets f.octets octets f.each each (sym (letters_of_text text d letters e lines created body f) ∙ is)) f.packet
 
-pub no_body : (text d letters octets : List ℕ) (p : PacketValue) → text ≡ before_data ++ d ++ after_data → DataLines d letters → letters ≡ base64_of octets → IsOctets octets
-    → IsKeyPacket octets p → ((t : ℕ) → FirstKeyBody p.body t → ⊥) → (created : ℕ) (body : List ℕ) → FirstText text created body → ⊥
-no_body text d letters octets p e lines is each packet none created body f =
-    none created (subst (λ (x : List ℕ). FirstKeyBody x created) (same_body octets (record { kind = 6; body = body }) p (packet_of_text text d letters octets e lines is each created body f) packet) f.key)
-
-the_packet : (o : List ℕ) (p : PacketValue) → IsKeyPacket o p → IsKeyPacket o (record { kind = 6; body = p.body })
-the_packet o p k = subst (λ (n : ℕ). IsKeyPacket o (record { kind = n; body = p.body })) k.key k
-
-pub the_text : (text d letters octets : List ℕ) (p : PacketValue) (t : ℕ) → text ≡ before_data ++ d ++ after_data → DataLines d letters → letters ≡ base64_of octets → IsOctets octets
-    → IsKeyPacket octets p → FirstKeyBody p.body t → FirstText text t p.body
-the_text text d letters octets p t e lines is each packet key =
-    record { «data» = d; letters = letters; octets = octets; text_is = e; lines = lines; each = each; base64 = is; packet = the_packet octets p packet; key = key }
+pub no_body : (text d letters octets b : List ℕ) → text ≡ before_data ++ d ++ after_data → DataLines d letters → letters ≡ base64_of octets → IsOctets octets
+    → IsKeyPacket octets b → ((t : ℕ) → FirstKeyBody b t → ⊥) → (created : ℕ) (body : List ℕ) → FirstText text created body → ⊥
+no_body text d letters octets b e lines is each packet none created body f =
+    none created (subst (λ (x : List ℕ). FirstKeyBody x created) (same_body octets body b (packet_of_text text d letters octets e lines is each created body f) packet) f.key)
 
 pub no_packet : (text d letters octets : List ℕ) → text ≡ before_data ++ d ++ after_data → DataLines d letters → letters ≡ base64_of octets → IsOctets octets
-    → ((p : PacketValue) → IsKeyPacket octets p → ⊥) → (created : ℕ) (body : List ℕ) → FirstText text created body → ⊥
-no_packet text d letters octets e lines is each none created body f = none (record { kind = 6; body = body }) (packet_of_text text d letters octets e lines is each created body f)
+    → ((b : List ℕ) → IsKeyPacket octets b → ⊥) → (created : ℕ) (body : List ℕ) → FirstText text created body → ⊥
+no_packet text d letters octets e lines is each none created body f = none body (packet_of_text text d letters octets e lines is each created body f)
 
 -- ---- a text has one key
 
@@ -100,5 +90,5 @@ one_time body s t h k =
 pub one_key : (text : List ℕ) (s t : ℕ) (b c : List ℕ) → FirstText text s b → FirstText text t c → (s ≡ t) × (b ≡ c)
 one_key text s t b c f g =
     let packet = packet_of_text text f.«data» f.letters f.octets f.text_is f.lines f.base64 f.each t c g in
-    let bodies : b ≡ c = same_body f.octets (record { kind = 6; body = b }) (record { kind = 6; body = c }) f.packet packet in
+    let bodies : b ≡ c = same_body f.octets b c f.packet packet in
     (one_time b s t f.key (subst (λ (x : List ℕ). FirstKeyBody x t) (sym bodies) g.key), bodies)

@@ -1,4 +1,5 @@
 pub mod FirstKeys
 pub mod FirstLines
+pub mod FirstPackets
 pub mod FirstTexts
 pub mod KnownTexts

@@ -6,7 +6,8 @@ use Rattle.base64.specs.Engines.{standard}
 use Rattle.base64.specs.GeneralPurpose.{encode_of}
 use Rattle.opgp_octets.specs.Octets.{IsOctets}
 use Rattle.opgp_octets.specs.Mpi.{MpiValue, IsMpi, mpi_octets}
-use Rattle.opgp_frame.specs.Packet.{IsKeyPacket}
+use Rattle.opgp_frame.specs.declared.form.Form.TheVariants.{NewOne}
+use Rattle.opgp_frame.specs.Packet.{PacketValue, IsPacket, spelling}
 
 -- what stands before the data lines: the begin line and an empty line
 unfoldable pub before_data : List ℕ
@@ -41,6 +42,15 @@ pub record DataLines (octets letters : List ℕ) : Type 0 where
 unfoldable pub base64_of : List ℕ → List ℕ
 base64_of octets = encode_of standard octets
 
+-- a public key packet in the current format under a length of one octet (RFC 9580, 4.2)
+abbrev pub key_packet : List ℕ → PacketValue
+key_packet body = record { form = NewOne; kind = 6; body = body }
+
+-- the octets are the spelling of such a packet with this body
+pub record IsKeyPacket (octets body : List ℕ) : Type 0 where
+  pub packet : IsPacket (key_packet body)
+  pub spelled : octets ≡ spelling (key_packet body)
+
 -- a version 4 key of the legacy EdDSA algorithm (RFC 9580, 5.5.2.2 and 5.5.5.5): version, time, algorithm, the curve's
 -- object identifier behind its size, the point
 pub record FirstKeyBody (body : List ℕ) (created : ℕ) : Type 0 where
@@ -61,5 +71,5 @@ pub record FirstText (text : List ℕ) (created : ℕ) (body : List ℕ) : Type 
   pub lines : DataLines «data» letters
   pub each : IsOctets octets
   pub base64 : letters ≡ base64_of octets
-  pub packet : IsKeyPacket octets (record { kind = 6; body = body })
+  pub packet : IsKeyPacket octets body
   pub key : FirstKeyBody body created

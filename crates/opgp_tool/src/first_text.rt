@@ -6,21 +6,15 @@ ghost use Rattle.opgp_octets.specs.Octets.{IsOctets};
 ghost use Rattle.std.specs.Int.{w32, to_be_bytes};
 ghost use Rattle.opgp_octets.specs.Mpi.{MpiValue, IsMpi, mpi_octets};
 ghost use Rattle.opgp_tool.specs.FirstKey.{IsFirstKey};
-ghost use Rattle.opgp_tool.specs.FirstText.{IsDataLine, with_feed, before_data, after_data, DataLines, FirstKeyBody, base64_of};
+ghost use Rattle.opgp_tool.specs.FirstText.{key_packet, IsKeyPacket, IsDataLine, with_feed, before_data, after_data, DataLines, FirstKeyBody, base64_of};
 
+use crate::first_key::FirstKey;
 use base64::DecodeAllocError;
 use base64::engine::general_purpose::STANDARD;
 use memchr::memchr;
-use opgp_frame::{Packet, read_one};
-use opgp_octets::{MpiView, OutOfMemory};
+use opgp_frame::{Deframe, Form, Packet, laws};
+use opgp_octets::{Limits, MpiView, OutOfMemory};
 use std::alloc::Global;
-
-/// A key and when it was created, in seconds from 1970.
-#[derive(Debug, Drop)]
-pub struct FirstKey {
-    pub created: u32,
-    pub packet: Packet,
-}
 
 /// What stands between the two lines at the front and the end line.
 #[tactic(auto, unfolding(crate::specs::FirstText::before_data, crate::specs::FirstText::after_data))]
@@ -124,6 +118,44 @@ fn created_of(body: &[u8]) -> Option<u32>
     if is_point(point) { Some(created) } else { None }
 }
 
+/// The body of a public key packet in the current format under a length of one octet, or None for another packet.
+fn body_of(packet: Packet) -> Option<Vec<u8>>
+    ensures some { IfSome result (λ v. packet ≡ key_packet v.items) }
+    ensures none { IfNone result ((body : List ℕ) → packet ≢ key_packet body) }
+{
+    match packet.into_parts() {
+        (Form::NewOne, 6, body) => Some(body),
+        _ => None,
+    }
+}
+
+/// The body of the one packet that the octets are, or None where they aren't a public key packet in the current
+/// format under a length of one octet.
+fn key_body(alloc: Global, octets: &[u8]) -> Result<Option<Vec<u8>>, OutOfMemory>
+    ensures { IfOk result (λ found. MatchOption found ((body : List ℕ) → IsKeyPacket octets.now body → ⊥) (λ v. IsKeyPacket octets.now v.items)) }
+{
+    laws::one_packet();
+    laws::one_list();
+    laws::no_fault();
+    let mut deframe = Deframe::new(alloc, 0, Limits::usual());
+    let count = match deframe.push(octets) {
+        Ok(count) => count,
+        Err(_) => return Err(std::alloc::AllocError),
+    };
+    let first = deframe.take();
+    if count < octets.len() {
+        return Ok(None);
+    }
+    match deframe.finish() {
+        Ok(()) => {}
+        Err(_) => return Ok(None),
+    }
+    match first {
+        Some(placed) => Ok(body_of(placed.packet)),
+        None => Ok(None),
+    }
+}
+
 /// The key of the text, or None where the text isn't of the first form.
 ///
 /// An error is want of memory.
@@ -139,11 +171,11 @@ pub fn first_key(alloc: Global, text: &[u8]) -> Result<Option<FirstKey>, OutOfMe
     let Some(octets) = decoded(alloc, &letters)? else {
         return Ok(None);
     };
-    let Some(packet) = read_one(alloc, &octets)? else {
+    let Some(body) = key_body(alloc, &octets)? else {
         return Ok(None);
     };
-    match created_of(packet.body()) {
-        Some(created) => Ok(Some(FirstKey { created, packet })),
+    match created_of(&body) {
+        Some(created) => Ok(Some(FirstKey { created, body })),
         None => Ok(None),
     }
 }

@@ -3,6 +3,7 @@
 
 mod ending;
 mod fingerprint;
+mod first_key;
 mod first_text;
 mod key_line;
 mod laws;

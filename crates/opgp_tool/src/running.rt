@@ -1,12 +1,12 @@
 //! One run: an input is read, and an output is written.
 
 ghost use Rattle.std.specs.Prelude.{◌≡◌, true, false, OnOk, IfOk, IfSome, Err, string_bytes};
-ghost use Rattle.opgp_frame.specs.Packet.{packet_value};
 ghost use Rattle.opgp_tool.specs.Running.{RunOf, KnownRunOf};
 ghost use Rattle.opgp_tool.specs.KeyLine.{first_line};
 
 use crate::fingerprint::fingerprint;
-use crate::first_text::{FirstKey, first_key};
+use crate::first_key::FirstKey;
+use crate::first_text::first_key;
 use crate::key_line::{KeyRole, key_line};
 use crate::reading::{ReadFault, read_octets};
 use crate::sink::Sink;
@@ -34,10 +34,9 @@ const MOST: u64 = 65_536;
 /// The line of a key.
 #[tactic(auto, unfolding(crate::specs::KeyLine::first_line))]
 fn line_of(alloc: Global, key: &FirstKey) -> Result<String, AllocError>
-    ensures { IfOk result (λ line. string_bytes line ≡ first_line key.now.created (packet_value key.now.packet).body) }
+    ensures { IfOk result (λ line. string_bytes line ≡ first_line key.now.created key.now.body.items) }
 {
-    let body = key.packet.body();
-    let print = fingerprint(body);
+    let print = fingerprint(&key.body);
     key_line(
         alloc,
         KeyRole::Primary,

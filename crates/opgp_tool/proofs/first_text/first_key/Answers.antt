@@ -1,5 +1,4 @@
 use Rattle.std.proofs.Common.{sym, ◌∙◌}
-use Rattle.opgp_frame.specs.Packet.{packet_value}
 use Rattle.opgp_tool.proofs.FirstTexts.{no_letters, no_octets, no_packet, no_body}
 use Rattle.opgp_tool.proofs.first_text.first_key.Goals as goal
 
@@ -17,12 +16,12 @@ pub returns-in_default-4 : goal.returns-in_default-4
 returns-in_default-4 c =
     let lines = rw c.in-Some-2.is at c.in_ok-letters.ensures in
     let some = rw c.in-Some-3.is at c.in_ok-octets.ensures in
-    let none = rw (c.in_default-4.is, c.deref-2.ensures.value) at c.in_ok-packet.ensures in
+    let none = rw (c.in_default-4.is, c.deref-2.ensures.value) at c.in_ok-body.ensures in
     no_packet c.args.text.now c.in-Some.between.now c.in-Some-2.letters.items c.in-Some-3.octets.items c.in-Some.ensures lines (sym c.deref.ensures.value ∙ some.0) some.1 none
 
 pub returns : goal.returns
 returns c =
     let lines = rw c.in-Some-2.is at c.in_ok-letters.ensures in
     let some = rw c.in-Some-3.is at c.in_ok-octets.ensures in
-    let packet = rw (c.in-Some-4.is, c.deref-2.ensures.value) at c.in_ok-packet.ensures in
-    no_body c.args.text.now c.in-Some.between.now c.in-Some-2.letters.items c.in-Some-3.octets.items (packet_value c.in-Some-4.packet) c.in-Some.ensures lines (sym c.deref.ensures.value ∙ some.0) some.1 packet (rw c.body.ensures.value at c.in-None.ensures)
+    let packet = rw (c.in-Some-4.is, c.deref-2.ensures.value) at c.in_ok-body.ensures in
+    no_body c.args.text.now c.in-Some.between.now c.in-Some-2.letters.items c.in-Some-3.octets.items c.in-Some-4.body.items c.in-Some.ensures lines (sym c.deref.ensures.value ∙ some.0) some.1 packet (rw c.deref-3.ensures.value at c.in-None.ensures)

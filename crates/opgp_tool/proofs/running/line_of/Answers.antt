@@ -19,5 +19,5 @@ returns c =
     let size : length (drop 12 print) ≡ 8 = omega (arith, length-drop 12 print, c.fingerprint-print.ensures.size) in
     let whole : take 8 (drop 12 print) ≡ drop 12 print = subst (λ (n : ℕ). take n (drop 12 print) ≡ drop 12 print) size (take-length (drop 12 print)) in
     mapped string_bytes c.key_line.result _ _
-    (first_is c.args.key.now.created c.args.key.now.packet.body.items print _ (c.fingerprint-print.ensures.value ∙ ap fingerprint_of c.body-body.ensures.value) whole)
+    (first_is c.args.key.now.created c.args.key.now.body.items print _ (c.fingerprint-print.ensures.value ∙ ap fingerprint_of c.deref.ensures.value) whole)
     c.key_line.ensures

@@ -1,0 +1,348 @@
+-- Each armored text is accepted, with its blocks.
+use Rattle.std.proofs.Common.{◌≡◌, ℕ, ◌≤◌, true, false, not, nat_eq, List, [], ◌∷◌, ◌++◌, length, refl, sym, ap, ◌∙◌, arith, inl, inr, ◌⊎◌, subst, Some, Ok}
+use Rattle.std.proofs.lemmas.List.{append_assoc, append-nil}
+use Rattle.std.proofs.lemmas.Bool.{cases_Bool, le-ltb}
+use Rattle.std.specs.List.{fold, flat_map, AllByRecursion, starts_with}
+use Rattle.std.specs.declared.result.Result.{Result}
+use Rattle.opgp_armor.specs.declared.label.Label.{Label}
+use Rattle.opgp_armor.specs.declared.label.Label.TheVariants.{Message, PublicKeyBlock, PrivateKeyBlock, Signature}
+use Rattle.opgp_armor.specs.declared.place.Place.{Place}
+use Rattle.opgp_armor.specs.declared.place.Place.TheVariants.{Outside, Headers, Data, AfterChecksum}
+use Rattle.opgp_octets.specs.declared.fault.Reason.{Reason}
+use Rattle.opgp_armor.specs.Letters.{is_equals, IsBase64, base64_of, Pending, no_letters, data_line}
+use Rattle.opgp_armor.proofs.Octets.{all_octets}
+use Rattle.opgp_armor.proofs.Pending.{Awaits}
+use Rattle.opgp_armor.specs.Text.{Line, content, strip, is_trailing, begin_mark, begin_line, end_line}
+use Rattle.opgp_armor.specs.Armored.{label_at, Block, ArePieces, Piece, Other, Whole, IsPiece, IsBlock, IsBody, IsChecked, IsBlank, IsDataLine, IsHeader, AreHeaders, begins_with, is_dash, lines_of, blocks_of}
+use Rattle.opgp_armor.specs.Machine.{Event, Begin, Header, End, State, Run, Built, Answer, absorb, built, nothing_built, header_of, on_begin, on_header, on_letters, some_octets, waits, closing, inside, passes_by, step, start, onward, run_from, first, run}
+use Rattle.opgp_armor.proofs.Lists.{text_same}
+use Rattle.opgp_armor.proofs.HeaderLines.{header_found, header_of-nil}
+use Rattle.opgp_armor.proofs.Groups.{begins_with_equals}
+use Rattle.opgp_armor.proofs.DataLine.{data_line_goes}
+use Rattle.opgp_armor.proofs.Standard.{base64_of-nil, base64_long}
+use Rattle.opgp_armor.proofs.Sound.{run-more, run-cons, run-nil, built_more}
+
+-- the run stands here, and has built this
+pub record At (r : Run) (s : State) (b : Built) : Type 0 where
+  pub state_is : r.state ≡ s
+  pub built_is : built r.events ≡ b
+
+pub record Came (limit : ℕ) (r : Run) (ls : List Line) (s : State) (b : Built) : Type 0 where
+  pub run_ : Run
+  pub ran : run_from limit (Ok r) ls ≡ Ok run_
+  pub at : At run_ s b
+
+-- from any run that stands at s and has built b, the lines lead to s' and b'
+abbrev pub Reaches : ℕ → State → Built → List Line → State → Built → Type 0
+Reaches limit s b ls s' b' = (r : Run) → At r s b → Came limit r ls s' b'
+
+pub reaches-nil : (limit : ℕ) (s : State) (b : Built) → Reaches limit s b [] s b
+reaches-nil limit s b r at = record { run_ = r; ran = run-nil limit (Ok r); at = at }
+
+pub reaches-append : (limit : ℕ) (s0 s1 s2 : State) (b0 b1 b2 : Built) (ls ms : List Line) → Reaches limit s0 b0 ls s1 b1 → Reaches limit s1 b1 ms s2 b2 → Reaches limit s0 b0 (ls ++ ms) s2 b2
+reaches-append limit s0 s1 s2 b0 b1 b2 ls ms f g r at =
+    let one = f r at in
+    let two = g one.run_ one.at in
+    record { run_ = two.run_; ran = run-more limit (Ok r) ls ms ∙ ap (λ (v : Result Run Reason). run_from limit v ms) one.ran ∙ two.ran; at = two.at }
+
+pub reaches_one : (limit : ℕ) (s s1 : State) (b b1 : Built) (l : Line) (more : List Event) → step limit s l ≡ Ok (s1, more) → fold absorb b more ≡ b1 → Reaches limit s b (l ∷ []) s1 b1
+reaches_one limit s s1 b b1 l more h e r at =
+    let q : Run = record { state = s1; events = r.events ++ more } in
+    let stepped : step limit r.state l ≡ Ok (s1, more) = ap (λ (v : State). step limit v l) at.state_is ∙ h in
+    record {
+      run_ = q;
+      ran = run-cons limit (Ok r) l [] ∙ ap (λ (v : Answer). run_from limit (onward r.events v) []) stepped ∙ run-nil limit (Ok q);
+      at = record { state_is = refl; built_is = built_more r.events more ∙ ap (λ (v : Built). fold absorb v more) at.built_is ∙ e };
+    }
+
+pub reaches-cons : (limit : ℕ) (s s1 s2 : State) (b b1 b2 : Built) (l : Line) (ls : List Line) (more : List Event) → step limit s l ≡ Ok (s1, more) → fold absorb b more ≡ b1
+    → Reaches limit s1 b1 ls s2 b2 → Reaches limit s b (l ∷ ls) s2 b2
+reaches-cons limit s s1 s2 b b1 b2 l ls more h e rest = reaches-append limit s s1 s2 b b1 b2 (l ∷ []) ls (reaches_one limit s s1 b b1 l more h e) rest
+
+-- ---- single lines
+pub step_inside : (limit : ℕ) (s : State) (l : Line) → passes_by s.place l ≡ false → length l ≤ limit → step limit s l ≡ inside s.place s.pending (content l)
+unfolding step
+step_inside limit s l n within = rw (n, le-ltb limit (length l) within) refl
+
+pub step_passes : (limit : ℕ) (s : State) (l : Line) → passes_by s.place l ≡ true → step limit s l ≡ Ok (s, [])
+unfolding step
+step_passes limit s l y = rw y refl
+
+strip_front : (c : ℕ) (s t : List ℕ) → (rest : List ℕ) × (c ∷ (s ++ t) ≡ strip c s ++ rest)
+strip_front c [] t = elim (cases_Bool (is_trailing c)) [
+  | inl y ↦ (c ∷ t, rw y refl)
+  | inr n ↦ (t, rw n refl)
+]
+strip_front c (d ∷ ds) t = (t, refl)
+
+pub content_front : (l : Line) → (rest : List ℕ) × (l ≡ content l ++ rest)
+unfolding content
+content_front [] = ([], refl)
+content_front (c ∷ l) =
+    let more = content_front l in
+    let f = strip_front c (content l) more.0 in
+    (f.0, ap (λ (v : List ℕ). c ∷ v) more.1 ∙ f.1)
+
+begin_text : (k : Label) (rest : List ℕ) → starts_with nat_eq (begin_line k ++ rest) begin_mark ≡ true
+begin_text Message rest = refl
+begin_text PublicKeyBlock rest = refl
+begin_text PrivateKeyBlock rest = refl
+begin_text Signature rest = refl
+
+begin_label : (k : Label) → label_at begin_line (begin_line k) ≡ Some k
+begin_label Message = refl
+begin_label PublicKeyBlock = refl
+begin_label PrivateKeyBlock = refl
+begin_label Signature = refl
+
+pub begins_mark : (k : Label) (l : Line) → content l ≡ begin_line k → starts_with nat_eq l begin_mark ≡ true
+begins_mark k l e =
+    let f = content_front l in
+    let whole : l ≡ begin_line k ++ f.0 = f.1 ∙ ap (λ (v : List ℕ). v ++ f.0) e in
+    subst (λ (v : List ℕ). starts_with nat_eq v begin_mark ≡ true) (sym whole) (begin_text k f.0)
+
+pub begin_step : (limit : ℕ) (p : Pending) (k : Label) (l : Line) → content l ≡ begin_line k → length l ≤ limit
+    → step limit (record { place = Outside; pending = p }) l ≡ Ok (record { place = Headers k; pending = no_letters }, Begin k ∷ [])
+begin_step limit p k l e within =
+    step_inside limit (record { place = Outside; pending = p }) l (ap not (begins_mark k l e)) within
+    ∙ ap (λ (v : List ℕ). on_begin (label_at begin_line v)) e ∙ ap on_begin (begin_label k)
+
+header_step : (limit : ℕ) (p : Pending) (k : Label) (l : Line) (h : List ℕ × List ℕ) → IsHeader limit l h
+    → step limit (record { place = Headers k; pending = p }) l ≡ Ok (record { place = Headers k; pending = p }, Header h.0 h.1 ∷ [])
+header_step limit p k l h is =
+    step_inside limit (record { place = Headers k; pending = p }) l refl is.within
+    ∙ by_header (content l) (header_found limit l h is)
+  where
+    by_header : (c : List ℕ) → header_of c ≡ Some (h.0, h.1) → inside (Headers k) p c ≡ Ok (record { place = Headers k; pending = p }, Header h.0 h.1 ∷ [])
+    by_header [] e = cc (sym header_of-nil ∙ e)
+    by_header (x ∷ c) e = ap (on_header k p) e
+
+pub gap_step : (limit : ℕ) (p : Pending) (k : Label) (l : Line) → IsBlank limit l
+    → step limit (record { place = Headers k; pending = p }) l ≡ Ok (record { place = Data k; pending = p }, [])
+gap_step limit p k l is = step_inside limit (record { place = Headers k; pending = p }) l refl is.within ∙ ap (inside (Headers k) p) is.blank
+
+rest_step : (limit : ℕ) (p : Pending) (k : Label) (l : Line) → IsBlank limit l
+    → step limit (record { place = AfterChecksum k; pending = p }) l ≡ Ok (record { place = AfterChecksum k; pending = p }, [])
+rest_step limit p k l is = step_inside limit (record { place = AfterChecksum k; pending = p }) l refl is.within ∙ ap (inside (AfterChecksum k) p) is.blank
+
+checksum_step : (limit : ℕ) (p : Pending) (k : Label) (l : Line) → begins_with is_equals (content l) ≡ true → length l ≤ limit → waits p ≡ false
+    → step limit (record { place = Data k; pending = p }) l ≡ Ok (record { place = AfterChecksum k; pending = p }, [])
+checksum_step limit p k l e within none =
+    step_inside limit (record { place = Data k; pending = p }) l refl within ∙ by_content (content l) e
+  where
+    by_content : (c : List ℕ) → begins_with is_equals c ≡ true → inside (Data k) p c ≡ Ok (record { place = AfterChecksum k; pending = p }, [])
+    by_content [] e = cc e
+    by_content (x ∷ c) e = rw (e, none) refl
+
+closes : (p : Pending) (k : Label) → waits p ≡ false → closing k p (end_line k) ≡ Ok (start, End ∷ [])
+unfolding closing
+closes p k none = rw (text_same (end_line k) (end_line k) refl, none) refl
+
+pub end_step : (limit : ℕ) (p : Pending) (k : Label) (l : Line) → content l ≡ end_line k → length l ≤ limit → waits p ≡ false
+    → (step limit (record { place = Data k; pending = p }) l ≡ Ok (start, End ∷ []))
+    × (step limit (record { place = AfterChecksum k; pending = p }) l ≡ Ok (start, End ∷ []))
+end_step limit p k l e within none = (
+  step_inside limit (record { place = Data k; pending = p }) l refl within ∙ ap (inside (Data k) p) e ∙ closes p k none,
+  step_inside limit (record { place = AfterChecksum k; pending = p }) l refl within ∙ ap (inside (AfterChecksum k) p) e ∙ closes p k none,
+)
+
+-- ---- the parts of a block
+headers_reach : (limit : ℕ) (p : Pending) (k : Label) (b : Built) (ls : List Line) (hs : List (List ℕ × List ℕ)) → AreHeaders limit ls hs
+    → Reaches limit (record { place = Headers k; pending = p }) b ls (record { place = Headers k; pending = p }) (record b { headers = b.headers ++ hs })
+headers_reach limit p k b [] [] are = rw (append-nil b.headers) (reaches-nil limit (record { place = Headers k; pending = p }) b)
+headers_reach limit p k b (l ∷ ls) (h ∷ hs) are =
+    let s : State = record { place = Headers k; pending = p } in
+    let b1 : Built = record b { headers = b.headers ++ h ∷ [] } in
+    let rest = headers_reach limit p k b1 ls hs are.1 in
+    reaches-cons limit s s s b b1 (record b { headers = b.headers ++ h ∷ hs }) l ls (Header h.0 h.1 ∷ []) (header_step limit p k l h are.0) refl
+    (rw append_assoc at rest)
+headers_reach limit p k b [] (h ∷ hs) are = absurd are
+headers_reach limit p k b (l ∷ ls) [] are = absurd are
+
+blanks_reach : (limit : ℕ) (p : Pending) (k : Label) (b : Built) (ls : List Line) → AllByRecursion (IsBlank limit) ls
+    → Reaches limit (record { place = AfterChecksum k; pending = p }) b ls (record { place = AfterChecksum k; pending = p }) b
+blanks_reach limit p k b [] are = reaches-nil limit (record { place = AfterChecksum k; pending = p }) b
+blanks_reach limit p k b (l ∷ ls) are =
+    let s : State = record { place = AfterChecksum k; pending = p } in
+    reaches-cons limit s s s b b b l ls [] (rest_step limit p k l are.0) refl (blanks_reach limit p k b ls are.1)
+
+-- letters of data lines don't begin with `=`
+begins_same : (s t : List ℕ) → begins_with is_equals s ≡ false → begins_with_equals t ≡ false → begins_with_equals (s ++ t) ≡ false
+begins_same [] t h k = k
+begins_same (c ∷ s) t h k = h
+
+data_begin : (limit : ℕ) (ls : List Line) → AllByRecursion (IsDataLine limit) ls → begins_with_equals (flat_map content ls) ≡ false
+data_begin limit [] are = refl
+data_begin limit (l ∷ ls) are = begins_same (content l) (flat_map content ls) are.0.no_checksum (data_begin limit ls are.1)
+
+octets_absorbed : (b : Built) (o : List ℕ) → fold absorb b (some_octets o) ≡ record b { octets = b.octets ++ o }
+octets_absorbed b [] = rw (append-nil b.octets) refl
+octets_absorbed b (x ∷ o) = refl
+
+-- one data line, by its content
+record DataStep (limit : ℕ) (k : Label) (p : Pending) (l : Line) (more octets : List ℕ) : Type 0 where
+  after : Pending
+  out : List ℕ
+  left : List ℕ
+  stepped : step limit (record { place = Data k; pending = p }) l ≡ Ok (record { place = Data k; pending = after }, some_octets out)
+  whole : octets ≡ out ++ left
+  awaits : Awaits after more left
+
+data_by : (limit : ℕ) (k : Label) (p : Pending) (l : Line) (more octets c : List ℕ) → c ≡ content l → begins_with is_equals c ≡ false → begins_with is_dash c ≡ false → length l ≤ limit
+    → Awaits p (c ++ more) octets → begins_with_equals more ≡ false → DataStep limit k p l more octets
+data_by limit k p l more octets [] e n1 n2 within awaits begins = record {
+  after = p;
+  out = [];
+  left = octets;
+  stepped = step_inside limit (record { place = Data k; pending = p }) l refl within ∙ ap (inside (Data k) p) (sym e);
+  whole = refl;
+  awaits = awaits;
+}
+data_by limit k p l more octets (x ∷ c) e n1 n2 within awaits begins =
+    let goes = data_line_goes p (x ∷ c) more octets awaits begins (omega arith) in
+    let is : inside (Data k) p (x ∷ c) ≡ on_letters k (data_line p (x ∷ c)) = rw (n1, n2) refl in
+    record {
+      after = goes.next;
+      out = goes.out;
+      left = goes.left;
+      stepped = step_inside limit (record { place = Data k; pending = p }) l refl within ∙ ap (inside (Data k) p) (sym e) ∙ is ∙ ap (on_letters k) goes.ok;
+      whole = goes.whole;
+      awaits = goes.awaits;
+    }
+
+record DataEnd (limit : ℕ) (k : Label) (p : Pending) (b : Built) (ls : List Line) (octets : List ℕ) : Type 0 where
+  after : Pending
+  none : waits after ≡ false
+  reaches : Reaches limit (record { place = Data k; pending = p }) b ls (record { place = Data k; pending = after }) (record b { octets = b.octets ++ octets })
+
+data_reach : (limit : ℕ) (p : Pending) (k : Label) (b : Built) (ls : List Line) (octets : List ℕ) → AllByRecursion (IsDataLine limit) ls → Awaits p (flat_map content ls) octets
+    → DataEnd limit k p b ls octets
+data_reach limit p k b [] octets are awaits =
+    let l : length (base64_of octets) ≡ length p.letters = ap length (sym awaits.joined ∙ append-nil p.letters) in
+    let z : octets ≡ [] = base64_long octets (let few = awaits.few in omega arith) in
+    let zero : length p.letters ≡ 0 = sym l ∙ ap length (ap base64_of z ∙ base64_of-nil) in
+    record { after = p; none = rw zero refl; reaches = rw (z, append-nil b.octets) (reaches-nil limit (record { place = Data k; pending = p }) b) }
+data_reach limit p k b (l ∷ ls) octets are awaits =
+    let one = data_by limit k p l (flat_map content ls) octets (content l) refl are.0.no_checksum are.0.no_end are.0.within awaits (data_begin limit ls are.1) in
+    let b1 : Built = record b { octets = b.octets ++ one.out } in
+    let rest = data_reach limit one.after k b1 ls one.left are.1 one.awaits in
+    let same : (b.octets ++ one.out) ++ one.left ≡ b.octets ++ octets = append_assoc b.octets one.out one.left ∙ ap (λ (v : List ℕ). b.octets ++ v) (sym one.whole) in
+    record {
+      after = rest.after;
+      none = rest.none;
+      reaches = reaches-cons limit (record { place = Data k; pending = p }) (record { place = Data k; pending = one.after }) (record { place = Data k; pending = rest.after })
+          b b1 (record b { octets = b.octets ++ octets }) l ls (some_octets one.out) one.stepped (octets_absorbed b one.out)
+          (subst (λ (v : List ℕ). Reaches limit (record { place = Data k; pending = one.after }) b1 ls (record { place = Data k; pending = rest.after }) (record b { octets = v })) same rest.reaches);
+    }
+
+-- the front of a block, up to its end line
+record Front (limit : ℕ) (b : Built) (block : Block) (ls : List Line) : Type 0 where
+  place : Place
+  pending : Pending
+  none : waits pending ≡ false
+  where_ : (place ≡ Data block.label) ⊎ (place ≡ AfterChecksum block.label)
+  reaches : Reaches limit start b ls (record { place = place; pending = pending }) (record { blocks = b.blocks; label = block.label; headers = block.headers; octets = block.octets })
+
+awaits_all : (letters octets : List ℕ) → IsBase64 letters octets → Awaits no_letters letters octets
+awaits_all letters octets is = record { joined = is.1; are_octets = all_octets octets is.0; few = omega arith; end = λ e. cc e }
+
+body_reach : (limit : ℕ) (b : Built) (block : Block) (letters : List ℕ) (ls : List Line) → IsBody limit block.label block.headers letters ls → IsBase64 letters block.octets
+    → (p : Pending) × (waits p ≡ false) × Reaches limit start b ls (record { place = Data block.label; pending = p }) (record { blocks = b.blocks; label = block.label; headers = block.headers; octets = block.octets })
+body_reach limit b block letters ls body spelled =
+    let k : Label = block.label in
+    let b1 : Built = record b { label = k; headers = []; octets = [] } in
+    let b2 : Built = record b1 { headers = block.headers } in
+    let b3 : Built = record b2 { octets = block.octets } in
+    let s1 : State = record { place = Headers k; pending = no_letters } in
+    let s2 : State = record { place = Data k; pending = no_letters } in
+    let head = body.is_head in
+    let awaits : Awaits no_letters (flat_map content body.data_lines) block.octets = subst (λ (v : List ℕ). Awaits no_letters v block.octets) body.joined (awaits_all letters block.octets spelled) in
+    let one : Reaches limit start b (head.first ∷ head.rest) s1 b2 =
+    reaches-cons limit start s1 s1 b b1 b2 head.first head.rest (Begin k ∷ []) (begin_step limit no_letters k head.first head.begins head.within) refl
+    (headers_reach limit no_letters k b1 head.rest block.headers head.headers_are) in
+    let data_ = data_reach limit no_letters k b2 body.data_lines block.octets body.are_data_lines awaits in
+    let s3 : State = record { place = Data k; pending = data_.after } in
+    let two : Reaches limit s1 b2 (body.gap ∷ body.data_lines) s3 b3 =
+    reaches-cons limit s1 s2 s3 b2 b2 b3 body.gap body.data_lines [] (gap_step limit no_letters k body.gap body.is_gap) refl data_.reaches in
+    let all : Reaches limit start b ((head.first ∷ head.rest) ++ body.gap ∷ body.data_lines) s3 b3 =
+    reaches-append limit start s1 s3 b b2 b3 (head.first ∷ head.rest) (body.gap ∷ body.data_lines) one two in
+    let same : (head.first ∷ head.rest) ++ body.gap ∷ body.data_lines ≡ ls = ap (λ (v : List Line). v ++ body.gap ∷ body.data_lines) (sym head.are) ∙ sym body.are in
+    (data_.after, data_.none, subst (λ (v : List Line). Reaches limit start b v s3 b3) same all)
+
+front_reach : (limit : ℕ) (b : Built) (block : Block) (letters : List ℕ) (ls : List Line) → IsBody limit block.label block.headers letters ls ⊎ IsChecked limit block.label block.headers letters ls
+    → IsBase64 letters block.octets → Front limit b block ls
+front_reach limit b block letters ls (inl body) spelled =
+    let f = body_reach limit b block letters ls body spelled in
+    record { place = Data block.label; pending = f.0; none = f.1; where_ = inl refl; reaches = f.2 }
+front_reach limit b block letters ls (inr checked) spelled =
+    let k : Label = block.label in
+    let f = body_reach limit b block letters checked.body checked.is_body spelled in
+    let s1 : State = record { place = Data k; pending = f.0 } in
+    let s2 : State = record { place = AfterChecksum k; pending = f.0 } in
+    let b3 : Built = record { blocks = b.blocks; label = block.label; headers = block.headers; octets = block.octets } in
+    let two : Reaches limit s1 b3 (checked.checksum ∷ checked.blanks) s2 b3 =
+    reaches-cons limit s1 s2 s2 b3 b3 b3 checked.checksum checked.blanks [] (checksum_step limit f.0 k checked.checksum checked.is_checksum checked.within f.1) refl
+    (blanks_reach limit f.0 k b3 checked.blanks checked.are_blanks) in
+    let all = reaches-append limit start s1 s2 b b3 b3 checked.body (checked.checksum ∷ checked.blanks) f.2 two in
+    record { place = AfterChecksum k; pending = f.0; none = f.1; where_ = inr refl; reaches = subst (λ (v : List Line). Reaches limit start b v s2 b3) (sym checked.are) all }
+
+-- what is built after a block
+abbrev after_block : Built → Block → Built
+after_block b block = record { blocks = b.blocks ++ block ∷ []; label = block.label; headers = []; octets = [] }
+
+block_reach : (limit : ℕ) (b : Built) (block : Block) (ls : List Line) → IsBlock limit block ls → Reaches limit start b ls start (after_block b block)
+block_reach limit b block ls is =
+    let k : Label = block.label in
+    let f = front_reach limit b block is.letters is.front is.is_front is.spelled in
+    let s1 : State = record { place = f.place; pending = f.pending } in
+    let b3 : Built = record { blocks = b.blocks; label = block.label; headers = block.headers; octets = block.octets } in
+    let steps = end_step limit f.pending k is.last is.ends is.within f.none in
+    let stepped : step limit s1 is.last ≡ Ok (start, End ∷ []) = elim f.where_ [
+      | inl e ↦ ap (λ (v : Place). step limit (record { place = v; pending = f.pending }) is.last) e ∙ steps.0
+      | inr e ↦ ap (λ (v : Place). step limit (record { place = v; pending = f.pending }) is.last) e ∙ steps.1
+    ] in
+    let last : Reaches limit s1 b3 (is.last ∷ []) start (after_block b block) = reaches_one limit s1 start b3 (after_block b block) is.last (End ∷ []) stepped refl in
+    let all = reaches-append limit start s1 start b b3 (after_block b block) is.front (is.last ∷ []) f.reaches last in
+    subst (λ (v : List Line). Reaches limit start b v start (after_block b block)) (sym is.are) all
+
+record Ended (limit : ℕ) (b : Built) (ls : List Line) (blocks : List Block) : Type 0 where
+  after : Built
+  blocks_are : after.blocks ≡ b.blocks ++ blocks
+  reaches : Reaches limit start b ls start after
+
+pieces_reach : (limit : ℕ) (b : Built) (ps : List Piece) → AllByRecursion (IsPiece limit) ps → Ended limit b (flat_map lines_of ps) (flat_map blocks_of ps)
+pieces_reach limit b [] each = record { after = b; blocks_are = sym (append-nil b.blocks); reaches = reaches-nil limit start b }
+pieces_reach limit b (Other l ∷ ps) each =
+    let rest = pieces_reach limit b ps each.1 in
+    record {
+      after = rest.after;
+      blocks_are = rest.blocks_are;
+      reaches = reaches-cons limit start start start b b rest.after l (flat_map lines_of ps) [] (step_passes limit start l (ap not each.0)) refl rest.reaches;
+    }
+pieces_reach limit b (Whole ls block ∷ ps) each =
+    let b1 : Built = after_block b block in
+    let rest = pieces_reach limit b1 ps each.1 in
+    record {
+      after = rest.after;
+      blocks_are = rest.blocks_are ∙ append_assoc b.blocks (block ∷ []) (flat_map blocks_of ps);
+      reaches = reaches-append limit start start start b b1 rest.after ls (flat_map lines_of ps) (block_reach limit b block ls each.0) rest.reaches;
+    }
+
+-- What is armored is accepted, and ends outside of all blocks, with its blocks.
+pub record Accepted (limit : ℕ) (ls : List Line) (blocks : List Block) : Type 0 where
+  pub last : Run
+  pub ran : run limit ls ≡ Ok last
+  pub outside : last.state ≡ start
+  pub blocks_are : (built last.events).blocks ≡ blocks
+
+pub complete : (limit : ℕ) (ls : List Line) (blocks : List Block) → ArePieces limit ls blocks → Accepted limit ls blocks
+unfolding built
+complete limit ls blocks are =
+    let e = pieces_reach limit nothing_built are.pieces are.each in
+    let came = e.reaches first (record { state_is = refl; built_is = refl }) in
+    record {
+      last = came.run_;
+      ran = ap (λ (v : List Line). run limit v) are.are ∙ came.ran;
+      outside = came.at.state_is;
+      blocks_are = ap (λ (v : Built). v.blocks) came.at.built_is ∙ e.blocks_are ∙ sym are.blocks_are;
+    }

@@ -1,0 +1,166 @@
+-- What is kept of an unfinished line.
+use Rattle.std.proofs.Common.{◌≡◌, ℕ, zero, suc, ◌+◌, ◌-◌, ◌<◌, ◌≤◌, Bool, true, false, cond, not, nat_eq, List, [], ◌∷◌, ◌++◌, length, take, drop, refl, sym, ap, ◌∙◌, arith, inl, inr, Ok, Err}
+use Rattle.std.proofs.lemmas.List.{append_assoc, append-nil, length-append, take_all, take-take, length-take, take-append-le, take-append-drop}
+use Rattle.std.proofs.lemmas.Bool.{cases_Bool, cases_lt, lt-ltb}
+use Rattle.std.specs.Cmp.Lexicographic.{pointwise}
+use Rattle.std.specs.List.{starts_with}
+use Rattle.opgp_armor.specs.declared.place.Place.{Place}
+use Rattle.opgp_armor.specs.declared.place.Place.TheVariants.{Outside, Headers, Data, AfterChecksum}
+use Rattle.opgp_octets.specs.declared.fault.Reason.TheVariants as reason
+use Rattle.opgp_armor.specs.Text.{Line, begin_mark}
+use Rattle.opgp_armor.specs.Machine.{State, passes_by, step}
+use Rattle.opgp_armor.specs.Cuts.{kept}
+
+pub take_seen : (n : ℕ) (a b : List ℕ) → take n (take n a ++ b) ≡ take n (a ++ b)
+take_seen zero a b = refl
+take_seen (suc n) [] b = refl
+take_seen (suc n) (x ∷ a) b = ap (λ (v : List ℕ). x ∷ v) (take_seen n a b)
+
+-- a list, and as much of another as there is room for
+pub filled : (n : ℕ) (a b : List ℕ) → length a ≤ n → a ++ take (n - length a) b ≡ take n (a ++ b)
+filled n [] b h = ap (λ (v : ℕ). take v b) (less_none n)
+  where
+    less_none : (m : ℕ) → m - 0 ≡ m
+    less_none m = omega arith
+filled zero (x ∷ a) b h = absurd (omega arith)
+filled (suc n) (x ∷ a) b h = ap (λ (v : List ℕ). x ∷ v) (ap (λ (v : ℕ). a ++ take v b) (less_one n (length a)) ∙ filled n a b (omega arith))
+  where
+    less_one : (m k : ℕ) → suc m - suc k ≡ m - k
+    less_one m k = omega arith
+
+full : (n : ℕ) (a b : List ℕ) → n ≤ length a → a ++ take (n - length a) b ≡ a
+full n a b h = ap (λ (v : ℕ). a ++ take v b) (none n (length a) h) ∙ append-nil a
+  where
+    none : (m k : ℕ) → m ≤ k → m - k ≡ 0
+    none m k h = omega arith
+
+-- whether a line begins with the mark is seen in its first octets
+pub mark_seen : (n : ℕ) (l : Line) → 15 ≤ n → starts_with nat_eq (take n l) begin_mark ≡ starts_with nat_eq l begin_mark
+mark_seen n l large = ap (λ (v : List ℕ). pointwise nat_eq begin_mark v) (take-take 15 n l large)
+
+mark_front : (n : ℕ) (l more : Line) → 15 ≤ length l → starts_with nat_eq (l ++ more) begin_mark ≡ starts_with nat_eq l begin_mark
+mark_front n l more large = ap (λ (v : List ℕ). pointwise nat_eq begin_mark v) (take-append-le 15 l more large)
+
+pointwise_short : (a b : List ℕ) → length b < length a → pointwise nat_eq a b ≡ false
+pointwise_short [] b h = absurd (omega arith)
+pointwise_short (x ∷ a) [] h = refl
+pointwise_short (x ∷ a) (y ∷ b) h = elim (cases_Bool (nat_eq x y)) [
+  | inl e ↦ rw e (pointwise_short a b (omega arith))
+  | inr n ↦ rw n refl
+]
+
+-- a line that begins with the mark has its length
+mark_long : (l : Line) → starts_with nat_eq l begin_mark ≡ true → 15 ≤ length l
+mark_long l h = elim (cases_lt (length l) 15) [
+  | inl lt ↦ cc (sym (pointwise_short begin_mark (take 15 l) (omega (arith, length-take 15 l))) ∙ h)
+  | inr ge ↦ ge
+]
+
+kept_passing : (limit : ℕ) (l : Line) → starts_with nat_eq l begin_mark ≡ false → kept limit Outside l ≡ take 15 l
+kept_passing limit l h = ap (λ (v : Bool). take (cond (not v) 15 (limit + 1)) l) h
+
+kept_beginning : (limit : ℕ) (l : Line) → starts_with nat_eq l begin_mark ≡ true → kept limit Outside l ≡ take (limit + 1) l
+kept_beginning limit l h = ap (λ (v : Bool). take (cond (not v) 15 (limit + 1)) l) h
+
+-- the octets of a line that doesn't begin with the mark
+pub keeps_passing : (limit : ℕ) (tail part b : List ℕ) → 128 ≤ limit → b ≡ kept limit Outside tail → starts_with nat_eq (b ++ take (15 - length b) part) begin_mark ≡ false
+    → b ++ take (15 - length b) part ≡ kept limit Outside (tail ++ part)
+keeps_passing limit tail part b large is test = elim (cases_Bool (starts_with nat_eq tail begin_mark)) [
+  | inl y ↦
+      let whole : b ≡ take (limit + 1) tail = is ∙ kept_beginning limit tail y in
+      let same : starts_with nat_eq b begin_mark ≡ true = ap (λ (v : List ℕ). starts_with nat_eq v begin_mark) whole ∙ mark_seen (limit + 1) tail (omega arith) ∙ y in
+      cc (sym (ap (λ (v : List ℕ). starts_with nat_eq v begin_mark) (full 15 b part (mark_long b same)) ∙ same) ∙ test)
+  | inr n ↦
+      let whole : b ≡ take 15 tail = is ∙ kept_passing limit tail n in
+      let now : b ++ take (15 - length b) part ≡ take 15 (tail ++ part) =
+      filled 15 b part (omega (arith, ap length whole, length-take 15 tail)) ∙ ap (λ (v : List ℕ). take 15 (v ++ part)) whole ∙ take_seen 15 tail part in
+      let passes : starts_with nat_eq (tail ++ part) begin_mark ≡ false = sym (mark_seen 15 (tail ++ part) (omega arith)) ∙ ap (λ (v : List ℕ). starts_with nat_eq v begin_mark) (sym now) ∙ test in
+      now ∙ sym (kept_passing limit (tail ++ part) passes)
+]
+
+rest_after : (b part : List ℕ) (n m : ℕ) → take n part ≡ take m part → n ≤ length part → (b ++ take m part) ++ drop n part ≡ b ++ part
+rest_after b part n m e h =
+    ap (λ (v : List ℕ). (b ++ v) ++ drop n part) (sym e) ∙ append_assoc b (take n part) (drop n part) ∙ ap (λ (v : List ℕ). b ++ v) (take-append-drop n part)
+
+-- the octets of a line that begins with the mark
+pub keeps_beginning : (limit n : ℕ) (tail part b rest : List ℕ) → 128 ≤ limit → b ≡ kept limit Outside tail → starts_with nat_eq (b ++ take (15 - length b) part) begin_mark ≡ true
+    → n ≤ length part → take n part ≡ take (15 - length b) part → rest ≡ drop n part
+    → (b ++ take (15 - length b) part) ++ take (limit + 1 - length (b ++ take (15 - length b) part)) rest ≡ kept limit Outside (tail ++ part)
+keeps_beginning limit n tail part b rest large is test within first rest_is =
+    let b1 : List ℕ = b ++ take (15 - length b) part in
+    let short : length b ≤ limit + 1 = elim (cases_Bool (starts_with nat_eq tail begin_mark)) [
+      | inl y ↦ omega (arith, ap length (is ∙ kept_beginning limit tail y), length-take (limit + 1) tail)
+      | inr n ↦ omega (arith, ap length (is ∙ kept_passing limit tail n), length-take 15 tail)
+    ] in
+    let short1 : length b1 ≤ limit + 1 = omega (arith, length-append b (take (15 - length b) part), length-take (15 - length b) part) in
+    let now : b1 ++ take (limit + 1 - length b1) rest ≡ take (limit + 1) (b ++ part) =
+    filled (limit + 1) b1 rest short1 ∙ ap (λ (v : List ℕ). take (limit + 1) (b1 ++ v)) rest_is ∙ ap (take (limit + 1)) (rest_after b part n (15 - length b) first within) in
+    let end : (starts_with nat_eq (tail ++ part) begin_mark ≡ true) × (take (limit + 1) (b ++ part) ≡ take (limit + 1) (tail ++ part)) = elim (cases_Bool (starts_with nat_eq tail begin_mark)) [
+      | inl y ↦ (
+        mark_front 15 tail part (mark_long tail y) ∙ y,
+        ap (λ (v : List ℕ). take (limit + 1) (v ++ part)) (is ∙ kept_beginning limit tail y) ∙ take_seen (limit + 1) tail part,
+      )
+      | inr none ↦
+          let whole : b ≡ take 15 tail = is ∙ kept_passing limit tail none in
+          elim (cases_lt 15 (length tail)) [
+            | inl long ↦
+                let length_b : length b ≡ 15 = omega (arith, ap length whole, length-take 15 tail) in
+                let same : starts_with nat_eq b1 begin_mark ≡ starts_with nat_eq tail begin_mark =
+                ap (λ (v : List ℕ). starts_with nat_eq v begin_mark) (full 15 b part (omega arith) ∙ whole) ∙ mark_seen 15 tail (omega arith) in
+                cc (sym (same ∙ none) ∙ test)
+            | inr few ↦
+                let same : b ≡ tail = whole ∙ take_all 15 tail few in
+                let seen : b1 ≡ take 15 (tail ++ part) = filled 15 b part (omega (arith, ap length same)) ∙ ap (λ (v : List ℕ). take 15 (v ++ part)) same in (
+                  sym (mark_seen 15 (tail ++ part) (omega arith)) ∙ ap (λ (v : List ℕ). starts_with nat_eq v begin_mark) (sym seen) ∙ test,
+                  ap (λ (v : List ℕ). take (limit + 1) (v ++ part)) same,
+                )
+          ]
+    ] in
+    now ∙ end.1 ∙ sym (kept_beginning limit (tail ++ part) end.0)
+
+-- in a block
+pub keeps_inside : (limit : ℕ) (tail part b : List ℕ) → b ≡ take (limit + 1) tail → b ++ take (limit + 1 - length b) part ≡ take (limit + 1) (tail ++ part)
+keeps_inside limit tail part b is =
+    filled (limit + 1) b part (omega (arith, ap length is, length-take (limit + 1) tail)) ∙ ap (λ (v : List ℕ). take (limit + 1) (v ++ part)) is ∙ take_seen (limit + 1) tail part
+
+-- ---- the machine looks at no more of a line
+passes_seen : (n : ℕ) (place : Place) (l : Line) → 15 ≤ n → passes_by place (take n l) ≡ passes_by place l
+passes_seen n Outside l large = ap not (mark_seen n l large)
+passes_seen n (Headers k) l large = refl
+passes_seen n (Data k) l large = refl
+passes_seen n (AfterChecksum k) l large = refl
+
+step_passing : (limit : ℕ) (s : State) (l : Line) → passes_by s.place l ≡ true → step limit s l ≡ Ok (s, [])
+unfolding step
+step_passing limit s l h = rw h refl
+
+step_long : (limit : ℕ) (s : State) (l : Line) → passes_by s.place l ≡ false → limit < length l → step limit s l ≡ Err reason.LineTooLong
+unfolding step
+step_long limit s l n h = rw (n, lt-ltb limit (length l) h) refl
+
+pub step_seen : (limit : ℕ) (s : State) (l : Line) → 128 ≤ limit → step limit s (kept limit s.place l) ≡ step limit s l
+step_seen limit s l large = elim (cases_Bool (passes_by s.place l)) [
+  | inl y ↦
+      let is : kept limit s.place l ≡ take 15 l = ap (λ (v : Bool). take (cond v 15 (limit + 1)) l) y in
+      ap (step limit s) is ∙ step_passing limit s (take 15 l) (passes_seen 15 s.place l (omega arith) ∙ y) ∙ sym (step_passing limit s l y)
+  | inr n ↦
+      let is : kept limit s.place l ≡ take (limit + 1) l = ap (λ (v : Bool). take (cond v 15 (limit + 1)) l) n in
+      elim (cases_lt limit (length l)) [
+        | inl lt ↦
+            ap (step limit s) is
+            ∙ step_long limit s (take (limit + 1) l) (passes_seen (limit + 1) s.place l (omega arith) ∙ n) (omega (arith, length-take (limit + 1) l))
+            ∙ sym (step_long limit s l n lt)
+        | inr ge ↦ ap (step limit s) (is ∙ take_all (limit + 1) l (omega arith))
+      ]
+]
+
+-- nothing is kept of a line exactly where it has no octets
+pub kept_none : (limit : ℕ) (place : Place) (l : Line) → kept limit place l ≡ [] → l ≡ []
+kept_none limit place [] h = refl
+kept_none limit place (c ∷ l) h = elim (cases_Bool (passes_by place (c ∷ l))) [
+  | inl y ↦ cc (sym (ap (λ (v : Bool). take (cond v 15 (limit + 1)) (c ∷ l)) y) ∙ h)
+  | inr n ↦ absurd (some_kept limit c l (sym (ap (λ (v : Bool). take (cond v 15 (limit + 1)) (c ∷ l)) n) ∙ h))
+]
+  where
+    some_kept : (n c : ℕ) (l : List ℕ) → take (n + 1) (c ∷ l) ≡ [] → ⊥
+    some_kept n c l h = let e : length (take (n + 1) (c ∷ l)) ≡ 0 = ap length h in absurd (omega (arith, length-take (n + 1) (c ∷ l)))

@@ -1,0 +1,229 @@
+-- What an armored text is (RFC 9580, 6.2): a text against a finished list of blocks. And which fault another text has.
+use Rattle.std.specs.Prelude.{◌≡◌, ℕ, ◌+◌, ◌==◌, ◌<◌, ◌≤◌, nat_eq, nat_lt, Bool, true, false, if◌then◌else◌, ◌⊎◌, List, [], ◌∷◌, ◌++◌, length}
+use Rattle.std.specs.List.{list_any, list_all, flat_map, fold, starts_with, AllByRecursion}
+use Rattle.std.specs.Str.{bytes_eq}
+use Rattle.std.specs.declared.option.Option.{Option}
+use Rattle.std.specs.declared.option.Option.TheVariants.{None, Some}
+use Rattle.opgp_armor.specs.declared.label.Label.{Label}
+use Rattle.opgp_armor.specs.declared.label.Label.TheVariants.{Message, PublicKeyBlock, PrivateKeyBlock, Signature}
+use Rattle.opgp_armor.specs.declared.place.Place.{Place}
+use Rattle.opgp_armor.specs.declared.place.Place.TheVariants.{Outside, Headers, Data, AfterChecksum}
+use Rattle.opgp_octets.specs.Octets.{IsOctets}
+use Rattle.opgp_octets.specs.declared.fault.Fault.{Fault}
+use Rattle.opgp_octets.specs.declared.fault.Layer.TheVariants as layer
+use Rattle.opgp_octets.specs.declared.fault.Reason.{Reason}
+use Rattle.opgp_octets.specs.declared.fault.Reason.TheVariants as reason
+use Rattle.opgp_armor.specs.Letters.{is_equals, may_stand, IsBase64}
+use Rattle.opgp_armor.specs.Text.{Line, lines, offset, content, begin_mark, begin_line, end_line}
+
+-- a block, without where it lies in memory
+pub record Block : Type 0 where
+  pub label : Label
+  pub headers : List (List ℕ × List ℕ)
+  pub octets : List ℕ
+
+abbrev pub begins_with : (ℕ → Bool) → List ℕ → Bool
+begins_with test [] = false
+begins_with test (c ∷ cs) = test c
+
+abbrev pub is_colon : ℕ → Bool
+is_colon c = c == 58
+
+abbrev pub is_dash : ℕ → Bool
+is_dash c = c == 45
+
+abbrev pub is_space : ℕ → Bool
+is_space c = c == 32
+
+-- A key that isn't empty and has no colon, a colon, the value; one space may stand before the value,
+-- and must where the value begins with a space.
+pub record IsHeader (limit : ℕ) (line : Line) (header : List ℕ × List ℕ) : Type 0 where
+  pub named : 0 < length header.0
+  pub plain : list_any is_colon header.0 ≡ false
+  pub spelled : ((content line ≡ header.0 ++ 58 ∷ header.1) × (begins_with is_space header.1 ≡ false))
+      ⊎ (content line ≡ header.0 ++ 58 ∷ 32 ∷ header.1)
+  pub within : length line ≤ limit
+
+abbrev pub AreHeaders : ℕ → List Line → List (List ℕ × List ℕ) → Type 0
+AreHeaders limit [] [] = Unit {0}
+AreHeaders limit (l ∷ ls) (h ∷ hs) = IsHeader limit l h × AreHeaders limit ls hs
+AreHeaders limit [] (h ∷ hs) = ⊥
+AreHeaders limit (l ∷ ls) [] = ⊥
+
+pub record IsBlank (limit : ℕ) (line : Line) : Type 0 where
+  pub blank : content line ≡ []
+  pub within : length line ≤ limit
+
+-- a line that begins with neither `=` nor `-`, perhaps a blank one
+pub record IsDataLine (limit : ℕ) (line : Line) : Type 0 where
+  pub no_checksum : begins_with is_equals (content line) ≡ false
+  pub no_end : begins_with is_dash (content line) ≡ false
+  pub within : length line ≤ limit
+
+-- The lines of a block up to its headers ..
+pub record IsHead (limit : ℕ) (label : Label) (headers : List (List ℕ × List ℕ)) (ls : List Line) : Type 0 where
+  pub first : Line
+  pub rest : List Line
+  pub are : ls ≡ first ∷ rest
+  pub begins : content first ≡ begin_line label
+  pub within : length first ≤ limit
+  pub headers_are : AreHeaders limit rest headers
+
+-- .. up to its data lines ..
+pub record IsBody (limit : ℕ) (label : Label) (headers : List (List ℕ × List ℕ)) (letters : List ℕ) (ls : List Line) : Type 0 where
+  pub head : List Line
+  pub gap : Line
+  pub data_lines : List Line
+  pub are : ls ≡ head ++ gap ∷ data_lines
+  pub is_head : IsHead limit label headers head
+  pub is_gap : IsBlank limit gap
+  pub are_data_lines : AllByRecursion (IsDataLine limit) data_lines
+  pub joined : letters ≡ flat_map content data_lines
+
+-- .. and with its checksum line, where it has one, and blank lines after that.
+pub record IsChecked (limit : ℕ) (label : Label) (headers : List (List ℕ × List ℕ)) (letters : List ℕ) (ls : List Line) : Type 0 where
+  pub body : List Line
+  pub checksum : Line
+  pub blanks : List Line
+  pub are : ls ≡ body ++ checksum ∷ blanks
+  pub is_body : IsBody limit label headers letters body
+  pub is_checksum : begins_with is_equals (content checksum) ≡ true
+  pub within : length checksum ≤ limit
+  pub are_blanks : AllByRecursion (IsBlank limit) blanks
+
+-- A block: these lines and its end line. The joined letters are the base64 of its octets.
+pub record IsBlock (limit : ℕ) (block : Block) (ls : List Line) : Type 0 where
+  pub front : List Line
+  pub last : Line
+  pub letters : List ℕ
+  pub are : ls ≡ front ++ last ∷ []
+  pub is_front : IsBody limit block.label block.headers letters front ⊎ IsChecked limit block.label block.headers letters front
+  pub spelled : IsBase64 letters block.octets
+  pub ends : content last ≡ end_line block.label
+  pub within : length last ≤ limit
+
+-- A piece of a text: a line outside, or the lines of a block.
+pub data Piece : Type 0 where
+  Other : Line → Piece
+  Whole : List Line → Block → Piece
+
+abbrev pub lines_of : Piece → List Line
+lines_of (Other l) = l ∷ []
+lines_of (Whole ls b) = ls
+
+abbrev pub blocks_of : Piece → List Block
+blocks_of (Other l) = []
+blocks_of (Whole ls b) = b ∷ []
+
+abbrev pub IsPiece : ℕ → Piece → Type 0
+IsPiece limit (Other l) = starts_with nat_eq l begin_mark ≡ false
+IsPiece limit (Whole ls b) = IsBlock limit b ls
+
+-- the lines are, in order, outside lines and these blocks
+pub record ArePieces (limit : ℕ) (ls : List Line) (blocks : List Block) : Type 0 where
+  pub pieces : List Piece
+  pub each : AllByRecursion (IsPiece limit) pieces
+  pub are : ls ≡ flat_map lines_of pieces
+  pub blocks_are : blocks ≡ flat_map blocks_of pieces
+
+-- An armored text: outside lines and at least one block.
+pub record Armored (limit : ℕ) (text : List ℕ) (blocks : List Block) : Type 0 where
+  pub whole : ArePieces limit (lines text) blocks
+  pub some : 0 < length blocks
+
+-- ---- faults
+
+-- these are the first lines of some armored text
+pub record Opens (limit : ℕ) (ls : List Line) : Type 0 where
+  pub text : List ℕ
+  pub blocks : List Block
+  pub more : List Line
+  pub octets : IsOctets text
+  pub armored : Armored limit text blocks
+  pub begins : lines text ≡ ls ++ more
+
+-- the label that a content spells, in one of the two kinds of line
+abbrev pub label_at : (Label → List ℕ) → List ℕ → Option Label
+label_at spelled c =
+    if bytes_eq c (spelled Message) then Some Message
+    else if bytes_eq c (spelled PublicKeyBlock) then Some PublicKeyBlock
+    else if bytes_eq c (spelled PrivateKeyBlock) then Some PrivateKeyBlock
+    else if bytes_eq c (spelled Signature) then Some Signature
+    else None
+
+-- Where the next line stands, and how many blocks are finished: what the lines of an armored text do.
+pub record Situation : Type 0 where
+  pub place : Place
+  pub finished : ℕ
+
+abbrev pub opened_by : Option Label → Place
+opened_by None = Outside
+opened_by (Some label) = Headers label
+
+abbrev pub after_content : Place → List ℕ → Place
+after_content Outside c = opened_by (label_at begin_line c)
+after_content (Headers label) [] = Data label
+after_content (Headers label) (d ∷ c) = Headers label
+after_content (Data label) c = if begins_with is_equals c then AfterChecksum label else if begins_with is_dash c then Outside else Data label
+after_content (AfterChecksum label) c = if begins_with is_dash c then Outside else AfterChecksum label
+
+-- 1 where a block ends
+abbrev pub ended_by : Place → List ℕ → ℕ
+ended_by Outside c = 0
+ended_by (Headers label) c = 0
+ended_by (Data label) c = if begins_with is_dash c then 1 else 0
+ended_by (AfterChecksum label) c = if begins_with is_dash c then 1 else 0
+
+abbrev pub after_line : Situation → Line → Situation
+after_line s l = record { place = after_content s.place (content l); finished = s.finished + ended_by s.place (content l) }
+
+unfoldable pub situation : List Line → Situation
+situation ls = fold after_line (record { place = Outside; finished = 0 }) ls
+
+-- why a line is refused at its place
+abbrev pub short_reason : Place → List ℕ → Reason
+short_reason Outside c = reason.Label
+short_reason (Headers label) c = reason.Header
+short_reason (Data label) c =
+    if begins_with is_equals c then reason.Padding
+    else if begins_with is_dash c then (if bytes_eq c (end_line label) then reason.Padding else reason.EndLabel)
+    else if list_all may_stand c then reason.Padding else reason.Letters
+short_reason (AfterChecksum label) c = if begins_with is_dash c then reason.EndLabel else reason.AfterChecksum
+
+abbrev pub reason_of : ℕ → Place → Line → Reason
+reason_of limit place l = if nat_lt limit (length l) then reason.LineTooLong else short_reason place (content l)
+
+-- The first line with which no armored text begins so.
+pub record LineFault (limit : ℕ) (text : List ℕ) (why : Reason) (block pos : ℕ) : Type 0 where
+  pub before : List Line
+  pub line : Line
+  pub after : List Line
+  pub are : lines text ≡ before ++ line ∷ after
+  pub opens : Opens limit before
+  pub refused : Opens limit (before ++ line ∷ []) → ⊥
+  pub why_is : why ≡ reason_of limit (situation before).place line
+  pub block_is : block ≡ (situation before).finished
+  pub pos_is : pos ≡ offset before
+
+abbrev pub end_reason : Place → Reason
+end_reason Outside = reason.NoBlock
+end_reason (Headers label) = reason.Unfinished
+end_reason (Data label) = reason.Unfinished
+end_reason (AfterChecksum label) = reason.Unfinished
+
+-- The text ends too early.
+pub record EndFault (limit : ℕ) (text : List ℕ) (why : Reason) (block pos : ℕ) : Type 0 where
+  pub opens : Opens limit (lines text)
+  pub refused : (blocks : List Block) → Armored limit text blocks → ⊥
+  pub why_is : why ≡ end_reason (situation (lines text)).place
+  pub block_is : block ≡ (situation (lines text)).finished
+  pub pos_is : pos ≡ length text
+
+abbrev pub ArmorFault : ℕ → List ℕ → Reason → ℕ → ℕ → Type 0
+ArmorFault limit text why block pos = LineFault limit text why block pos ⊎ EndFault limit text why block pos
+
+-- The fault of a text, as it is answered.
+pub record IsFault (limit : ℕ) (text : List ℕ) (f : Fault) : Type 0 where
+  pub layer_is : f.layer ≡ layer.Armor
+  pub inner_is : f.inner ≡ 0
+  pub found : ArmorFault limit text f.reason f.block f.pos

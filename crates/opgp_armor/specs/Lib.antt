@@ -1,0 +1,15 @@
+pub mod Letters
+pub mod Text
+pub mod Armored
+pub mod Machine
+pub mod Events
+pub mod Answers
+pub mod Held
+pub mod Cuts
+pub mod Shown
+pub mod Reader
+pub mod Ends
+pub mod Splits
+pub mod Lines
+pub mod Blocks
+pub mod Written

@@ -1,0 +1,151 @@
+-- Armor line by line: the plain definition that code follows.
+use Rattle.std.specs.Prelude.{ℕ, nat_eq, nat_lt, Bool, false, not, if◌then◌else◌, List, [], ◌∷◌, ◌++◌, length}
+use Rattle.std.specs.List.{starts_with, fold}
+use Rattle.std.specs.Str.{bytes_eq}
+use Rattle.std.specs.declared.option.Option.{Option}
+use Rattle.std.specs.declared.option.Option.TheVariants.{None, Some}
+use Rattle.std.specs.declared.result.Result.{Result}
+use Rattle.std.specs.declared.result.Result.TheVariants.{Ok, Err}
+use Rattle.opgp_armor.specs.declared.label.Label.{Label}
+use Rattle.opgp_armor.specs.declared.label.Label.TheVariants.{Message}
+use Rattle.opgp_armor.specs.declared.place.Place.{Place}
+use Rattle.opgp_armor.specs.declared.place.Place.TheVariants.{Outside, Headers, Data, AfterChecksum}
+use Rattle.opgp_octets.specs.declared.fault.Reason.{Reason}
+use Rattle.opgp_octets.specs.declared.fault.Reason.TheVariants as reason
+use Rattle.opgp_armor.specs.Letters.{is_equals, Pending, no_letters, data_line}
+use Rattle.opgp_armor.specs.Text.{Line, content, begin_mark, begin_line, end_line}
+use Rattle.opgp_armor.specs.Armored.{Block, is_colon, is_dash, is_space, label_at}
+
+-- what becomes ready
+pub data Event : Type 0 where
+  Begin : Label → Event
+  Header : List ℕ → List ℕ → Event
+  Octets : List ℕ → Event
+  End : Event
+
+pub record State : Type 0 where
+  pub place : Place
+  pub pending : Pending
+
+abbrev pub put_key : ℕ → Option (List ℕ × List ℕ) → Option (List ℕ × List ℕ)
+put_key c None = None
+put_key c (Some (key, value)) = Some (c ∷ key, value)
+
+-- the parts round the first colon
+unfoldable pub at_colon : List ℕ → Option (List ℕ × List ℕ)
+at_colon [] = None
+at_colon (c ∷ cs) = if is_colon c then Some ([], cs) else put_key c (at_colon cs)
+
+abbrev pub without_space : List ℕ → List ℕ
+without_space [] = []
+without_space (c ∷ cs) = if is_space c then cs else c ∷ cs
+
+abbrev pub named : Option (List ℕ × List ℕ) → Option (List ℕ × List ℕ)
+named None = None
+named (Some ([], value)) = None
+named (Some (c ∷ key, value)) = Some (c ∷ key, without_space value)
+
+-- the header of a line
+abbrev pub header_of : List ℕ → Option (List ℕ × List ℕ)
+header_of c = named (at_colon c)
+
+abbrev pub Answer : Type 0
+Answer = Result (State × List Event) Reason
+
+abbrev pub on_begin : Option Label → Answer
+on_begin None = Err reason.Label
+on_begin (Some l) = Ok (record { place = Headers l; pending = no_letters }, Begin l ∷ [])
+
+abbrev pub on_header : Label → Pending → Option (List ℕ × List ℕ) → Answer
+on_header l p None = Err reason.Header
+on_header l p (Some (key, value)) = Ok (record { place = Headers l; pending = p }, Header key value ∷ [])
+
+abbrev pub some_octets : List ℕ → List Event
+some_octets [] = []
+some_octets (o ∷ os) = Octets (o ∷ os) ∷ []
+
+abbrev pub on_letters : Label → Result (Pending × List ℕ) Reason → Answer
+on_letters l (Err e) = Err e
+on_letters l (Ok (p, octets)) = Ok (record { place = Data l; pending = p }, some_octets octets)
+
+abbrev pub waits : Pending → Bool
+waits p = nat_lt 0 (length p.letters)
+
+-- the end line, after data or a checksum line
+unfoldable pub closing : Label → Pending → List ℕ → Answer
+closing l p c =
+    if not (bytes_eq c (end_line l)) then Err reason.EndLabel
+    else if waits p then Err reason.Padding
+    else Ok (record { place = Outside; pending = no_letters }, End ∷ [])
+
+-- a line of a block, by its content
+abbrev pub inside : Place → Pending → List ℕ → Answer
+inside Outside p c = on_begin (label_at begin_line c)
+inside (Headers l) p [] = Ok (record { place = Data l; pending = p }, [])
+inside (Headers l) p (c ∷ cs) = on_header l p (header_of (c ∷ cs))
+inside (Data l) p [] = Ok (record { place = Data l; pending = p }, [])
+inside (Data l) p (c ∷ cs) =
+    if is_equals c then (if waits p then Err reason.Padding else Ok (record { place = AfterChecksum l; pending = p }, []))
+    else if is_dash c then closing l p (c ∷ cs)
+    else on_letters l (data_line p (c ∷ cs))
+inside (AfterChecksum l) p [] = Ok (record { place = AfterChecksum l; pending = p }, [])
+inside (AfterChecksum l) p (c ∷ cs) = if is_dash c then closing l p (c ∷ cs) else Err reason.AfterChecksum
+
+-- the line lies outside of all blocks
+abbrev pub passes_by : Place → Line → Bool
+passes_by Outside l = not (starts_with nat_eq l begin_mark)
+passes_by (Headers label) l = false
+passes_by (Data label) l = false
+passes_by (AfterChecksum label) l = false
+
+-- one line
+unfoldable pub step : ℕ → State → Line → Answer
+step limit s l =
+    if passes_by s.place l then Ok (s, [])
+    else if nat_lt limit (length l) then Err reason.LineTooLong
+    else inside s.place s.pending (content l)
+
+abbrev pub start : State
+start = record { place = Outside; pending = no_letters }
+
+-- the state after lines, and the events that they made ready
+pub record Run : Type 0 where
+  pub state : State
+  pub events : List Event
+
+abbrev pub onward : List Event → Answer → Result Run Reason
+onward events (Err e) = Err e
+onward events (Ok (s, more)) = Ok (record { state = s; events = events ++ more })
+
+abbrev pub next : ℕ → Result Run Reason → Line → Result Run Reason
+next limit (Err e) l = Err e
+next limit (Ok r) l = onward r.events (step limit r.state l)
+
+unfoldable pub run_from : ℕ → Result Run Reason → List Line → Result Run Reason
+run_from limit r ls = fold (next limit) r ls
+
+abbrev pub first : Run
+first = record { state = start; events = [] }
+
+abbrev pub run : ℕ → List Line → Result Run Reason
+run limit ls = run_from limit (Ok first) ls
+
+-- ---- the blocks of events
+-- what events have built: the finished blocks, and the one that is open
+pub record Built : Type 0 where
+  pub blocks : List Block
+  pub label : Label
+  pub headers : List (List ℕ × List ℕ)
+  pub octets : List ℕ
+
+abbrev pub absorb : Built → Event → Built
+absorb b (Begin l) = record b { label = l; headers = []; octets = [] }
+absorb b (Header key value) = record b { headers = b.headers ++ (key, value) ∷ [] }
+absorb b (Octets o) = record b { octets = b.octets ++ o }
+absorb b End = record { blocks = b.blocks ++ record { label = b.label; headers = b.headers; octets = b.octets } ∷ []; label = b.label; headers = []; octets = [] }
+
+abbrev pub nothing_built : Built
+nothing_built = record { blocks = []; label = Message; headers = []; octets = [] }
+
+unfoldable pub built : List Event → Built
+built events = fold absorb nothing_built events

@@ -1,0 +1,67 @@
+-- Which events lines make, by where they stand and by the letters of their block so far.
+use Rattle.std.specs.Prelude.{◌≡◌, ℕ, true, false, ◌⊎◌, if◌then◌else◌, List, [], ◌∷◌, ◌++◌}
+use Rattle.std.specs.declared.option.Option.{Option}
+use Rattle.std.specs.declared.option.Option.TheVariants.{None, Some}
+use Rattle.opgp_armor.specs.declared.label.Label.{Label}
+use Rattle.opgp_armor.specs.declared.place.Place.{Place}
+use Rattle.opgp_armor.specs.declared.place.Place.TheVariants.{Outside, Headers, Data, AfterChecksum}
+use Rattle.opgp_armor.specs.Letters.{is_equals, IsBase64, groups_of}
+use Rattle.opgp_armor.specs.Text.{Line, content, begin_line}
+use Rattle.opgp_armor.specs.Armored.{IsHeader, begins_with, is_dash, label_at, after_content, Opens}
+use Rattle.opgp_armor.specs.Machine.{Event, Begin, Header, End, some_octets}
+
+-- where a line stands, and the letters of its block's data lines before it
+pub record Standing : Type 0 where
+  pub place : Place
+  pub letters : List ℕ
+
+abbrev pub letters_after : Place → List ℕ → List ℕ → List ℕ
+letters_after Outside letters c = []
+letters_after (Headers label) letters c = []
+letters_after (Data label) letters c = letters ++ c
+letters_after (AfterChecksum label) letters c = []
+
+abbrev pub after_standing : Standing → Line → Standing
+after_standing s l = record { place = after_content s.place (content l); letters = letters_after s.place s.letters (content l) }
+
+abbrev pub begun : Option Label → List Event
+begun None = []
+begun (Some label) = Begin label ∷ []
+
+-- a data line makes the octets of the groups of four that it ends
+pub record EndsGroups (letters c : List ℕ) (events : List Event) : Type 0 where
+  pub before : List ℕ
+  pub more : List ℕ
+  pub were : IsBase64 (groups_of letters) before
+  pub are : IsBase64 (groups_of (letters ++ c)) (before ++ more)
+  pub made : events ≡ some_octets more
+
+-- One line of a text makes one event or none.
+abbrev pub LineMakes : ℕ → Place → List ℕ → Line → List Event → Type 0
+LineMakes limit Outside letters l events = events ≡ begun (label_at begin_line (content l))
+LineMakes limit (Headers label) letters l events =
+    ((content l ≡ []) × (events ≡ []))
+    ⊎ ((header : List ℕ × List ℕ) × IsHeader limit l header × (events ≡ Header header.0 header.1 ∷ []))
+LineMakes limit (Data label) letters l events =
+    ((begins_with is_equals (content l) ≡ true) × (events ≡ []))
+    ⊎ ((begins_with is_dash (content l) ≡ true) × (events ≡ End ∷ []))
+    ⊎ ((begins_with is_equals (content l) ≡ false) × (begins_with is_dash (content l) ≡ false) × EndsGroups letters (content l) events)
+LineMakes limit (AfterChecksum label) letters l events = events ≡ (if begins_with is_dash (content l) then End ∷ [] else [])
+
+-- the lines make these events, in order
+abbrev pub Makes : ℕ → Standing → List Line → List Event → Type 0
+Makes limit s [] events = events ≡ []
+Makes limit s (l ∷ ls) events =
+    (here : List Event) × (rest : List Event) × (events ≡ here ++ rest) × LineMakes limit s.place s.letters l here × Makes limit (after_standing s l) ls rest
+
+abbrev pub at_start : Standing
+at_start = record { place = Outside; letters = [] }
+
+-- The events of the longest list of first lines with which an armored text begins.
+pub record Shown (limit : ℕ) (ls : List Line) (events : List Event) : Type 0 where
+  pub front : List Line
+  pub back : List Line
+  pub are : ls ≡ front ++ back
+  pub opens : Opens limit front
+  pub longest : (l : Line) (more : List Line) → back ≡ l ∷ more → Opens limit (front ++ l ∷ []) → ⊥
+  pub made : Makes limit at_start front events

@@ -1,0 +1,122 @@
+//! All blocks of a text at once.
+
+ghost use Rattle.std.specs.Prelude.{◌≡◌, ◌+◌, ◌<◌, ◌≤◌, length, take, IfOk, OnOk, MatchResult};
+ghost use Rattle.std.specs.List.{fold};
+ghost use Rattle.opgp_octets.specs.Limits.{line_limit};
+ghost use Rattle.opgp_armor.specs.Armored.{Armored, IsFault};
+ghost use Rattle.opgp_armor.specs.Blocks.{blocks_of_stored, built_of};
+ghost use Rattle.opgp_armor.specs.Events.{event_of, events_of};
+ghost use Rattle.opgp_armor.specs.Machine.{absorb, nothing_built};
+
+use crate::block::Block;
+use crate::event::ArmorEvent;
+use crate::label::Label;
+use crate::reader::Dearmor;
+use opgp_octets::{Fault, Limits, OutOfMemory};
+use std::alloc::{AllocError, Global};
+use std::mem;
+
+/// What the events of a text have built: the finished blocks, and the one that is open.
+#[derive(Drop)]
+pub struct Building {
+    pub(crate) blocks: Vec<Block>,
+    label: Label,
+    headers: Vec<(Vec<u8>, Vec<u8>)>,
+    octets: Vec<u8>,
+}
+
+impl Building {
+    /// Nothing yet.
+    pub(crate) fn new(alloc: Global) -> Building
+        ensures { built_of result ≡ nothing_built }
+    {
+        Building {
+            blocks: Vec::new(alloc),
+            label: Label::Message,
+            headers: Vec::new(alloc),
+            octets: Vec::new(alloc),
+        }
+    }
+
+    /// Ends the open block.
+    fn end_block(&mut self, alloc: Global) -> Result<(), AllocError>
+        ensures { OnOk result (built_of self.new ≡ absorb (built_of self.old) (event_of ArmorEvent.End)) }
+    {
+        let headers = mem::replace(&mut self.headers, Vec::new(alloc));
+        let octets = mem::replace(&mut self.octets, Vec::new(alloc));
+        self.blocks.push(Block {
+            label: self.label,
+            headers,
+            octets,
+        })?;
+        Ok(())
+    }
+
+    /// One event more.
+    fn absorb(&mut self, alloc: Global, event: ArmorEvent) -> Result<(), AllocError>
+        ensures { OnOk result (built_of self.new ≡ absorb (built_of self.old) (event_of event)) }
+    {
+        match event {
+            ArmorEvent::Begin(label) => {
+                self.label = label;
+                self.headers = Vec::new(alloc);
+                self.octets = Vec::new(alloc);
+            }
+            ArmorEvent::Header(key, value) => {
+                self.headers.push((key, value))?;
+            }
+            ArmorEvent::Octets(octets) => {
+                self.octets.extend_from_slice(octets.as_slice())?;
+            }
+            ArmorEvent::End => {
+                self.end_block(alloc)?;
+            }
+        }
+        Ok(())
+    }
+
+    /// One event more, where there is one.
+    pub(crate) fn absorb_some(
+        &mut self,
+        alloc: Global,
+        event: Option<ArmorEvent>,
+    ) -> Result<(), AllocError>
+        ensures { OnOk result (built_of self.new ≡ fold absorb (built_of self.old) (events_of event)) }
+    {
+        match event {
+            Some(event) => self.absorb(alloc, event),
+            None => Ok(()),
+        }
+    }
+}
+
+/// The blocks of an armored text, in order, or its fault.
+///
+/// An error is want of memory.
+pub fn dearmor(
+    alloc: Global,
+    text: &[u8],
+    limits: &Limits,
+) -> Result<Result<Vec<Block>, Fault>, OutOfMemory>
+    ensures { IfOk result (λ answer. MatchResult answer (λ blocks. Armored (line_limit limits.now) text.now (blocks_of_stored blocks.items)) (IsFault (line_limit limits.now) text.now)) }
+{
+    let mut reader = Dearmor::new(alloc, *limits);
+    let mut building = Building::new(alloc);
+    let mut at = 0;
+    'pieces: while at < text.len() {
+        let Ok(n) = reader.push(&text[at..]) else {
+            return Err(AllocError);
+        };
+        let event = reader.take();
+        building.absorb_some(alloc, event)?;
+        at += n;
+    }
+    let Ok(event) = reader.last() else {
+        return Err(AllocError);
+    };
+    building.absorb_some(alloc, event)?;
+    match reader.finish() {
+        Ok(()) => Ok(Ok(building.blocks)),
+        Err(fault) => Ok(Err(fault)),
+    }
+}

@@ -1,0 +1,42 @@
+//! What a reader of armor hands out.
+
+ghost use Rattle.std.specs.Prelude.{◌≡◌, IfOk};
+ghost use Rattle.opgp_armor.specs.Events.{event_of};
+
+use crate::label::Label;
+use opgp_octets::OutOfMemory;
+use std::alloc::Global;
+
+/// What a line of an armored text makes ready.
+#[derive(Debug, Drop)]
+pub enum ArmorEvent {
+    /// A begin line with this label.
+    Begin(Label),
+    /// A header: its key and its value.
+    Header(Vec<u8>, Vec<u8>),
+    /// The octets of the groups of letters that a data line ends.
+    Octets(Vec<u8>),
+    /// The end line of the block.
+    End,
+}
+
+impl ArmorEvent {
+    /// An equal event. An error is want of memory.
+    pub fn copy(&self, alloc: Global) -> Result<ArmorEvent, OutOfMemory>
+        ensures { IfOk result (λ e. event_of e ≡ event_of self.now) }
+    {
+        match self {
+            ArmorEvent::Begin(label) => Ok(ArmorEvent::Begin(*label)),
+            ArmorEvent::Header(key, value) => {
+                let key = Vec::from_slice(alloc, key.as_slice())?;
+                let value = Vec::from_slice(alloc, value.as_slice())?;
+                Ok(ArmorEvent::Header(key, value))
+            }
+            ArmorEvent::Octets(octets) => {
+                let octets = Vec::from_slice(alloc, octets.as_slice())?;
+                Ok(ArmorEvent::Octets(octets))
+            }
+            ArmorEvent::End => Ok(ArmorEvent::End),
+        }
+    }
+}

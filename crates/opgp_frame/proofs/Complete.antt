@@ -1,0 +1,247 @@
+-- Octets that show no fault begin with an allowed packet, so all octets are a list of packets or have a fault.
+use Rattle.std.proofs.Common.{◌≡◌, ℕ, zero, suc, ◌+◌, ◌-◌, ◌^◌, ◌<◌, ◌≤◌, Bool, true, false, cond, ltb, List, [], ◌∷◌, ◌++◌, length, take, drop, get_or, Option, Some, None, refl, sym, ap, subst, ◌∙◌, arith, inl, inr, ◌⊎◌, append_assoc, append-nil, length-append}
+use Rattle.std.specs.List.{AllByRecursion}
+use Rattle.std.proofs.lemmas.Bool.{cases_Bool, cases_lt, ltb-false}
+use Rattle.std.proofs.lemmas.List.{take_at, drop_at, take-append-drop, length-take-le, length-drop, drop-drop, get_or-drop, get_or-take, get_or_past}
+use Rattle.std.proofs.lemmas.List.Elements.{All-from_recursion}
+use Rattle.std.proofs.lemmas.Nat.{pow_below, pow_pos}
+use Rattle.opgp_octets.specs.declared.limits.Limits.{Limits}
+use Rattle.opgp_octets.specs.Limits.{body_limit, pieces_limit}
+use Rattle.opgp_octets.specs.Octets.{IsOctets}
+use Rattle.opgp_octets.specs.declared.fault.Fault.{Fault}
+use Rattle.opgp_octets.specs.declared.fault.Layer.TheVariants.{Framing}
+use Rattle.opgp_octets.specs.declared.fault.Reason.{Reason}
+use Rattle.opgp_octets.specs.declared.fault.Reason.TheVariants.{Truncated}
+use Rattle.opgp_octets.specs.declared.packet_len.PacketLen.TheVariants as new
+use Rattle.opgp_octets.proofs.Bytes.{chosen, IsOctets-drop, IsOctets-take}
+use Rattle.opgp_frame.specs.declared.length.Length.{Length}
+use Rattle.opgp_frame.specs.declared.length.Length.TheVariants.{LegacyOne, LegacyTwo, LegacyFour, Current}
+use Rattle.opgp_frame.specs.declared.packet.Placed.{Placed}
+use Rattle.opgp_frame.specs.Frames.{StandFrom, Frames, BeginsPacket, Longest, IsFault, spelled, length_fault, lengths_fault, packet_fault, or_fault, with_length}
+use Rattle.opgp_frame.specs.Header.{kind_in, header_fault}
+use Rattle.opgp_frame.specs.Length.{LengthFits, IsLengthUnder, LengthBegins, length_octets, length_amount, length_at, is_partial}
+use Rattle.opgp_frame.specs.Packet.{spelling, cut_body}
+use Rattle.opgp_frame.specs.PiecesValue.{pieces_sum}
+use Rattle.opgp_frame.specs.State.{GoodPieces, HasBegun, IsInPiece, IsWhole}
+use Rattle.opgp_frame.proofs.Chains.{GoodFrom, piece_length, behind, lengths_fault-read, lengths_fault-unread}
+use Rattle.opgp_frame.proofs.Lengths.{length_takes}
+use Rattle.opgp_frame.proofs.Made.{form_found, packet_whole}
+use Rattle.opgp_frame.proofs.Packets.{no_packet, no_pieces}
+use Rattle.opgp_frame.proofs.Steps.{within_limit, partial_good, none_first}
+
+-- what octets without a fault hold behind so many pieces of so many octets
+pub record HasBody (limits : Limits) (header before sum : ℕ) (o : List ℕ) : Type 0 where
+  pub exponents : List ℕ
+  pub last : Length
+  pub body : List ℕ
+  pub more : List ℕ
+  pub parts : o ≡ cut_body exponents (length_octets last) body ++ more
+  pub good : GoodFrom limits header before sum exponents
+  pub fits : LengthFits last
+  pub under : IsLengthUnder header last
+  pub ends : is_partial last ≡ false
+  pub fine : length_fault limits (kind_in header) (before + length exponents) (sum + pieces_sum exponents) last ≡ None
+  pub whole : pieces_sum exponents + length_amount last ≡ length body
+  pub octets : IsOctets body
+
+-- a length that isn't partial, and its octets
+ends_here : (limits : Limits) (header before sum : ℕ) (o : List ℕ) (l : Length) (count : ℕ) → IsOctets o → LengthBegins header o l count → length_fault limits (kind_in header) before sum l ≡ None → is_partial l ≡ false → count + length_amount l ≤ length o → HasBody limits header before sum o
+ends_here limits header before sum o l count octets begins fine last room =
+    let left : List ℕ = drop count o in
+    let n : ℕ = length_amount l in
+    let size : length (take n left) ≡ n = length-take-le n left (omega (arith, room, length-drop count o)) in
+    let zero_before : before + 0 ≡ before = omega arith in
+    let zero_sum : sum + 0 ≡ sum = omega arith in
+    record {
+      exponents = [];
+      last = l;
+      body = take n left;
+      more = drop n left;
+      parts = sym (take-append-drop count o) ∙ ap (λ (x : List ℕ). x ++ left) begins.spelled ∙ ap (λ (x : List ℕ). length_octets l ++ x) (sym (take-append-drop n left)) ∙ sym (append_assoc (length_octets l) (take n left) (drop n left));
+      good = tt;
+      fits = begins.fits;
+      under = begins.under;
+      ends = last;
+      fine = rw (zero_before, zero_sum) fine;
+      whole = omega (arith, size);
+      octets = IsOctets-take n left (IsOctets-drop count o octets);
+    }
+
+octets_append : (a b : List ℕ) → IsOctets a → IsOctets b → IsOctets (a ++ b)
+octets_append [] b fa fb i = fb i
+octets_append (x ∷ a) b fa fb zero = fa 0
+octets_append (x ∷ a) b fa fb (suc i) = octets_append a b (λ j. fa (suc j)) fb i
+
+-- a piece before what follows
+piece_before : (limits : Limits) (header before sum k : ℕ) (o : List ℕ) (count : ℕ) → IsOctets o → LengthBegins header o (Current (new.Partial k)) count → length_fault limits (kind_in header) before sum (piece_length k) ≡ None → count + 2 ^ k ≤ length o
+    → HasBody limits header (before + 1) (sum + 2 ^ k) (drop (count + 2 ^ k) o) → HasBody limits header before sum o
+piece_before limits header before sum k o count octets begins fine room b =
+    let left : List ℕ = drop count o in
+    let piece : List ℕ = take (2 ^ k) left in
+    let size : length piece ≡ 2 ^ k = length-take-le (2 ^ k) left (omega (arith, room, length-drop count o)) in
+    let rest : drop (2 ^ k) left ≡ cut_body b.exponents (length_octets b.last) b.body ++ b.more = drop-drop (2 ^ k) count o ∙ b.parts in
+    let front : take (2 ^ k) (piece ++ b.body) ≡ piece = take_at piece b.body (2 ^ k) size in
+    let back : drop (2 ^ k) (piece ++ b.body) ≡ b.body = drop_at piece b.body (2 ^ k) size in
+    let count_is : (before + 1) + length b.exponents ≡ before + length (k ∷ b.exponents) = omega arith in
+    let sum_is : (sum + 2 ^ k) + pieces_sum b.exponents ≡ sum + pieces_sum (k ∷ b.exponents) = omega arith in
+    record {
+      exponents = k ∷ b.exponents;
+      last = b.last;
+      body = piece ++ b.body;
+      more = b.more;
+      parts = sym (take-append-drop count o) ∙ ap (λ (x : List ℕ). x ++ left) begins.spelled ∙ ap (λ (x : List ℕ). (224 + k) ∷ x) (sym (take-append-drop (2 ^ k) left) ∙ ap (λ (x : List ℕ). piece ++ x) rest ∙ sym (append_assoc piece (cut_body b.exponents (length_octets b.last) b.body) b.more) ∙ rw (front, back) refl);
+      good = (begins.fits, begins.under, fine, b.good);
+      fits = b.fits;
+      under = b.under;
+      ends = b.ends;
+      fine = rw (← count_is, ← sum_is) b.fine;
+      whole = omega (arith, b.whole, size, length-append piece b.body);
+      octets = octets_append piece b.body (IsOctets-take (2 ^ k) left (IsOctets-drop count o octets)) b.octets;
+    }
+
+-- a length that is partial
+partial_is : (l : Length) → is_partial l ≡ true → (k : ℕ) × (l ≡ Current (new.Partial k))
+partial_is (Current (new.Partial k)) e = (k, refl)
+partial_is (Current (new.One n)) e = absurd cc
+partial_is (Current (new.Two n)) e = absurd cc
+partial_is (Current (new.Five n)) e = absurd cc
+partial_is (LegacyOne n) e = absurd cc
+partial_is (LegacyTwo n) e = absurd cc
+partial_is (LegacyFour n) e = absurd cc
+
+fault_none : (why : Option Reason) (at : ℕ) (next : Option (Reason × ℕ)) → or_fault why at next ≡ None → (why ≡ None) × (next ≡ None)
+fault_none None at next e = (refl, e)
+fault_none (Some reason) at next e = absurd cc
+
+pub lengths_body : (n : ℕ) (limits : Limits) (header before sum at : ℕ) (o : List ℕ) → IsOctets o → length o < n → lengths_fault n limits header before sum at o ≡ None → HasBody limits header before sum o
+lengths_body zero limits header before sum at o octets enough e = absurd (omega arith)
+lengths_body (suc n) limits header before sum at o octets enough e =
+    elim (length_at header o) as (λ (r : Option (Length × ℕ)). length_at header o ≡ r → HasBody limits header before sum o) [
+      | None ↦ λ k. absurd (let q = sym (lengths_fault-unread n limits header before sum at o k) ∙ e in cc)
+      | Some x ↦ λ k.
+          let l : Length = x.0 in
+          let count : ℕ = x.1 in
+          let begins = length_takes header o x octets k in
+          let parts = fault_none (length_fault limits (kind_in header) before sum l) at (behind n limits header before sum at o l count) (sym (lengths_fault-read n limits header before sum at o l count k) ∙ e) in
+          elim (chosen (ltb (length o) (count + length_amount l)) (Some (Truncated, at)) (cond (is_partial l) (lengths_fault n limits header (before + 1) (sum + length_amount l) (at + (count + length_amount l)) (drop (count + length_amount l) o)) None) None parts.1) [
+            | inl p ↦ absurd (let q = p.1 in cc)
+            | inr p ↦
+                let room : count + length_amount l ≤ length o = ltb-false (length o) (count + length_amount l) p.0 in
+                elim (chosen (is_partial l) (lengths_fault n limits header (before + 1) (sum + length_amount l) (at + (count + length_amount l)) (drop (count + length_amount l) o)) None None p.1) [
+                  | inr q ↦ ends_here limits header before sum o l count octets begins parts.0 q.0 room
+                  | inl q ↦
+                      let is = partial_is l q.0 in
+                      let rest : List ℕ = drop (count + length_amount l) o in
+                      let some : 0 < count = omega (arith, begins.size, ap (λ (m : Length). length (length_octets m)) is.1) in
+                      let again = lengths_body n limits header (before + 1) (sum + length_amount l) (at + (count + length_amount l)) rest (IsOctets-drop (count + length_amount l) o octets) (omega (arith, enough, room, some, length-drop (count + length_amount l) o)) q.1 in
+                      piece_before limits header before sum is.0 o count octets (subst (λ (m : Length). LengthBegins header o m count) is.1 begins)
+                      (subst (λ (m : Length). length_fault limits (kind_in header) before sum m ≡ None) is.1 parts.0) (subst (λ (m : Length). count + length_amount m ≤ length o) is.1 room)
+                      (subst (λ (m : Length). HasBody limits header (before + 1) (sum + length_amount m) (drop (count + length_amount m) o)) is.1 again)
+                ]
+          ]
+    ] refl
+
+-- ---- from good pieces one by one
+
+good_small : (limits : Limits) (header before sum : ℕ) (ks : List ℕ) → GoodFrom limits header before sum ks → AllByRecursion (λ k. k ≤ 30) ks
+good_small limits header before sum [] good = tt
+good_small limits header before sum (k ∷ ks) good = (good.0, good_small limits header (before + 1) (sum + 2 ^ k) ks good.3)
+
+good_count : (limits : Limits) (header before sum : ℕ) (ks : List ℕ) → GoodFrom limits header before sum ks → before ≤ pieces_limit limits → before + length ks ≤ pieces_limit limits
+good_count limits header before sum [] good le = omega (arith, le)
+good_count limits header before sum (k ∷ ks) good le =
+    let room = (partial_good limits (kind_in header) before (2 ^ k) (none_first _ _ good.2)).room in
+    omega (arith, good_count limits header (before + 1) (sum + 2 ^ k) ks good.3 (omega (arith, room)))
+
+good_sum : (limits : Limits) (header before sum : ℕ) (ks : List ℕ) → GoodFrom limits header before sum ks → sum ≤ body_limit limits → sum + pieces_sum ks ≤ body_limit limits
+good_sum limits header before sum [] good le = omega (arith, le)
+good_sum limits header before sum (k ∷ ks) good le =
+    let room = within_limit limits (kind_in header) before sum (piece_length k) good.2 in
+    omega (arith, good_sum limits header (before + 1) (sum + 2 ^ k) ks good.3 room)
+
+pub GoodFrom-pieces : (limits : Limits) (header : ℕ) (ks : List ℕ) → GoodFrom limits header 0 0 ks → GoodPieces limits header ks
+GoodFrom-pieces limits header [] good = no_pieces limits header
+GoodFrom-pieces limits header (k ∷ ks) good =
+    let part = partial_good limits (kind_in header) 0 (2 ^ k) (none_first _ _ good.2) in
+    record {
+      each = All-from_recursion (λ j. j ≤ 30) (k ∷ ks) (good_small limits header 0 0 (k ∷ ks) good);
+      first = λ _. elim (cases_lt k 9) [ inl lt ↦ absurd (omega (arith, part.first refl, pow_below k 9 lt)) | inr le ↦ le ];
+      current = λ _. good.1;
+      kind = λ _. part.kind';
+      count = omega (arith, good_count limits header 0 0 (k ∷ ks) good (omega arith));
+      sum = omega (arith, good_sum limits header 0 0 (k ∷ ks) good (omega arith));
+    }
+
+-- octets that show no fault begin with an allowed packet
+pub begins_packet : (limits : Limits) (header : ℕ) (o : List ℕ) → IsOctets (header ∷ o) → packet_fault limits (header ∷ o) ≡ None → BeginsPacket limits (header ∷ o)
+unfolding packet_fault
+begins_packet limits header o octets e =
+    let parts = fault_none (header_fault header) 0 (lengths_fault (suc (length o)) limits header 0 0 1 o) e in
+    let b = lengths_body (suc (length o)) limits header 0 0 1 o (λ i. octets (suc i)) (omega arith) parts.1 in
+    let begun : HasBegun limits header b.exponents = record { octet = octets 0; read = parts.0; pieces = GoodFrom-pieces limits header b.exponents b.good } in
+    let count : 0 + length b.exponents ≡ length b.exponents = omega arith in
+    let total : 0 + pieces_sum b.exponents ≡ pieces_sum b.exponents = omega arith in
+    let spelled_so : List ℕ = header ∷ cut_body b.exponents (length_octets b.last) b.body in
+    let piece : IsInPiece limits header b.last (pieces_sum b.exponents) (length b.body) b.exponents b.body spelled_so = record {
+      begun = begun;
+      octets = refl;
+      fits = b.fits;
+      under = b.under;
+      good = rw (count, total) at b.fine;
+      begins = refl;
+      ends = sym b.whole;
+      least = omega (arith, b.whole);
+      most = omega arith;
+    } in
+    let found = form_found limits header b.exponents b.last begun b.under b.ends in
+    let whole = packet_whole limits header b.last (pieces_sum b.exponents) (length b.body) b.exponents b.body spelled_so found.0 piece refl b.octets found.2 in
+    record { packet = record { form = found.0; kind = kind_in header; body = b.body }; more = b.more; begins = ap (λ (x : List ℕ). header ∷ x) b.parts ∙ ap (λ (x : List ℕ). x ++ b.more) whole.spelled; allowed = whole.allowed }
+
+-- ---- all octets have an answer
+
+pub record HasLongest (limits : Limits) (block at : ℕ) (octets : List ℕ) : Type 0 where
+  pub packets : List Placed
+  pub rest : List ℕ
+  pub whole : octets ≡ spelled packets ++ rest
+  pub stand : StandFrom limits block at packets
+  pub why : (rest ≡ []) ⊎ ((why : Reason × ℕ) × (packet_fault limits rest ≡ Some why))
+
+pub longest : (n : ℕ) (limits : Limits) (block at : ℕ) (octets : List ℕ) → IsOctets octets → length octets < n → HasLongest limits block at octets
+longest zero limits block at octets fits enough = absurd (omega arith)
+longest (suc n) limits block at [] fits enough = record { packets = []; rest = []; whole = refl; stand = tt; why = inl refl }
+longest (suc n) limits block at (h ∷ o) fits enough =
+    elim (packet_fault limits (h ∷ o)) as (λ (r : Option (Reason × ℕ)). packet_fault limits (h ∷ o) ≡ r → HasLongest limits block at (h ∷ o)) [
+      | Some why ↦ λ e. record { packets = []; rest = h ∷ o; whole = refl; stand = tt; why = inr (why, e) }
+      | None ↦ λ e.
+          let b = begins_packet limits h o fits e in
+          let size : length (h ∷ o) ≡ length (spelling b.packet) + length b.more = ap (length {A = ℕ}) b.begins ∙ length-append (spelling b.packet) b.more in
+          let more_fits : IsOctets b.more = λ i. subst (λ (x : List ℕ). get_or x i 0 < 256) (ap (drop (length (spelling b.packet))) b.begins ∙ drop_at (spelling b.packet) b.more (length (spelling b.packet)) refl) (IsOctets-drop (length (spelling b.packet)) (h ∷ o) fits i) in
+          let again = longest n limits block (at + length (spelling b.packet)) b.more more_fits (omega (arith, enough, size)) in
+          let q : Placed = record { packet = b.packet; block = block; pos = at } in
+          record {
+            packets = q ∷ again.packets;
+            rest = again.rest;
+            whole = b.begins ∙ ap (λ (x : List ℕ). spelling b.packet ++ x) again.whole ∙ sym (append_assoc (spelling b.packet) (spelled again.packets) again.rest);
+            stand = (b.allowed, refl, refl, again.stand);
+            why = again.why;
+          }
+    ] refl
+
+pub every_answer : (limits : Limits) (block : ℕ) (octets : List ℕ) → IsOctets octets → ((packets : List Placed) × Frames limits block octets packets) ⊎ ((fault : Fault) × IsFault limits block octets fault)
+every_answer limits block octets fits =
+    let l = longest (suc (length octets)) limits block 0 octets fits (omega arith) in
+    elim l.why [
+      | inl none ↦ inl (l.packets, record { whole = l.whole ∙ ap (λ (x : List ℕ). spelled l.packets ++ x) none ∙ append-nil (spelled l.packets); stand = l.stand })
+      | inr (why, e) ↦ inr (
+        record { layer = Framing; reason = why.0; block = block; pos = length (spelled l.packets); inner = why.1 },
+        record {
+          packets = l.packets;
+          rest = l.rest;
+          longest = record { whole = l.whole; stand = l.stand; no_more = no_packet limits l.rest why e };
+          why = e;
+          layer = refl;
+          in_block = refl;
+          pos = refl;
+        },
+      )
+    ]

@@ -1,0 +1,5 @@
+use Rattle.opgp_frame.proofs.Complete.{every_answer as answered}
+use Rattle.opgp_frame.proofs.laws.every_answer.Goals as goal
+
+pub returns : goal.returns
+returns c = answered

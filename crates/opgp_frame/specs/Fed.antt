@@ -1,0 +1,73 @@
+-- What a reader of packets has been given, and what was taken from it.
+use Rattle.std.specs.Prelude.{◌≡◌, ℕ, ◌<◌, Bool, true, false, List, [], ◌++◌, length, take, Some, is_some, option_to_list, IsSome}
+use Rattle.opgp_octets.specs.declared.limits.Limits.{Limits}
+use Rattle.opgp_frame.specs.declared.packet.Placed.{Placed}
+use Rattle.opgp_frame.specs.declared.deframe.Deframe.{Deframe}
+use Rattle.opgp_frame.specs.declared.deframe.State.{State}
+use Rattle.opgp_frame.specs.declared.deframe.State.TheVariants.{Between, InLength, InPiece, Faulty, Spent}
+use Rattle.opgp_frame.specs.Frames.{spelled, StandFrom, packet_fault}
+use Rattle.opgp_frame.specs.Held.{held_in}
+use Rattle.opgp_frame.specs.State.{IsAtLength, IsInPiece}
+
+abbrev pub is_spent_state : State → Bool
+is_spent_state Between = false
+is_spent_state (InLength header seen count) = false
+is_spent_state (InPiece header l from until) = false
+is_spent_state (Faulty reason inner) = false
+is_spent_state Spent = true
+
+abbrev pub is_faulty_state : State → Bool
+is_faulty_state Between = false
+is_faulty_state (InLength header seen count) = false
+is_faulty_state (InPiece header l from until) = false
+is_faulty_state (Faulty reason inner) = true
+is_faulty_state Spent = false
+
+-- a push has met want of memory
+abbrev pub is_spent : Deframe → Bool
+is_spent d = is_spent_state d.state
+
+-- the octets given are at fault, whatever follows
+abbrev pub is_faulty : Deframe → Bool
+is_faulty d = is_faulty_state d.state
+
+-- a packet waits to be taken
+abbrev pub is_ready : Deframe → Bool
+is_ready d = is_some d.ready
+
+-- the octets that pushes have answered as taken
+abbrev pub count_of : Deframe → ℕ
+count_of d = d.given
+
+-- Of the packet that is unfinished or ready: its first octet, the octets of the length header that is being read, the
+-- joined octets of the body, and one octet a piece.
+abbrev pub held_of : Deframe → ℕ
+held_of d = held_in d.state (length d.exponents.items) (length d.body.items) d.ready
+
+-- the limits that it keeps
+abbrev pub limits_of : Deframe → Limits
+limits_of d = d.limits
+
+-- the packets so far: those taken, and the one that is ready
+abbrev pub packets_of : Deframe → List Placed → List Placed
+packets_of d taken = taken ++ option_to_list d.ready
+
+-- the octets after the last whole packet, as the state keeps them
+abbrev pub IsRest : Limits → State → List ℕ → List ℕ → List ℕ → Type 0
+IsRest limits Between exponents body rest = (rest ≡ []) × (exponents ≡ []) × (body ≡ [])
+IsRest limits (InLength header seen count) exponents body rest = IsAtLength limits header (take count seen) exponents body rest
+IsRest limits (InPiece header l from until) exponents body rest = IsInPiece limits header l from until exponents body rest × (length body < until)
+IsRest limits (Faulty reason inner) exponents body rest = (more : List ℕ) → packet_fault limits (rest ++ more) ≡ Some (reason, inner)
+IsRest limits Spent exponents body rest = ⊥
+
+-- Within these limits the reader was given these octets of the block, and these packets were taken from it.
+pub record Fed (limits : Limits) (block : ℕ) (d : Deframe) (given : List ℕ) (taken : List Placed) : Type 0 where
+  pub rest : List ℕ
+  pub limits_kept : d.limits ≡ limits
+  pub block_kept : d.block ≡ block
+  pub whole : given ≡ spelled (packets_of d taken) ++ rest
+  pub stand : StandFrom limits block 0 (packets_of d taken)
+  pub start : d.start ≡ length (spelled (packets_of d taken))
+  pub count : d.given ≡ length given
+  pub state : IsRest limits d.state d.exponents.items d.body.items rest
+  pub waits : IsSome d.ready → rest ≡ []

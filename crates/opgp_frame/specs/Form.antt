@@ -1,0 +1,81 @@
+-- The forms of a packet's header (RFC 9580, 4.2).
+use Rattle.std.specs.Prelude.{ℕ, ◌+◌, ◌*◌, ◌-◌, ◌^◌, ◌<◌, ◌≤◌, Bool, true, List, [], nat_lt}
+use Rattle.opgp_octets.specs.declared.packet_len.PacketLen.TheVariants as new
+use Rattle.opgp_frame.specs.declared.length.Length.{Length}
+use Rattle.opgp_frame.specs.declared.length.Length.TheVariants.{LegacyOne, LegacyTwo, LegacyFour, Current}
+use Rattle.opgp_frame.specs.declared.pieces.LastForm.{LastForm}
+use Rattle.opgp_frame.specs.declared.pieces.LastForm.TheVariants.{One, Two, Five}
+use Rattle.opgp_frame.specs.declared.form.Form.{Form}
+use Rattle.opgp_frame.specs.declared.form.Form.TheVariants.{OldOne, OldTwo, OldFour, NewOne, NewTwo, NewFive, Partial}
+use Rattle.opgp_frame.specs.Header.{is_data_kind}
+use Rattle.opgp_frame.specs.Length.{LengthFits}
+use Rattle.opgp_frame.specs.PiecesValue.{ArePieces, pieces_sum}
+
+-- a length of the current format
+abbrev pub current_length : LastForm → ℕ → Length
+current_length One n = Current (new.One n)
+current_length Two n = Current (new.Two n)
+current_length Five n = Current (new.Five n)
+
+-- the exponents of the pieces under partial lengths
+abbrev pub exponents_of : Form → List ℕ
+exponents_of (Partial p) = p.exponents
+exponents_of OldOne = []
+exponents_of OldTwo = []
+exponents_of OldFour = []
+exponents_of NewOne = []
+exponents_of NewTwo = []
+exponents_of NewFive = []
+
+-- the last length, which is the only one without pieces, where so many octets are left of the body
+abbrev pub length_of_rest : Form → ℕ → Length
+length_of_rest OldOne n = LegacyOne n
+length_of_rest OldTwo n = LegacyTwo n
+length_of_rest OldFour n = LegacyFour n
+length_of_rest NewOne n = current_length One n
+length_of_rest NewTwo n = current_length Two n
+length_of_rest NewFive n = current_length Five n
+length_of_rest (Partial p) n = current_length p.last n
+
+-- the last length of a body of n octets
+abbrev pub last_length : Form → ℕ → Length
+last_length form n = length_of_rest form (n - pieces_sum (exponents_of form))
+
+-- the pieces under partial lengths are such as may be
+abbrev pub HasPieces : Form → Type 0
+HasPieces (Partial p) = ArePieces p.exponents
+HasPieces OldOne = Unit {0}
+HasPieces OldTwo = Unit {0}
+HasPieces OldFour = Unit {0}
+HasPieces NewOne = Unit {0}
+HasPieces NewTwo = Unit {0}
+HasPieces NewFive = Unit {0}
+
+-- The form spells a body of n octets: it has the pieces, its last length holds what is left, and it is no longer than
+-- a length of four octets says.
+pub record FormSpells (form : Form) (n : ℕ) : Type 0 where
+  pub stand : HasPieces form
+  pub pieces : pieces_sum (exponents_of form) ≤ n
+  pub rest : LengthFits (last_length form n)
+  pub most : n < 2 ^ 32
+
+-- packets of a type that is read may have the form
+abbrev pub form_takes : Form → ℕ → Bool
+form_takes OldOne kind = nat_lt kind 16
+form_takes OldTwo kind = nat_lt kind 16
+form_takes OldFour kind = nat_lt kind 16
+form_takes NewOne kind = true
+form_takes NewTwo kind = true
+form_takes NewFive kind = true
+form_takes (Partial p) kind = is_data_kind kind
+
+-- The octet that begins a packet: bit 7 is set. In the legacy format the type is in bits 5 to 2 and the kind of length
+-- in bits 1 and 0. In the current format bit 6 is set, and the type is in bits 5 to 0.
+abbrev pub header_octet : Form → ℕ → ℕ
+header_octet OldOne kind = 128 + 4 * kind
+header_octet OldTwo kind = 129 + 4 * kind
+header_octet OldFour kind = 130 + 4 * kind
+header_octet NewOne kind = 192 + kind
+header_octet NewTwo kind = 192 + kind
+header_octet NewFive kind = 192 + kind
+header_octet (Partial p) kind = 192 + kind

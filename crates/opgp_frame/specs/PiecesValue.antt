@@ -1,0 +1,19 @@
+-- The pieces of a body under partial lengths (RFC 9580, 4.2.1.4).
+use Rattle.std.specs.Prelude.{ℕ, ◌+◌, ◌<◌, ◌≤◌, ◌^◌, List, [], ◌∷◌, length, slice_index, All}
+use Rattle.opgp_frame.specs.declared.pieces.LastForm.{LastForm}
+
+-- the exponents of the pieces, and the form of the length after them
+pub record PiecesValue : Type 0 where
+  pub exponents : List ℕ
+  pub last : LastForm
+
+-- there is a piece, the first has at least 512 octets, and none has more than 2^30
+pub record ArePieces (exponents : List ℕ) : Type 0 where
+  pub some : 0 < length exponents
+  pub first : 9 ≤ slice_index exponents 0
+  pub each : All (λ k. k ≤ 30) exponents
+
+-- how many octets the pieces have
+abbrev pub pieces_sum : List ℕ → ℕ
+pieces_sum [] = 0
+pieces_sum (k ∷ ks) = 2 ^ k + pieces_sum ks

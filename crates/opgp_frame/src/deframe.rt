@@ -1,0 +1,381 @@
+//! A reader of packets that octets are pushed into, in any pieces.
+
+ghost use Rattle.std.specs.Prelude.{◌≡◌, ◌<◌, ◌≤◌, ◌+◌, ◌^◌, ◌++◌, ◌∷◌, ◌↔◌, ℕ, List, [], true, false, length, take, is_some, option_to_list, IfOk, OnOk, OnErr, MatchResult, Ok, Err};
+ghost use Rattle.std.specs.Option.{IsSomeAnd};
+ghost use Rattle.opgp_octets.specs.declared.limits.Limits.{Limits};
+ghost use Rattle.opgp_octets.specs.declared.fault.Layer.TheVariants as layer;
+ghost use Rattle.opgp_octets.specs.declared.fault.Reason.TheVariants as reason;
+ghost use Rattle.opgp_octets.specs.Limits.{body_limit, pieces_limit};
+ghost use Rattle.opgp_frame.specs.Held.{state_fits, state_fault, held_in};
+
+use crate::header::{header_fault, kind_in};
+use crate::length::{Length, length_fault, read_length};
+use crate::packet::Placed;
+use crate::parts::placed;
+use opgp_octets::{Fault, Layer, Limits, PushFault, Reason};
+use std::alloc::{AllocError, Global};
+use std::mem;
+
+/// Where a reader stands.
+#[derive(Clone, Copy)]
+enum State {
+    /// Between packets.
+    Between,
+    /// In a length header of a packet, of which so many octets have come.
+    InLength {
+        header: u8,
+        seen: [u8; 5],
+        count: usize,
+    },
+    /// In what a length header announced: with it the body has so many octets, from so many on.
+    InPiece {
+        header: u8,
+        length: Length,
+        from: u64,
+        until: u64,
+    },
+    /// Behind a fault, at this offset in its packet.
+    Faulty {
+        reason: Reason,
+        inner: u64,
+    },
+    /// After want of memory.
+    Spent,
+}
+
+/// A reader of packets that octets are pushed into, in any pieces.
+///
+/// It keeps no more than the packet that is unfinished or ready.
+#[derive(Drop)]
+pub struct Deframe {
+    alloc: Global,
+    limits: Limits,
+    block: u64,
+    state: State,
+    exponents: Vec<u8>,
+    body: Vec<u8>,
+    ready: Option<Placed>,
+    start: u64,
+    given: u64,
+    ghost fits: { state_fits limits state (length exponents.items) (length body.items) ≡ true },
+    ghost held: { held_in state (length exponents.items) (length body.items) ready ≤ body_limit limits + pieces_limit limits + 16 },
+}
+
+impl Deframe {
+    ghost use Rattle.opgp_frame.specs.Fed.{Fed, is_spent, is_faulty, is_ready, count_of, limits_of, held_of};
+    ghost use Rattle.opgp_frame.specs.Held.{IsInLength};
+    ghost use Rattle.opgp_frame.specs.Length.{is_partial};
+    ghost use Rattle.opgp_frame.specs.State.{IsInPiece, IsWhole};
+    ghost use Rattle.opgp_frame.specs.Frames.{Frames, IsFault};
+    ghost use Rattle.opgp_frame.specs.declared.packet.Placed.{Placed};
+
+    /// A reader of a block's packets that was given nothing.
+    ///
+    /// Takes no memory; pushes do, from `alloc`.
+    pub fn new(alloc: Global, block: u64, limits: Limits) -> Deframe
+        ensures fed { Fed limits block result [] [] }
+        ensures free { is_ready result ≡ false }
+        ensures sound { is_spent result ≡ false }
+        ensures count { count_of result ≡ 0 }
+        ensures limits { limits_of result ≡ limits }
+        ensures held { held_of result ≡ 0 }
+    {
+        Deframe {
+            alloc,
+            limits,
+            block,
+            state: State::Between,
+            exponents: Vec::new(alloc),
+            body: Vec::new(alloc),
+            ready: None,
+            start: 0,
+            given: 0,
+        }
+    }
+
+    /// Whether a packet waits to be taken.
+    pub fn ready(&self) -> bool
+        ensures { result ≡ is_ready self.now }
+    {
+        self.ready.is_some()
+    }
+
+    /// How many octets pushes have answered as taken.
+    pub fn given(&self) -> u64
+        ensures { result ≡ count_of self.now }
+    {
+        self.given
+    }
+
+    /// Takes the packet that is ready.
+    pub fn take(&mut self) -> Option<Placed>
+        ensures fed { (limits : Limits) (block : ℕ) (given : List ℕ) (taken : List Placed) → Fed limits block self.old given taken
+            → Fed limits block self.new given (taken ++ option_to_list result) }
+        ensures some { is_some result ≡ is_ready self.old }
+        ensures free { is_ready self.new ≡ false }
+        ensures spent { is_spent self.new ≡ is_spent self.old }
+        ensures faulty { is_faulty self.new ≡ is_faulty self.old }
+        ensures count { count_of self.new ≡ count_of self.old }
+        ensures limits { limits_of self.new ≡ limits_of self.old }
+        ensures held { held_of self.new ≤ held_of self.old }
+    {
+        self.ready.take()
+    }
+
+    /// Ends the octets. The condition is that nothing is ready.
+    ///
+    /// An error is the framing fault; after want of memory its reason is `Spent` and its places are 0.
+    ///
+    /// Takes no memory.
+    pub fn finish(self) -> Result<(), Fault>
+        requires { is_ready self ≡ false }
+        ensures ok { (limits : Limits) (block : ℕ) (given : List ℕ) (taken : List Placed) → Fed limits block self given taken
+            → MatchResult result (λ _. Frames limits block given taken) (IsFault limits block given) }
+        ensures spent { is_spent self ≡ true → result ≡ Err (record { layer = layer.Framing; reason = reason.Spent; block = 0; pos = 0; inner = 0 }) }
+    {
+        if let State::Spent = self.state {
+            return Err(Fault {
+                layer: Layer::Framing,
+                reason: Reason::Spent,
+                block: 0,
+                pos: 0,
+                inner: 0,
+            });
+        }
+        match self.fault() {
+            None => Ok(()),
+            Some((reason, inner)) => Err(Fault {
+                layer: Layer::Framing,
+                reason,
+                block: self.block,
+                pos: self.start,
+                inner,
+            }),
+        }
+    }
+
+    /// The fault of the unfinished packet, if the octets end here, and its offset in the packet.
+    fn fault(&self) -> Option<(Reason, u64)>
+        ensures { result ≡ state_fault self.now.state (length self.now.exponents.items) (length self.now.body.items) }
+    {
+        let pieces = self.exponents.len() as u64;
+        match self.state {
+            State::Between | State::Spent => None,
+            State::InLength { .. } => {
+                let before = self.body.len() as u64;
+                Some((Reason::Truncated, 1 + (pieces + before)))
+            }
+            State::InPiece { from, .. } => Some((Reason::Truncated, 1 + (pieces + from))),
+            State::Faulty { reason, inner } => Some((reason, inner)),
+        }
+    }
+
+    /// Takes the first octets of the piece, up to the one that makes a packet ready, or all of it, and answers how many.
+    /// The conditions are that nothing is ready, and that fewer than 2^63 octets are given in all.
+    ///
+    /// After a fault all octets are taken and nothing becomes ready. An error is want of memory; the reader is spent
+    /// from then on, and the piece doesn't count as given.
+    pub fn push(&mut self, piece: &[u8]) -> Result<usize, PushFault>
+        requires free { is_ready self.old ≡ false }
+        requires room { count_of self.old + length piece.now < 2 ^ 63 }
+        ensures fed { IfOk result (λ n. (limits : Limits) (block : ℕ) (given : List ℕ) (taken : List Placed) → Fed limits block self.old given taken
+            → Fed limits block self.new (given ++ take n piece.now) taken) }
+        ensures within { IfOk result (λ n. n ≤ length piece.now) }
+        ensures moves { IfOk result (λ n. 0 < length piece.now → 0 < n) }
+        ensures stops { IfOk result (λ n. n < length piece.now → is_ready self.new ≡ true) }
+        ensures count { IfOk result (λ n. count_of self.new ≡ count_of self.old + n) }
+        ensures faulty { is_faulty self.old ≡ true → (result ≡ Ok (length piece.now)) × (is_faulty self.new ≡ true) × (is_ready self.new ≡ false) }
+        ensures sound { OnOk result (is_spent self.new ≡ false) }
+        ensures spent { OnErr result ((is_spent self.new ≡ true) × (is_ready self.new ≡ false) × (count_of self.new ≡ count_of self.old)) }
+        ensures was_spent { (result ≡ Err PushFault.Spent) ↔ (is_spent self.old ≡ true) }
+        ensures limits { limits_of self.new ≡ limits_of self.old }
+        ensures held { held_of self.new ≤ body_limit (limits_of self.new) + pieces_limit (limits_of self.new) + 16 }
+    {
+        if let State::Spent = self.state {
+            return Err(PushFault::Spent);
+        }
+        let before = self.given;
+        let mut at = 0;
+        'steps: while at < piece.len() && self.ready.is_none() {
+            match self.step(&piece[at..]) {
+                Ok(n) => at += n,
+                Err(_) => {
+                    self.state = State::Spent;
+                    self.given = before;
+                    return Err(PushFault::Memory);
+                }
+            }
+        }
+        Ok(at)
+    }
+
+    /// One step of a push: an octet of a header, what there is of a piece, or all after a fault.
+    fn step(&mut self, piece: &[u8]) -> Result<usize, AllocError>
+        requires some { 0 < length piece.now }
+        requires free { is_ready self.old ≡ false }
+        requires sound { is_spent self.old ≡ false }
+        requires room { count_of self.old + length piece.now < 2 ^ 63 }
+        ensures fed { IfOk result (λ n. (limits : Limits) (block : ℕ) (given : List ℕ) (taken : List Placed) → Fed limits block self.old given taken
+            → Fed limits block self.new (given ++ take n piece.now) taken) }
+        ensures moves { IfOk result (λ n. (0 < n) × (n ≤ length piece.now)) }
+        ensures count { IfOk result (λ n. count_of self.new ≡ count_of self.old + n) }
+        ensures faulty { is_faulty self.old ≡ true → (result ≡ Ok (length piece.now)) × (is_faulty self.new ≡ true) × (is_ready self.new ≡ false) }
+        ensures sound { OnOk result (is_spent self.new ≡ false) }
+        ensures free { OnErr result (is_ready self.new ≡ false) }
+        ensures limits { limits_of self.new ≡ limits_of self.old }
+    {
+        match self.state {
+            State::Between => {
+                self.begin(piece[0]);
+                Ok(1)
+            }
+            State::InLength {
+                header,
+                seen,
+                count,
+            } => {
+                self.step_length(header, seen, count, piece[0]);
+                Ok(1)
+            }
+            State::InPiece {
+                header,
+                length,
+                from,
+                until,
+            } => self.step_piece(header, length, from, until, piece),
+            State::Faulty { .. } | State::Spent => {
+                self.given += piece.len() as u64;
+                Ok(piece.len())
+            }
+        }
+    }
+
+    /// Takes the octet that begins a packet.
+    fn begin(&mut self, octet: u8)
+        requires between { self.old.state ≡ State.Between }
+        requires free { is_ready self.old ≡ false }
+        requires room { count_of self.old + 1 < 2 ^ 63 }
+        ensures fed { (limits : Limits) (block : ℕ) (given : List ℕ) (taken : List Placed) → Fed limits block self.old given taken
+            → Fed limits block self.new (given ++ octet ∷ []) taken }
+        ensures count { count_of self.new ≡ count_of self.old + 1 }
+        ensures sound { is_spent self.new ≡ false }
+        ensures limits { limits_of self.new ≡ limits_of self.old }
+    {
+        self.given += 1;
+        match header_fault(octet) {
+            Some(reason) => self.state = State::Faulty { reason, inner: 0 },
+            None => {
+                self.state = State::InLength {
+                    header: octet,
+                    seen: [0; 5],
+                    count: 0,
+                };
+            }
+        }
+    }
+
+    /// Takes an octet of a length header.
+    fn step_length(&mut self, header: u8, mut seen: [u8; 5], count: usize, octet: u8)
+        requires in_length { self.old.state ≡ State.InLength header seen count }
+        requires free { is_ready self.old ≡ false }
+        requires room { count_of self.old + 1 < 2 ^ 63 }
+        ensures fed { (limits : Limits) (block : ℕ) (given : List ℕ) (taken : List Placed) → Fed limits block self.old given taken
+            → Fed limits block self.new (given ++ octet ∷ []) taken }
+        ensures count { count_of self.new ≡ count_of self.old + 1 }
+        ensures sound { is_spent self.new ≡ false }
+        ensures limits { limits_of self.new ≡ limits_of self.old }
+    {
+        self.given += 1;
+        seen[count] = octet;
+        let length = match read_length(header, &seen[..count + 1]) {
+            Some((length, _)) => length,
+            None => {
+                self.state = State::InLength {
+                    header,
+                    seen,
+                    count: count + 1,
+                };
+                return;
+            }
+        };
+        let pieces = self.exponents.len() as u64;
+        let from = self.body.len() as u64;
+        match length_fault(self.limits, kind_in(header), pieces, from, length) {
+            Some(reason) => {
+                self.state = State::Faulty {
+                    reason,
+                    inner: 1 + (pieces + from),
+                };
+            }
+            None if length.amount() == 0 => self.end_packet(header, length),
+            None => {
+                self.state = State::InPiece {
+                    header,
+                    length,
+                    from,
+                    until: from + length.amount(),
+                };
+            }
+        }
+    }
+
+    /// Takes what there is of a piece with which the body has so many octets, from so many on.
+    fn step_piece(
+        &mut self,
+        header: u8,
+        announced: Length,
+        from: u64,
+        until: u64,
+        piece: &[u8],
+    ) -> Result<usize, AllocError>
+        requires in_piece { self.old.state ≡ State.InPiece header announced from until }
+        requires some { 0 < length piece.now }
+        requires free { is_ready self.old ≡ false }
+        requires room { count_of self.old + length piece.now < 2 ^ 63 }
+        ensures fed { IfOk result (λ n. (limits : Limits) (block : ℕ) (given : List ℕ) (taken : List Placed) → Fed limits block self.old given taken
+            → Fed limits block self.new (given ++ take n piece.now) taken) }
+        ensures moves { IfOk result (λ n. (0 < n) × (n ≤ length piece.now)) }
+        ensures count { IfOk result (λ n. count_of self.new ≡ count_of self.old + n) }
+        ensures sound { OnOk result (is_spent self.new ≡ false) }
+        ensures free { OnErr result (is_ready self.new ≡ false) }
+        ensures limits { limits_of self.new ≡ limits_of self.old }
+    {
+        let want = (until - self.body.len() as u64) as usize;
+        let count = want.min(piece.len());
+        self.body.extend_from_slice(&piece[..count])?;
+        self.given += count as u64;
+        if count < want {
+            return Ok(count);
+        }
+        self.state = State::InLength {
+            header,
+            seen: [0; 5],
+            count: 0,
+        };
+        match announced.exponent() {
+            Some(exponent) => self.exponents.push(exponent)?,
+            None => self.end_packet(header, announced),
+        }
+        Ok(count)
+    }
+
+    /// Ends a packet of which the last piece has come.
+    fn end_packet(&mut self, header: u8, last: Length)
+        requires in_length { IsInLength self.old.state }
+        requires free { is_ready self.old ≡ false }
+        ensures whole { (limits : Limits) (from until : ℕ) (rest : List ℕ) → IsInPiece limits header last from until self.old.exponents.items self.old.body.items rest
+            → length self.old.body.items ≡ until → is_partial last ≡ false → IsSomeAnd self.new.ready (λ p. (p.block ≡ self.old.block) × (p.pos ≡ self.old.start) × IsWhole limits rest p.packet) }
+        ensures state { self.new.state ≡ State.Between }
+        ensures empty { (self.new.exponents.items ≡ []) × (self.new.body.items ≡ []) }
+        ensures start { self.new.start ≡ self.old.given }
+        ensures count { self.new.given ≡ self.old.given }
+        ensures block { self.new.block ≡ self.old.block }
+        ensures limits { self.new.limits ≡ self.old.limits }
+    {
+        let body = mem::replace(&mut self.body, Vec::new(self.alloc));
+        let exponents = mem::replace(&mut self.exponents, Vec::new(self.alloc));
+        self.ready = placed(header, exponents, last, body, self.block, self.start);
+        self.start = self.given;
+        self.state = State::Between;
+    }
+}

@@ -1,0 +1,54 @@
+//! The octet that begins a packet (RFC 9580, 4.2), and the packet types (RFC 9580, 5).
+
+ghost use Rattle.std.specs.Prelude.{◌≡◌};
+ghost use Rattle.opgp_frame.specs.Header.{is_read_kind, is_data_kind, is_unknown_critical, kind_in, header_fault};
+
+use opgp_octets::Reason;
+
+/// Whether the type is critical and unknown (RFC 9580, 4.3).
+pub(crate) fn is_unknown_critical(kind: u8) -> bool
+    ensures { result ≡ is_unknown_critical kind }
+{
+    matches!(kind, 15 | 16 | 19 | 20 | 22..=39)
+}
+
+/// Whether packets of the type are read.
+pub(crate) fn is_read_kind(kind: u8) -> bool
+    ensures { result ≡ is_read_kind kind }
+{
+    kind != 0 && kind != 8 && kind < 64 && !is_unknown_critical(kind)
+}
+
+/// Whether packets of the type are data packets, whose bodies may come in pieces.
+pub(crate) fn is_data_kind(kind: u8) -> bool
+    ensures { result ≡ is_data_kind kind }
+{
+    matches!(kind, 9 | 11 | 18)
+}
+
+/// The type that a packet's first octet shows.
+pub(crate) fn kind_in(header: u8) -> u8
+    ensures { result ≡ kind_in header }
+{
+    if header >= 192 {
+        header - 192
+    } else {
+        header.saturating_sub(128) / 4
+    }
+}
+
+/// Why the octet begins no packet, whatever follows.
+pub(crate) fn header_fault(header: u8) -> Option<Reason>
+    ensures { result ≡ header_fault header }
+{
+    if header < 128 {
+        return Some(Reason::NotAPacket);
+    }
+    match kind_in(header) {
+        0 => Some(Reason::TypeZero),
+        8 => Some(Reason::Compressed),
+        kind if is_unknown_critical(kind) => Some(Reason::UnknownCritical),
+        _ if header < 192 && header % 4 == 3 => Some(Reason::Indeterminate),
+        _ => None,
+    }
+}

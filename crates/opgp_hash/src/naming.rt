@@ -1,0 +1,54 @@
+//! What names a key: a hash of its body.
+
+ghost use Rattle.std.specs.Prelude.{◌≡◌, ◌≤◌, length};
+ghost use Rattle.opgp_key.specs.Key.{key_octets, key_version};
+ghost use Rattle.opgp_hash.specs.Fingerprint.{fingerprint_of, four_hashed, six_hashed};
+ghost use Rattle.opgp_hash.specs.KeyId.{key_id_of};
+ghost use Rattle.sha1.specs.Sha1.{sha1};
+ghost use Rattle.sha2.specs.Sha256.{sha256};
+
+use crate::fingerprints::{Fingerprint, KeyId};
+use opgp_key::Key;
+use sha1::Sha1;
+use sha2::{Digest, Sha256};
+
+fn four(body: &[u8]) -> [u8; 20]
+    requires { length body.now ≤ 65535 }
+    ensures { result ≡ sha1 (four_hashed body.now) }
+{
+    let [high, low] = (body.len() as u16).to_be_bytes();
+    let mut hasher = Sha1::new();
+    hasher.update(&[0x99, high, low]);
+    hasher.update(body);
+    hasher.finalize()
+}
+
+fn six(body: &[u8]) -> [u8; 32]
+    requires { length body.now ≤ 4294967295 }
+    ensures { result ≡ sha256 (six_hashed body.now) }
+{
+    let [a, b, c, d] = (body.len() as u32).to_be_bytes();
+    let mut hasher = Sha256::new();
+    hasher.update([0x9B, a, b, c, d].as_slice());
+    hasher.update(body);
+    hasher.finalize()
+}
+
+/// The fingerprint of the key: a hash of its body, whatever header its packet has. Takes no memory.
+pub fn fingerprint(key: &Key) -> Fingerprint
+    ensures { result ≡ fingerprint_of (key_version key.now) (key_octets key.now) }
+{
+    let body = key.body();
+    if key.version() == 4 {
+        Fingerprint::Four(four(body))
+    } else {
+        Fingerprint::Six(six(body))
+    }
+}
+
+/// The key ID of the key, 8 octets of its fingerprint. Takes no memory.
+pub fn key_id(key: &Key) -> KeyId
+    ensures { result.0 ≡ key_id_of (key_version key.now) (key_octets key.now) }
+{
+    fingerprint(key).key_id()
+}

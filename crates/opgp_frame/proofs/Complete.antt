@@ -1,10 +1,10 @@
 -- Octets that show no fault begin with an allowed packet, so all octets are a list of packets or have a fault.
-use Rattle.std.proofs.Common.{◌≡◌, ℕ, zero, suc, ◌+◌, ◌-◌, ◌^◌, ◌<◌, ◌≤◌, Bool, true, false, cond, ltb, List, [], ◌∷◌, ◌++◌, length, take, drop, get_or, Option, Some, None, refl, sym, ap, subst, ◌∙◌, arith, inl, inr, ◌⊎◌, append_assoc, append-nil, length-append}
+use Rattle.std.proofs.Common.{◌≡◌, ℕ, zero, suc, ◌+◌, ◌^◌, ◌<◌, ◌≤◌, true, false, cond, ltb, List, [], ◌∷◌, ◌++◌, length, take, drop, get_or, Option, Some, None, refl, sym, ap, subst, ◌∙◌, arith, inl, inr, ◌⊎◌, append_assoc, append-nil, length-append}
 use Rattle.std.specs.List.{AllByRecursion}
-use Rattle.std.proofs.lemmas.Bool.{cases_Bool, cases_lt, ltb-false}
-use Rattle.std.proofs.lemmas.List.{take_at, drop_at, take-append-drop, length-take-le, length-drop, drop-drop, get_or-drop, get_or-take, get_or_past}
+use Rattle.std.proofs.lemmas.Bool.{cases_lt, ltb-false}
+use Rattle.std.proofs.lemmas.List.{take_at, drop_at, take-append-drop, length-take-le, length-drop, drop-drop}
 use Rattle.std.proofs.lemmas.List.Elements.{All-from_recursion}
-use Rattle.std.proofs.lemmas.Nat.{pow_below, pow_pos}
+use Rattle.std.proofs.lemmas.Nat.{pow_below}
 use Rattle.opgp_octets.specs.declared.limits.Limits.{Limits}
 use Rattle.opgp_octets.specs.Limits.{body_limit, pieces_limit}
 use Rattle.opgp_octets.specs.Octets.{IsOctets}
@@ -17,12 +17,12 @@ use Rattle.opgp_octets.proofs.Bytes.{chosen, IsOctets-drop, IsOctets-take}
 use Rattle.opgp_frame.specs.declared.length.Length.{Length}
 use Rattle.opgp_frame.specs.declared.length.Length.TheVariants.{LegacyOne, LegacyTwo, LegacyFour, Current}
 use Rattle.opgp_frame.specs.declared.packet.Placed.{Placed}
-use Rattle.opgp_frame.specs.Frames.{StandFrom, Frames, BeginsPacket, Longest, IsFault, spelled, length_fault, lengths_fault, packet_fault, or_fault, with_length}
+use Rattle.opgp_frame.specs.Frames.{StandFrom, Frames, BeginsPacket, IsFault, spelled, length_fault, lengths_fault, packet_fault, or_fault}
 use Rattle.opgp_frame.specs.Header.{kind_in, header_fault}
 use Rattle.opgp_frame.specs.Length.{LengthFits, IsLengthUnder, LengthBegins, length_octets, length_amount, length_at, is_partial}
 use Rattle.opgp_frame.specs.Packet.{spelling, cut_body}
 use Rattle.opgp_frame.specs.PiecesValue.{pieces_sum}
-use Rattle.opgp_frame.specs.State.{GoodPieces, HasBegun, IsInPiece, IsWhole}
+use Rattle.opgp_frame.specs.State.{GoodPieces, HasBegun, IsInPiece}
 use Rattle.opgp_frame.proofs.Chains.{GoodFrom, piece_length, behind, lengths_fault-read, lengths_fault-unread}
 use Rattle.opgp_frame.proofs.Lengths.{length_takes}
 use Rattle.opgp_frame.proofs.Made.{form_found, packet_whole}

@@ -1,5 +1,5 @@
 -- A text of the first form is read in one way.
-use Rattle.std.proofs.Common.{◌≡◌, ◌≢◌, ℕ, List, [], ◌∷◌, ◌++◌, Ok, Result, refl, sym, ap, subst, ◌∙◌}
+use Rattle.std.proofs.Common.{◌≡◌, ◌≢◌, ◌<◌, ◌^◌, ℕ, List, [], ◌∷◌, ◌++◌, length, Option, Some, None, Ok, Err, Result, IfOk, MatchOption, refl, sym, ap, subst, ◌∙◌}
 use Rattle.std.proofs.lemmas.List.{append_cancel_left, append_cancel_right}
 use Rattle.std.specs.List.{AllByRecursion, concat, flat_map}
 use Rattle.std.specs.Int.{w32, from_be_bytes, to_be_bytes}
@@ -9,6 +9,11 @@ use Rattle.base64.specs.GeneralPurpose.{decode_of, encode_of}
 use Rattle.base64.specs.declared.decode.DecodeError.{DecodeError}
 use Rattle.base64.proofs.EngineFacts.{decode_of-encode_of}
 use Rattle.opgp_octets.specs.Octets.{IsOctets}
+use Rattle.opgp_key.specs.declared.key.Key.{Key}
+use Rattle.opgp_key.specs.Fields.{Field, Follows}
+use Rattle.opgp_key.specs.Key.{key_version, key_created, key_algorithm, key_octets}
+use Rattle.opgp_key.specs.KeyBody.{key, key_fields}
+use Rattle.opgp_tool.specs.FirstKey.{IsFirstKey}
 use Rattle.opgp_tool.specs.FirstText.{IsKeyPacket, before_data, after_data, DataLines, IsDataLine, with_feed, base64_of, FirstKeyBody, FirstText}
 use Rattle.opgp_tool.proofs.FirstLines.{no_feed, one_line}
 
@@ -79,13 +84,32 @@ pub no_packet : (text d letters octets : List ℕ) → text ≡ before_data ++ d
     → ((b : List ℕ) → IsKeyPacket octets b → ⊥) → (created : ℕ) (body : List ℕ) → FirstText text created body → ⊥
 no_packet text d letters octets e lines is each none created body f = none body (packet_of_text text d letters octets e lines is each created body f)
 
+-- what the last step finds is the text's key, or the text isn't of the first form
+pub key_found : (text d letters octets b : List ℕ) → text ≡ before_data ++ d ++ after_data → DataLines d letters → letters ≡ base64_of octets → IsOctets octets
+    → IsKeyPacket octets b → {E : Type 0} (r : Result (Option Key) E)
+    → IfOk r (λ found. MatchOption found ((t : ℕ) → FirstKeyBody b t → ⊥) (λ k. (key_version k ≡ 4) × (key_algorithm k ≡ 22) × (key_octets k ≡ b) × FirstKeyBody b (key_created k)))
+    → IfOk r (IsFirstKey text)
+key_found text d letters octets b e lines is each packet (Ok None) none = no_body text d letters octets b e lines is each packet none
+key_found text d letters octets b e lines is each packet (Ok (Some k)) found = record {
+  version = found.0;
+  algorithm = found.1;
+  first = subst (λ (x : List ℕ). FirstText text (key_created k) x) (sym found.2)
+      (record { «data» = d; letters = letters; octets = octets; text_is = e; lines = lines; each = each; base64 = is; packet = packet; key = found.3 });
+}
+key_found text d letters octets b e lines is each packet (Err x) found = tt
+
 -- ---- a text has one key
+
+time_below : (n s : ℕ) (material : List Field) → Follows (key n) (key_fields n 4 s 22 material) 0 → s < 2 ^ 32
+unfolding key
+time_below n s material h = h.1.0
 
 one_time : (body : List ℕ) (s t : ℕ) → FirstKeyBody body s → FirstKeyBody body t → s ≡ t
 one_time body s t h k =
-    let e = sym h.spelled ∙ k.spelled in
+    let e = sym h.is_body.spelled ∙ k.is_body.spelled in
     let cells : to_be_bytes w32 s ≡ to_be_bytes w32 t = cc in
-    sym (from_be_bytes-to_be_bytes_4 s h.time) ∙ ap (from_be_bytes w32) cells ∙ from_be_bytes-to_be_bytes_4 t k.time
+    sym (from_be_bytes-to_be_bytes_4 s (time_below (length body) s h.material h.is_body.follows)) ∙ ap (from_be_bytes w32) cells
+    ∙ from_be_bytes-to_be_bytes_4 t (time_below (length body) t k.material k.is_body.follows)
 
 pub one_key : (text : List ℕ) (s t : ℕ) (b c : List ℕ) → FirstText text s b → FirstText text t c → (s ≡ t) × (b ≡ c)
 one_key text s t b c f g =

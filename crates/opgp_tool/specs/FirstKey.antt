@@ -1,8 +1,15 @@
 -- What the reading of a text gives.
-use Rattle.std.specs.Prelude.{ℕ, List, Option, MatchOption}
-use Rattle.opgp_tool.specs.declared.first_key.FirstKey.{FirstKey}
+use Rattle.std.specs.Prelude.{◌≡◌, ℕ, List, Option, MatchOption}
+use Rattle.opgp_key.specs.declared.key.Key.{Key}
+use Rattle.opgp_key.specs.Key.{key_version, key_created, key_algorithm, key_octets}
 use Rattle.opgp_tool.specs.FirstText.{FirstText}
 
+-- the key is the text's
+pub record IsKeyOf (text : List ℕ) (k : Key) : Type 0 where
+  pub version : key_version k ≡ 4
+  pub algorithm : key_algorithm k ≡ 22
+  pub first : FirstText text (key_created k) (key_octets k)
+
 -- the key of the text, or none where the text isn't of the first form
-abbrev pub IsFirstKey : List ℕ → Option FirstKey → Type 0
-IsFirstKey text found = MatchOption found ((created : ℕ) (body : List ℕ) → FirstText text created body → ⊥) (λ k. FirstText text k.created k.body.items)
+abbrev pub IsFirstKey : List ℕ → Option Key → Type 0
+IsFirstKey text found = MatchOption found ((created : ℕ) (body : List ℕ) → FirstText text created body → ⊥) (IsKeyOf text)

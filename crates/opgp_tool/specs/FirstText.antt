@@ -1,11 +1,11 @@
 -- The one form of text that is read so far: one armored block (RFC 9580, 6.2) of one public key packet.
 use Rattle.std.specs.Prelude.{◌≡◌, ◌≢◌, ℕ, ◌<◌, ◌^◌, List, [], ◌∷◌, ◌++◌, codes, length}
 use Rattle.std.specs.List.{AllByRecursion, concat, flat_map}
-use Rattle.std.specs.Int.{w32, to_be_bytes}
 use Rattle.base64.specs.Engines.{standard}
 use Rattle.base64.specs.GeneralPurpose.{encode_of}
 use Rattle.opgp_octets.specs.Octets.{IsOctets}
-use Rattle.opgp_octets.specs.Mpi.{MpiValue, IsMpi, mpi_octets}
+use Rattle.opgp_key.specs.Fields.{Field, Body}
+use Rattle.opgp_key.specs.KeyBody.{key, key_fields}
 use Rattle.opgp_frame.specs.declared.form.Form.TheVariants.{NewOne}
 use Rattle.opgp_frame.specs.Packet.{PacketValue, IsPacket, spelling}
 
@@ -51,16 +51,10 @@ pub record IsKeyPacket (octets body : List ℕ) : Type 0 where
   pub packet : IsPacket (key_packet body)
   pub spelled : octets ≡ spelling (key_packet body)
 
--- a version 4 key of the legacy EdDSA algorithm (RFC 9580, 5.5.2.2 and 5.5.5.5): version, time, algorithm, the curve's
--- object identifier behind its size, the point
+-- the octets are the body of a version 4 key of the legacy EdDSA algorithm (RFC 9580, 5.5.2.2 and 5.5.5.5)
 pub record FirstKeyBody (body : List ℕ) (created : ℕ) : Type 0 where
-  pub curve : List ℕ
-  pub point : MpiValue
-  pub time : created < 2 ^ 32
-  pub curve_some : 0 < length curve
-  pub curve_size : length curve < 255
-  pub point_is : IsMpi point
-  pub spelled : body ≡ 4 ∷ (to_be_bytes w32 created ++ (22 ∷ length curve ∷ (curve ++ mpi_octets point)))
+  pub material : List Field
+  pub is_body : Body (key (length body)) (key_fields (length body) 4 created 22 material) body
 
 -- the text is of the first form, and has this key
 pub record FirstText (text : List ℕ) (created : ℕ) (body : List ℕ) : Type 0 where

@@ -1,9 +1,11 @@
--- The line that `list` writes for a key, and a version 4 key's fingerprint and key ID (RFC 9580, 5.5.4).
-use Rattle.std.specs.Prelude.{ℕ, List, ◌∷◌, ◌++◌, codes, length, drop}
+-- The line that `list` writes for a key.
+use Rattle.std.specs.Prelude.{ℕ, List, ◌++◌, codes}
 use Rattle.std.specs.Fmt.{decimal}
-use Rattle.std.specs.Int.{w16, to_be_bytes}
-use Rattle.sha1.specs.Sha1.{sha1}
 use Rattle.hex.specs.Hex.{encode_upper}
+use Rattle.opgp_hash.specs.declared.fingerprints.Fingerprint.{Fingerprint}
+use Rattle.opgp_hash.specs.declared.fingerprints.Fingerprint.TheVariants.{Four, Six}
+use Rattle.opgp_hash.specs.Fingerprint.{fingerprint_of}
+use Rattle.opgp_hash.specs.KeyId.{key_id_of}
 use Rattle.opgp_tool.specs.declared.key_line.KeyRole.{KeyRole}
 use Rattle.opgp_tool.specs.declared.key_line.KeyRole.TheVariants.{Primary, Subkey}
 
@@ -18,14 +20,16 @@ key_text role version algorithm created fingerprint id =
     role_name role ++ codes " v" ++ decimal version ++ codes " alg " ++ decimal algorithm ++ codes " created " ++ decimal created
     ++ codes " " ++ encode_upper fingerprint ++ codes " " ++ encode_upper id ++ codes "\n"
 
--- SHA-1 of the octet 99, the two-octet length of the body, and the body
-abbrev pub fingerprint_of : List ℕ → List ℕ
-fingerprint_of body = sha1 ((0x99 ∷ to_be_bytes w16 (length body)) ++ body)
+-- the octets of a fingerprint
+abbrev pub print_octets : Fingerprint → List ℕ
+print_octets (Four octets) = octets
+print_octets (Six octets) = octets
 
--- the last 8 of the fingerprint's 20 octets
-abbrev pub key_id_of : List ℕ → List ℕ
-key_id_of body = drop 12 (fingerprint_of body)
+-- the line of a primary key of this version, algorithm, creation time and body
+unfoldable pub list_line : ℕ → ℕ → ℕ → List ℕ → List ℕ
+list_line version algorithm created body =
+    key_text Primary version algorithm created (print_octets (fingerprint_of version body)) (key_id_of version body)
 
 -- the line of a primary version 4 key of algorithm 22
-unfoldable pub first_line : ℕ → List ℕ → List ℕ
-first_line created body = key_text Primary 4 22 created (fingerprint_of body) (key_id_of body)
+abbrev pub first_line : ℕ → List ℕ → List ℕ
+first_line created body = list_line 4 22 created body

@@ -1,19 +1,18 @@
-//! The reading of the one form of text that is read so far. The crates of armor and keys replace this file.
+//! The reading of the one form of text that is read so far. The crate of armor replaces most of it.
 
 ghost use Rattle.std.specs.Prelude.{◌≡◌, ◌≢◌, ◌≤◌, ◌<◌, ◌++◌, ◌∷◌, ◌+◌, ◌^◌, ◌↔◌, ℕ, List, [], IsTrue, take, drop, IfOk, IfSome, IfNone, MatchOption, IfErr, length};
 ghost use Rattle.base64.specs.GeneralPurpose.{IsBytes};
 ghost use Rattle.opgp_octets.specs.Octets.{IsOctets};
-ghost use Rattle.std.specs.Int.{w32, to_be_bytes};
-ghost use Rattle.opgp_octets.specs.Mpi.{MpiValue, IsMpi, mpi_octets};
+ghost use Rattle.opgp_key.specs.Key.{key_version, key_created, key_algorithm, key_octets};
 ghost use Rattle.opgp_tool.specs.FirstKey.{IsFirstKey};
 ghost use Rattle.opgp_tool.specs.FirstText.{key_packet, IsKeyPacket, IsDataLine, with_feed, before_data, after_data, DataLines, FirstKeyBody, base64_of};
 
-use crate::first_key::FirstKey;
 use base64::DecodeAllocError;
 use base64::engine::general_purpose::STANDARD;
 use memchr::memchr;
 use opgp_frame::{Deframe, Form, Packet, laws};
-use opgp_octets::{Limits, MpiView, OutOfMemory};
+use opgp_key::Key;
+use opgp_octets::{Limits, OutOfMemory, ParseFault};
 use std::alloc::Global;
 
 /// What stands between the two lines at the front and the end line.
@@ -69,55 +68,6 @@ fn decoded(alloc: Global, letters: &[u8]) -> Result<Option<Vec<u8>>, OutOfMemory
     }
 }
 
-/// The creation time of a version 4 key of algorithm 22, and what follows the algorithm.
-fn head_of(body: &[u8]) -> Option<(u32, &[u8])>
-    ensures some { IfSome result (λ x. body.now ≡ 4 ∷ (to_be_bytes w32 x.0 ++ (22 ∷ x.1.now))) }
-    ensures none { IfNone result ((t : ℕ) (rest : List ℕ) → t < 2 ^ 32 → body.now ≢ 4 ∷ (to_be_bytes w32 t ++ (22 ∷ rest))) }
-{
-    let [4, a, b, c, d, 22, rest @ ..] = body else {
-        return None;
-    };
-    Some((u32::from_be_bytes([*a, *b, *c, *d]), rest))
-}
-
-/// What follows a curve's object identifier and its size.
-fn point_of(octets: &[u8]) -> Option<&[u8]>
-    ensures some { IfSome result (λ rest. (curve : List ℕ) × (0 < length curve) × (length curve < 255) × (octets.now ≡ length curve ∷ (curve ++ rest.now))) }
-    ensures none { IfNone result ((curve rest : List ℕ) → 0 < length curve → length curve < 255 → octets.now ≢ length curve ∷ (curve ++ rest)) }
-{
-    let [size, rest @ ..] = octets else {
-        return None;
-    };
-    let size = usize::from(*size);
-    if size == 0 || size == 255 || rest.len() < size {
-        return None;
-    }
-    Some(&rest[size..])
-}
-
-/// Whether the octets are one multiprecision integer, and nothing more.
-fn is_point(octets: &[u8]) -> bool
-    ensures { IsTrue result ↔ ((m : MpiValue) × IsMpi m × (octets.now ≡ mpi_octets m)) }
-{
-    match MpiView::read(octets, false) {
-        Ok((_, count)) => count == octets.len(),
-        Err(_) => false,
-    }
-}
-
-/// The creation time of the key that the body is, or None where it is none of the first form.
-fn created_of(body: &[u8]) -> Option<u32>
-    ensures { MatchOption result ((t : ℕ) → FirstKeyBody body.now t → ⊥) (λ t. FirstKeyBody body.now t) }
-{
-    let Some((created, rest)) = head_of(body) else {
-        return None;
-    };
-    let Some(point) = point_of(rest) else {
-        return None;
-    };
-    if is_point(point) { Some(created) } else { None }
-}
-
 /// The body of a public key packet in the current format under a length of one octet, or None for another packet.
 fn body_of(packet: Packet) -> Option<Vec<u8>>
     ensures some { IfSome result (λ v. packet ≡ key_packet v.items) }
@@ -156,10 +106,30 @@ fn key_body(alloc: Global, octets: &[u8]) -> Result<Option<Vec<u8>>, OutOfMemory
     }
 }
 
+/// The key whose body this is, or None where it isn't a version 4 key of algorithm 22.
+fn key_of(alloc: Global, body: &[u8]) -> Result<Option<Key>, OutOfMemory>
+    requires { length body.now ≤ 4294967295 }
+    ensures { IfOk result (λ found. MatchOption found ((t : ℕ) → FirstKeyBody body.now t → ⊥)
+        (λ k. (key_version k ≡ 4) × (key_algorithm k ≡ 22) × (key_octets k ≡ body.now) × FirstKeyBody body.now (key_created k))) }
+{
+    let key = match Key::parse_body(alloc, body) {
+        Ok(key) => key,
+        Err(ParseFault::Body(_)) => return Ok(None),
+        Err(ParseFault::Memory) => return Err(std::alloc::AllocError),
+    };
+    if key.version() != 4 {
+        return Ok(None);
+    }
+    if key.algorithm() != 22 {
+        return Ok(None);
+    }
+    Ok(Some(key))
+}
+
 /// The key of the text, or None where the text isn't of the first form.
 ///
 /// An error is want of memory.
-pub fn first_key(alloc: Global, text: &[u8]) -> Result<Option<FirstKey>, OutOfMemory>
+pub fn first_key(alloc: Global, text: &[u8]) -> Result<Option<Key>, OutOfMemory>
     ensures { IfOk result (IsFirstKey text.now) }
 {
     let Some(between) = data_of(text) else {
@@ -174,8 +144,5 @@ pub fn first_key(alloc: Global, text: &[u8]) -> Result<Option<FirstKey>, OutOfMe
     let Some(body) = key_body(alloc, &octets)? else {
         return Ok(None);
     };
-    match created_of(&body) {
-        Some(created) => Ok(Some(FirstKey { created, body })),
-        None => Ok(None),
-    }
+    key_of(alloc, &body)
 }

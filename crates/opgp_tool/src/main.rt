@@ -2,8 +2,6 @@
 #![tactic(auto)]
 
 mod ending;
-mod fingerprint;
-mod first_key;
 mod first_text;
 mod key_line;
 mod laws;

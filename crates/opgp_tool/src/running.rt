@@ -2,10 +2,9 @@
 
 ghost use Rattle.std.specs.Prelude.{◌≡◌, true, false, OnOk, IfOk, IfSome, Err, string_bytes};
 ghost use Rattle.opgp_tool.specs.Running.{RunOf, KnownRunOf};
-ghost use Rattle.opgp_tool.specs.KeyLine.{first_line};
+ghost use Rattle.opgp_key.specs.Key.{key_version, key_created, key_algorithm, key_octets};
+ghost use Rattle.opgp_tool.specs.KeyLine.{list_line, print_octets};
 
-use crate::fingerprint::fingerprint;
-use crate::first_key::FirstKey;
 use crate::first_text::first_key;
 use crate::key_line::{KeyRole, key_line};
 use crate::reading::{ReadFault, read_octets};
@@ -13,6 +12,8 @@ use crate::sink::Sink;
 use crate::source::Source;
 use crate::task::{Action, Task};
 use crate::writing::put_all;
+use opgp_hash::{Fingerprint, KeyId, fingerprint, key_id};
+use opgp_key::Key;
 use std::alloc::{AllocError, Global};
 
 /// Why a run ends without its output. Nothing was written, but for [`RunFault::Write`].
@@ -31,20 +32,32 @@ pub enum RunFault {
 /// The most octets of an input.
 const MOST: u64 = 65_536;
 
-/// The line of a key.
-#[tactic(auto, unfolding(crate::specs::KeyLine::first_line))]
-fn line_of(alloc: Global, key: &FirstKey) -> Result<String, AllocError>
-    ensures { IfOk result (λ line. string_bytes line ≡ first_line key.now.created key.now.body.items) }
+/// The octets of a fingerprint.
+fn octets_of(print: &Fingerprint) -> &[u8]
+    ensures { result.now ≡ print_octets print.now }
 {
-    let print = fingerprint(&key.body);
+    match print {
+        Fingerprint::Four(octets) => octets.as_slice(),
+        Fingerprint::Six(octets) => octets.as_slice(),
+    }
+}
+
+/// The line of a primary key.
+#[tactic(auto, unfolding(crate::specs::KeyLine::list_line))]
+fn line_of(alloc: Global, key: &Key) -> Result<String, AllocError>
+    ensures { IfOk result (λ line. string_bytes line ≡ list_line (key_version key.now) (key_algorithm key.now) (key_created key.now) (key_octets key.now)) }
+{
+    let print = fingerprint(key);
+    let KeyId(id) = key_id(key);
+    let (version, algorithm, created) = (key.version(), key.algorithm(), key.created());
     key_line(
         alloc,
         KeyRole::Primary,
-        4,
-        22,
-        key.created,
-        &print,
-        &print[12..],
+        version,
+        algorithm,
+        created,
+        octets_of(&print),
+        &id,
     )
 }
 

@@ -1,5 +1,5 @@
 use Rattle.std.proofs.Common.{sym, ◌∙◌}
-use Rattle.opgp_tool.proofs.FirstTexts.{no_letters, no_octets, no_packet, no_body}
+use Rattle.opgp_tool.proofs.FirstTexts.{no_letters, no_octets, no_packet, key_found}
 use Rattle.opgp_tool.proofs.first_text.first_key.Goals as goal
 
 pub returns-in_default-2 : goal.returns-in_default-2
@@ -24,4 +24,4 @@ returns c =
     let lines = rw c.in-Some-2.is at c.in_ok-letters.ensures in
     let some = rw c.in-Some-3.is at c.in_ok-octets.ensures in
     let packet = rw (c.in-Some-4.is, c.deref-2.ensures.value) at c.in_ok-body.ensures in
-    no_body c.args.text.now c.in-Some.between.now c.in-Some-2.letters.items c.in-Some-3.octets.items c.in-Some-4.body.items c.in-Some.ensures lines (sym c.deref.ensures.value ∙ some.0) some.1 packet (rw c.deref-3.ensures.value at c.in-None.ensures)
+    key_found c.args.text.now c.in-Some.between.now c.in-Some-2.letters.items c.in-Some-3.octets.items c.in-Some-4.body.items c.in-Some.ensures lines (sym c.deref.ensures.value ∙ some.0) some.1 packet c.key_of.result (rw c.deref-3.ensures.value at c.key_of.ensures)

@@ -1,4 +1,4 @@
-pub mod FirstKeys
+pub mod FirstData
 pub mod FirstLines
 pub mod FirstPackets
 pub mod FirstTexts

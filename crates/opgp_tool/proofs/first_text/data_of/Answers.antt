@@ -3,7 +3,7 @@ use Rattle.std.proofs.lemmas.Bool.Decides.{Decides-eqb}
 use Rattle.std.proofs.lemmas.Slice.Eq.{strip_prefix_is, strip_suffix_is}
 use Rattle.std.specs.Prelude.{Some}
 use Rattle.opgp_tool.specs.FirstText.{before_data, after_data}
-use Rattle.opgp_tool.proofs.FirstKeys.{data_cut}
+use Rattle.opgp_tool.proofs.FirstData.{data_cut}
 use Rattle.opgp_tool.proofs.first_text.data_of.Goals as goal
 
 pub returns : goal.returns

@@ -1,0 +1,131 @@
+//! A version 4 signature that owns its body.
+
+ghost use Rattle.std.specs.Prelude.{◌≡◌, ◌≤◌, length, Ok, IfOk};
+ghost use Rattle.opgp_octets.specs.Octets.{IsOctets};
+ghost use Rattle.opgp_key.specs.FieldReading.{body_at};
+ghost use Rattle.opgp_sig.specs.AreaPlaces.{areas_in, AreasLie, AreasLie-prop};
+ghost use Rattle.opgp_sig.specs.MaterialPlaces.{shape_in};
+ghost use Rattle.opgp_sig.specs.Shape.{shape_of, Shape-set};
+ghost use Rattle.opgp_sig.specs.SignatureBody.{version_four};
+ghost use Rattle.opgp_sig.specs.Values.{four_fields};
+
+use crate::area_places::AreaPlaces;
+use crate::four_view::FourView;
+use crate::material::SignatureMaterial;
+use crate::subs::Subs;
+use opgp_octets::OutOfMemory;
+use std::alloc::Global;
+
+/// A version 4 signature that owns the octets of its body, and knows where its fields lie in them
+/// (RFC 9580, 5.2.3).
+#[derive(Debug, Drop)]
+pub struct FourSignature {
+    pub(crate) body: Vec<u8>,
+    places: AreaPlaces,
+    ghost octets: { IsOctets body.items },
+    ghost small: { length body.items ≤ 4294967295 },
+    ghost within: { AreasLie places body.items } by { AreasLie-prop places body.items },
+    ghost shape: { shape_in places.material ≡ shape_of places.algorithm } by { Shape-set (shape_in places.material) (shape_of places.algorithm) },
+    ghost parses: { body_at version_four body.items ≡ Ok (four_fields (areas_in places body.items)) },
+}
+
+impl FourSignature {
+    ghost use Rattle.opgp_sig.specs.FourSignature.{four_owned, four_owned_octets};
+    ghost use Rattle.opgp_sig.specs.FourView.{four_shown, four_octets};
+    ghost use Rattle.opgp_sig.specs.Material.{material_fields, shape};
+    ghost use Rattle.opgp_sig.specs.Subs.{subs_to_come};
+    ghost use Rattle.opgp_key.specs.AreaReading.{subs_in};
+    ghost use Rattle.opgp_key.specs.Subpackets.{Area};
+
+    /// The signature that a view shows, with octets of its own.
+    ///
+    /// An error is want of memory.
+    pub fn of(alloc: Global, view: FourView<'_>) -> Result<FourSignature, OutOfMemory>
+        ensures body { IfOk result (λ s. four_owned_octets s ≡ four_octets view.entry) }
+        ensures shown { IfOk result (λ s. four_owned s ≡ four_shown view.entry) }
+    {
+        Ok(FourSignature {
+            body: Vec::from_slice(alloc, view.body)?,
+            places: view.places,
+        })
+    }
+
+    /// The signature over its body. Takes no memory, and reads nothing again.
+    pub fn view(&self) -> FourView<'_>
+        ensures body { four_octets result ≡ four_owned_octets self.now }
+        ensures shown { four_shown result ≡ four_owned self.now }
+    {
+        FourView {
+            body: &self.body,
+            places: self.places,
+        }
+    }
+
+    /// Its type (RFC 9580, 5.2.1).
+    pub fn kind(&self) -> u8
+        ensures { result ≡ (four_owned self.now).kind }
+    {
+        self.view().kind()
+    }
+
+    /// The number of its key algorithm (RFC 9580, 9.1).
+    pub fn algorithm(&self) -> u8
+        ensures { result ≡ (four_owned self.now).algorithm }
+    {
+        self.view().algorithm()
+    }
+
+    /// The number of its hash algorithm (RFC 9580, 9.5).
+    pub fn hash(&self) -> u8
+        ensures { result ≡ (four_owned self.now).hash }
+    {
+        self.view().hash()
+    }
+
+    /// The octets of the hashed area, without its length: its subpackets, one after the other.
+    pub fn hashed_area(&self) -> &[u8]
+        ensures value { result.now ≡ (four_owned self.now).hashed }
+        ensures area { Area (subs_in result.now) result.now }
+    {
+        self.view().hashed_area()
+    }
+
+    /// The subpackets of the hashed area, one after the other.
+    pub fn hashed(&self) -> Subs<'_>
+        ensures subs { subs_to_come result ≡ subs_in (four_owned self.now).hashed }
+        ensures few { length (subs_to_come result) ≤ 4294967295 }
+    {
+        self.view().hashed()
+    }
+
+    /// The octets of the unhashed area, without its length: its subpackets, one after the other.
+    pub fn unhashed_area(&self) -> &[u8]
+        ensures value { result.now ≡ (four_owned self.now).unhashed }
+        ensures area { Area (subs_in result.now) result.now }
+    {
+        self.view().unhashed_area()
+    }
+
+    /// The subpackets of the unhashed area, one after the other.
+    pub fn unhashed(&self) -> Subs<'_>
+        ensures subs { subs_to_come result ≡ subs_in (four_owned self.now).unhashed }
+        ensures few { length (subs_to_come result) ≤ 4294967295 }
+    {
+        self.view().unhashed()
+    }
+
+    /// The first two octets of the digest, as the signature says.
+    pub fn left(&self) -> [u8; 2]
+        ensures { result ≡ (four_owned self.now).left }
+    {
+        self.view().left()
+    }
+
+    /// What its algorithm made; which variant it is, its algorithm says.
+    pub fn material(&self) -> SignatureMaterial<'_>
+        ensures fields { material_fields result ≡ (four_owned self.now).material }
+        ensures shape { shape result ≡ shape_of (four_owned self.now).algorithm }
+    {
+        self.view().material()
+    }
+}

@@ -1,0 +1,44 @@
+//! What the definitions imply: a signature is read exactly where the octets spell it, and a body has
+//! one reading or one first fault; octets of a subpacket have one meaning, and a typed form one spelling.
+
+ghost use Rattle.std.specs.Prelude.{◌≡◌, ◌↔◌, List, ℕ, Ok, Err};
+ghost use Rattle.opgp_octets.specs.Octets.{IsOctets};
+ghost use Rattle.opgp_octets.specs.declared.fault.BodyFault.{BodyFault};
+ghost use Rattle.opgp_sig.specs.declared.sub_meaning.SubMeaning.{SubMeaning};
+ghost use Rattle.opgp_sig.specs.MeaningShown.{meaning_shown};
+ghost use Rattle.opgp_sig.specs.SignatureBody.{SignatureValue, Spells, SignatureFault, signature_at};
+ghost use Rattle.opgp_sig.specs.SubMeaning.{Means, Writes};
+
+/// A signature is read of octets exactly where they spell it.
+pub fn signatures_are_read()
+    ensures { (value : SignatureValue) (o : List ℕ) → IsOctets o
+        → (signature_at o ≡ Ok value) ↔ Spells value o }
+{}
+
+/// A fault is answered exactly where it is that of the first field with no spelling at its place.
+pub fn the_first_fault_is_answered()
+    ensures { (o : List ℕ) (f : BodyFault) → IsOctets o
+        → (signature_at o ≡ Err f) ↔ SignatureFault o f }
+{}
+
+/// A body is that of one signature.
+pub fn one_signature()
+    ensures { (value other : SignatureValue) (o : List ℕ) → IsOctets o → Spells value o → Spells other o
+        → value ≡ other }
+{}
+
+/// Octets have one first fault.
+pub fn one_fault()
+    ensures { (o : List ℕ) (f g : BodyFault) → IsOctets o → SignatureFault o f → SignatureFault o g → f ≡ g }
+{}
+
+/// Octets of a kind mean one thing: two meanings are of one form, with the same numbers and the same octets.
+pub fn one_meaning()
+    ensures { (kind : ℕ) (o : List ℕ) (m n : SubMeaning) → Means kind o m → Means kind o n
+        → meaning_shown m ≡ meaning_shown n }
+{}
+
+/// A typed form is that of one list of octets.
+pub fn one_spelling()
+    ensures { (kind : ℕ) (o p : List ℕ) (m : SubMeaning) → Writes kind o m → Writes kind p m → o ≡ p }
+{}

@@ -1,0 +1,131 @@
+//! A version 6 signature over the octets of its body.
+
+ghost use Rattle.std.specs.Prelude.{◌≡◌, ◌≤◌, length, Ok, IfOk};
+ghost use Rattle.opgp_octets.specs.Octets.{IsOctets};
+ghost use Rattle.opgp_octets.specs.Reading.{Reads};
+ghost use Rattle.opgp_key.specs.FieldReading.{body_at};
+ghost use Rattle.opgp_sig.specs.AreaPlaces.{areas_in, salt_in, SixLies, SixLies-prop};
+ghost use Rattle.opgp_sig.specs.MaterialPlaces.{shape_in};
+ghost use Rattle.opgp_sig.specs.Shape.{shape_of, Shape-set};
+ghost use Rattle.opgp_sig.specs.SignatureBody.{version_six};
+ghost use Rattle.opgp_sig.specs.Values.{six_fields};
+
+use crate::area_places::SixPlaces;
+use crate::material::SignatureMaterial;
+use crate::steps::two;
+use crate::subs::Subs;
+use opgp_octets::BodyFault;
+
+/// A version 6 signature over the octets of its body (RFC 9580, 5.2.3).
+#[derive(Clone, Copy, Debug)]
+pub struct SixView<'a> {
+    pub(crate) body: &'a [u8],
+    pub(crate) places: SixPlaces,
+    ghost octets: { IsOctets body.now },
+    ghost small: { length body.now ≤ 4294967295 },
+    ghost within: { SixLies places body.now } by { SixLies-prop places body.now },
+    ghost shape: { shape_in places.areas.material ≡ shape_of places.areas.algorithm } by { Shape-set (shape_in places.areas.material) (shape_of places.areas.algorithm) },
+    ghost parses: { body_at version_six body.now ≡ Ok (six_fields (areas_in places.areas body.now) (salt_in places body.now)) },
+}
+
+impl<'a> SixView<'a> {
+    ghost use Rattle.opgp_sig.specs.SixView.{six_shown, salt_shown, six_octets};
+    ghost use Rattle.opgp_sig.specs.Material.{material_fields, shape};
+    ghost use Rattle.opgp_sig.specs.Subs.{subs_to_come};
+    ghost use Rattle.opgp_key.specs.AreaReading.{subs_in};
+    ghost use Rattle.opgp_key.specs.Subpackets.{Area};
+
+    /// The signature that the octets spell, all of them.
+    pub(crate) fn read(o: &'a [u8]) -> Result<SixView<'a>, BodyFault>
+        requires { length o.now ≤ 4294967295 }
+        ensures exact { Reads (λ v. six_fields (six_shown v) (salt_shown v)) result (body_at version_six o.now) }
+        ensures body { IfOk result (λ v. six_octets v ≡ o.now) }
+    {
+        let places = SixPlaces::read(o)?;
+        Ok(SixView { body: o, places })
+    }
+
+    /// Its type (RFC 9580, 5.2.1).
+    pub fn kind(&self) -> u8
+        ensures { result ≡ (six_shown self.now).kind }
+    {
+        self.places.areas.kind
+    }
+
+    /// The number of its key algorithm (RFC 9580, 9.1).
+    pub fn algorithm(&self) -> u8
+        ensures { result ≡ (six_shown self.now).algorithm }
+    {
+        self.places.areas.algorithm
+    }
+
+    /// The number of its hash algorithm (RFC 9580, 9.5).
+    pub fn hash(&self) -> u8
+        ensures { result ≡ (six_shown self.now).hash }
+    {
+        self.places.areas.hash
+    }
+
+    /// The octets of the hashed area, without its length.
+    pub fn hashed_area(&self) -> &'a [u8]
+        ensures value { result.now ≡ (six_shown self.now).hashed }
+        // They are its subpackets, one after the other.
+        ensures area { Area (subs_in result.now) result.now }
+    {
+        self.places.areas.hashed.lend(self.body)
+    }
+
+    /// The subpackets of the hashed area, one after the other.
+    pub fn hashed(&self) -> Subs<'a>
+        ensures subs { subs_to_come result ≡ subs_in (six_shown self.now).hashed }
+        ensures few { length (subs_to_come result) ≤ 4294967295 }
+    {
+        Subs::new(self.places.areas.hashed.lend(self.body))
+    }
+
+    /// The octets of the unhashed area, without its length.
+    pub fn unhashed_area(&self) -> &'a [u8]
+        ensures value { result.now ≡ (six_shown self.now).unhashed }
+        // They are its subpackets, one after the other.
+        ensures area { Area (subs_in result.now) result.now }
+    {
+        self.places.areas.unhashed.lend(self.body)
+    }
+
+    /// The subpackets of the unhashed area, one after the other.
+    pub fn unhashed(&self) -> Subs<'a>
+        ensures subs { subs_to_come result ≡ subs_in (six_shown self.now).unhashed }
+        ensures few { length (subs_to_come result) ≤ 4294967295 }
+    {
+        Subs::new(self.places.areas.unhashed.lend(self.body))
+    }
+
+    /// The first two octets of the digest, as the signature says.
+    pub fn left(&self) -> [u8; 2]
+        ensures { result ≡ (six_shown self.now).left }
+    {
+        two(self.places.areas.left.lend(self.body))
+    }
+
+    /// The salt, without its size.
+    pub fn salt(&self) -> &'a [u8]
+        ensures { result.now ≡ salt_shown self.now }
+    {
+        self.places.salt.lend(self.body)
+    }
+
+    /// What its algorithm made; which variant it is, its algorithm says.
+    pub fn material(&self) -> SignatureMaterial<'a>
+        ensures fields { material_fields result ≡ (six_shown self.now).material }
+        ensures shape { shape result ≡ shape_of (six_shown self.now).algorithm }
+    {
+        self.places.areas.material.lend(self.body)
+    }
+
+    /// The octets of its body.
+    pub fn body(&self) -> &'a [u8]
+        ensures { result.now ≡ six_octets self.now }
+    {
+        self.body
+    }
+}

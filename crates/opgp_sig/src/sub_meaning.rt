@@ -1,0 +1,109 @@
+//! What a subpacket of a signature means.
+
+/// A key ID, as a signature names it: 8 octets (RFC 9580, 5.2.2, 5.2.3.12).
+pub type KeyId8 = [u8; 8];
+
+/// What a subpacket of a signature means, by its kind (RFC 9580, 5.2.3.11 to 5.2.3.36). Numbers are
+/// as they are written: nothing is refused for its value.
+#[derive(Clone, Copy, Debug)]
+pub enum SubMeaning<'a> {
+    /// Kind 2: when the signature was made, in seconds since 1970.
+    Created(u32),
+    /// Kind 3: how many seconds after its creation the signature expires; 0 for never.
+    Expires(u32),
+    /// Kind 4: whether the certification is exportable; 0 for no.
+    Exportable(u8),
+    /// Kind 5: a trust signature.
+    Trust {
+        /// The depth.
+        level: u8,
+        /// The amount; 120 and above for full trust.
+        amount: u8,
+    },
+    /// Kind 6: the regular expression that limits a trust signature, without its last octet 0.
+    RegularExpression(&'a [u8]),
+    /// Kind 7: whether the signature is revocable; 0 for no.
+    Revocable(u8),
+    /// Kind 9: how many seconds after its creation the key expires; 0 for never.
+    KeyExpires(u32),
+    /// Kind 11: symmetric algorithms, the most preferred first.
+    PreferredSymmetric(&'a [u8]),
+    /// Kind 12: who may revoke the key.
+    RevocationKey {
+        /// The class; bit 7 is set, bit 6 for a sensitive one.
+        class: u8,
+        /// The number of the revoker's algorithm.
+        algorithm: u8,
+        /// The revoker's fingerprint: 20 octets.
+        fingerprint: &'a [u8],
+    },
+    /// Kind 16: the issuer's key ID.
+    Issuer(KeyId8),
+    /// Kind 20: a notation.
+    Notation {
+        /// The flags; bit 31 for one that people can read.
+        flags: u32,
+        /// The name.
+        name: &'a [u8],
+        /// The value.
+        value: &'a [u8],
+    },
+    /// Kind 21: hash algorithms, the most preferred first.
+    PreferredHash(&'a [u8]),
+    /// Kind 22: compression algorithms, the most preferred first.
+    PreferredCompression(&'a [u8]),
+    /// Kind 23: flags for key servers.
+    KeyServerPreferences(&'a [u8]),
+    /// Kind 24: where updates of the key are.
+    PreferredKeyServer(&'a [u8]),
+    /// Kind 25: whether the user ID is the main one; 0 for no.
+    PrimaryUserId(u8),
+    /// Kind 26: where the signature's policy is.
+    PolicyUri(&'a [u8]),
+    /// Kind 27: what the key is for, as flags.
+    KeyFlags(&'a [u8]),
+    /// Kind 28: the signer's user ID.
+    SignersUserId(&'a [u8]),
+    /// Kind 29: why a key or a certification was revoked.
+    RevocationReason {
+        /// The code.
+        code: u8,
+        /// The text.
+        text: &'a [u8],
+    },
+    /// Kind 30: features that are understood, as flags.
+    Features(&'a [u8]),
+    /// Kind 31: the signature that this one is about.
+    SignatureTarget {
+        /// The number of its key algorithm.
+        algorithm: u8,
+        /// The number of its hash algorithm.
+        hash: u8,
+        /// Its hash.
+        digest: &'a [u8],
+    },
+    /// Kind 32: the body of another signature, which [`SigView::parse_body`] accepts.
+    ///
+    /// [`SigView::parse_body`]: crate::SigView::parse_body
+    EmbeddedSignature(&'a [u8]),
+    /// Kind 33: the issuer's fingerprint.
+    IssuerFingerprint {
+        /// The version of the key: 4 or 6.
+        version: u8,
+        /// The fingerprint: 20 octets in version 4, 32 in version 6.
+        fingerprint: &'a [u8],
+    },
+    /// Kind 35: the fingerprint of a recipient that is meant.
+    IntendedRecipient {
+        /// The version of the key: 4 or 6.
+        version: u8,
+        /// The fingerprint: 20 octets in version 4, 32 in version 6.
+        fingerprint: &'a [u8],
+    },
+    /// Kind 39: AEAD ciphersuites, the most preferred first: pairs of a symmetric and an AEAD algorithm.
+    PreferredAead(&'a [u8]),
+    /// One of these kinds, whose octets are of no such form.
+    Unfit,
+    /// Any other kind.
+    Unknown,
+}

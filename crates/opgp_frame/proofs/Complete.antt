@@ -100,7 +100,7 @@ piece_before limits header before sum k o count octets begins fine room b =
     }
 
 -- a length that is partial
-partial_is : (l : Length) → is_partial l ≡ true → (k : ℕ) × (l ≡ Current (new.Partial k))
+pub partial_is : (l : Length) → is_partial l ≡ true → (k : ℕ) × (l ≡ Current (new.Partial k))
 partial_is (Current (new.Partial k)) e = (k, refl)
 partial_is (Current (new.One n)) e = absurd cc
 partial_is (Current (new.Two n)) e = absurd cc

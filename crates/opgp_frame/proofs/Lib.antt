@@ -8,6 +8,7 @@ pub mod Holding
 pub mod Lengths
 pub mod Lists
 pub mod Made
+pub mod PacketFaults
 pub mod Packets
 pub mod Shortest
 pub mod Steps

@@ -6,6 +6,7 @@ pub mod Header
 pub mod Held
 pub mod Length
 pub mod Packet
+pub mod PacketFault
 pub mod PiecesValue
 pub mod Reframed
 pub mod State

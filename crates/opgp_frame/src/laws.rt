@@ -1,6 +1,6 @@
 //! What the definitions and the contracts of a reader imply, whatever the pieces were.
 
-ghost use Rattle.std.specs.Prelude.{◌≡◌, ℕ, List, [], ◌∷◌, ◌++◌, ◌⊎◌, Option, Some, None};
+ghost use Rattle.std.specs.Prelude.{◌≡◌, ◌↔◌, ℕ, List, [], ◌∷◌, ◌++◌, ◌⊎◌, Option, Some, None};
 ghost use Rattle.opgp_octets.specs.declared.fault.Fault.{Fault};
 ghost use Rattle.opgp_octets.specs.declared.fault.Reason.{Reason};
 ghost use Rattle.opgp_octets.specs.declared.limits.Limits.{Limits};
@@ -10,6 +10,7 @@ ghost use Rattle.opgp_frame.specs.declared.packet.Placed.{Placed};
 ghost use Rattle.opgp_frame.specs.Fed.{Fed, packets_of};
 ghost use Rattle.opgp_frame.specs.Frames.{BeginsPacket, Frames, IsFault, Longest, StandFrom, packet_fault, spelled};
 ghost use Rattle.opgp_frame.specs.Packet.{PacketValue, IsPacket, spelling};
+ghost use Rattle.opgp_frame.specs.PacketFault.{PacketFault};
 
 /// No spelling of a packet begins another.
 pub fn one_packet()
@@ -67,6 +68,13 @@ pub fn no_fault_begins_a_packet()
 /// Octets that show a fault begin with no allowed packet.
 pub fn a_fault_begins_no_packet()
     ensures { (limits : Limits) (octets : List ℕ) (why : Reason × ℕ) → packet_fault limits octets ≡ Some why → ¬ BeginsPacket limits octets }
+{}
+
+/// Reading a packet shows this fault exactly where it has it: its first octet is at fault, or the length
+/// header behind whole pieces that may stand.
+pub fn the_fault_of_a_packet()
+    ensures { (limits : Limits) (octets : List ℕ) (reason : Reason) (inner : ℕ) → IsOctets octets
+        → (packet_fault limits octets ≡ Some (reason, inner)) ↔ PacketFault limits octets reason inner }
 {}
 
 /// All octets are a list of packets or have a fault.

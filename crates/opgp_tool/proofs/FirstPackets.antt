@@ -1,13 +1,13 @@
 -- A key packet of the first form, against what a reader of packets answers.
-use Rattle.std.proofs.Common.{◌≡◌, ◌≢◌, ℕ, ◌+◌, ◌-◌, ◌<◌, ◌≤◌, List, [], ◌∷◌, ◌++◌, length, take, drop, Option, Some, None, refl, sym, ap, subst, ◌∙◌, append_assoc, append-nil, arith, length-drop, length-append}
+use Rattle.std.proofs.Common.{◌≡◌, ◌≢◌, ℕ, ◌-◌, ◌<◌, ◌≤◌, List, [], ◌∷◌, ◌++◌, length, take, drop, Option, Some, None, refl, sym, ap, subst, ◌∙◌, append_assoc, append-nil, arith, length-drop, length-append}
 use Rattle.std.specs.Prelude.{option_to_list, is_some, true, IfSome, IfNone, MatchOption}
 use Rattle.std.proofs.lemmas.List.{take-append-drop}
 use Rattle.std.proofs.Math.ListN.{drop_of_length-le}
 use Rattle.opgp_octets.specs.declared.limits.Limits.{Limits}
-use Rattle.opgp_octets.specs.Limits.{body_limit, pieces_limit}
+use Rattle.opgp_octets.specs.Limits.{body_limit}
 use Rattle.opgp_frame.specs.declared.deframe.Deframe.{Deframe}
 use Rattle.opgp_frame.specs.declared.packet.Placed.{Placed}
-use Rattle.opgp_frame.specs.Fed.{Fed, packets_of, is_ready}
+use Rattle.opgp_frame.specs.Fed.{Fed, is_ready}
 use Rattle.opgp_frame.specs.Frames.{Frames, spelled, StandFrom}
 use Rattle.opgp_frame.specs.Packet.{PacketValue, IsPacket, spelling}
 use Rattle.opgp_tool.specs.FirstText.{key_packet, IsKeyPacket}

@@ -1,9 +1,6 @@
-use Rattle.std.proofs.Common.{◌≡◌, ◌≤◌, ◌++◌, List, ℕ, [], ◌∷◌, length, take, arith, sym, ap, ◌∙◌, subst}
-use Rattle.std.specs.Prelude.{option_to_list}
+use Rattle.std.proofs.Common.{◌≤◌, [], ◌∷◌, take, arith}
 use Rattle.opgp_octets.specs.Limits.{body_limit}
-use Rattle.opgp_frame.specs.Fed.{Fed}
-use Rattle.opgp_frame.specs.Frames.{Frames}
-use Rattle.opgp_tool.proofs.FirstPackets.{at_front, early, framed, kind_of, one_of, whole_of}
+use Rattle.opgp_tool.proofs.FirstPackets.{at_front, early, framed, kind_of, whole_of}
 use Rattle.opgp_tool.specs.FirstText.{key_packet}
 use Rattle.opgp_tool.proofs.first_text.key_body.Goals as goal
 

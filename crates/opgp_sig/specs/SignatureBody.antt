@@ -1,5 +1,5 @@
 -- The body of a signature (RFC 9580, 5.2.2, 5.2.3), as the tables of its fields in each version.
-use Rattle.std.specs.Prelude.{◌≡◌, ℕ, Bool, true, false, ◌==◌, ◌||◌, ◌⊎◌, if◌then◌else◌, List, [], ◌∷◌, length, Result, Ok, Err}
+use Rattle.std.specs.Prelude.{◌≡◌, ℕ, Bool, true, false, ◌==◌, ◌||◌, ◌⊎◌, if◌then◌else◌, List, [], ◌∷◌, length, Option, Some, None, Result, Ok, Err}
 use Rattle.opgp_octets.specs.declared.fault.Reason.TheVariants.{Short, SaltSize}
 use Rattle.opgp_octets.specs.declared.fault.BodyFault.{BodyFault}
 use Rattle.opgp_octets.specs.Reading.{◌>>=◌}
@@ -27,13 +27,21 @@ old_material_kinds a =
     else (if a == 17 then mpi false ∷ mpi false ∷ []
     else nothing ∷ [])
 
--- the salt has the size of its hash algorithm; for one that isn't known it may have any (5.2.3, 9.5)
+-- how many octets the salt of a hash algorithm has, where that is known (9.5)
+abbrev pub salt_size : ℕ → Option ℕ
+salt_size h =
+    if (h == 8) || ((h == 11) || (h == 12)) then Some 16
+    else (if h == 9 then Some 24
+    else (if (h == 10) || (h == 14) then Some 32
+    else None))
+
+-- a salt of this size; where none is known, of any
+abbrev pub salt_of_size : Option ℕ → Kind
+salt_of_size (Some n) = sized SaltSize n n
+salt_of_size None = sized SaltSize 0 255
+
 abbrev pub salt_of : ℕ → Kind
-salt_of h =
-    if (h == 8) || ((h == 11) || (h == 12)) then sized SaltSize 16 16
-    else (if h == 9 then sized SaltSize 24 24
-    else (if (h == 10) || (h == 14) then sized SaltSize 32 32
-    else sized SaltSize 0 255))
+salt_of h = salt_of_size (salt_size h)
 
 -- version, the length of what is hashed, type, creation time, issuer, key algorithm, hash algorithm, two left octets, material
 unfoldable pub version_three : Grammar

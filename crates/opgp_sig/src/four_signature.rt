@@ -86,6 +86,7 @@ impl FourSignature {
     pub fn hashed_area(&self) -> &[u8]
         ensures value { result.now ≡ (four_owned self.now).hashed }
         ensures area { Area (subs_in result.now) result.now }
+        ensures short { length result.now ≤ 65535 }
     {
         self.view().hashed_area()
     }
@@ -102,6 +103,7 @@ impl FourSignature {
     pub fn unhashed_area(&self) -> &[u8]
         ensures value { result.now ≡ (four_owned self.now).unhashed }
         ensures area { Area (subs_in result.now) result.now }
+        ensures short { length result.now ≤ 65535 }
     {
         self.view().unhashed_area()
     }

@@ -71,6 +71,7 @@ impl<'a> FourView<'a> {
         ensures value { result.now ≡ (four_shown self.now).hashed }
         // They are its subpackets, one after the other.
         ensures area { Area (subs_in result.now) result.now }
+        ensures short { length result.now ≤ 65535 }
     {
         self.places.hashed.lend(self.body)
     }
@@ -88,6 +89,7 @@ impl<'a> FourView<'a> {
         ensures value { result.now ≡ (four_shown self.now).unhashed }
         // They are its subpackets, one after the other.
         ensures area { Area (subs_in result.now) result.now }
+        ensures short { length result.now ≤ 65535 }
     {
         self.places.unhashed.lend(self.body)
     }

@@ -1,12 +1,12 @@
 //! A version 6 signature that owns its body.
 
-ghost use Rattle.std.specs.Prelude.{◌≡◌, ◌≤◌, length, Ok, IfOk};
+ghost use Rattle.std.specs.Prelude.{◌≡◌, ◌≤◌, ℕ, length, Some, Ok, IfOk};
 ghost use Rattle.opgp_octets.specs.Octets.{IsOctets};
 ghost use Rattle.opgp_key.specs.FieldReading.{body_at};
 ghost use Rattle.opgp_sig.specs.AreaPlaces.{areas_in, salt_in, SixLies, SixLies-prop};
 ghost use Rattle.opgp_sig.specs.MaterialPlaces.{shape_in};
 ghost use Rattle.opgp_sig.specs.Shape.{shape_of, Shape-set};
-ghost use Rattle.opgp_sig.specs.SignatureBody.{version_six};
+ghost use Rattle.opgp_sig.specs.SignatureBody.{version_six, salt_size};
 ghost use Rattle.opgp_sig.specs.Values.{six_fields};
 
 use crate::area_places::SixPlaces;
@@ -88,6 +88,7 @@ impl SixSignature {
     pub fn hashed_area(&self) -> &[u8]
         ensures value { result.now ≡ (six_owned self.now).hashed }
         ensures area { Area (subs_in result.now) result.now }
+        ensures short { length result.now ≤ 4294967295 }
     {
         self.view().hashed_area()
     }
@@ -104,6 +105,7 @@ impl SixSignature {
     pub fn unhashed_area(&self) -> &[u8]
         ensures value { result.now ≡ (six_owned self.now).unhashed }
         ensures area { Area (subs_in result.now) result.now }
+        ensures short { length result.now ≤ 4294967295 }
     {
         self.view().unhashed_area()
     }
@@ -125,7 +127,9 @@ impl SixSignature {
 
     /// The salt, without its size.
     pub fn salt(&self) -> &[u8]
-        ensures { result.now ≡ salt_owned self.now }
+        ensures value { result.now ≡ salt_owned self.now }
+        // It has the size of its hash algorithm.
+        ensures size { (n : ℕ) → salt_size (six_owned self.now).hash ≡ Some n → length result.now ≡ n }
     {
         self.view().salt()
     }

@@ -1,13 +1,13 @@
 //! A version 6 signature over the octets of its body.
 
-ghost use Rattle.std.specs.Prelude.{◌≡◌, ◌≤◌, length, Ok, IfOk};
+ghost use Rattle.std.specs.Prelude.{◌≡◌, ◌≤◌, ℕ, length, Some, Ok, IfOk};
 ghost use Rattle.opgp_octets.specs.Octets.{IsOctets};
 ghost use Rattle.opgp_octets.specs.Reading.{Reads};
 ghost use Rattle.opgp_key.specs.FieldReading.{body_at};
 ghost use Rattle.opgp_sig.specs.AreaPlaces.{areas_in, salt_in, SixLies, SixLies-prop};
 ghost use Rattle.opgp_sig.specs.MaterialPlaces.{shape_in};
 ghost use Rattle.opgp_sig.specs.Shape.{shape_of, Shape-set};
-ghost use Rattle.opgp_sig.specs.SignatureBody.{version_six};
+ghost use Rattle.opgp_sig.specs.SignatureBody.{version_six, salt_size};
 ghost use Rattle.opgp_sig.specs.Values.{six_fields};
 
 use crate::area_places::SixPlaces;
@@ -71,6 +71,7 @@ impl<'a> SixView<'a> {
         ensures value { result.now ≡ (six_shown self.now).hashed }
         // They are its subpackets, one after the other.
         ensures area { Area (subs_in result.now) result.now }
+        ensures short { length result.now ≤ 4294967295 }
     {
         self.places.areas.hashed.lend(self.body)
     }
@@ -88,6 +89,7 @@ impl<'a> SixView<'a> {
         ensures value { result.now ≡ (six_shown self.now).unhashed }
         // They are its subpackets, one after the other.
         ensures area { Area (subs_in result.now) result.now }
+        ensures short { length result.now ≤ 4294967295 }
     {
         self.places.areas.unhashed.lend(self.body)
     }
@@ -109,7 +111,9 @@ impl<'a> SixView<'a> {
 
     /// The salt, without its size.
     pub fn salt(&self) -> &'a [u8]
-        ensures { result.now ≡ salt_shown self.now }
+        ensures value { result.now ≡ salt_shown self.now }
+        // It has the size of its hash algorithm.
+        ensures size { (n : ℕ) → salt_size (six_shown self.now).hash ≡ Some n → length result.now ≡ n }
     {
         self.places.salt.lend(self.body)
     }

@@ -43,6 +43,7 @@ impl<'a> SubView<'a> {
     pub fn octets(&self) -> &'a [u8]
         ensures value { result.now ≡ (sub_shown self.now).octets }
         ensures sub { IsSub (sub_shown self.now) }
+        ensures small { length result.now ≤ 4294967295 }
     {
         self.sub.octets()
     }
@@ -50,7 +51,8 @@ impl<'a> SubView<'a> {
     /// What it means: the typed form that its octets have, or [`SubMeaning::Unfit`], or
     /// [`SubMeaning::Unknown`]. Takes no memory; the work is linear in its octets.
     pub fn meaning(&self) -> SubMeaning<'a>
-        ensures { Means (kind_shown (sub_shown self.now).kind) (sub_shown self.now).octets result }
+        ensures means { Means (kind_shown (sub_shown self.now).kind) (sub_shown self.now).octets result }
+        ensures small { length (sub_shown self.now).octets ≤ 4294967295 }
     {
         match typed(self.kind(), self.octets()) {
             Some(meaning) => meaning,

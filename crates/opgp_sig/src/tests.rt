@@ -43,12 +43,23 @@ fn is_refused(rt: &impl Abort, alloc: Global, body: &[u8], reason: Reason, inner
 }
 
 #[test]
-fn bodies_at_fault(rt: HostRuntime) {
+fn version_four_at_fault(rt: HostRuntime) {
+    let longer = b"\x04\x18\x16\x08\x00\x00\x00\x00\xAB\xCD\x00\x00\x00\x00\x00".as_slice();
     for (body, reason, inner) in [
-        (b"".as_slice(), Reason::Short, 0),
-        (b"\x04".as_slice(), Reason::Short, 1),
-        (b"\x06\x18".as_slice(), Reason::Short, 2),
-        (b"\x04\x18\x16\x08\x00".as_slice(), Reason::Short, 4),
+        (&longer[..0], Reason::Short, 0),
+        (&longer[..1], Reason::Short, 1),
+        (&longer[..5], Reason::Short, 4),
+        (&longer[..9], Reason::Short, 8),
+        (&longer[..12], Reason::Short, 12),
+        (longer, Reason::Trailing, 14),
+    ] {
+        is_refused(&rt, rt.alloc(), body, reason, inner);
+    }
+}
+
+#[test]
+fn areas_at_fault(rt: HostRuntime) {
+    for (body, reason, inner) in [
         (b"\x04\x18\x16\x08\x00\x05".as_slice(), Reason::AreaShort, 4),
         (
             b"\x04\x18\x16\x08\x00\x01\x00".as_slice(),
@@ -70,37 +81,28 @@ fn bodies_at_fault(rt: HostRuntime) {
             Reason::SubShort,
             8,
         ),
-        (
-            b"\x04\x18\x16\x08\x00\x00\x00\x00\xAB".as_slice(),
-            Reason::Short,
-            8,
-        ),
-        (
-            b"\x04\x18\x16\x08\x00\x00\x00\x00\xAB\xCD\x00\x00".as_slice(),
-            Reason::Short,
-            12,
-        ),
-        (
-            b"\x04\x18\x16\x08\x00\x00\x00\x00\xAB\xCD\x00\x00\x00\x00\x00".as_slice(),
-            Reason::Trailing,
-            14,
-        ),
         (b"\x06\x18\x16\x08\x00\x00".as_slice(), Reason::Short, 4),
         (
             b"\x06\x18\x16\x08\x00\x00\x00\x01".as_slice(),
             Reason::AreaShort,
             4,
         ),
+    ] {
+        is_refused(&rt, rt.alloc(), body, reason, inner);
+    }
+}
+
+#[test]
+fn version_six_at_fault(rt: HostRuntime) {
+    let salted = b"\x06\x1F\x1B\x0A\x00\x00\x00\x00\x00\x00\x00\x00\x00\x00\x20\x00".as_slice();
+    for (body, reason, inner) in [
+        (&salted[..2], Reason::Short, 2),
         (
             b"\x06\x1F\x1B\x0A\x00\x00\x00\x00\x00\x00\x00\x00\x00\x00\x1F".as_slice(),
             Reason::SaltSize,
             14,
         ),
-        (
-            b"\x06\x1F\x1B\x0A\x00\x00\x00\x00\x00\x00\x00\x00\x00\x00\x20\x00".as_slice(),
-            Reason::Short,
-            14,
-        ),
+        (salted, Reason::Short, 14),
         (
             b"\x06\x1F\x01\x01\x00\x00\x00\x00\x00\x00\x00\x00\x00\x00\x00\x00\x02\x01".as_slice(),
             Reason::MpiBits,

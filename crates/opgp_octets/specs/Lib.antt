@@ -1,10 +1,16 @@
 pub mod Fault
+pub mod HashAlgorithm
+pub mod KeyAlgorithm
 pub mod Limits
 pub mod Mpi
 pub mod MpiOwned
 pub mod MpiView
 pub mod Octets
 pub mod PacketLen
+pub mod PacketType
+pub mod ParseFault
 pub mod Ranges
 pub mod Reading
+pub mod SignatureType
 pub mod SubLen
+pub mod SubpacketKind

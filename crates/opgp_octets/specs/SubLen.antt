@@ -2,6 +2,7 @@
 -- octets here, and partial lengths in a packet's header.
 use Rattle.std.specs.Prelude.{◌≡◌, ℕ, ◌+◌, ◌*◌, ◌-◌, ◌/◌, ◌%◌, ◌^◌, ◌<◌, ◌≤◌, List, [], ◌∷◌, length, take, Option, Some, None, option_map, nat_lt, if◌then◌else◌}
 use Rattle.std.specs.Int.{w32, to_be_bytes}
+use Rattle.std.proofs.Props.{props}
 use Rattle.opgp_octets.specs.declared.sub_len.SubLen.{SubLen}
 use Rattle.opgp_octets.specs.declared.sub_len.SubLen.TheVariants.{One, Two, Five}
 use Rattle.opgp_octets.specs.Reading.{number_at}
@@ -11,6 +12,12 @@ abbrev pub SubLenFits : SubLen → Type 0
 SubLenFits (One n) = n ≤ 191
 SubLenFits (Two n) = (192 ≤ n) × (n ≤ 16319)
 SubLenFits (Five n) = n < 2 ^ 32
+
+-- there is one proof of it at most
+pub SubLenFits-prop : (len : SubLen) → IsProp (SubLenFits len)
+SubLenFits-prop (One n) = hlevel props
+SubLenFits-prop (Two n) = hlevel props
+SubLenFits-prop (Five n) = hlevel props
 
 -- the spelling
 abbrev pub sub_len_octets : SubLen → List ℕ

@@ -1,25 +1,36 @@
-//! The octets that all of OpenPGP is spelled in: limits, faults, lengths and multiprecision integers.
+//! The octets that all of OpenPGP is spelled in: limits, faults, lengths, registered numbers and
+//! multiprecision integers.
 #![tactic(auto)]
 
 mod fault;
 mod fault_text;
+mod hash_algorithm;
+mod key_algorithm;
 pub mod laws;
 mod limits;
 mod mpi;
 mod mpi_view;
 mod number;
 mod packet_len;
+mod packet_type;
 mod refusal;
+mod signature_type;
 mod sub_len;
+mod subpacket_kind;
 #[cfg(test)]
 mod tests;
 
 pub use fault::{BodyFault, Fault, Layer, Reason};
 pub use fault_text::fault_line;
+pub use hash_algorithm::HashAlgorithm;
+pub use key_algorithm::KeyAlgorithm;
 pub use limits::Limits;
 pub use mpi::Mpi;
 pub use mpi_view::MpiView;
 pub use number::{u16_at, u32_at};
 pub use packet_len::{PacketLen, read_len, shortest, write_len};
+pub use packet_type::PacketType;
 pub use refusal::{MpiFault, OutOfMemory, ParseFault, PushFault};
+pub use signature_type::SignatureType;
 pub use sub_len::{SubLen, read_sub_len, write_sub_len};
+pub use subpacket_kind::SubpacketKind;

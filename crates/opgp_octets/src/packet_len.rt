@@ -1,6 +1,6 @@
 //! The length of a packet's body, in the current format (RFC 9580, 4.2.1).
 
-ghost use Rattle.std.specs.Prelude.{◌≡◌, ◌++◌, ◌<◌, ◌≤◌, ◌^◌, ◌↔◌, List, ℕ, length, take, IsTrue, IfSome, IfNone, OnOk, OnErr};
+ghost use Rattle.std.specs.Prelude.{◌≡◌, ◌+◌, ◌++◌, ◌<◌, ◌≤◌, ◌^◌, ◌↔◌, List, ℕ, length, take, IsTrue, IfSome, IfNone, OnOk, OnErr, IsOk, vec_len, vec_capacity};
 ghost use Rattle.opgp_octets.specs.PacketLen.{packet_len_octets, PacketLenFits, PacketLenBegins, packet_len_amount, IsPartial, packet_len_at};
 
 use crate::number::u32_at;
@@ -75,6 +75,9 @@ pub fn write_len(len: &PacketLen, out: &mut Vec<u8>) -> Result<(), OutOfMemory>
     requires { PacketLenFits len.now }
     ensures ok { OnOk result (out.new.items ≡ out.old.items ++ packet_len_octets len.now) }
     ensures err { OnErr result (out.new.items ≡ out.old.items) }
+    // Room that is there suffices.
+    ensures succeeds { vec_len out.old + length (packet_len_octets len.now) ≤ vec_capacity out.old
+        → IsOk result }
 {
     match *len {
         PacketLen::One(n) => out.extend_from_slice(&[n]),

@@ -1,5 +1,7 @@
 //! Why a call gives no value, where the octets alone are not the reason.
 
+ghost use Rattle.std.specs.Prelude.{◌≡◌};
+
 use crate::fault::BodyFault;
 
 /// A growth was refused for want of memory.
@@ -32,4 +34,34 @@ pub enum PushFault {
     Memory,
     /// An earlier call has answered [`PushFault::Memory`].
     Spent,
+}
+
+impl From<OutOfMemory> for MpiFault {
+    ghost use Rattle.opgp_octets.specs.declared.refusal.MpiFault.TheVariants.{Memory};
+
+    ghost from_gives = { λ _ e. e ≡ Memory };
+
+    fn from(_refused: OutOfMemory) -> MpiFault {
+        MpiFault::Memory
+    }
+}
+
+impl From<BodyFault> for ParseFault {
+    ghost use Rattle.opgp_octets.specs.declared.refusal.ParseFault.TheVariants.{Body};
+
+    ghost from_gives = { λ f e. e ≡ Body f };
+
+    fn from(fault: BodyFault) -> ParseFault {
+        ParseFault::Body(fault)
+    }
+}
+
+impl From<OutOfMemory> for ParseFault {
+    ghost use Rattle.opgp_octets.specs.declared.refusal.ParseFault.TheVariants.{Memory};
+
+    ghost from_gives = { λ _ e. e ≡ Memory };
+
+    fn from(_refused: OutOfMemory) -> ParseFault {
+        ParseFault::Memory
+    }
 }

@@ -1,6 +1,6 @@
 //! The length of a subpacket (RFC 9580, 5.2.3.7).
 
-ghost use Rattle.std.specs.Prelude.{◌≡◌, ◌++◌, ◌<◌, ◌≤◌, ◌^◌, ◌↔◌, List, ℕ, length, take, IsTrue, IfSome, IfNone, OnOk, OnErr};
+ghost use Rattle.std.specs.Prelude.{◌≡◌, ◌+◌, ◌++◌, ◌<◌, ◌≤◌, ◌^◌, ◌↔◌, List, ℕ, length, take, IsTrue, IfSome, IfNone, OnOk, OnErr, IsOk, vec_len, vec_capacity};
 ghost use Rattle.opgp_octets.specs.SubLen.{sub_len_octets, SubLenFits, SubLenBegins, sub_len_at};
 
 use crate::number::u32_at;
@@ -84,6 +84,9 @@ pub fn write_sub_len(len: &SubLen, out: &mut Vec<u8>) -> Result<(), OutOfMemory>
     requires { SubLenFits len.now }
     ensures ok { OnOk result (out.new.items ≡ out.old.items ++ sub_len_octets len.now) }
     ensures err { OnErr result (out.new.items ≡ out.old.items) }
+    // Room that is there suffices.
+    ensures succeeds { vec_len out.old + length (sub_len_octets len.now) ≤ vec_capacity out.old
+        → IsOk result }
 {
     match *len {
         SubLen::One(n) => out.extend_from_slice(&[n]),

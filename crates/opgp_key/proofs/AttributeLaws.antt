@@ -2,12 +2,12 @@
 use Rattle.std.proofs.Common.{◌≡◌, ℕ, ◌-◌, List, [], ◌∷◌, length, Some, None, Result, Ok, Err, refl, ap, ◌∙◌, arith}
 use Rattle.opgp_octets.specs.declared.fault.BodyFault.{BodyFault}
 use Rattle.opgp_octets.specs.Reading.{◌>>=◌}
-use Rattle.opgp_key.specs.Subpackets.{Sub}
-use Rattle.opgp_key.specs.Fields.{Field, subpackets, to_end}
-use Rattle.opgp_key.specs.AreaReading.{area_at, fault_of, fault_in, subs_in}
-use Rattle.opgp_key.specs.FieldReading.{body_at, ended, area_step_at, extent_at}
+use Rattle.opgp_body.specs.Subpackets.{Sub}
+use Rattle.opgp_body.specs.Fields.{Field, subpackets, to_end}
+use Rattle.opgp_body.specs.AreaReading.{area_at, fault_of, fault_in, subs_in}
+use Rattle.opgp_body.specs.FieldReading.{body_at, ended, area_step_at, extent_at}
 use Rattle.opgp_key.specs.AttributeBody.{attribute}
-use Rattle.opgp_key.proofs.AreaLaws.{whole_of}
+use Rattle.opgp_body.proofs.AreaLaws.{whole_of}
 
 abbrev listed : Result (List Sub) BodyFault → Result (List Field) BodyFault
 listed r = r >>= λ z. Ok (subpackets to_end z ∷ [])

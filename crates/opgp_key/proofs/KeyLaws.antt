@@ -1,34 +1,37 @@
 -- What every key's body keeps.
-use Rattle.std.proofs.Common.{◌≡◌, ◌≤◌, ◌⊎◌, ℕ, inl, inr, List, [], ◌∷◌, length, arith}
-use Rattle.opgp_key.specs.Fields.{Field, small, wide, integer, named, bare, subpackets, Body}
-use Rattle.opgp_key.specs.KeyBody.{key}
+use Rattle.std.proofs.Common.{◌≡◌, ◌≤◌, ◌-◌, ◌∷◌, ◌⊎◌, ℕ, Bool, true, false, eqb, cond, inl, inr, List, length, refl, sym, ap, ◌∙◌, arith, Result, Ok, Err}
+use Rattle.std.proofs.lemmas.List.{length-append}
+use Rattle.opgp_octets.specs.declared.fault.BodyFault.{BodyFault}
+use Rattle.opgp_octets.specs.Octets.{IsOctets}
+use Rattle.opgp_octets.specs.Reading.{Reads}
+use Rattle.opgp_body.specs.FieldReading.{body_at}
+use Rattle.opgp_body.specs.Fields.{Field, small, wide, octets_of, Body}
+use Rattle.opgp_body.proofs.GrammarLaws.{body_found}
+use Rattle.opgp_key.specs.KeyPlaces.{fields_of_size}
+use Rattle.opgp_key.specs.KeyBody.{key, KeyValue, key_fields, SpellsKey}
 
--- the version that the first field shows
-abbrev pub first_of : List Field → ℕ
-first_of [] = 0
-first_of (small n ∷ fs) = n
-first_of (wide n ∷ fs) = 0
-first_of (integer n ∷ fs) = 0
-first_of (named o ∷ fs) = 0
-first_of (bare o ∷ fs) = 0
-first_of (subpackets e subs ∷ fs) = 0
-
-pub version_known : (fields : List Field) (o : List ℕ) (v : ℕ) → Body (key (length o)) fields o → first_of fields ≡ v → (v ≡ 4) ⊎ (v ≡ 6)
+pub version_known : (v : KeyValue) (o : List ℕ) → SpellsKey v o → (v.version ≡ 4) ⊎ (v.version ≡ 6)
 unfolding key
-version_known [] o v b e = absurd b.follows
-version_known (small n ∷ fs) o v b e = elim b.follows.0 [ inl p ↦ inl (omega (arith, p.0, e)) | inr p ↦ inr (omega (arith, p, e)) ]
-version_known (wide n ∷ fs) o v b e = absurd b.follows.0
-version_known (integer n ∷ fs) o v b e = absurd b.follows.0
-version_known (named n ∷ fs) o v b e = absurd b.follows.0
-version_known (bare n ∷ fs) o v b e = absurd b.follows.0
-version_known (subpackets d subs ∷ fs) o v b e = absurd b.follows.0
+version_known v o b = elim b.follows.0 [ inl p ↦ inl p.0 | inr p ↦ inr p ]
 
-pub version_short : (fields : List Field) (o : List ℕ) (v : ℕ) → Body (key (length o)) fields o → first_of fields ≡ v → v ≡ 4 → length o ≤ 65535
+pub version_short : (v : KeyValue) (o : List ℕ) → SpellsKey v o → v.version ≡ 4 → length o ≤ 65535
 unfolding key
-version_short [] o v b e h = absurd b.follows
-version_short (small n ∷ fs) o v b e h = elim b.follows.0 [ inl p ↦ p.1 | inr p ↦ omega (arith, p, e, h) ]
-version_short (wide n ∷ fs) o v b e h = absurd b.follows.0
-version_short (integer n ∷ fs) o v b e h = absurd b.follows.0
-version_short (named n ∷ fs) o v b e h = absurd b.follows.0
-version_short (bare n ∷ fs) o v b e h = absurd b.follows.0
-version_short (subpackets d subs ∷ fs) o v b e h = absurd b.follows.0
+version_short v o b h = elim b.follows.0 [ inl p ↦ omega (arith, p.1, ap length b.spelled) | inr p ↦ omega (arith, p, h) ]
+
+abbrev sized : ℕ → Bool → KeyValue → List Field
+sized n b v = small v.version ∷ wide v.created ∷ small v.algorithm ∷ (cond b (wide n ∷ v.material) v.material)
+
+size_is : (b : Bool) (v : KeyValue) (o : List ℕ) → o ≡ octets_of (sized (length o - 10) b v) → sized (length o - 10) b v ≡ sized (length (octets_of v.material)) b v
+size_is true v o e =
+    let n : length o - 10 ≡ length (octets_of v.material) = omega (arith, ap length e) in
+    ap (λ (k : ℕ). sized k true v) n
+size_is false v o e = refl
+
+-- the count of a key's octets is that of its material's
+pub counted : {X : Type 0} (shown : X → KeyValue) (o : List ℕ) (r : Result X BodyFault) → IsOctets o
+    → Reads (λ x. fields_of_size (length o) (shown x)) r (body_at key o) → Reads (λ x. key_fields (shown x)) r (body_at key o)
+counted shown o (Err f) fits e = e
+counted shown o (Ok x) fits e =
+    let v = shown x in
+    let b = body_found key o (fields_of_size (length o) v) fits e in
+    e ∙ ap (λ (fs : List Field). Ok fs) (size_is (eqb v.version 6) v o b.spelled)

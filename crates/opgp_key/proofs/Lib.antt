@@ -1,7 +1,2 @@
-pub mod KindLaws
-pub mod AreaLaws
-pub mod ExtentLaws
-pub mod GrammarLaws
-pub mod PlaceLaws
-pub mod KeyLaws
 pub mod AttributeLaws
+pub mod KeyLaws

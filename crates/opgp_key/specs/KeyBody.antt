@@ -1,12 +1,12 @@
 -- The body of a public key (RFC 9580, 5.5.2, 5.5.5), as the table of its fields.
-use Rattle.std.specs.Prelude.{ℕ, ◌-◌, Bool, List, [], ◌∷◌, ◌==◌, ◌||◌, if◌then◌else◌}
+use Rattle.std.specs.Prelude.{ℕ, Bool, List, [], ◌∷◌, length, ◌==◌, if◌then◌else◌}
+use Rattle.opgp_octets.specs.declared.fault.BodyFault.{BodyFault}
 use Rattle.opgp_octets.specs.declared.fault.Reason.TheVariants.{OidSize, KdfSize}
-use Rattle.opgp_key.specs.Fields.{Kind, version, octet, four, count, mpi, sized, fixed, whole, Field, small, wide, integer, named, bare, subpackets, Grammar, done, field}
-
--- fields one after the other
-abbrev pub sequence : List Kind → Grammar
-sequence [] = done
-sequence (kind ∷ kinds) = field kind (λ _. sequence kinds)
+use Rattle.opgp_octets.specs.KeyAlgorithm.{key_algorithm_of}
+use Rattle.opgp_body.specs.Fields.{Kind, version, octet, four, count, mpi, sized, fixed, whole}
+use Rattle.opgp_body.specs.Fields.{Field, small, wide, octets_of, Grammar, field, sequence, amount, Body, FirstFault}
+use Rattle.opgp_key.specs.Shape.{Shape, rsa, elgamal, dsa, ecdh, ecdsa, eddsa, x25519, x448, ed25519, ed448, opaque}
+use Rattle.opgp_key.specs.Shape.{shape_of}
 
 -- a curve's object identifier, and parameters of a key derivation: sizes 0 and 255 are reserved
 abbrev pub oid : Kind
@@ -15,37 +15,50 @@ oid = sized OidSize 1 254
 abbrev pub kdf : Kind
 kdf = sized KdfSize 1 254
 
--- the public material of an algorithm, its integers strict or not
-abbrev pub material_kinds : Bool → ℕ → List Kind
-material_kinds strict a =
-    if (a == 1) || ((a == 2) || (a == 3)) then mpi strict ∷ mpi strict ∷ []
-    else (if a == 16 then mpi strict ∷ mpi strict ∷ mpi strict ∷ []
-    else (if a == 17 then mpi strict ∷ mpi strict ∷ mpi strict ∷ mpi strict ∷ []
-    else (if a == 18 then oid ∷ mpi strict ∷ kdf ∷ []
-    else (if (a == 19) || (a == 22) then oid ∷ mpi strict ∷ []
-    else (if (a == 25) || (a == 27) then fixed 32 ∷ []
-    else (if a == 26 then fixed 56 ∷ []
-    else (if a == 28 then fixed 57 ∷ []
-    else whole ∷ [])))))))
+-- the public material of each form, its integers strict or not (5.5.5)
+abbrev pub material_kinds : Bool → Shape → List Kind
+material_kinds strict rsa = mpi strict ∷ mpi strict ∷ []
+material_kinds strict elgamal = mpi strict ∷ mpi strict ∷ mpi strict ∷ []
+material_kinds strict dsa = mpi strict ∷ mpi strict ∷ mpi strict ∷ mpi strict ∷ []
+material_kinds strict ecdh = oid ∷ mpi strict ∷ kdf ∷ []
+material_kinds strict ecdsa = oid ∷ mpi strict ∷ []
+material_kinds strict eddsa = oid ∷ mpi strict ∷ []
+material_kinds strict x25519 = fixed 32 ∷ []
+material_kinds strict x448 = fixed 56 ∷ []
+material_kinds strict ed25519 = fixed 32 ∷ []
+material_kinds strict ed448 = fixed 57 ∷ []
+material_kinds strict opaque = whole ∷ []
 
--- the number that a field of one or four octets shows
-abbrev pub amount : Field → ℕ
-amount (small n) = n
-amount (wide n) = n
-amount (integer m) = 0
-amount (named o) = 0
-amount (bare o) = 0
-amount (subpackets e subs) = 0
+abbrev pub material_grammar : ℕ → ℕ → Grammar
+material_grammar v a = sequence (material_kinds (v == 6) (shape_of (key_algorithm_of a)))
 
 -- in version 6 a count of the octets that follow, and then those
 abbrev pub counted : ℕ → Grammar → Grammar
 counted v next = if v == 6 then field count (λ _. next) else next
 
--- a key whose body has so many octets: version, creation time, algorithm, in version 6 a count, the material;
--- the integers of version 6 are strict
-unfoldable pub key : ℕ → Grammar
-key total = field (version total) (λ v. field four (λ _. field octet (λ a. counted (amount v) (sequence (material_kinds (amount v == 6) (amount a))))))
+-- version, creation time, algorithm, in version 6 a count, the material; the integers of version 6 are strict
+unfoldable pub key : Grammar
+key =
+    field version (λ v. field four (λ _. field octet (λ a.
+    counted (amount v) (material_grammar (amount v) (amount a)))))
 
--- the fields of a key of this version, time, algorithm and material, whose body has so many octets
-abbrev pub key_fields : ℕ → ℕ → ℕ → ℕ → List Field → List Field
-key_fields total v created a material = small v ∷ wide created ∷ small a ∷ (if v == 6 then wide (total - 10) ∷ material else material)
+-- what a key shows
+pub record KeyValue : Type 0 where
+  pub version : ℕ
+  pub created : ℕ
+  pub algorithm : ℕ
+  pub material : List Field
+
+-- the fields that spell it; the count of version 6 is that of the material's octets
+abbrev pub key_fields : KeyValue → List Field
+key_fields v =
+    small v.version ∷ wide v.created ∷ small v.algorithm
+    ∷ (if v.version == 6 then wide (length (octets_of v.material)) ∷ v.material else v.material)
+
+-- the octets are the key's, and nothing more
+abbrev pub SpellsKey : KeyValue → List ℕ → Type 0
+SpellsKey v o = Body key (key_fields v) o
+
+-- this is the first fault of octets that are no key
+abbrev pub KeyFault : List ℕ → BodyFault → Type 0
+KeyFault o f = FirstFault (length o) key o f

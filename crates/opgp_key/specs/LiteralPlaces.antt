@@ -1,12 +1,11 @@
--- The fields of a literal that lie in its body.
+-- The literal whose fields lie at places in a body.
 use Rattle.std.specs.Prelude.{ℕ, List}
+use Rattle.opgp_body.specs.Spans.{octets_in, IsIn}
 use Rattle.opgp_key.specs.declared.literal_places.LiteralPlaces.{LiteralPlaces}
-use Rattle.opgp_key.specs.Fields.{Field}
-use Rattle.opgp_key.specs.LiteralBody.{literal_fields}
-use Rattle.opgp_key.specs.Places.{octets_in, IsIn}
+use Rattle.opgp_key.specs.LiteralBody.{LiteralValue}
 
-abbrev pub literal_in : LiteralPlaces → List ℕ → List Field
-literal_in p o = literal_fields p.format (octets_in p.name o) p.date (octets_in p.content o)
+abbrev pub literal_in : LiteralPlaces → List ℕ → LiteralValue
+literal_in p o = record { format = p.format; name = octets_in p.name o; date = p.date; content = octets_in p.content o }
 
 -- the name and the content lie in so many octets
 abbrev pub LieIn : LiteralPlaces → ℕ → Type 0

@@ -1,20 +1,24 @@
 -- The forms that a key's public material has, by its algorithm (RFC 9580, 5.5.5, 9.1).
-use Rattle.std.specs.Prelude.{ℕ, ◌==◌, ◌||◌, if◌then◌else◌}
+use Rattle.opgp_octets.specs.declared.key_algorithm.KeyAlgorithm.{KeyAlgorithm}
+use Rattle.opgp_octets.specs.declared.key_algorithm.KeyAlgorithm.TheVariants.{Rsa, RsaEncrypt, RsaSign, Elgamal, Dsa}
+use Rattle.opgp_octets.specs.declared.key_algorithm.KeyAlgorithm.TheVariants.{Ecdh, Ecdsa, EddsaLegacy}
+use Rattle.opgp_octets.specs.declared.key_algorithm.KeyAlgorithm.TheVariants.{X25519, X448, Ed25519, Ed448, Other}
 
 pub data Shape : Type 0 where
   rsa elgamal dsa ecdh ecdsa eddsa x25519 x448 ed25519 ed448 opaque : Shape
   deriving IsSet as Shape-set
 
-abbrev pub shape_of : ℕ → Shape
-shape_of a =
-    if (a == 1) || ((a == 2) || (a == 3)) then rsa
-    else (if a == 16 then elgamal
-    else (if a == 17 then dsa
-    else (if a == 18 then ecdh
-    else (if a == 19 then ecdsa
-    else (if a == 22 then eddsa
-    else (if a == 25 then x25519
-    else (if a == 26 then x448
-    else (if a == 27 then ed25519
-    else (if a == 28 then ed448
-    else opaque)))))))))
+abbrev pub shape_of : KeyAlgorithm → Shape
+shape_of Rsa = rsa
+shape_of RsaEncrypt = rsa
+shape_of RsaSign = rsa
+shape_of Elgamal = elgamal
+shape_of Dsa = dsa
+shape_of Ecdh = ecdh
+shape_of Ecdsa = ecdsa
+shape_of EddsaLegacy = eddsa
+shape_of X25519 = x25519
+shape_of X448 = x448
+shape_of Ed25519 = ed25519
+shape_of Ed448 = ed448
+shape_of (Other n) = opaque

@@ -1,12 +1,7 @@
 -- What a user ID shows.
-use Rattle.std.specs.Prelude.{List, [], ◌∷◌, ℕ}
+use Rattle.std.specs.Prelude.{List, ℕ}
 use Rattle.opgp_key.specs.declared.user_id.UserId.{UserId}
-use Rattle.opgp_key.specs.Fields.{Field, bare}
 
 -- its octets, which are those of its body
 abbrev pub user_id_octets : UserId → List ℕ
 user_id_octets u = u.body.items
-
--- its fields
-abbrev pub user_id_fields : UserId → List Field
-user_id_fields u = bare u.body.items ∷ []

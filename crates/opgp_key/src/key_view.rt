@@ -1,37 +1,35 @@
 //! A public key over the octets of its body.
 
 ghost use Rattle.std.specs.Prelude.{◌≡◌, ◌⊎◌, ◌≤◌, ◌<◌, ◌^◌, ℕ, List, length, Ok, IfOk, IfErr};
-ghost use Rattle.opgp_octets.specs.Octets.{IsOctets};
+ghost use Rattle.opgp_octets.specs.KeyAlgorithm.{key_algorithm_of};
+ghost use Rattle.opgp_octets.specs.Octets.{IsOctets, IsBodySized};
 ghost use Rattle.opgp_octets.specs.Reading.{Reads};
-ghost use Rattle.opgp_key.specs.Fields.{Field, Body, FirstFault};
-ghost use Rattle.opgp_key.specs.FieldReading.{body_at};
-ghost use Rattle.opgp_key.specs.KeyBody.{key, key_fields};
-ghost use Rattle.opgp_key.specs.MaterialPlaces.{fields_in, shape_in, AreIn, AreIn-prop};
+ghost use Rattle.opgp_body.specs.FieldReading.{body_at};
+ghost use Rattle.opgp_body.specs.Fields.{Field, Body};
+ghost use Rattle.opgp_key.specs.KeyBody.{key, key_fields, SpellsKey, KeyFault};
+ghost use Rattle.opgp_key.specs.KeyPlaces.{key_in};
+ghost use Rattle.opgp_key.specs.Material.{shape, AreIn, AreIn-prop};
 ghost use Rattle.opgp_key.specs.Shape.{shape_of, Shape-set};
 
-use crate::cursor::Cursor;
-use crate::material_places::MaterialPlaces;
-use crate::material_view::MaterialView;
+use crate::key_places::KeyPlaces;
+use crate::material::MaterialView;
 use opgp_octets::BodyFault;
 
 /// A public key over the octets of its body (RFC 9580, 5.5.2).
-#[derive(Clone, Copy, Debug)]
+#[derive(Clone, Copy)]
 pub struct KeyView<'a> {
     pub(crate) body: &'a [u8],
-    pub(crate) version: u8,
-    pub(crate) created: u32,
-    pub(crate) algorithm: u8,
-    pub(crate) material: MaterialPlaces,
+    pub(crate) places: KeyPlaces,
     ghost octets: { IsOctets body.now },
-    ghost small: { length body.now ≤ 4294967295 },
-    ghost within: { AreIn material (length body.now) } by { AreIn-prop material (length body.now) },
-    ghost shape: { shape_in material ≡ shape_of algorithm } by { Shape-set (shape_in material) (shape_of algorithm) },
-    ghost parses: { body_at (key (length body.now)) body.now ≡ Ok (key_fields (length body.now) version created algorithm (fields_in material body.now)) },
+    ghost small: { IsBodySized body.now },
+    ghost within: { AreIn places.material (length body.now) } by { AreIn-prop places.material (length body.now) },
+    ghost shape: { shape places.material ≡ shape_of (key_algorithm_of places.algorithm) } by { Shape-set (shape places.material) (shape_of (key_algorithm_of places.algorithm)) },
+    ghost parses: { body_at key body.now ≡ Ok (key_fields (key_in places body.now)) },
 }
 
 impl<'a> KeyView<'a> {
-    ghost use Rattle.opgp_key.specs.KeyView.{view_octets, view_fields, view_version, view_created, view_algorithm, view_material};
-    ghost use Rattle.opgp_key.specs.MaterialView.{material_fields, shape};
+    ghost use Rattle.opgp_key.specs.KeyView.{key_view_octets, key_view_value};
+    ghost use Rattle.opgp_key.specs.Material.{material_fields, HasSizes};
 
     /// The key that the octets spell, all of them. Takes no memory.
     ///
@@ -48,82 +46,70 @@ impl<'a> KeyView<'a> {
     /// [`KdfSize`]: opgp_octets::Reason::KdfSize
     /// [`Trailing`]: opgp_octets::Reason::Trailing
     pub fn parse_body(o: &'a [u8]) -> Result<KeyView<'a>, BodyFault>
-        requires { length o.now ≤ 4294967295 }
+        requires { IsBodySized o.now }
         // The octets are the fields of the key, one after the other.
-        ensures found { IfOk result (λ v. Body (key (length o.now)) (view_fields v) o.now) }
+        ensures found { IfOk result (λ v. SpellsKey (key_view_value v) o.now) }
         // What is spelled so is read.
-        ensures only { (fields : List Field) → Body (key (length o.now)) fields o.now → Reads view_fields result (Ok fields) }
+        ensures only { (fields : List Field) → Body key fields o.now
+            → Reads (λ v. key_fields (key_view_value v)) result (Ok fields) }
         // Some fields begin the octets, and the next has no spelling there.
-        ensures fault { IfErr result (FirstFault (length o.now) (key (length o.now)) o.now) }
-        ensures exact { Reads view_fields result (body_at (key (length o.now)) o.now) }
-        ensures body { IfOk result (λ v. view_octets v ≡ o.now) }
+        ensures fault { IfErr result (KeyFault o.now) }
+        ensures exact { Reads (λ v. key_fields (key_view_value v)) result (body_at key o.now) }
+        ensures body { IfOk result (λ v. key_view_octets v ≡ o.now) }
     {
         KeyView::read(o)
     }
 
-    #[tactic(auto, unfolding(crate::specs::FieldReading::body_at, crate::specs::KeyBody::key))]
     fn read(o: &'a [u8]) -> Result<KeyView<'a>, BodyFault>
-        requires { length o.now ≤ 4294967295 }
-        ensures exact { Reads view_fields result (body_at (key (length o.now)) o.now) }
-        ensures body { IfOk result (λ v. view_octets v ≡ o.now) }
+        requires { IsBodySized o.now }
+        ensures exact { Reads (λ v. key_fields (key_view_value v)) result (body_at key o.now) }
+        ensures body { IfOk result (λ v. key_view_octets v ≡ o.now) }
     {
-        let mut cursor = Cursor::new(o);
-        let version = cursor.version()?;
-        let created = cursor.four()?;
-        let algorithm = cursor.octet()?;
-        if version == 6 {
-            let _count = cursor.count()?;
-        }
-        let material = MaterialPlaces::read(&mut cursor, version == 6, algorithm)?;
-        cursor.end()?;
-        Ok(KeyView {
-            body: o,
-            version,
-            created,
-            algorithm,
-            material,
-        })
+        let places = KeyPlaces::read(o)?;
+        Ok(KeyView { body: o, places })
     }
 
     /// The octets of the body.
     pub fn body(&self) -> &'a [u8]
-        ensures value { result.now ≡ view_octets self.now }
-        ensures small { length result.now ≤ 4294967295 }
-        ensures spelled { Body (key (length result.now)) (view_fields self.now) result.now }
+        ensures value { result.now ≡ key_view_octets self.now }
+        ensures small { IsBodySized result.now }
+        ensures spelled { SpellsKey (key_view_value self.now) result.now }
         // A body of version 4 has a length of two octets.
-        ensures short { view_version self.now ≡ 4 → length result.now ≤ 65535 }
+        ensures short { (key_view_value self.now).version ≡ 4 → length result.now ≤ 65535 }
     {
         self.body
     }
 
     /// 4 or 6.
     pub fn version(&self) -> u8
-        ensures value { result ≡ view_version self.now }
+        ensures value { result ≡ (key_view_value self.now).version }
         ensures known { (result ≡ 4) ⊎ (result ≡ 6) }
     {
-        self.version
+        self.places.version
     }
 
     /// When it was made, in seconds since 1970.
     pub fn created(&self) -> u32
-        ensures { result ≡ view_created self.now }
+        ensures { result ≡ (key_view_value self.now).created }
     {
-        self.created
+        self.places.created
     }
 
     /// The number of its algorithm (RFC 9580, 9.1).
     pub fn algorithm(&self) -> u8
-        ensures { result ≡ view_algorithm self.now }
+        ensures { result ≡ (key_view_value self.now).algorithm }
     {
-        self.algorithm
+        self.places.algorithm
     }
 
     /// Its public material; which variant it is, its algorithm says.
     pub fn material(&self) -> MaterialView<'a>
-        ensures fields { material_fields result ≡ view_material self.now }
-        ensures shape { shape result ≡ shape_of (view_algorithm self.now) }
+        ensures fields { material_fields result ≡ (key_view_value self.now).material }
+        ensures shape { shape result ≡ shape_of (key_algorithm_of (key_view_value self.now).algorithm) }
+        // X25519 and Ed25519 have 32 octets, X448 has 56, Ed448 has 57.
+        ensures sizes { HasSizes result }
     {
-        let _algorithm = self.algorithm;
-        self.material.lend(self.body)
+        let _algorithm = self.places.algorithm;
+        self.places.material.lend(self.body)
     }
 }

@@ -2,29 +2,32 @@
 
 ghost use Rattle.std.specs.Prelude.{◌≡◌, ◌≤◌, length, IfOk};
 ghost use Rattle.opgp_octets.specs.Reading.{Reads};
-ghost use Rattle.opgp_key.specs.FieldReading.{body_at};
-ghost use Rattle.opgp_key.specs.LiteralBody.{literal};
+ghost use Rattle.opgp_body.specs.FieldReading.{body_at};
+ghost use Rattle.opgp_octets.specs.Octets.{IsOctets, IsBodySized};
+ghost use Rattle.opgp_key.specs.LiteralBody.{literal, literal_fields};
 
-use crate::cursor::Cursor;
-use crate::places::Place;
+use opgp_body::{Cursor, Span};
 use opgp_octets::{BodyFault, Reason};
 
 /// The fields of a literal; of its name and content, where they lie in the body.
-#[derive(Clone, Copy, Debug)]
+#[derive(Clone, Copy)]
 pub(crate) struct LiteralPlaces {
     pub(crate) format: u8,
-    pub(crate) name: Place,
+    pub(crate) name: Span,
     pub(crate) date: u32,
-    pub(crate) content: Place,
+    pub(crate) content: Span,
 }
 
 impl LiteralPlaces {
     ghost use Rattle.opgp_key.specs.LiteralPlaces.{literal_in, LieIn};
 
     /// The literal that the octets spell, all of them.
-    #[tactic(auto, unfolding(crate::specs::FieldReading::body_at, crate::specs::LiteralBody::literal))]
+    #[tactic(auto, unfolding(opgp_body::specs::FieldReading::body_at, crate::specs::LiteralBody::literal))]
     pub(crate) fn read(o: &[u8]) -> Result<LiteralPlaces, BodyFault>
-        ensures exact { Reads (λ p. literal_in p o.now) result (body_at literal o.now) }
+        requires { IsBodySized o.now }
+        ensures exact { Reads (λ p. literal_fields (literal_in p o.now)) result (body_at literal o.now) }
+        // The octets are octets, which a vector that is moved tells no more.
+        ensures octets { IsOctets o.now }
         ensures within { IfOk result (λ p. LieIn p (length o.now)) }
     {
         let mut cursor = Cursor::new(o);

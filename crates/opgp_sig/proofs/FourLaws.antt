@@ -1,10 +1,10 @@
 -- The sizes of fields of a version 4 signature.
 use Rattle.std.proofs.Common.{◌≡◌, ◌≤◌, ℕ, List, length, Ok, ap, arith}
 use Rattle.opgp_octets.specs.Octets.{IsOctets}
-use Rattle.opgp_key.specs.AreaReading.{subs_in}
-use Rattle.opgp_key.specs.FieldReading.{body_at}
-use Rattle.opgp_key.specs.Subpackets.{Area}
-use Rattle.opgp_key.proofs.GrammarLaws.{body_found}
+use Rattle.opgp_body.specs.AreaReading.{subs_in}
+use Rattle.opgp_body.specs.FieldReading.{body_at}
+use Rattle.opgp_body.specs.Subpackets.{Area}
+use Rattle.opgp_body.proofs.GrammarLaws.{body_found}
 use Rattle.opgp_sig.specs.SignatureBody.{version_four}
 use Rattle.opgp_sig.specs.Values.{AreasValue, four_fields}
 

@@ -9,11 +9,11 @@ use Rattle.opgp_octets.specs.declared.refusal.ParseFault.TheVariants as faults
 use Rattle.opgp_octets.specs.Octets.{IsOctets}
 use Rattle.opgp_octets.specs.Reading.{◌>>=◌, Reads}
 use Rattle.opgp_octets.proofs.Bytes.{chosen, bind_ok}
-use Rattle.opgp_key.specs.Fields.{exact, Field, small, wide, integer, named, bare, subpackets, octets_of, Grammar, field, Body}
-use Rattle.opgp_key.specs.FieldReading.{body_at}
-use Rattle.opgp_key.specs.ParseFault.{Parses, RefusedBy}
-use Rattle.opgp_key.proofs.AreaLaws.{same_read}
-use Rattle.opgp_key.proofs.GrammarLaws.{body_found, body_only, body_fault, body_refused}
+use Rattle.opgp_body.specs.Fields.{exact, Field, small, wide, integer, named, bare, subpackets, octets_of, Grammar, field, Body}
+use Rattle.opgp_body.specs.FieldReading.{body_at}
+use Rattle.opgp_octets.specs.ParseFault.{Parses, RefusedBy}
+use Rattle.opgp_body.proofs.AreaLaws.{same_read}
+use Rattle.opgp_body.proofs.GrammarLaws.{body_found, body_only, body_fault, body_refused}
 use Rattle.opgp_sig.specs.SignatureBody.{version_three, version_four, version_six, SignatureValue, of_three, of_four, of_six, of_other, IsOther, Spells, SignatureFault, three_or_other, signature_at}
 
 abbrev well : SignatureValue → Result SignatureValue BodyFault

@@ -1,9 +1,9 @@
 -- The sizes of fields of a version 6 signature.
 use Rattle.std.proofs.Common.{◌≡◌, ℕ, List, length, Option, Some, None, Ok, arith}
 use Rattle.opgp_octets.specs.Octets.{IsOctets}
-use Rattle.opgp_key.specs.Fields.{named, Stands}
-use Rattle.opgp_key.specs.FieldReading.{body_at}
-use Rattle.opgp_key.proofs.GrammarLaws.{body_found}
+use Rattle.opgp_body.specs.Fields.{named, Stands}
+use Rattle.opgp_body.specs.FieldReading.{body_at}
+use Rattle.opgp_body.proofs.GrammarLaws.{body_found}
 use Rattle.opgp_sig.specs.SignatureBody.{version_six, salt_size, salt_of_size}
 use Rattle.opgp_sig.specs.Values.{AreasValue, six_fields}
 

@@ -3,10 +3,10 @@ use Rattle.std.proofs.Common.{◌≡◌, ℕ, ◌==◌, List, [], ◌∷◌, len
 use Rattle.std.proofs.lemmas.Bool.{eqb-true}
 use Rattle.opgp_octets.specs.declared.fault.Reason.{Reason}
 use Rattle.opgp_octets.proofs.Bytes.{chosen}
-use Rattle.opgp_key.specs.Fields.{exact, Field, small}
-use Rattle.opgp_key.specs.KeyBody.{amount}
-use Rattle.opgp_key.specs.FieldReading.{step_at, kind_at}
-use Rattle.opgp_key.proofs.ExtentLaws.{placed_ok}
+use Rattle.opgp_body.specs.Fields.{exact, Field, small}
+use Rattle.opgp_body.specs.Fields.{amount}
+use Rattle.opgp_body.specs.FieldReading.{step_at, kind_at}
+use Rattle.opgp_body.proofs.ExtentLaws.{placed_ok}
 
 -- the number that the field read shows
 abbrev number_in : Result (Field × List ℕ) Reason → ℕ

@@ -3,10 +3,10 @@ use Rattle.std.proofs.Common.{◌≡◌, ℕ, zero, suc, Bool, true, false, List
 use Rattle.std.specs.Prelude.{◌||◌, nat_lt}
 use Rattle.std.proofs.lemmas.Bool.{lt-ltb}
 use Rattle.opgp_octets.specs.declared.fault.Reason.TheVariants.{Short}
-use Rattle.opgp_key.specs.Fields.{fault_at}
+use Rattle.opgp_body.specs.Fields.{fault_at}
 use Rattle.opgp_octets.specs.Octets.{IsOctets}
-use Rattle.opgp_key.specs.FieldReading.{step_at, kind_at, body_at}
-use Rattle.opgp_key.proofs.GrammarLaws.{body_found}
+use Rattle.opgp_body.specs.FieldReading.{step_at, kind_at, body_at}
+use Rattle.opgp_body.proofs.GrammarLaws.{body_found}
 use Rattle.opgp_sig.specs.SignatureBody.{nothing, version_three}
 use Rattle.opgp_sig.specs.Values.{ThreeValue, three_fields}
 

@@ -1,7 +1,7 @@
 -- The fields of a version 4 or 6 signature that lie in its body.
 use Rattle.std.specs.Prelude.{ℕ, List, length}
 use Rattle.std.proofs.Props.{props}
-use Rattle.opgp_key.specs.Places.{octets_in, IsIn}
+use Rattle.opgp_body.specs.Spans.{octets_in, IsIn}
 use Rattle.opgp_sig.specs.declared.area_places.AreaPlaces.{AreaPlaces}
 use Rattle.opgp_sig.specs.declared.area_places.SixPlaces.{SixPlaces}
 use Rattle.opgp_sig.specs.MaterialPlaces.{fields_in, AreIn, AreIn-prop}

@@ -1,7 +1,7 @@
 -- What a signature's material shows.
 use Rattle.std.specs.Prelude.{List, [], ◌∷◌}
-use Rattle.opgp_key.specs.Fields.{Field, bare}
-use Rattle.opgp_key.specs.MaterialView.{integer_of}
+use Rattle.opgp_body.specs.Fields.{Field, bare}
+use Rattle.opgp_body.specs.Fields.{integer_of}
 use Rattle.opgp_sig.specs.declared.material.SignatureMaterial.{SignatureMaterial}
 use Rattle.opgp_sig.specs.declared.material.SignatureMaterial.TheVariants.{Rsa, Dsa, Ecdsa, Eddsa, Ed25519, Ed448, Opaque}
 use Rattle.opgp_sig.specs.Shape.{Shape, rsa, dsa, ecdsa, eddsa, ed25519, ed448, opaque}

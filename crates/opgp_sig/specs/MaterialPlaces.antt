@@ -1,8 +1,8 @@
 -- Where the fields of a signature's material lie in its body.
 use Rattle.std.specs.Prelude.{ℕ, List, [], ◌∷◌}
 use Rattle.std.proofs.Props.{props}
-use Rattle.opgp_key.specs.Fields.{Field, bare}
-use Rattle.opgp_key.specs.Places.{octets_in, integer_in, IsIn, IsMpiIn}
+use Rattle.opgp_body.specs.Fields.{Field, bare}
+use Rattle.opgp_body.specs.Spans.{octets_in, integer_in, IsIn, IsMpiIn}
 use Rattle.opgp_sig.specs.declared.material_places.MaterialPlaces.{MaterialPlaces}
 use Rattle.opgp_sig.specs.declared.material_places.MaterialPlaces.TheVariants.{Rsa, Dsa, Ecdsa, Eddsa, Ed25519, Ed448, Opaque}
 use Rattle.opgp_sig.specs.Shape.{Shape, rsa, dsa, ecdsa, eddsa, ed25519, ed448, opaque}

@@ -3,9 +3,9 @@ use Rattle.std.specs.Prelude.{◌≡◌, ℕ, Bool, true, false, ◌==◌, ◌||
 use Rattle.opgp_octets.specs.declared.fault.Reason.TheVariants.{Short, SaltSize}
 use Rattle.opgp_octets.specs.declared.fault.BodyFault.{BodyFault}
 use Rattle.opgp_octets.specs.Reading.{◌>>=◌}
-use Rattle.opgp_key.specs.Fields.{Kind, octet, exact, four, mpi, sized, fixed, whole, behind_two, behind_four, Field, Grammar, field, area, Body, fault_at, FirstFault}
-use Rattle.opgp_key.specs.FieldReading.{body_at}
-use Rattle.opgp_key.specs.KeyBody.{sequence, amount}
+use Rattle.opgp_body.specs.Fields.{Kind, octet, exact, four, mpi, sized, fixed, whole, behind_two, behind_four, Field, Grammar, field, area, Body, fault_at, FirstFault}
+use Rattle.opgp_body.specs.FieldReading.{body_at}
+use Rattle.opgp_body.specs.Fields.{sequence, amount}
 
 -- what an algorithm's signature is made of, its integers strict or not (5.2.3.1 to 5.2.3.5)
 abbrev pub material_kinds : Bool → ℕ → List Kind

@@ -1,7 +1,7 @@
 -- What a subpacket of a signature shows.
 use Rattle.std.specs.Prelude.{ℕ, ◌%◌, Bool, nat_le}
-use Rattle.opgp_key.specs.Subpackets.{Sub}
-use Rattle.opgp_key.specs.Subpacket.{sub_seen}
+use Rattle.opgp_body.specs.Subpackets.{Sub}
+use Rattle.opgp_body.specs.Subpacket.{sub_seen}
 use Rattle.opgp_sig.specs.declared.sub_view.SubView.{SubView}
 
 abbrev pub sub_shown : SubView → Sub

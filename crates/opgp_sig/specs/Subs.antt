@@ -1,7 +1,7 @@
 -- The subpackets of a signature's area that are still to come.
 use Rattle.std.specs.Prelude.{List}
-use Rattle.opgp_key.specs.Subpackets.{Sub}
-use Rattle.opgp_key.specs.Walk.{subs_left}
+use Rattle.opgp_body.specs.Subpackets.{Sub}
+use Rattle.opgp_body.specs.Walk.{subs_left}
 use Rattle.opgp_sig.specs.declared.subs.Subs.{Subs}
 
 abbrev pub subs_to_come : Subs → List Sub

@@ -1,7 +1,7 @@
 -- The fields of a version 3 signature that lie in its body.
 use Rattle.std.specs.Prelude.{ℕ, List}
 use Rattle.std.proofs.Props.{props}
-use Rattle.opgp_key.specs.Places.{octets_in, IsIn}
+use Rattle.opgp_body.specs.Spans.{octets_in, IsIn}
 use Rattle.opgp_sig.specs.declared.three_places.ThreePlaces.{ThreePlaces}
 use Rattle.opgp_sig.specs.MaterialPlaces.{fields_in, AreIn, AreIn-prop}
 use Rattle.opgp_sig.specs.Values.{ThreeValue}

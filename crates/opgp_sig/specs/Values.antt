@@ -1,7 +1,7 @@
 -- What signatures of each version show, and the fields that spell it (RFC 9580, 5.2.2, 5.2.3).
 use Rattle.std.specs.Prelude.{◌≡◌, ℕ, List, ◌∷◌, length, None}
-use Rattle.opgp_key.specs.Fields.{Field, small, wide, named, bare, subpackets, behind_two, behind_four}
-use Rattle.opgp_key.specs.AreaReading.{fault_in, subs_in}
+use Rattle.opgp_body.specs.Fields.{Field, small, wide, named, bare, subpackets, behind_two, behind_four}
+use Rattle.opgp_body.specs.AreaReading.{fault_in, subs_in}
 
 -- of version 3
 pub record ThreeValue : Type 0 where

@@ -2,14 +2,14 @@
 
 ghost use Rattle.std.specs.Prelude.{◌≡◌, ◌≤◌, length, IfOk};
 ghost use Rattle.opgp_octets.specs.Reading.{Reads};
-ghost use Rattle.opgp_key.specs.FieldReading.{body_at};
+ghost use Rattle.opgp_body.specs.FieldReading.{body_at};
 ghost use Rattle.opgp_sig.specs.SignatureBody.{version_four, version_six};
 ghost use Rattle.opgp_sig.specs.Values.{four_fields, six_fields};
 ghost use Rattle.opgp_sig.specs.Shape.{shape_of};
 
 use crate::material_places::MaterialPlaces;
 use crate::steps::{octet_at, salt_at};
-use opgp_key::{AreaLength, Cursor, Place};
+use opgp_body::{AreaLength, Cursor, Span};
 use opgp_octets::BodyFault;
 
 /// The fields that versions 4 and 6 share; of the longer ones, where they lie in the body.
@@ -18,9 +18,9 @@ pub(crate) struct AreaPlaces {
     pub(crate) kind: u8,
     pub(crate) algorithm: u8,
     pub(crate) hash: u8,
-    pub(crate) hashed: Place,
-    pub(crate) unhashed: Place,
-    pub(crate) left: Place,
+    pub(crate) hashed: Span,
+    pub(crate) unhashed: Span,
+    pub(crate) left: Span,
     pub(crate) material: MaterialPlaces,
 }
 
@@ -29,7 +29,7 @@ impl AreaPlaces {
     ghost use Rattle.opgp_sig.specs.MaterialPlaces.{shape_in};
 
     /// The version 4 signature that the octets spell, all of them.
-    #[tactic(auto, unfolding(opgp_key::specs::FieldReading::body_at, crate::specs::SignatureBody::version_four))]
+    #[tactic(auto, unfolding(opgp_body::specs::FieldReading::body_at, crate::specs::SignatureBody::version_four))]
     pub(crate) fn read_four(o: &[u8]) -> Result<AreaPlaces, BodyFault>
         ensures exact { Reads (λ p. four_fields (areas_in p o.now)) result (body_at version_four o.now) }
         ensures within { IfOk result (λ p. AreasLie p o.now) }
@@ -61,7 +61,7 @@ impl AreaPlaces {
 #[derive(Clone, Copy, Debug)]
 pub(crate) struct SixPlaces {
     pub(crate) areas: AreaPlaces,
-    pub(crate) salt: Place,
+    pub(crate) salt: Span,
 }
 
 impl SixPlaces {
@@ -69,7 +69,7 @@ impl SixPlaces {
     ghost use Rattle.opgp_sig.specs.MaterialPlaces.{shape_in};
 
     /// The version 6 signature that the octets spell, all of them.
-    #[tactic(auto, unfolding(opgp_key::specs::FieldReading::body_at, crate::specs::SignatureBody::version_six))]
+    #[tactic(auto, unfolding(opgp_body::specs::FieldReading::body_at, crate::specs::SignatureBody::version_six))]
     pub(crate) fn read(o: &[u8]) -> Result<SixPlaces, BodyFault>
         ensures exact { Reads (λ p. six_fields (areas_in p.areas o.now) (salt_in p o.now)) result (body_at version_six o.now) }
         ensures within { IfOk result (λ p. SixLies p o.now) }

@@ -2,29 +2,29 @@
 
 ghost use Rattle.std.specs.Prelude.{◌≡◌, ◌≤◌, length, drop, IfOk};
 ghost use Rattle.opgp_octets.specs.Reading.{Reads};
-ghost use Rattle.opgp_key.specs.FieldReading.{read_at};
-ghost use Rattle.opgp_key.specs.KeyBody.{sequence};
+ghost use Rattle.opgp_body.specs.FieldReading.{read_at};
+ghost use Rattle.opgp_body.specs.Fields.{sequence};
 ghost use Rattle.opgp_sig.specs.SignatureBody.{material_kinds, old_material_kinds};
 ghost use Rattle.opgp_sig.specs.Shape.{shape_of};
 
 use crate::material::SignatureMaterial;
-use opgp_key::{Cursor, MpiPlace, Place};
+use opgp_body::{Cursor, MpiSpan, Span};
 use opgp_octets::{BodyFault, Reason};
 
 /// Where the fields of a signature's material lie in its body, by its algorithm.
 #[derive(Clone, Copy, Debug)]
 pub(crate) enum MaterialPlaces {
-    Rsa(MpiPlace),
-    Dsa { r: MpiPlace, s: MpiPlace },
-    Ecdsa { r: MpiPlace, s: MpiPlace },
-    Eddsa { r: MpiPlace, s: MpiPlace },
-    Ed25519(Place),
-    Ed448(Place),
-    Opaque(Place),
+    Rsa(MpiSpan),
+    Dsa { r: MpiSpan, s: MpiSpan },
+    Ecdsa { r: MpiSpan, s: MpiSpan },
+    Eddsa { r: MpiSpan, s: MpiSpan },
+    Ed25519(Span),
+    Ed448(Span),
+    Opaque(Span),
 }
 
 impl MaterialPlaces {
-    ghost use Rattle.opgp_key.specs.Cursor.{body_under, place_of};
+    ghost use Rattle.opgp_body.specs.Cursor.{body_under, place_of};
     ghost use Rattle.opgp_sig.specs.MaterialPlaces.{fields_in, shape_in, AreIn};
     ghost use Rattle.opgp_sig.specs.Material.{material_fields, shape};
 

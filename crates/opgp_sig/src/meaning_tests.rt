@@ -1,5 +1,5 @@
 use crate::Subs;
-use opgp_key::fault_in_area;
+use opgp_body::fault_in_area;
 use std::alloc::Global;
 use std::process::Abort;
 use std::test::Fail;

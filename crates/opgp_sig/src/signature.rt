@@ -2,7 +2,7 @@
 
 ghost use Rattle.std.specs.Prelude.{◌≡◌, ◌++◌, ◌≤◌, length, Ok, Err, OnOk, OnErr, IfOk, IfErr};
 ghost use Rattle.opgp_octets.specs.declared.fault.BodyFault.{BodyFault};
-ghost use Rattle.opgp_key.specs.ParseFault.{Parses, RefusedBy};
+ghost use Rattle.opgp_octets.specs.ParseFault.{Parses, RefusedBy};
 ghost use Rattle.opgp_sig.specs.SignatureBody.{SignatureValue, Spells, SignatureFault, signature_at};
 
 use crate::four_signature::FourSignature;

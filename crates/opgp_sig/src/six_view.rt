@@ -3,7 +3,7 @@
 ghost use Rattle.std.specs.Prelude.{◌≡◌, ◌≤◌, ℕ, length, Some, Ok, IfOk};
 ghost use Rattle.opgp_octets.specs.Octets.{IsOctets};
 ghost use Rattle.opgp_octets.specs.Reading.{Reads};
-ghost use Rattle.opgp_key.specs.FieldReading.{body_at};
+ghost use Rattle.opgp_body.specs.FieldReading.{body_at};
 ghost use Rattle.opgp_sig.specs.AreaPlaces.{areas_in, salt_in, SixLies, SixLies-prop};
 ghost use Rattle.opgp_sig.specs.MaterialPlaces.{shape_in};
 ghost use Rattle.opgp_sig.specs.Shape.{shape_of, Shape-set};
@@ -32,8 +32,8 @@ impl<'a> SixView<'a> {
     ghost use Rattle.opgp_sig.specs.SixView.{six_shown, salt_shown, six_octets};
     ghost use Rattle.opgp_sig.specs.Material.{material_fields, shape};
     ghost use Rattle.opgp_sig.specs.Subs.{subs_to_come};
-    ghost use Rattle.opgp_key.specs.AreaReading.{subs_in};
-    ghost use Rattle.opgp_key.specs.Subpackets.{Area};
+    ghost use Rattle.opgp_body.specs.AreaReading.{subs_in};
+    ghost use Rattle.opgp_body.specs.Subpackets.{Area};
 
     /// The signature that the octets spell, all of them.
     pub(crate) fn read(o: &'a [u8]) -> Result<SixView<'a>, BodyFault>

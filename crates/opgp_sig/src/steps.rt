@@ -3,17 +3,17 @@
 ghost use Rattle.std.specs.Prelude.{◌≡◌, ◌≤◌, length, drop, IfOk};
 ghost use Rattle.opgp_octets.specs.Reading.{Reads};
 ghost use Rattle.opgp_octets.specs.declared.fault.Reason.TheVariants.{Short};
-ghost use Rattle.opgp_key.specs.Cursor.{body_under, place_of};
-ghost use Rattle.opgp_key.specs.FieldReading.{step_at};
-ghost use Rattle.opgp_key.specs.Fields.{exact, named, small};
-ghost use Rattle.opgp_key.specs.Places.{octets_in, IsIn};
+ghost use Rattle.opgp_body.specs.Cursor.{body_under, place_of};
+ghost use Rattle.opgp_body.specs.FieldReading.{step_at};
+ghost use Rattle.opgp_body.specs.Fields.{exact, named, small};
+ghost use Rattle.opgp_body.specs.Spans.{octets_in, IsIn};
 ghost use Rattle.opgp_sig.specs.SignatureBody.{salt_of};
 
-use opgp_key::{Cursor, Place};
+use opgp_body::{Cursor, Span};
 use opgp_octets::{BodyFault, Reason};
 
 /// The salt that comes next, which has the size of its hash algorithm (RFC 9580, 9.5).
-pub(crate) fn salt_at(cursor: &mut Cursor<'_>, hash: u8) -> Result<Place, BodyFault>
+pub(crate) fn salt_at(cursor: &mut Cursor<'_>, hash: u8) -> Result<Span, BodyFault>
     ensures reads { Reads (λ p. (named (octets_in p (body_under cursor.old)), drop (place_of cursor.new) (body_under cursor.old))) result
         (step_at (length (body_under cursor.old)) (salt_of hash) (drop (place_of cursor.old) (body_under cursor.old))) }
     ensures body { body_under cursor.new ≡ body_under cursor.old }

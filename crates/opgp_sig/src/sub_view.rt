@@ -4,7 +4,7 @@ ghost use Rattle.std.specs.Prelude.{◌≡◌, ◌≤◌, length};
 
 use crate::sub_meaning::SubMeaning;
 use crate::typed::typed;
-use opgp_key::Subpacket;
+use opgp_body::Subpacket;
 use opgp_octets::SubLen;
 
 /// A subpacket of a signature, over the octets of its area (RFC 9580, 5.2.3.7).
@@ -14,7 +14,7 @@ pub struct SubView<'a> {
 }
 
 impl<'a> SubView<'a> {
-    ghost use Rattle.opgp_key.specs.Subpackets.{IsSub};
+    ghost use Rattle.opgp_body.specs.Subpackets.{IsSub};
     ghost use Rattle.opgp_sig.specs.SubView.{sub_shown, is_critical, kind_shown};
     ghost use Rattle.opgp_sig.specs.SubMeaning.{Means};
 

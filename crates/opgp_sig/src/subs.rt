@@ -1,10 +1,10 @@
 //! The subpackets of an area of a signature.
 
 ghost use Rattle.std.specs.Prelude.{◌≡◌, ◌≤◌, length, None};
-ghost use Rattle.opgp_key.specs.AreaReading.{fault_in};
+ghost use Rattle.opgp_body.specs.AreaReading.{fault_in};
 
 use crate::sub_view::SubView;
-use opgp_key::Walk;
+use opgp_body::Walk;
 
 /// The subpackets of an area, one after the other. Takes no memory.
 #[derive(Clone, Copy, Debug)]
@@ -14,7 +14,7 @@ pub struct Subs<'a> {
 
 impl<'a> Subs<'a> {
     ghost use Rattle.opgp_sig.specs.Subs.{subs_to_come};
-    ghost use Rattle.opgp_key.specs.AreaReading.{subs_in};
+    ghost use Rattle.opgp_body.specs.AreaReading.{subs_in};
 
     /// The subpackets of this area.
     pub(crate) fn new(area: &'a [u8]) -> Subs<'a>

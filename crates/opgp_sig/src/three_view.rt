@@ -3,7 +3,7 @@
 ghost use Rattle.std.specs.Prelude.{◌≡◌, ◌≤◌, length, Ok, IfOk};
 ghost use Rattle.opgp_octets.specs.Octets.{IsOctets};
 ghost use Rattle.opgp_octets.specs.Reading.{Reads};
-ghost use Rattle.opgp_key.specs.FieldReading.{body_at};
+ghost use Rattle.opgp_body.specs.FieldReading.{body_at};
 ghost use Rattle.opgp_sig.specs.MaterialPlaces.{shape_in};
 ghost use Rattle.opgp_sig.specs.Shape.{shape_of, Shape-set};
 ghost use Rattle.opgp_sig.specs.SignatureBody.{version_three};

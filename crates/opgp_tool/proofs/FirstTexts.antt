@@ -10,7 +10,7 @@ use Rattle.base64.specs.declared.decode.DecodeError.{DecodeError}
 use Rattle.base64.proofs.EngineFacts.{decode_of-encode_of}
 use Rattle.opgp_octets.specs.Octets.{IsOctets}
 use Rattle.opgp_key.specs.declared.key.Key.{Key}
-use Rattle.opgp_key.specs.Fields.{Field, Follows}
+use Rattle.opgp_body.specs.Fields.{Field, Follows}
 use Rattle.opgp_key.specs.Key.{key_version, key_created, key_algorithm, key_octets}
 use Rattle.opgp_key.specs.KeyBody.{key, key_fields}
 use Rattle.opgp_tool.specs.FirstKey.{IsFirstKey}

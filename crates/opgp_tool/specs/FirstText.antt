@@ -4,7 +4,7 @@ use Rattle.std.specs.List.{AllByRecursion, concat, flat_map}
 use Rattle.base64.specs.Engines.{standard}
 use Rattle.base64.specs.GeneralPurpose.{encode_of}
 use Rattle.opgp_octets.specs.Octets.{IsOctets}
-use Rattle.opgp_key.specs.Fields.{Field, Body}
+use Rattle.opgp_body.specs.Fields.{Field, Body}
 use Rattle.opgp_key.specs.KeyBody.{key, key_fields}
 use Rattle.opgp_frame.specs.declared.form.Form.TheVariants.{NewOne}
 use Rattle.opgp_frame.specs.Packet.{PacketValue, IsPacket, spelling}

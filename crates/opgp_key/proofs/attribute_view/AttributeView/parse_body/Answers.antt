@@ -1,14 +1,14 @@
 use Rattle.std.proofs.Common.{arith}
-use Rattle.opgp_key.specs.AttributeBody.{attribute}
-use Rattle.opgp_key.specs.AttributeView.{attribute_view_fields}
-use Rattle.opgp_key.proofs.GrammarLaws.{parser_found, parser_only, parser_fault}
+use Rattle.opgp_key.specs.AttributeBody.{attribute, attribute_fields}
+use Rattle.opgp_key.specs.AttributeView.{attribute_view_value}
+use Rattle.opgp_body.proofs.GrammarLaws.{parser_found, parser_only, parser_fault}
 use Rattle.opgp_key.proofs.attribute_view.AttributeView.parse_body.Goals as goal
 
 pub returns-clause-found : goal.returns-clause-found
-returns-clause-found c = parser_found attribute_view_fields attribute c.args.o.now c.read.result (λ i. omega (arith, c.type_inv.o i)) c.read.ensures.exact
+returns-clause-found c = parser_found (λ x. attribute_fields (attribute_view_value x)) attribute c.args.o.now c.read.result (λ i. omega (arith, c.type_inv.o i)) c.read.ensures.exact
 
 pub returns-clause-only : goal.returns-clause-only
-returns-clause-only c = parser_only attribute_view_fields attribute c.args.o.now c.read.result c.read.ensures.exact
+returns-clause-only c = parser_only (λ x. attribute_fields (attribute_view_value x)) attribute c.args.o.now c.read.result c.read.ensures.exact
 
 pub returns-clause-fault : goal.returns-clause-fault
-returns-clause-fault c = parser_fault attribute_view_fields attribute c.args.o.now c.read.result (λ i. omega (arith, c.type_inv.o i)) c.read.ensures.exact
+returns-clause-fault c = parser_fault (λ x. attribute_fields (attribute_view_value x)) attribute c.args.o.now c.read.result (λ i. omega (arith, c.type_inv.o i)) c.read.ensures.exact

@@ -1,11 +1,11 @@
 use Rattle.std.proofs.Common.{ℕ, List, sym, subst}
-use Rattle.opgp_key.specs.Fields.{Body}
-use Rattle.opgp_key.specs.LiteralBody.{literal}
+use Rattle.opgp_key.specs.LiteralBody.{literal, literal_fields, SpellsLiteral}
 use Rattle.opgp_key.specs.LiteralPlaces.{literal_in}
-use Rattle.opgp_key.proofs.GrammarLaws.{body_found}
+use Rattle.opgp_body.proofs.GrammarLaws.{body_found}
 use Rattle.opgp_key.proofs.literal.Literal.body.Goals as goal
 
 pub returns-clause-spelled : goal.returns-clause-spelled
 returns-clause-spelled c =
     let l = c.args.self.now in
-    subst (λ (o : List ℕ). Body literal (literal_in l.places l.body.items) o) (sym c.deref.ensures.value) (body_found literal l.body.items (literal_in l.places l.body.items) l.octets l.parses)
+    subst (λ (o : List ℕ). SpellsLiteral (literal_in l.places l.body.items) o) (sym c.deref.ensures.value)
+    (body_found literal l.body.items (literal_fields (literal_in l.places l.body.items)) l.octets l.parses)

@@ -1,6 +1,6 @@
 use Rattle.std.proofs.Common.{arith}
 use Rattle.opgp_key.specs.LiteralBody.{literal}
-use Rattle.opgp_key.proofs.GrammarLaws.{checked_fault, checked_none, checked_found}
+use Rattle.opgp_body.proofs.GrammarLaws.{checked_fault, checked_none, checked_found}
 use Rattle.opgp_key.proofs.literal.Literal.check_body.Goals as goal
 
 pub returns-clause-fault : goal.returns-clause-fault

@@ -1,4 +1,4 @@
-use Rattle.opgp_key.proofs.GrammarLaws.{body_found}
+use Rattle.opgp_body.proofs.GrammarLaws.{body_found}
 use Rattle.opgp_sig.specs.FourView.{four_shown}
 use Rattle.opgp_sig.specs.SignatureBody.{version_three, version_four, version_six, of_other}
 use Rattle.opgp_sig.specs.SixView.{six_shown, salt_shown}

@@ -1,0 +1,5 @@
+pub mod AreaLaws
+pub mod ExtentLaws
+pub mod GrammarLaws
+pub mod KindLaws
+pub mod SpanLaws

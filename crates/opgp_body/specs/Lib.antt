@@ -1,0 +1,9 @@
+pub mod AreaLength
+pub mod AreaReading
+pub mod Cursor
+pub mod FieldReading
+pub mod Fields
+pub mod Spans
+pub mod Subpacket
+pub mod Subpackets
+pub mod Walk

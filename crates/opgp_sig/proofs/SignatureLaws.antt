@@ -14,7 +14,7 @@ use Rattle.opgp_body.specs.FieldReading.{body_at}
 use Rattle.opgp_octets.specs.ParseFault.{Parses, RefusedBy}
 use Rattle.opgp_body.proofs.AreaLaws.{same_read}
 use Rattle.opgp_body.proofs.GrammarLaws.{body_found, body_only, body_fault, body_refused}
-use Rattle.opgp_sig.specs.SignatureBody.{version_three, version_four, version_six, SignatureValue, of_three, of_four, of_six, of_other, IsOther, Spells, SignatureFault, three_or_other, signature_at}
+use Rattle.opgp_sig.specs.SignatureBody.{version_three, version_four, version_six, with_areas, SignatureValue, of_three, of_four, of_six, of_other, IsOther, Spells, SignatureFault, three_or_other, signature_at}
 
 abbrev well : SignatureValue → Result SignatureValue BodyFault
 well v = Ok v
@@ -106,7 +106,7 @@ other_again (v ∷ o) fits h =
     ])
 
 pub sig_only : (o : List ℕ) (v : SignatureValue) → IsOctets o → Spells v o → signature_at o ≡ Ok v
-unfolding version_three version_four version_six
+unfolding version_three with_areas
 sig_only o (of_three fields) fits b = let h = head_exact 3 _ fields o b in three_again o fields b h.0 h.1
 sig_only o (of_four fields) fits b = let h = head_exact 4 _ fields o b in four_again o fields b h.0 h.1
 sig_only o (of_six fields) fits b = let h = head_exact 6 _ fields o b in six_again o fields b h.0 h.1

@@ -1,42 +1,38 @@
--- The fields of a version 4 or 6 signature that lie in its body.
-use Rattle.std.specs.Prelude.{ℕ, List, length}
+-- The signature of version 4 or 6 whose fields lie at places in a body.
+use Rattle.std.specs.Prelude.{◌≡◌, ℕ, ◌+◌, List, length, ◌==◌, if◌then◌else◌}
 use Rattle.std.proofs.Props.{props}
 use Rattle.opgp_body.specs.Spans.{octets_in, IsIn}
 use Rattle.opgp_sig.specs.declared.area_places.AreaPlaces.{AreaPlaces}
-use Rattle.opgp_sig.specs.declared.area_places.SixPlaces.{SixPlaces}
-use Rattle.opgp_sig.specs.MaterialPlaces.{fields_in, AreIn, AreIn-prop}
-use Rattle.opgp_sig.specs.Values.{AreasValue, IsSound}
+use Rattle.opgp_sig.specs.AreasValue.{AreasValue, IsSound}
+use Rattle.opgp_sig.specs.Material.{fields_in, AreIn, AreIn-prop}
 
-abbrev pub areas_in : AreaPlaces → List ℕ → AreasValue
-areas_in p o = record {
+abbrev pub areas_in : ℕ → AreaPlaces → List ℕ → AreasValue
+areas_in v p o = record {
+  version = v;
   kind = p.kind;
   algorithm = p.algorithm;
   hash = p.hash;
   hashed = octets_in p.hashed o;
   unhashed = octets_in p.unhashed o;
-  left = octets_in p.left o;
+  left = p.left;
+  salt = octets_in p.salt o;
   material = fields_in p.material o;
 }
 
-abbrev pub salt_in : SixPlaces → List ℕ → List ℕ
-salt_in p o = octets_in p.salt o
+-- where the hashed area begins: behind four octets and its length
+abbrev pub hashed_start : ℕ → ℕ
+hashed_start v = if v == 6 then 8 else 6
 
 -- they lie in the octets, and the areas there are sound
-pub record AreasLie (p : AreaPlaces) (o : List ℕ) : Type 0 where
+pub record AreasLie (v : ℕ) (p : AreaPlaces) (o : List ℕ) : Type 0 where
+  pub first : p.hashed.start ≡ hashed_start v
   pub hashed : IsIn p.hashed (length o)
   pub unhashed : IsIn p.unhashed (length o)
-  pub left : IsIn p.left (length o)
+  pub salt : IsIn p.salt (length o)
   pub material : AreIn p.material (length o)
   pub hashed_sound : IsSound (octets_in p.hashed o)
   pub unhashed_sound : IsSound (octets_in p.unhashed o)
 
-pub record SixLies (p : SixPlaces) (o : List ℕ) : Type 0 where
-  pub areas : AreasLie p.areas o
-  pub salt : IsIn p.salt (length o)
-
--- there is one proof of either at most
-pub AreasLie-prop : (p : AreaPlaces) (o : List ℕ) → IsProp (AreasLie p o)
-AreasLie-prop p o = hlevel (props, AreIn-prop)
-
-pub SixLies-prop : (p : SixPlaces) (o : List ℕ) → IsProp (SixLies p o)
-SixLies-prop p o = hlevel (props, AreasLie-prop)
+-- there is one proof of it at most
+pub AreasLie-prop : (v : ℕ) (p : AreaPlaces) (o : List ℕ) → IsProp (AreasLie v p o)
+AreasLie-prop v p o = hlevel (props, AreIn-prop)

@@ -1,8 +1,8 @@
 pub mod AreaPlaces
-pub mod FourSignature
-pub mod FourView
+pub mod AreasSignature
+pub mod AreasValue
+pub mod AreasView
 pub mod Material
-pub mod MaterialPlaces
 pub mod MeaningShown
 pub mod OtherSignature
 pub mod OtherView
@@ -10,12 +10,10 @@ pub mod Shape
 pub mod SigView
 pub mod Signature
 pub mod SignatureBody
-pub mod SixSignature
-pub mod SixView
 pub mod SubMeaning
 pub mod SubView
 pub mod Subs
 pub mod ThreePlaces
 pub mod ThreeSignature
+pub mod ThreeValue
 pub mod ThreeView
-pub mod Values

@@ -1,6 +1,7 @@
--- What a signature of another version that owns its body shows.
+-- What a signature that isn't typed, and owns its body, shows.
 use Rattle.std.specs.Prelude.{ℕ, List}
 use Rattle.opgp_sig.specs.declared.other_signature.OtherSignature.{OtherSignature}
 
-abbrev pub other_owned_octets : OtherSignature → List ℕ
-other_owned_octets s = s.body.items
+-- the octets of its body
+abbrev pub other_signature_octets : OtherSignature → List ℕ
+other_signature_octets s = s.body.items

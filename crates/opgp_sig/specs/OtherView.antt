@@ -1,6 +1,7 @@
--- What a view of a signature of another version shows.
+-- What a signature that isn't typed, and is a view, shows.
 use Rattle.std.specs.Prelude.{ℕ, List}
 use Rattle.opgp_sig.specs.declared.other_view.OtherView.{OtherView}
 
-abbrev pub other_octets : OtherView → List ℕ
-other_octets v = v.body.now
+-- the octets of its body
+abbrev pub other_view_octets : OtherView → List ℕ
+other_view_octets s = s.body.now

@@ -1,39 +1,43 @@
 -- The body of a signature (RFC 9580, 5.2.2, 5.2.3), as the tables of its fields in each version.
-use Rattle.std.specs.Prelude.{◌≡◌, ℕ, Bool, true, false, ◌==◌, ◌||◌, ◌⊎◌, if◌then◌else◌, List, [], ◌∷◌, length, Option, Some, None, Result, Ok, Err}
+use Rattle.std.specs.Prelude.{◌≡◌, ℕ, Bool, true, false, ◌==◌, ◌⊎◌, if◌then◌else◌, List, [], ◌∷◌, length, Option, Some, None, Result, Ok, Err}
 use Rattle.opgp_octets.specs.declared.fault.Reason.TheVariants.{Short, SaltSize}
 use Rattle.opgp_octets.specs.declared.fault.BodyFault.{BodyFault}
+use Rattle.opgp_octets.specs.declared.hash_algorithm.HashAlgorithm.{HashAlgorithm}
+use Rattle.opgp_octets.specs.declared.hash_algorithm.HashAlgorithm.TheVariants.{Md5, Sha1, Ripemd160, Sha256, Sha384, Sha512}
+use Rattle.opgp_octets.specs.declared.hash_algorithm.HashAlgorithm.TheVariants.{Sha224, Sha3_256, Sha3_512, Other}
+use Rattle.opgp_octets.specs.HashAlgorithm.{hash_algorithm_of}
+use Rattle.opgp_octets.specs.KeyAlgorithm.{key_algorithm_of}
 use Rattle.opgp_octets.specs.Reading.{◌>>=◌}
-use Rattle.opgp_body.specs.Fields.{Kind, octet, exact, four, mpi, sized, fixed, whole, behind_two, behind_four, Field, Grammar, field, area, Body, fault_at, FirstFault}
+use Rattle.opgp_body.specs.Fields.{Kind, octet, exact, four, mpi, sized, fixed, whole, never, Extent, behind_two, behind_four}
+use Rattle.opgp_body.specs.Fields.{Field, Grammar, field, area, sequence, amount, Body, fault_at, FirstFault}
 use Rattle.opgp_body.specs.FieldReading.{body_at}
-use Rattle.opgp_body.specs.Fields.{sequence, amount}
+use Rattle.opgp_sig.specs.Shape.{Shape, rsa, dsa, ecdsa, eddsa, ed25519, ed448, opaque, shape_of}
 
--- what an algorithm's signature is made of, its integers strict or not (5.2.3.1 to 5.2.3.5)
-abbrev pub material_kinds : Bool → ℕ → List Kind
-material_kinds strict a =
-    if (a == 1) || (a == 3) then mpi strict ∷ []
-    else (if (a == 17) || ((a == 19) || (a == 22)) then mpi strict ∷ mpi strict ∷ []
-    else (if a == 27 then fixed 64 ∷ []
-    else (if a == 28 then fixed 114 ∷ []
-    else whole ∷ [])))
-
--- what no octets are: no size is both 1 at least and 0 at most
-abbrev pub nothing : Kind
-nothing = sized Short 1 0
+-- what a signature of each form is made of, its integers strict or not (5.2.3.1 to 5.2.3.5)
+abbrev pub material_kinds : Bool → Shape → List Kind
+material_kinds strict rsa = mpi strict ∷ []
+material_kinds strict dsa = mpi strict ∷ mpi strict ∷ []
+material_kinds strict ecdsa = mpi strict ∷ mpi strict ∷ []
+material_kinds strict eddsa = mpi strict ∷ mpi strict ∷ []
+material_kinds strict ed25519 = fixed 64 ∷ []
+material_kinds strict ed448 = fixed 114 ∷ []
+material_kinds strict opaque = whole ∷ []
 
 -- in version 3 only RSA and DSA are known (5.2.2)
-abbrev pub old_material_kinds : ℕ → List Kind
-old_material_kinds a =
-    if (a == 1) || (a == 3) then mpi false ∷ []
-    else (if a == 17 then mpi false ∷ mpi false ∷ []
-    else nothing ∷ [])
+abbrev pub old_material_kinds : Shape → List Kind
+old_material_kinds rsa = mpi false ∷ []
+old_material_kinds dsa = mpi false ∷ mpi false ∷ []
+old_material_kinds other = never ∷ []
 
 -- how many octets the salt of a hash algorithm has, where that is known (9.5)
-abbrev pub salt_size : ℕ → Option ℕ
-salt_size h =
-    if (h == 8) || ((h == 11) || (h == 12)) then Some 16
-    else (if h == 9 then Some 24
-    else (if (h == 10) || (h == 14) then Some 32
-    else None))
+abbrev pub salt_size : HashAlgorithm → Option ℕ
+salt_size Sha256 = Some 16
+salt_size Sha384 = Some 24
+salt_size Sha512 = Some 32
+salt_size Sha224 = Some 16
+salt_size Sha3_256 = Some 16
+salt_size Sha3_512 = Some 32
+salt_size other = None
 
 -- a salt of this size; where none is known, of any
 abbrev pub salt_of_size : Option ℕ → Kind
@@ -41,25 +45,36 @@ salt_of_size (Some n) = sized SaltSize n n
 salt_of_size None = sized SaltSize 0 255
 
 abbrev pub salt_of : ℕ → Kind
-salt_of h = salt_of_size (salt_size h)
+salt_of h = salt_of_size (salt_size (hash_algorithm_of h))
 
 -- version, the length of what is hashed, type, creation time, issuer, key algorithm, hash algorithm, two left octets, material
 unfoldable pub version_three : Grammar
 version_three =
     field (exact Short 3) (λ _. field (exact Short 5) (λ _. field octet (λ _. field four (λ _. field (fixed 8) (λ _.
-    field octet (λ a. field octet (λ _. field (fixed 2) (λ _. sequence (old_material_kinds (amount a))))))))))
+    field octet (λ a. field octet (λ _. field (fixed 2) (λ _.
+    sequence (old_material_kinds (shape_of (key_algorithm_of (amount a))))))))))))
 
--- version, type, key algorithm, hash algorithm, hashed area, unhashed area, two left octets, material
-unfoldable pub version_four : Grammar
-version_four =
-    field (exact Short 4) (λ _. field octet (λ _. field octet (λ a. field octet (λ _. area behind_two (area behind_two
-    (field (fixed 2) (λ _. sequence (material_kinds false (amount a)))))))))
+-- the lengths of areas have two octets in version 4, four in version 6
+abbrev pub extent : ℕ → Extent
+extent v = if v == 6 then behind_four else behind_two
 
--- the same with longer areas, with a salt before the material, whose integers are strict
-unfoldable pub version_six : Grammar
-version_six =
-    field (exact Short 6) (λ _. field octet (λ _. field octet (λ a. field octet (λ h. area behind_four (area behind_four
-    (field (fixed 2) (λ _. field (salt_of (amount h)) (λ _. sequence (material_kinds true (amount a))))))))))
+-- in version 6 a salt
+abbrev pub salted : ℕ → ℕ → Grammar → Grammar
+salted v h next = if v == 6 then field (salt_of h) (λ _. next) else next
+
+-- version, type, key algorithm, hash algorithm, hashed area, unhashed area, two left octets, in version 6 a salt,
+-- material, whose integers are strict in version 6
+unfoldable pub with_areas : ℕ → Grammar
+with_areas v =
+    field (exact Short v) (λ _. field octet (λ _. field octet (λ a. field octet (λ h.
+    area (extent v) (area (extent v) (field (fixed 2) (λ _.
+    salted v (amount h) (sequence (material_kinds (v == 6) (shape_of (key_algorithm_of (amount a))))))))))))
+
+abbrev pub version_four : Grammar
+version_four = with_areas 4
+
+abbrev pub version_six : Grammar
+version_six = with_areas 6
 
 -- a signature: the fields of its version, or the octets as they are
 pub data SignatureValue : Type 0 where

@@ -1,12 +1,13 @@
--- What a version 3 signature that owns its body shows.
+-- What a signature of version 3 that owns its body shows.
 use Rattle.std.specs.Prelude.{ℕ, List}
 use Rattle.opgp_sig.specs.declared.three_signature.ThreeSignature.{ThreeSignature}
 use Rattle.opgp_sig.specs.ThreePlaces.{three_in}
-use Rattle.opgp_sig.specs.Values.{ThreeValue}
-
-abbrev pub three_owned : ThreeSignature → ThreeValue
-three_owned s = three_in s.places s.body.items
+use Rattle.opgp_sig.specs.ThreeValue.{ThreeValue}
 
 -- the octets of its body
-abbrev pub three_owned_octets : ThreeSignature → List ℕ
-three_owned_octets s = s.body.items
+abbrev pub three_signature_octets : ThreeSignature → List ℕ
+three_signature_octets s = s.body.items
+
+-- the signature
+abbrev pub three_signature_value : ThreeSignature → ThreeValue
+three_signature_value s = three_in s.places s.body.items

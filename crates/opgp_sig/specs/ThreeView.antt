@@ -1,12 +1,13 @@
--- What a view of a version 3 signature shows.
+-- What a signature of version 3 that is a view shows.
 use Rattle.std.specs.Prelude.{ℕ, List}
 use Rattle.opgp_sig.specs.declared.three_view.ThreeView.{ThreeView}
 use Rattle.opgp_sig.specs.ThreePlaces.{three_in}
-use Rattle.opgp_sig.specs.Values.{ThreeValue}
-
-abbrev pub three_shown : ThreeView → ThreeValue
-three_shown v = three_in v.places v.body.now
+use Rattle.opgp_sig.specs.ThreeValue.{ThreeValue}
 
 -- the octets of its body
-abbrev pub three_octets : ThreeView → List ℕ
-three_octets v = v.body.now
+abbrev pub three_view_octets : ThreeView → List ℕ
+three_view_octets s = s.body.now
+
+-- the signature
+abbrev pub three_view_value : ThreeView → ThreeValue
+three_view_value s = three_in s.places s.body.now

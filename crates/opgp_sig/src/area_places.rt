@@ -1,100 +1,114 @@
 //! The fields of a version 4 or 6 signature and where they lie in its body.
 
-ghost use Rattle.std.specs.Prelude.{◌≡◌, ◌≤◌, length, IfOk};
+ghost use Rattle.std.specs.Prelude.{◌≡◌, ◌≤◌, ◌==◌, length, IfOk};
+ghost use Rattle.opgp_octets.specs.HashAlgorithm.{hash_algorithm_of};
+ghost use Rattle.opgp_octets.specs.KeyAlgorithm.{key_algorithm_of};
+ghost use Rattle.opgp_octets.specs.Octets.{IsOctets, IsBodySized};
 ghost use Rattle.opgp_octets.specs.Reading.{Reads};
+ghost use Rattle.opgp_body.specs.AreaLength.{extent_of};
+ghost use Rattle.opgp_body.specs.Cursor.{body_under, ReadsField, ReadsAll};
 ghost use Rattle.opgp_body.specs.FieldReading.{body_at};
-ghost use Rattle.opgp_sig.specs.SignatureBody.{version_four, version_six};
-ghost use Rattle.opgp_sig.specs.Values.{four_fields, six_fields};
+ghost use Rattle.opgp_body.specs.Fields.{named, sequence};
+ghost use Rattle.opgp_body.specs.Spans.{octets_in, IsIn};
+ghost use Rattle.opgp_sig.specs.AreasValue.{areas_fields};
+ghost use Rattle.opgp_sig.specs.Material.{fields_in, shape, AreIn};
 ghost use Rattle.opgp_sig.specs.Shape.{shape_of};
+ghost use Rattle.opgp_sig.specs.SignatureBody.{extent, salt_of, material_kinds, with_areas};
 
-use crate::material_places::MaterialPlaces;
-use crate::steps::{octet_at, salt_at};
+use crate::material::MaterialPlaces;
+use crate::signature_fields::{material_at, salt_at};
 use opgp_body::{AreaLength, Cursor, Span};
-use opgp_octets::BodyFault;
+use opgp_octets::{BodyFault, HashAlgorithm, KeyAlgorithm, Reason};
 
-/// The fields that versions 4 and 6 share; of the longer ones, where they lie in the body.
-#[derive(Clone, Copy, Debug)]
+/// The fields of a version 4 or 6 signature; of the longer ones, where they lie in the body.
+#[derive(Clone, Copy)]
 pub(crate) struct AreaPlaces {
     pub(crate) kind: u8,
     pub(crate) algorithm: u8,
     pub(crate) hash: u8,
+    pub(crate) left: [u8; 2],
     pub(crate) hashed: Span,
     pub(crate) unhashed: Span,
-    pub(crate) left: Span,
+    /// Empty in version 4.
+    pub(crate) salt: Span,
     pub(crate) material: MaterialPlaces,
+}
+
+/// The width of an area's length in a version.
+fn width_of(version: u8) -> AreaLength
+    ensures { extent_of result ≡ extent version }
+{
+    if version == 6 {
+        AreaLength::Four
+    } else {
+        AreaLength::Two
+    }
+}
+
+/// The salt of a hash algorithm, which comes next.
+fn salt_of_hash(cursor: &mut Cursor<'_>, hash: u8) -> Result<Span, BodyFault>
+    ensures reads { ReadsField (salt_of hash)
+        (λ p. named (octets_in p (body_under cursor.old))) cursor.old cursor.new result }
+    ensures body { body_under cursor.new ≡ body_under cursor.old }
+    ensures within { IfOk result (λ p. IsIn p (length (body_under cursor.old))) }
+{
+    salt_at(cursor, HashAlgorithm::from(hash))
+}
+
+/// The material of a version and an algorithm, which comes next.
+fn material_of(
+    cursor: &mut Cursor<'_>,
+    version: u8,
+    algorithm: u8,
+) -> Result<MaterialPlaces, BodyFault>
+    ensures reads { ReadsAll
+        (sequence (material_kinds (version == 6) (shape_of (key_algorithm_of algorithm))))
+        (λ m. fields_in m (body_under cursor.old)) cursor.old cursor.new result }
+    ensures shape { IfOk result (λ m. shape m ≡ shape_of (key_algorithm_of algorithm)) }
+    ensures body { body_under cursor.new ≡ body_under cursor.old }
+    ensures within { IfOk result (λ m. AreIn m (length (body_under cursor.old))) }
+{
+    material_at(cursor, version == 6, KeyAlgorithm::from(algorithm))
 }
 
 impl AreaPlaces {
     ghost use Rattle.opgp_sig.specs.AreaPlaces.{areas_in, AreasLie};
-    ghost use Rattle.opgp_sig.specs.MaterialPlaces.{shape_in};
 
-    /// The version 4 signature that the octets spell, all of them.
-    #[tactic(auto, unfolding(opgp_body::specs::FieldReading::body_at, crate::specs::SignatureBody::version_four))]
-    pub(crate) fn read_four(o: &[u8]) -> Result<AreaPlaces, BodyFault>
-        ensures exact { Reads (λ p. four_fields (areas_in p o.now)) result (body_at version_four o.now) }
-        ensures within { IfOk result (λ p. AreasLie p o.now) }
-        ensures shape { IfOk result (λ p. shape_in p.material ≡ shape_of p.algorithm) }
+    /// The signature of a version that the octets spell, all of them.
+    #[tactic(auto, unfolding(opgp_body::specs::FieldReading::body_at, crate::specs::SignatureBody::with_areas))]
+    pub(crate) fn read(o: &[u8], version: u8) -> Result<AreaPlaces, BodyFault>
+        requires { IsBodySized o.now }
+        ensures exact { Reads (λ p. areas_fields (areas_in version p o.now)) result
+            (body_at (with_areas version) o.now) }
+        // The octets are octets, which a vector that is moved tells no more.
+        ensures octets { IsOctets o.now }
+        ensures within { IfOk result (λ p. AreasLie version p o.now) }
+        ensures shape { IfOk result (λ p. shape p.material ≡ shape_of (key_algorithm_of p.algorithm)) }
     {
         let mut cursor = Cursor::new(o);
-        octet_at(&mut cursor, 4)?;
+        cursor.exact(Reason::Short, version)?;
         let kind = cursor.octet()?;
         let algorithm = cursor.octet()?;
         let hash = cursor.octet()?;
-        let hashed = cursor.area(AreaLength::Two)?;
-        let unhashed = cursor.area(AreaLength::Two)?;
-        let left = cursor.fixed(2)?;
-        let material = MaterialPlaces::read(&mut cursor, false, algorithm)?;
+        let width = width_of(version);
+        let hashed = cursor.area(width)?;
+        let unhashed = cursor.area(width)?;
+        let left = cursor.array::<2>()?;
+        let mut salt = Span { start: 0, end: 0 };
+        if version == 6 {
+            salt = salt_of_hash(&mut cursor, hash)?;
+        }
+        let material = material_of(&mut cursor, version, algorithm)?;
         cursor.end()?;
         Ok(AreaPlaces {
             kind,
             algorithm,
             hash,
+            left,
             hashed,
             unhashed,
-            left,
+            salt,
             material,
         })
-    }
-}
-
-/// The fields of a version 6 signature; of the longer ones, where they lie in the body.
-#[derive(Clone, Copy, Debug)]
-pub(crate) struct SixPlaces {
-    pub(crate) areas: AreaPlaces,
-    pub(crate) salt: Span,
-}
-
-impl SixPlaces {
-    ghost use Rattle.opgp_sig.specs.AreaPlaces.{areas_in, salt_in, SixLies};
-    ghost use Rattle.opgp_sig.specs.MaterialPlaces.{shape_in};
-
-    /// The version 6 signature that the octets spell, all of them.
-    #[tactic(auto, unfolding(opgp_body::specs::FieldReading::body_at, crate::specs::SignatureBody::version_six))]
-    pub(crate) fn read(o: &[u8]) -> Result<SixPlaces, BodyFault>
-        ensures exact { Reads (λ p. six_fields (areas_in p.areas o.now) (salt_in p o.now)) result (body_at version_six o.now) }
-        ensures within { IfOk result (λ p. SixLies p o.now) }
-        ensures shape { IfOk result (λ p. shape_in p.areas.material ≡ shape_of p.areas.algorithm) }
-    {
-        let mut cursor = Cursor::new(o);
-        octet_at(&mut cursor, 6)?;
-        let kind = cursor.octet()?;
-        let algorithm = cursor.octet()?;
-        let hash = cursor.octet()?;
-        let hashed = cursor.area(AreaLength::Four)?;
-        let unhashed = cursor.area(AreaLength::Four)?;
-        let left = cursor.fixed(2)?;
-        let salt = salt_at(&mut cursor, hash)?;
-        let material = MaterialPlaces::read(&mut cursor, true, algorithm)?;
-        cursor.end()?;
-        let areas = AreaPlaces {
-            kind,
-            algorithm,
-            hash,
-            hashed,
-            unhashed,
-            left,
-            material,
-        };
-        Ok(SixPlaces { areas, salt })
     }
 }

@@ -1,34 +1,35 @@
-//! A signature of another version over the octets of its body.
+//! A signature that isn't typed, over the octets of its body.
 
 ghost use Rattle.std.specs.Prelude.{◌≡◌, ◌≤◌, length, Ok};
-ghost use Rattle.opgp_octets.specs.Octets.{IsOctets};
+ghost use Rattle.opgp_octets.specs.Octets.{IsOctets, IsBodySized};
 ghost use Rattle.opgp_sig.specs.SignatureBody.{signature_at, of_other};
 
 /// A signature that isn't typed: its version isn't 3, 4 or 6, or it is 3 and the body isn't one that is
 /// known (RFC 9580, 5.2).
-#[derive(Clone, Copy, Debug)]
+#[derive(Clone, Copy)]
 pub struct OtherView<'a> {
     pub(crate) body: &'a [u8],
     ghost octets: { IsOctets body.now },
-    ghost small: { length body.now ≤ 4294967295 },
+    ghost small: { IsBodySized body.now },
     ghost parses: { signature_at body.now ≡ Ok (of_other body.now) },
 }
 
 impl<'a> OtherView<'a> {
-    ghost use Rattle.opgp_sig.specs.OtherView.{other_octets};
+    ghost use Rattle.opgp_sig.specs.OtherView.{other_view_octets};
     ghost use Rattle.opgp_sig.specs.SignatureBody.{IsOther};
 
     pub(crate) fn new(o: &'a [u8]) -> OtherView<'a>
-        requires small { length o.now ≤ 4294967295 }
+        requires small { IsBodySized o.now }
         requires parses { signature_at o.now ≡ Ok (of_other o.now) }
-        ensures { other_octets result ≡ o.now }
+        ensures { other_view_octets result ≡ o.now }
     {
         OtherView { body: o }
     }
 
     /// The octets of its body.
     pub fn body(&self) -> &'a [u8]
-        ensures value { result.now ≡ other_octets self.now }
+        ensures value { result.now ≡ other_view_octets self.now }
+        ensures small { IsBodySized result.now }
         // Version 3, 4 and 6 spell no such body.
         ensures other { IsOther result.now }
     {

@@ -1,17 +1,17 @@
 //! A signature over the octets of its body.
 
 ghost use Rattle.std.specs.Prelude.{◌≡◌, ◌≤◌, length, Ok, IfOk, IfErr};
+ghost use Rattle.opgp_octets.specs.Octets.{IsBodySized};
 ghost use Rattle.opgp_octets.specs.Reading.{Reads};
 ghost use Rattle.opgp_sig.specs.SignatureBody.{SignatureValue, Spells, SignatureFault, signature_at};
 
-use crate::four_view::FourView;
+use crate::areas_view::{FourView, SixView};
 use crate::other_view::OtherView;
-use crate::six_view::SixView;
 use crate::three_view::ThreeView;
 use opgp_octets::{BodyFault, Reason};
 
 /// A signature over the octets of its body (RFC 9580, 5.2).
-#[derive(Clone, Copy, Debug)]
+#[derive(Clone, Copy)]
 pub enum SigView<'a> {
     /// Version 3, by RSA or DSA.
     Three(ThreeView<'a>),
@@ -24,7 +24,8 @@ pub enum SigView<'a> {
 }
 
 impl<'a> SigView<'a> {
-    ghost use Rattle.opgp_sig.specs.SigView.{sig_shown, sig_octets};
+    ghost use Rattle.opgp_sig.specs.SigView.{sig_view_value, sig_view_octets};
+    ghost use Rattle.opgp_sig.specs.SigView.{kind_of, algorithm_of, hash_of, left_of};
 
     /// The signature that the octets spell, all of them. Takes no memory: it is one pass over the
     /// octets, which looks at no subpacket's meaning.
@@ -41,24 +42,25 @@ impl<'a> SigView<'a> {
     /// [`MpiBits`]: opgp_octets::Reason::MpiBits
     /// [`Trailing`]: opgp_octets::Reason::Trailing
     pub fn parse_body(o: &'a [u8]) -> Result<SigView<'a>, BodyFault>
-        requires { length o.now ≤ 4294967295 }
+        requires { IsBodySized o.now }
         // The octets are the fields of the signature, one after the other.
-        ensures found { IfOk result (λ v. Spells (sig_shown v) o.now) }
+        ensures found { IfOk result (λ v. Spells (sig_view_value v) o.now) }
         // What is spelled so is read.
-        ensures only { (value : SignatureValue) → Spells value o.now → Reads sig_shown result (Ok value) }
+        ensures only { (value : SignatureValue) → Spells value o.now
+            → Reads sig_view_value result (Ok value) }
         // Some fields begin the octets, and the next has no spelling there.
         ensures fault { IfErr result (SignatureFault o.now) }
-        ensures exact { Reads sig_shown result (signature_at o.now) }
-        ensures body { IfOk result (λ v. sig_octets v ≡ o.now) }
+        ensures exact { Reads sig_view_value result (signature_at o.now) }
+        ensures body { IfOk result (λ v. sig_view_octets v ≡ o.now) }
     {
         SigView::read(o)
     }
 
     #[tactic(auto, unfolding(crate::specs::SignatureBody::signature_at))]
     fn read(o: &'a [u8]) -> Result<SigView<'a>, BodyFault>
-        requires { length o.now ≤ 4294967295 }
-        ensures exact { Reads sig_shown result (signature_at o.now) }
-        ensures body { IfOk result (λ v. sig_octets v ≡ o.now) }
+        requires { IsBodySized o.now }
+        ensures exact { Reads sig_view_value result (signature_at o.now) }
+        ensures body { IfOk result (λ v. sig_view_octets v ≡ o.now) }
     {
         let [version, ..] = o else {
             return Err(BodyFault {
@@ -77,17 +79,65 @@ impl<'a> SigView<'a> {
         }
     }
 
-    /// The octets of its body.
-    pub fn body(&self) -> &'a [u8]
-        ensures value { result.now ≡ sig_octets self.now }
-        ensures small { length result.now ≤ 4294967295 }
-        ensures spelled { Spells (sig_shown self.now) result.now }
+    /// Its type, where it is typed (RFC 9580, 5.2.1).
+    pub fn kind(&self) -> Option<u8>
+        ensures { result ≡ kind_of self.now }
     {
         match self {
-            SigView::Three(view) => view.body,
-            SigView::Four(view) => view.body,
-            SigView::Six(view) => view.body,
-            SigView::Other(view) => view.body,
+            SigView::Three(view) => Some(view.kind()),
+            SigView::Four(view) => Some(view.kind()),
+            SigView::Six(view) => Some(view.kind()),
+            SigView::Other(_) => None,
+        }
+    }
+
+    /// The number of its key algorithm, where it is typed (RFC 9580, 9.1).
+    pub fn algorithm(&self) -> Option<u8>
+        ensures { result ≡ algorithm_of self.now }
+    {
+        match self {
+            SigView::Three(view) => Some(view.algorithm()),
+            SigView::Four(view) => Some(view.algorithm()),
+            SigView::Six(view) => Some(view.algorithm()),
+            SigView::Other(_) => None,
+        }
+    }
+
+    /// The number of its hash algorithm, where it is typed (RFC 9580, 9.5).
+    pub fn hash(&self) -> Option<u8>
+        ensures { result ≡ hash_of self.now }
+    {
+        match self {
+            SigView::Three(view) => Some(view.hash()),
+            SigView::Four(view) => Some(view.hash()),
+            SigView::Six(view) => Some(view.hash()),
+            SigView::Other(_) => None,
+        }
+    }
+
+    /// The first two octets of the digest, as it says, where it is typed.
+    pub fn left(&self) -> Option<[u8; 2]>
+        ensures { result ≡ left_of self.now }
+    {
+        match self {
+            SigView::Three(view) => Some(view.left()),
+            SigView::Four(view) => Some(view.left()),
+            SigView::Six(view) => Some(view.left()),
+            SigView::Other(_) => None,
+        }
+    }
+
+    /// The octets of its body.
+    pub fn body(&self) -> &'a [u8]
+        ensures value { result.now ≡ sig_view_octets self.now }
+        ensures small { IsBodySized result.now }
+        ensures spelled { Spells (sig_view_value self.now) result.now }
+    {
+        match self {
+            SigView::Three(view) => view.body(),
+            SigView::Four(view) => view.body(),
+            SigView::Six(view) => view.body(),
+            SigView::Other(view) => view.body(),
         }
     }
 }

@@ -8,7 +8,7 @@ use opgp_body::Subpacket;
 use opgp_octets::SubLen;
 
 /// A subpacket of a signature, over the octets of its area (RFC 9580, 5.2.3.7).
-#[derive(Clone, Copy, Debug)]
+#[derive(Clone, Copy)]
 pub struct SubView<'a> {
     pub(crate) sub: Subpacket<'a>,
 }

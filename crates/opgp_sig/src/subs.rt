@@ -7,7 +7,7 @@ use crate::sub_view::SubView;
 use opgp_body::Walk;
 
 /// The subpackets of an area, one after the other. Takes no memory.
-#[derive(Clone, Copy, Debug)]
+#[derive(Clone, Copy)]
 pub struct Subs<'a> {
     walk: Walk<'a>,
 }
@@ -40,9 +40,6 @@ impl<'a> Iterator for Subs<'a> {
     ghost remaining = { item_count subs_to_come };
 
     fn next(&mut self) -> Option<SubView<'a>> {
-        match self.walk.next() {
-            Some(sub) => Some(SubView { sub }),
-            None => None,
-        }
+        self.walk.next().map(|sub| SubView { sub })
     }
 }

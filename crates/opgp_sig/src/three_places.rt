@@ -1,50 +1,68 @@
 //! The fields of a version 3 signature and where they lie in its body.
 
 ghost use Rattle.std.specs.Prelude.{◌≡◌, ◌≤◌, length, IfOk};
+ghost use Rattle.opgp_octets.specs.KeyAlgorithm.{key_algorithm_of};
+ghost use Rattle.opgp_octets.specs.Octets.{IsOctets, IsBodySized};
 ghost use Rattle.opgp_octets.specs.Reading.{Reads};
+ghost use Rattle.opgp_body.specs.Cursor.{body_under, ReadsAll};
 ghost use Rattle.opgp_body.specs.FieldReading.{body_at};
-ghost use Rattle.opgp_sig.specs.SignatureBody.{version_three};
-ghost use Rattle.opgp_sig.specs.Values.{three_fields};
+ghost use Rattle.opgp_body.specs.Fields.{sequence};
+ghost use Rattle.opgp_sig.specs.Material.{fields_in, shape, AreIn};
 ghost use Rattle.opgp_sig.specs.Shape.{shape_of};
+ghost use Rattle.opgp_sig.specs.SignatureBody.{old_material_kinds, version_three};
+ghost use Rattle.opgp_sig.specs.ThreeValue.{three_fields};
 
-use crate::material_places::MaterialPlaces;
-use crate::steps::octet_at;
-use opgp_body::{Cursor, Span};
-use opgp_octets::BodyFault;
+use crate::material::MaterialPlaces;
+use crate::signature_fields::old_material_at;
+use opgp_body::Cursor;
+use opgp_octets::{BodyFault, KeyAlgorithm, Reason};
 
-/// The fields of a version 3 signature; of its longer ones, where they lie in the body.
-#[derive(Clone, Copy, Debug)]
+/// The fields of a version 3 signature; of its material, where they lie in the body.
+#[derive(Clone, Copy)]
 pub(crate) struct ThreePlaces {
     pub(crate) kind: u8,
     pub(crate) created: u32,
-    pub(crate) issuer: Span,
+    pub(crate) issuer: [u8; 8],
     pub(crate) algorithm: u8,
     pub(crate) hash: u8,
-    pub(crate) left: Span,
+    pub(crate) left: [u8; 2],
     pub(crate) material: MaterialPlaces,
 }
 
+/// The material of an algorithm, which comes next.
+fn material_of(cursor: &mut Cursor<'_>, algorithm: u8) -> Result<MaterialPlaces, BodyFault>
+    ensures reads { ReadsAll (sequence (old_material_kinds (shape_of (key_algorithm_of algorithm))))
+        (λ m. fields_in m (body_under cursor.old)) cursor.old cursor.new result }
+    ensures shape { IfOk result (λ m. shape m ≡ shape_of (key_algorithm_of algorithm)) }
+    ensures body { body_under cursor.new ≡ body_under cursor.old }
+    ensures within { IfOk result (λ m. AreIn m (length (body_under cursor.old))) }
+{
+    old_material_at(cursor, KeyAlgorithm::from(algorithm))
+}
+
 impl ThreePlaces {
-    ghost use Rattle.opgp_sig.specs.ThreePlaces.{three_in, ThreeLies};
-    ghost use Rattle.opgp_sig.specs.MaterialPlaces.{shape_in};
+    ghost use Rattle.opgp_sig.specs.ThreePlaces.{three_in};
 
     /// The version 3 signature that the octets spell, all of them.
     #[tactic(auto, unfolding(opgp_body::specs::FieldReading::body_at, crate::specs::SignatureBody::version_three))]
     pub(crate) fn read(o: &[u8]) -> Result<ThreePlaces, BodyFault>
+        requires { IsBodySized o.now }
         ensures exact { Reads (λ p. three_fields (three_in p o.now)) result (body_at version_three o.now) }
-        ensures within { IfOk result (λ p. ThreeLies p (length o.now)) }
-        ensures shape { IfOk result (λ p. shape_in p.material ≡ shape_of p.algorithm) }
+        // The octets are octets, which a vector that is moved tells no more.
+        ensures octets { IsOctets o.now }
+        ensures within { IfOk result (λ p. AreIn p.material (length o.now)) }
+        ensures shape { IfOk result (λ p. shape p.material ≡ shape_of (key_algorithm_of p.algorithm)) }
     {
         let mut cursor = Cursor::new(o);
-        octet_at(&mut cursor, 3)?;
-        octet_at(&mut cursor, 5)?;
+        cursor.exact(Reason::Short, 3)?;
+        cursor.exact(Reason::Short, 5)?;
         let kind = cursor.octet()?;
         let created = cursor.four()?;
-        let issuer = cursor.fixed(8)?;
+        let issuer = cursor.array::<8>()?;
         let algorithm = cursor.octet()?;
         let hash = cursor.octet()?;
-        let left = cursor.fixed(2)?;
-        let material = MaterialPlaces::read_old(&mut cursor, algorithm)?;
+        let left = cursor.array::<2>()?;
+        let material = material_of(&mut cursor, algorithm)?;
         cursor.end()?;
         Ok(ThreePlaces {
             kind,

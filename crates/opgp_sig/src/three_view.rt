@@ -1,42 +1,43 @@
 //! A version 3 signature over the octets of its body.
 
-ghost use Rattle.std.specs.Prelude.{◌≡◌, ◌≤◌, length, Ok, IfOk};
-ghost use Rattle.opgp_octets.specs.Octets.{IsOctets};
+ghost use Rattle.std.specs.Prelude.{◌≡◌, ◌≤◌, ◌⊎◌, length, Ok, IfOk};
+ghost use Rattle.opgp_octets.specs.KeyAlgorithm.{key_algorithm_of};
+ghost use Rattle.opgp_octets.specs.Octets.{IsOctets, IsBodySized};
 ghost use Rattle.opgp_octets.specs.Reading.{Reads};
 ghost use Rattle.opgp_body.specs.FieldReading.{body_at};
-ghost use Rattle.opgp_sig.specs.MaterialPlaces.{shape_in};
+ghost use Rattle.opgp_body.specs.Fields.{Body};
+ghost use Rattle.opgp_sig.specs.Material.{shape, AreIn, AreIn-prop};
 ghost use Rattle.opgp_sig.specs.Shape.{shape_of, Shape-set};
 ghost use Rattle.opgp_sig.specs.SignatureBody.{version_three};
-ghost use Rattle.opgp_sig.specs.ThreePlaces.{three_in, ThreeLies, ThreeLies-prop};
-ghost use Rattle.opgp_sig.specs.Values.{three_fields};
+ghost use Rattle.opgp_sig.specs.ThreePlaces.{three_in};
+ghost use Rattle.opgp_sig.specs.ThreeValue.{three_fields};
 
-use crate::material::SignatureMaterial;
-use crate::steps::{eight, two};
+use crate::material::SignatureMaterialView;
 use crate::sub_meaning::KeyId8;
 use crate::three_places::ThreePlaces;
-use opgp_octets::BodyFault;
+use opgp_octets::{BodyFault, KeyAlgorithm};
 
 /// A version 3 signature over the octets of its body (RFC 9580, 5.2.2).
-#[derive(Clone, Copy, Debug)]
+#[derive(Clone, Copy)]
 pub struct ThreeView<'a> {
     pub(crate) body: &'a [u8],
     pub(crate) places: ThreePlaces,
     ghost octets: { IsOctets body.now },
-    ghost small: { length body.now ≤ 4294967295 },
-    ghost within: { ThreeLies places (length body.now) } by { ThreeLies-prop places (length body.now) },
-    ghost shape: { shape_in places.material ≡ shape_of places.algorithm } by { Shape-set (shape_in places.material) (shape_of places.algorithm) },
+    ghost small: { IsBodySized body.now },
+    ghost within: { AreIn places.material (length body.now) } by { AreIn-prop places.material (length body.now) },
+    ghost shape: { shape places.material ≡ shape_of (key_algorithm_of places.algorithm) } by { Shape-set (shape places.material) (shape_of (key_algorithm_of places.algorithm)) },
     ghost parses: { body_at version_three body.now ≡ Ok (three_fields (three_in places body.now)) },
 }
 
 impl<'a> ThreeView<'a> {
-    ghost use Rattle.opgp_sig.specs.ThreeView.{three_shown, three_octets};
-    ghost use Rattle.opgp_sig.specs.Material.{material_fields, shape};
+    ghost use Rattle.opgp_sig.specs.ThreeView.{three_view_value, three_view_octets};
+    ghost use Rattle.opgp_sig.specs.Material.{material_fields, HasSizes};
 
     /// The signature that the octets spell, all of them.
     pub(crate) fn read(o: &'a [u8]) -> Result<ThreeView<'a>, BodyFault>
-        requires { length o.now ≤ 4294967295 }
-        ensures exact { Reads (λ v. three_fields (three_shown v)) result (body_at version_three o.now) }
-        ensures body { IfOk result (λ v. three_octets v ≡ o.now) }
+        requires { IsBodySized o.now }
+        ensures exact { Reads (λ v. three_fields (three_view_value v)) result (body_at version_three o.now) }
+        ensures body { IfOk result (λ v. three_view_octets v ≡ o.now) }
     {
         let places = ThreePlaces::read(o)?;
         Ok(ThreeView { body: o, places })
@@ -44,57 +45,62 @@ impl<'a> ThreeView<'a> {
 
     /// Its type (RFC 9580, 5.2.1).
     pub fn kind(&self) -> u8
-        ensures { result ≡ (three_shown self.now).kind }
+        ensures { result ≡ (three_view_value self.now).kind }
     {
         self.places.kind
     }
 
     /// When it was made, in seconds since 1970.
     pub fn created(&self) -> u32
-        ensures { result ≡ (three_shown self.now).created }
+        ensures { result ≡ (three_view_value self.now).created }
     {
         self.places.created
     }
 
     /// The issuer's key ID.
     pub fn issuer(&self) -> KeyId8
-        ensures { result ≡ (three_shown self.now).issuer }
+        ensures { result ≡ (three_view_value self.now).issuer }
     {
-        eight(self.places.issuer.lend(self.body))
+        self.places.issuer
     }
 
     /// The number of its key algorithm (RFC 9580, 9.1): 1, 3 or 17.
     pub fn algorithm(&self) -> u8
-        ensures { result ≡ (three_shown self.now).algorithm }
+        ensures value { result ≡ (three_view_value self.now).algorithm }
+        ensures known { (result ≡ 1) ⊎ ((result ≡ 3) ⊎ (result ≡ 17)) }
     {
+        let _read = KeyAlgorithm::from(self.places.algorithm);
         self.places.algorithm
     }
 
     /// The number of its hash algorithm (RFC 9580, 9.5).
     pub fn hash(&self) -> u8
-        ensures { result ≡ (three_shown self.now).hash }
+        ensures { result ≡ (three_view_value self.now).hash }
     {
         self.places.hash
     }
 
     /// The first two octets of the digest, as the signature says.
     pub fn left(&self) -> [u8; 2]
-        ensures { result ≡ (three_shown self.now).left }
+        ensures { result ≡ (three_view_value self.now).left }
     {
-        two(self.places.left.lend(self.body))
+        self.places.left
     }
 
     /// What its algorithm made; which variant it is, its algorithm says.
-    pub fn material(&self) -> SignatureMaterial<'a>
-        ensures fields { material_fields result ≡ (three_shown self.now).material }
-        ensures shape { shape result ≡ shape_of (three_shown self.now).algorithm }
+    pub fn material(&self) -> SignatureMaterialView<'a>
+        ensures fields { material_fields result ≡ (three_view_value self.now).material }
+        ensures shape { shape result ≡ shape_of (key_algorithm_of (three_view_value self.now).algorithm) }
+        ensures sizes { HasSizes result }
     {
         self.places.material.lend(self.body)
     }
 
     /// The octets of its body.
     pub fn body(&self) -> &'a [u8]
-        ensures { result.now ≡ three_octets self.now }
+        ensures value { result.now ≡ three_view_octets self.now }
+        ensures small { IsBodySized result.now }
+        ensures spelled { Body version_three (three_fields (three_view_value self.now)) result.now }
     {
         self.body
     }

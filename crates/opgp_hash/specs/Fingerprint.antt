@@ -16,3 +16,16 @@ six_hashed body = (0x9B ∷ to_be_bytes w32 (length body)) ++ body
 -- the fingerprint of a key of this version and body: SHA-1 in version 4, SHA2-256 in version 6
 abbrev pub fingerprint_of : ℕ → List ℕ → Fingerprint
 fingerprint_of version body = if version == 4 then Four (sha1 (four_hashed body)) else Six (sha256 (six_hashed body))
+
+-- its octets, how many they are, and the version of the key
+abbrev pub print_octets : Fingerprint → List ℕ
+print_octets (Four octets) = octets
+print_octets (Six octets) = octets
+
+abbrev pub print_size : Fingerprint → ℕ
+print_size (Four octets) = 20
+print_size (Six octets) = 32
+
+abbrev pub print_version : Fingerprint → ℕ
+print_version (Four octets) = 4
+print_version (Six octets) = 6

@@ -2,10 +2,7 @@
 #![tactic(auto)]
 
 mod fingerprints;
-mod naming;
+mod key_hash;
 
 pub use fingerprints::{Fingerprint, KeyId};
-pub use naming::{fingerprint, key_id};
-
-#[cfg(test)]
-mod tests;
+pub use key_hash::{fingerprint, fingerprint_of_view, key_id};

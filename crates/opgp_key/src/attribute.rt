@@ -71,6 +71,9 @@ impl Attribute {
     pub fn from_body(body: Vec<u8>) -> Result<Attribute, BodyFault>
         requires { IsBodySized body.items }
         ensures found { IfOk result (λ a. SpellsAttribute (attribute_value a) body.items) }
+        // What is spelled so is read.
+        ensures only { (fields : List Field) → Body attribute fields body.items
+            → Reads (λ x. attribute_fields (attribute_value x)) result (Ok fields) }
         ensures fault { IfErr result (AttributeFault body.items) }
         // It is what a view of the octets shows, or the same fault.
         ensures exact { Reads (λ a. attribute_fields (attribute_value a)) result

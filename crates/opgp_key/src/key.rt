@@ -74,6 +74,9 @@ impl Key {
     pub fn from_body(body: Vec<u8>) -> Result<Key, BodyFault>
         requires { IsBodySized body.items }
         ensures found { IfOk result (λ k. SpellsKey (key_value k) body.items) }
+        // What is spelled so is read.
+        ensures only { (fields : List Field) → Body key fields body.items
+            → Reads (λ x. key_fields (key_value x)) result (Ok fields) }
         ensures fault { IfErr result (KeyFault body.items) }
         // It is what a view of the octets shows, or the same fault.
         ensures exact { Reads (λ k. key_fields (key_value k)) result (body_at key body.items) }

@@ -91,6 +91,9 @@ impl Literal {
     pub fn from_body(body: Vec<u8>) -> Result<Literal, BodyFault>
         requires { IsBodySized body.items }
         ensures found { IfOk result (λ l. SpellsLiteral (literal_value l) body.items) }
+        // What is spelled so is read.
+        ensures only { (fields : List Field) → Body literal fields body.items
+            → Reads (λ x. literal_fields (literal_value x)) result (Ok fields) }
         ensures fault { IfErr result (LiteralFault body.items) }
         ensures exact { Reads (λ l. literal_fields (literal_value l)) result (body_at literal body.items) }
         ensures body { IfOk result (λ l. literal_octets l ≡ body.items) }

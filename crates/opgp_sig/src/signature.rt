@@ -70,6 +70,9 @@ impl Signature {
     pub fn from_body(body: Vec<u8>) -> Result<Signature, BodyFault>
         requires { IsBodySized body.items }
         ensures found { IfOk result (λ s. Spells (signature_value s) body.items) }
+        // What is spelled so is read.
+        ensures only { (value : SignatureValue) → Spells value body.items
+            → Reads signature_value result (Ok value) }
         ensures fault { IfErr result (SignatureFault body.items) }
         // It is what a view of the octets shows, or the same fault.
         ensures exact { Reads signature_value result (signature_at body.items) }

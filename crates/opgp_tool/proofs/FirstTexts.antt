@@ -10,9 +10,9 @@ use Rattle.base64.specs.declared.decode.DecodeError.{DecodeError}
 use Rattle.base64.proofs.EngineFacts.{decode_of-encode_of}
 use Rattle.opgp_octets.specs.Octets.{IsOctets}
 use Rattle.opgp_key.specs.declared.key.Key.{Key}
-use Rattle.opgp_body.specs.Fields.{Field, Follows}
-use Rattle.opgp_key.specs.Key.{key_version, key_created, key_algorithm, key_octets}
-use Rattle.opgp_key.specs.KeyBody.{key, key_fields}
+use Rattle.opgp_body.specs.Fields.{Field}
+use Rattle.opgp_key.specs.Key.{key_value, key_octets}
+use Rattle.opgp_key.specs.KeyBody.{key, SpellsKey}
 use Rattle.opgp_tool.specs.FirstKey.{IsFirstKey}
 use Rattle.opgp_tool.specs.FirstText.{IsKeyPacket, before_data, after_data, DataLines, IsDataLine, with_feed, base64_of, FirstKeyBody, FirstText}
 use Rattle.opgp_tool.proofs.FirstLines.{no_feed, one_line}
@@ -87,29 +87,29 @@ no_packet text d letters octets e lines is each none created body f = none body 
 -- what the last step finds is the text's key, or the text isn't of the first form
 pub key_found : (text d letters octets b : List ℕ) → text ≡ before_data ++ d ++ after_data → DataLines d letters → letters ≡ base64_of octets → IsOctets octets
     → IsKeyPacket octets b → {E : Type 0} (r : Result (Option Key) E)
-    → IfOk r (λ found. MatchOption found ((t : ℕ) → FirstKeyBody b t → ⊥) (λ k. (key_version k ≡ 4) × (key_algorithm k ≡ 22) × (key_octets k ≡ b) × FirstKeyBody b (key_created k)))
+    → IfOk r (λ found. MatchOption found ((t : ℕ) → FirstKeyBody b t → ⊥) (λ k. ((key_value k).version ≡ 4) × ((key_value k).algorithm ≡ 22) × (key_octets k ≡ b) × FirstKeyBody b (key_value k).created))
     → IfOk r (IsFirstKey text)
 key_found text d letters octets b e lines is each packet (Ok None) none = no_body text d letters octets b e lines is each packet none
 key_found text d letters octets b e lines is each packet (Ok (Some k)) found = record {
   version = found.0;
   algorithm = found.1;
-  first = subst (λ (x : List ℕ). FirstText text (key_created k) x) (sym found.2)
+  first = subst (λ (x : List ℕ). FirstText text (key_value k).created x) (sym found.2)
       (record { «data» = d; letters = letters; octets = octets; text_is = e; lines = lines; each = each; base64 = is; packet = packet; key = found.3 });
 }
 key_found text d letters octets b e lines is each packet (Err x) found = tt
 
 -- ---- a text has one key
 
-time_below : (n s : ℕ) (material : List Field) → Follows (key n) (key_fields n 4 s 22 material) 0 → s < 2 ^ 32
+time_below : (s : ℕ) (material : List Field) (body : List ℕ) → SpellsKey (record { version = 4; created = s; algorithm = 22; material = material }) body → s < 2 ^ 32
 unfolding key
-time_below n s material h = h.1.0
+time_below s material body b = b.follows.1.0
 
 one_time : (body : List ℕ) (s t : ℕ) → FirstKeyBody body s → FirstKeyBody body t → s ≡ t
 one_time body s t h k =
     let e = sym h.is_body.spelled ∙ k.is_body.spelled in
     let cells : to_be_bytes w32 s ≡ to_be_bytes w32 t = cc in
-    sym (from_be_bytes-to_be_bytes_4 s (time_below (length body) s h.material h.is_body.follows)) ∙ ap (from_be_bytes w32) cells
-    ∙ from_be_bytes-to_be_bytes_4 t (time_below (length body) t k.material k.is_body.follows)
+    sym (from_be_bytes-to_be_bytes_4 s (time_below s h.material body h.is_body)) ∙ ap (from_be_bytes w32) cells
+    ∙ from_be_bytes-to_be_bytes_4 t (time_below t k.material body k.is_body)
 
 pub one_key : (text : List ℕ) (s t : ℕ) (b c : List ℕ) → FirstText text s b → FirstText text t c → (s ≡ t) × (b ≡ c)
 one_key text s t b c f g =

@@ -4,8 +4,8 @@ use Rattle.std.specs.List.{AllByRecursion, concat, flat_map}
 use Rattle.base64.specs.Engines.{standard}
 use Rattle.base64.specs.GeneralPurpose.{encode_of}
 use Rattle.opgp_octets.specs.Octets.{IsOctets}
-use Rattle.opgp_body.specs.Fields.{Field, Body}
-use Rattle.opgp_key.specs.KeyBody.{key, key_fields}
+use Rattle.opgp_body.specs.Fields.{Field}
+use Rattle.opgp_key.specs.KeyBody.{SpellsKey}
 use Rattle.opgp_frame.specs.declared.form.Form.TheVariants.{NewOne}
 use Rattle.opgp_frame.specs.Packet.{PacketValue, IsPacket, spelling}
 
@@ -54,7 +54,7 @@ pub record IsKeyPacket (octets body : List ℕ) : Type 0 where
 -- the octets are the body of a version 4 key of the legacy EdDSA algorithm (RFC 9580, 5.5.2.2 and 5.5.5.5)
 pub record FirstKeyBody (body : List ℕ) (created : ℕ) : Type 0 where
   pub material : List Field
-  pub is_body : Body (key (length body)) (key_fields (length body) 4 created 22 material) body
+  pub is_body : SpellsKey (record { version = 4; created = created; algorithm = 22; material = material }) body
 
 -- the text is of the first form, and has this key
 pub record FirstText (text : List ℕ) (created : ℕ) (body : List ℕ) : Type 0 where

@@ -2,9 +2,7 @@
 use Rattle.std.specs.Prelude.{ℕ, List, ◌++◌, codes}
 use Rattle.std.specs.Fmt.{decimal}
 use Rattle.hex.specs.Hex.{encode_upper}
-use Rattle.opgp_hash.specs.declared.fingerprints.Fingerprint.{Fingerprint}
-use Rattle.opgp_hash.specs.declared.fingerprints.Fingerprint.TheVariants.{Four, Six}
-use Rattle.opgp_hash.specs.Fingerprint.{fingerprint_of}
+use Rattle.opgp_hash.specs.Fingerprint.{fingerprint_of, print_octets}
 use Rattle.opgp_hash.specs.KeyId.{key_id_of}
 use Rattle.opgp_tool.specs.declared.key_line.KeyRole.{KeyRole}
 use Rattle.opgp_tool.specs.declared.key_line.KeyRole.TheVariants.{Primary, Subkey}
@@ -19,11 +17,6 @@ abbrev pub key_text : KeyRole → ℕ → ℕ → ℕ → List ℕ → List ℕ 
 key_text role version algorithm created fingerprint id =
     role_name role ++ codes " v" ++ decimal version ++ codes " alg " ++ decimal algorithm ++ codes " created " ++ decimal created
     ++ codes " " ++ encode_upper fingerprint ++ codes " " ++ encode_upper id ++ codes "\n"
-
--- the octets of a fingerprint
-abbrev pub print_octets : Fingerprint → List ℕ
-print_octets (Four octets) = octets
-print_octets (Six octets) = octets
 
 -- the line of a primary key of this version, algorithm, creation time and body
 unfoldable pub list_line : ℕ → ℕ → ℕ → List ℕ → List ℕ

@@ -3,7 +3,7 @@
 ghost use Rattle.std.specs.Prelude.{◌≡◌, ◌≢◌, ◌≤◌, ◌<◌, ◌++◌, ◌∷◌, ◌+◌, ◌^◌, ◌↔◌, ℕ, List, [], IsTrue, take, drop, IfOk, IfSome, IfNone, MatchOption, IfErr, length};
 ghost use Rattle.base64.specs.GeneralPurpose.{IsBytes};
 ghost use Rattle.opgp_octets.specs.Octets.{IsOctets};
-ghost use Rattle.opgp_key.specs.Key.{key_version, key_created, key_algorithm, key_octets};
+ghost use Rattle.opgp_key.specs.Key.{key_value, key_octets};
 ghost use Rattle.opgp_tool.specs.FirstKey.{IsFirstKey};
 ghost use Rattle.opgp_tool.specs.FirstText.{key_packet, IsKeyPacket, IsDataLine, with_feed, before_data, after_data, DataLines, FirstKeyBody, base64_of};
 
@@ -12,7 +12,7 @@ use base64::engine::general_purpose::STANDARD;
 use memchr::memchr;
 use opgp_frame::{Deframe, Form, Packet, laws};
 use opgp_key::Key;
-use opgp_octets::{Limits, OutOfMemory, ParseFault};
+use opgp_octets::{Limits, OutOfMemory};
 use std::alloc::Global;
 
 /// What stands between the two lines at the front and the end line.
@@ -107,23 +107,22 @@ fn key_body(alloc: Global, octets: &[u8]) -> Result<Option<Vec<u8>>, OutOfMemory
 }
 
 /// The key whose body this is, or None where it isn't a version 4 key of algorithm 22.
-fn key_of(alloc: Global, body: &[u8]) -> Result<Option<Key>, OutOfMemory>
-    requires { length body.now ≤ 4294967295 }
-    ensures { IfOk result (λ found. MatchOption found ((t : ℕ) → FirstKeyBody body.now t → ⊥)
-        (λ k. (key_version k ≡ 4) × (key_algorithm k ≡ 22) × (key_octets k ≡ body.now) × FirstKeyBody body.now (key_created k))) }
+fn key_of(body: Vec<u8>) -> Option<Key>
+    requires { length body.items ≤ 4294967295 }
+    ensures { MatchOption result ((t : ℕ) → FirstKeyBody body.items t → ⊥)
+        (λ k. ((key_value k).version ≡ 4) × ((key_value k).algorithm ≡ 22) × (key_octets k ≡ body.items)
+        × FirstKeyBody body.items (key_value k).created) }
 {
-    let key = match Key::parse_body(alloc, body) {
-        Ok(key) => key,
-        Err(ParseFault::Body(_)) => return Ok(None),
-        Err(ParseFault::Memory) => return Err(std::alloc::AllocError),
+    let Ok(key) = Key::from_body(body) else {
+        return None;
     };
     if key.version() != 4 {
-        return Ok(None);
+        return None;
     }
     if key.algorithm() != 22 {
-        return Ok(None);
+        return None;
     }
-    Ok(Some(key))
+    Some(key)
 }
 
 /// The key of the text, or None where the text isn't of the first form.
@@ -144,5 +143,5 @@ pub fn first_key(alloc: Global, text: &[u8]) -> Result<Option<Key>, OutOfMemory>
     let Some(body) = key_body(alloc, &octets)? else {
         return Ok(None);
     };
-    key_of(alloc, &body)
+    Ok(key_of(body))
 }

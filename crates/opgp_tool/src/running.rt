@@ -2,8 +2,8 @@
 
 ghost use Rattle.std.specs.Prelude.{◌≡◌, true, false, OnOk, IfOk, IfSome, Err, string_bytes};
 ghost use Rattle.opgp_tool.specs.Running.{RunOf, KnownRunOf};
-ghost use Rattle.opgp_key.specs.Key.{key_version, key_created, key_algorithm, key_octets};
-ghost use Rattle.opgp_tool.specs.KeyLine.{list_line, print_octets};
+ghost use Rattle.opgp_key.specs.Key.{key_value, key_octets};
+ghost use Rattle.opgp_tool.specs.KeyLine.{list_line};
 
 use crate::first_text::first_key;
 use crate::key_line::{KeyRole, key_line};
@@ -12,7 +12,7 @@ use crate::sink::Sink;
 use crate::source::Source;
 use crate::task::{Action, Task};
 use crate::writing::put_all;
-use opgp_hash::{Fingerprint, KeyId, fingerprint, key_id};
+use opgp_hash::{KeyId, fingerprint};
 use opgp_key::Key;
 use std::alloc::{AllocError, Global};
 
@@ -32,23 +32,14 @@ pub enum RunFault {
 /// The most octets of an input.
 const MOST: u64 = 65_536;
 
-/// The octets of a fingerprint.
-fn octets_of(print: &Fingerprint) -> &[u8]
-    ensures { result.now ≡ print_octets print.now }
-{
-    match print {
-        Fingerprint::Four(octets) => octets.as_slice(),
-        Fingerprint::Six(octets) => octets.as_slice(),
-    }
-}
-
 /// The line of a primary key.
 #[tactic(auto, unfolding(crate::specs::KeyLine::list_line))]
 fn line_of(alloc: Global, key: &Key) -> Result<String, AllocError>
-    ensures { IfOk result (λ line. string_bytes line ≡ list_line (key_version key.now) (key_algorithm key.now) (key_created key.now) (key_octets key.now)) }
+    ensures { IfOk result (λ line. string_bytes line ≡ list_line (key_value key.now).version
+        (key_value key.now).algorithm (key_value key.now).created (key_octets key.now)) }
 {
     let print = fingerprint(key);
-    let KeyId(id) = key_id(key);
+    let KeyId(id) = print.key_id();
     let (version, algorithm, created) = (key.version(), key.algorithm(), key.created());
     key_line(
         alloc,
@@ -56,7 +47,7 @@ fn line_of(alloc: Global, key: &Key) -> Result<String, AllocError>
         version,
         algorithm,
         created,
-        octets_of(&print),
+        print.octets(),
         &id,
     )
 }

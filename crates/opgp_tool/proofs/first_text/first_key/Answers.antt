@@ -1,6 +1,10 @@
-use Rattle.std.proofs.Common.{sym, ◌∙◌}
+use Rattle.std.proofs.Common.{ℕ, Option, Result, Ok, sym, ◌∙◌}
 use Rattle.opgp_tool.proofs.FirstTexts.{no_letters, no_octets, no_packet, key_found}
+use Rattle.opgp_key.specs.declared.key.Key.{Key}
 use Rattle.opgp_tool.proofs.first_text.first_key.Goals as goal
+
+fine : Option Key → Result (Option Key) ℕ
+fine k = Ok k
 
 pub returns-in_default-2 : goal.returns-in_default-2
 returns-in_default-2 c =
@@ -20,8 +24,9 @@ returns-in_default-4 c =
     no_packet c.args.text.now c.in-Some.between.now c.in-Some-2.letters.items c.in-Some-3.octets.items c.in-Some.ensures lines (sym c.deref.ensures.value ∙ some.0) some.1 none
 
 pub returns : goal.returns
+unfolding fine
 returns c =
     let lines = rw c.in-Some-2.is at c.in_ok-letters.ensures in
     let some = rw c.in-Some-3.is at c.in_ok-octets.ensures in
     let packet = rw (c.in-Some-4.is, c.deref-2.ensures.value) at c.in_ok-body.ensures in
-    key_found c.args.text.now c.in-Some.between.now c.in-Some-2.letters.items c.in-Some-3.octets.items c.in-Some-4.body.items c.in-Some.ensures lines (sym c.deref.ensures.value ∙ some.0) some.1 packet c.key_of.result (rw c.deref-3.ensures.value at c.key_of.ensures)
+    key_found c.args.text.now c.in-Some.between.now c.in-Some-2.letters.items c.in-Some-3.octets.items c.in-Some-4.body.items c.in-Some.ensures lines (sym c.deref.ensures.value ∙ some.0) some.1 packet (fine c.key_of.result) c.key_of.ensures

@@ -1,6 +1,6 @@
 use Rattle.opgp_key.specs.AttributeBody.{attribute, attribute_fields}
 use Rattle.opgp_key.specs.Attribute.{attribute_value}
-use Rattle.opgp_body.proofs.GrammarLaws.{parser_found, parser_fault}
+use Rattle.opgp_body.proofs.GrammarLaws.{parser_found, parser_only, parser_fault}
 use Rattle.opgp_key.proofs.attribute.Attribute.from_body.Goals as goal
 
 pub returns-clause-found : goal.returns-clause-found
@@ -8,3 +8,6 @@ returns-clause-found c = parser_found (λ x. attribute_fields (attribute_value x
 
 pub returns-clause-fault : goal.returns-clause-fault
 returns-clause-fault c = parser_fault (λ x. attribute_fields (attribute_value x)) attribute c.args.body.items c.keep.result c.keep.ensures.octets c.keep.ensures.exact
+
+pub returns-clause-only : goal.returns-clause-only
+returns-clause-only c = parser_only (λ x. attribute_fields (attribute_value x)) attribute c.args.body.items c.keep.result c.keep.ensures.exact

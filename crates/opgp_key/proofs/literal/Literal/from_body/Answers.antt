@@ -1,6 +1,6 @@
 use Rattle.opgp_key.specs.LiteralBody.{literal, literal_fields}
 use Rattle.opgp_key.specs.Literal.{literal_value}
-use Rattle.opgp_body.proofs.GrammarLaws.{parser_found, parser_fault}
+use Rattle.opgp_body.proofs.GrammarLaws.{parser_found, parser_only, parser_fault}
 use Rattle.opgp_key.proofs.literal.Literal.from_body.Goals as goal
 
 pub returns-clause-found : goal.returns-clause-found
@@ -8,3 +8,6 @@ returns-clause-found c = parser_found (λ x. literal_fields (literal_value x)) l
 
 pub returns-clause-fault : goal.returns-clause-fault
 returns-clause-fault c = parser_fault (λ x. literal_fields (literal_value x)) literal c.args.body.items c.keep.result c.keep.ensures.octets c.keep.ensures.exact
+
+pub returns-clause-only : goal.returns-clause-only
+returns-clause-only c = parser_only (λ x. literal_fields (literal_value x)) literal c.args.body.items c.keep.result c.keep.ensures.exact

@@ -3,7 +3,8 @@ pub mod AreasSignature
 pub mod AreasValue
 pub mod AreasView
 pub mod Material
-pub mod MeaningShown
+pub mod Meaning
+pub mod MeaningReading
 pub mod OtherSignature
 pub mod OtherView
 pub mod Shape

@@ -1,67 +1,58 @@
--- What a subpacket of a signature means, by its kind: the octets of each typed form (RFC 9580, 5.2.3.11 to 5.2.3.36).
-use Rattle.std.specs.Prelude.{◌≡◌, ℕ, ◌+◌, ◌^◌, ◌<◌, Bool, true, false, ◌==◌, ◌||◌, ◌⊎◌, List, [], ◌∷◌, ◌++◌, length}
-use Rattle.std.specs.Int.{w16, w32, to_be_bytes}
+-- What a meaning over borrowed octets shows.
+use Rattle.opgp_sig.specs.Meaning.{Meaning, created, expires, exportable, trust, regular_expression}
+use Rattle.opgp_sig.specs.Meaning.{revocable, key_expires, preferred_symmetric, revocation_key}
+use Rattle.opgp_sig.specs.Meaning.{issuer, notation, preferred_hash, preferred_compression}
+use Rattle.opgp_sig.specs.Meaning.{key_server_preferences, preferred_key_server, primary_user_id}
+use Rattle.opgp_sig.specs.Meaning.{policy_uri, key_flags, signers_user_id, revocation_reason}
+use Rattle.opgp_sig.specs.Meaning.{features, signature_target, embedded_signature}
+use Rattle.opgp_sig.specs.Meaning.{issuer_fingerprint, intended_recipient, preferred_aead, unfit}
+use Rattle.opgp_sig.specs.Meaning.{unknown}
 use Rattle.opgp_sig.specs.declared.sub_meaning.SubMeaning.{SubMeaning}
-use Rattle.opgp_sig.specs.declared.sub_meaning.SubMeaning.TheVariants.{Created, Expires, Exportable, Trust, RegularExpression, Revocable, KeyExpires, PreferredSymmetric, RevocationKey, Issuer, Notation, PreferredHash, PreferredCompression, KeyServerPreferences, PreferredKeyServer, PrimaryUserId, PolicyUri, KeyFlags, SignersUserId, RevocationReason, Features, SignatureTarget, EmbeddedSignature, IssuerFingerprint, IntendedRecipient, PreferredAead, Unfit, Unknown}
-use Rattle.opgp_sig.specs.SignatureBody.{SignatureValue, Spells}
+use Rattle.opgp_sig.specs.declared.sub_meaning.SubMeaning.TheVariants.{Created, Expires, Exportable}
+use Rattle.opgp_sig.specs.declared.sub_meaning.SubMeaning.TheVariants.{Trust, RegularExpression}
+use Rattle.opgp_sig.specs.declared.sub_meaning.SubMeaning.TheVariants.{Revocable, KeyExpires}
+use Rattle.opgp_sig.specs.declared.sub_meaning.SubMeaning.TheVariants.{PreferredSymmetric}
+use Rattle.opgp_sig.specs.declared.sub_meaning.SubMeaning.TheVariants.{RevocationKey, Issuer}
+use Rattle.opgp_sig.specs.declared.sub_meaning.SubMeaning.TheVariants.{Notation, PreferredHash}
+use Rattle.opgp_sig.specs.declared.sub_meaning.SubMeaning.TheVariants.{PreferredCompression}
+use Rattle.opgp_sig.specs.declared.sub_meaning.SubMeaning.TheVariants.{KeyServerPreferences}
+use Rattle.opgp_sig.specs.declared.sub_meaning.SubMeaning.TheVariants.{PreferredKeyServer}
+use Rattle.opgp_sig.specs.declared.sub_meaning.SubMeaning.TheVariants.{PrimaryUserId, PolicyUri}
+use Rattle.opgp_sig.specs.declared.sub_meaning.SubMeaning.TheVariants.{KeyFlags, SignersUserId}
+use Rattle.opgp_sig.specs.declared.sub_meaning.SubMeaning.TheVariants.{RevocationReason, Features}
+use Rattle.opgp_sig.specs.declared.sub_meaning.SubMeaning.TheVariants.{SignatureTarget}
+use Rattle.opgp_sig.specs.declared.sub_meaning.SubMeaning.TheVariants.{EmbeddedSignature}
+use Rattle.opgp_sig.specs.declared.sub_meaning.SubMeaning.TheVariants.{IssuerFingerprint}
+use Rattle.opgp_sig.specs.declared.sub_meaning.SubMeaning.TheVariants.{IntendedRecipient}
+use Rattle.opgp_sig.specs.declared.sub_meaning.SubMeaning.TheVariants.{PreferredAead, Unfit}
+use Rattle.opgp_sig.specs.declared.sub_meaning.SubMeaning.TheVariants.{Unknown}
 
--- a kind's octets are a number of four octets
-abbrev pub IsNumber : List ℕ → ℕ → Type 0
-IsNumber o n = (n < 2 ^ 32) × (o ≡ to_be_bytes w32 n)
-
--- flags, the lengths of name and value, name and value
-abbrev pub IsNotation : List ℕ → ℕ → List ℕ → List ℕ → Type 0
-IsNotation o flags name value =
-    (flags < 2 ^ 32) × (length name < 2 ^ 16) × (length value < 2 ^ 16)
-    × (o ≡ to_be_bytes w32 flags ++ to_be_bytes w16 (length name) ++ to_be_bytes w16 (length value) ++ name ++ value)
-
--- a version, and a fingerprint of its size
-abbrev pub IsNamed : List ℕ → ℕ → List ℕ → Type 0
-IsNamed o version fingerprint =
-    (o ≡ version ∷ fingerprint)
-    × (((version ≡ 4) × (length fingerprint ≡ 20)) ⊎ ((version ≡ 6) × (length fingerprint ≡ 32)))
-
--- The octets of this kind are those of the typed form.
-abbrev pub Writes : ℕ → List ℕ → SubMeaning → Type 0
-Writes k o (Created n) = (k ≡ 2) × IsNumber o n
-Writes k o (Expires n) = (k ≡ 3) × IsNumber o n
-Writes k o (Exportable n) = (k ≡ 4) × (o ≡ n ∷ [])
-Writes k o (Trust level amount) = (k ≡ 5) × (o ≡ level ∷ amount ∷ [])
-Writes k o (RegularExpression text) = (k ≡ 6) × (o ≡ text.now ++ 0 ∷ [])
-Writes k o (Revocable n) = (k ≡ 7) × (o ≡ n ∷ [])
-Writes k o (KeyExpires n) = (k ≡ 9) × IsNumber o n
-Writes k o (PreferredSymmetric list) = (k ≡ 11) × (o ≡ list.now)
-Writes k o (RevocationKey class algorithm fingerprint) = (k ≡ 12) × (o ≡ class ∷ algorithm ∷ fingerprint.now) × (length fingerprint.now ≡ 20)
-Writes k o (Issuer id) = (k ≡ 16) × (o ≡ id) × (length id ≡ 8)
-Writes k o (Notation flags name value) = (k ≡ 20) × IsNotation o flags name.now value.now
-Writes k o (PreferredHash list) = (k ≡ 21) × (o ≡ list.now)
-Writes k o (PreferredCompression list) = (k ≡ 22) × (o ≡ list.now)
-Writes k o (KeyServerPreferences flags) = (k ≡ 23) × (o ≡ flags.now)
-Writes k o (PreferredKeyServer text) = (k ≡ 24) × (o ≡ text.now)
-Writes k o (PrimaryUserId n) = (k ≡ 25) × (o ≡ n ∷ [])
-Writes k o (PolicyUri text) = (k ≡ 26) × (o ≡ text.now)
-Writes k o (KeyFlags flags) = (k ≡ 27) × (o ≡ flags.now)
-Writes k o (SignersUserId text) = (k ≡ 28) × (o ≡ text.now)
-Writes k o (RevocationReason code text) = (k ≡ 29) × (o ≡ code ∷ text.now)
-Writes k o (Features flags) = (k ≡ 30) × (o ≡ flags.now)
-Writes k o (SignatureTarget algorithm hash digest) = (k ≡ 31) × (o ≡ algorithm ∷ hash ∷ digest.now)
-Writes k o (EmbeddedSignature body) = (k ≡ 32) × (o ≡ body.now) × ((value : SignatureValue) × Spells value o)
-Writes k o (IssuerFingerprint version fingerprint) = (k ≡ 33) × IsNamed o version fingerprint.now
-Writes k o (IntendedRecipient version fingerprint) = (k ≡ 35) × IsNamed o version fingerprint.now
-Writes k o (PreferredAead pairs) = (k ≡ 39) × (o ≡ pairs.now) × ((n : ℕ) × (length o ≡ n + n))
-Writes k o Unfit = ⊥
-Writes k o Unknown = ⊥
-
--- the kinds that have a typed form
-abbrev pub listed : ℕ → Bool
-listed k =
-    ((k == 2) || ((k == 3) || ((k == 4) || ((k == 5) || ((k == 6) || ((k == 7) || (k == 9)))))))
-    || (((k == 11) || ((k == 12) || ((k == 16) || ((k == 20) || ((k == 21) || ((k == 22) || ((k == 23) || (k == 24))))))))
-    || (((k == 25) || ((k == 26) || ((k == 27) || ((k == 28) || ((k == 29) || ((k == 30) || (k == 31)))))))
-    || ((k == 32) || ((k == 33) || ((k == 35) || (k == 39))))))
-
--- What the octets of this kind mean: the typed form that writes them, or that none does, or that the kind has none.
-abbrev pub Means : ℕ → List ℕ → SubMeaning → Type 0
-Means k o Unfit = (listed k ≡ true) × ((m : SubMeaning) → Writes k o m → ⊥)
-Means k o Unknown = listed k ≡ false
-Means k o m = Writes k o m
+abbrev pub meaning_shown : SubMeaning → Meaning
+meaning_shown (Created n) = created n
+meaning_shown (Expires n) = expires n
+meaning_shown (Exportable n) = exportable n
+meaning_shown (Trust level amount) = trust level amount
+meaning_shown (RegularExpression text) = regular_expression text.now
+meaning_shown (Revocable n) = revocable n
+meaning_shown (KeyExpires n) = key_expires n
+meaning_shown (PreferredSymmetric list) = preferred_symmetric list.now
+meaning_shown (RevocationKey class algorithm fingerprint) = revocation_key class algorithm fingerprint.now
+meaning_shown (Issuer id) = issuer id
+meaning_shown (Notation flags name value) = notation flags name.now value.now
+meaning_shown (PreferredHash list) = preferred_hash list.now
+meaning_shown (PreferredCompression list) = preferred_compression list.now
+meaning_shown (KeyServerPreferences flags) = key_server_preferences flags.now
+meaning_shown (PreferredKeyServer text) = preferred_key_server text.now
+meaning_shown (PrimaryUserId n) = primary_user_id n
+meaning_shown (PolicyUri text) = policy_uri text.now
+meaning_shown (KeyFlags flags) = key_flags flags.now
+meaning_shown (SignersUserId text) = signers_user_id text.now
+meaning_shown (RevocationReason code text) = revocation_reason code text.now
+meaning_shown (Features flags) = features flags.now
+meaning_shown (SignatureTarget algorithm hash digest) = signature_target algorithm hash digest.now
+meaning_shown (EmbeddedSignature body) = embedded_signature body.now
+meaning_shown (IssuerFingerprint version fingerprint) = issuer_fingerprint version fingerprint.now
+meaning_shown (IntendedRecipient version fingerprint) = intended_recipient version fingerprint.now
+meaning_shown (PreferredAead pairs) = preferred_aead pairs.now
+meaning_shown Unfit = unfit
+meaning_shown Unknown = unknown

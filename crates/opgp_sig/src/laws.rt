@@ -4,10 +4,10 @@
 ghost use Rattle.std.specs.Prelude.{◌≡◌, ◌↔◌, List, ℕ, Ok, Err};
 ghost use Rattle.opgp_octets.specs.Octets.{IsOctets};
 ghost use Rattle.opgp_octets.specs.declared.fault.BodyFault.{BodyFault};
-ghost use Rattle.opgp_sig.specs.declared.sub_meaning.SubMeaning.{SubMeaning};
-ghost use Rattle.opgp_sig.specs.MeaningShown.{meaning_shown};
+ghost use Rattle.opgp_octets.specs.declared.subpacket_kind.SubpacketKind.{SubpacketKind};
+ghost use Rattle.opgp_sig.specs.Meaning.{Meaning, Means, Writes, IsListed};
+ghost use Rattle.opgp_sig.specs.MeaningReading.{meaning_of};
 ghost use Rattle.opgp_sig.specs.SignatureBody.{SignatureValue, Spells, SignatureFault, signature_at};
-ghost use Rattle.opgp_sig.specs.SubMeaning.{Means, Writes};
 
 /// A signature is read of octets exactly where they spell it.
 pub fn signatures_are_read()
@@ -32,13 +32,23 @@ pub fn one_fault()
     ensures { (o : List ℕ) (f g : BodyFault) → IsOctets o → SignatureFault o f → SignatureFault o g → f ≡ g }
 {}
 
-/// Octets of a kind mean one thing: two meanings are of one form, with the same numbers and the same octets.
+/// Octets of a kind mean one thing.
 pub fn one_meaning()
-    ensures { (kind : ℕ) (o : List ℕ) (m n : SubMeaning) → Means kind o m → Means kind o n
-        → meaning_shown m ≡ meaning_shown n }
+    ensures { (kind : SubpacketKind) (o : List ℕ) (m n : Meaning) → Means kind o m → Means kind o n → m ≡ n }
+{}
+
+/// What reading octets as a kind gives is what they mean.
+pub fn meanings_are_read()
+    ensures { (kind : SubpacketKind) (o : List ℕ) → IsOctets o → Means kind o (meaning_of kind o) }
 {}
 
 /// A typed form is that of one list of octets.
 pub fn one_spelling()
-    ensures { (kind : ℕ) (o p : List ℕ) (m : SubMeaning) → Writes kind o m → Writes kind p m → o ≡ p }
+    ensures { (kind : SubpacketKind) (o p : List ℕ) (m : Meaning) → Writes kind o m → Writes kind p m → o ≡ p }
+{}
+
+/// Each kind that is listed has a form.
+pub fn listed_kinds_have_forms()
+    ensures { (kind : SubpacketKind) → IsListed kind
+        → (o : List ℕ) × ((m : Meaning) × (IsOctets o × Writes kind o m)) }
 {}

@@ -5,7 +5,7 @@ pub type KeyId8 = [u8; 8];
 
 /// What a subpacket of a signature means, by its kind (RFC 9580, 5.2.3.11 to 5.2.3.36). Numbers are
 /// as they are written: nothing is refused for its value.
-#[derive(Clone, Copy)]
+#[derive(Clone, Copy, Debug)]
 pub enum SubMeaning<'a> {
     /// Kind 2: when the signature was made, in seconds since 1970.
     Created(u32),

@@ -1,46 +1,38 @@
 //! The typed form of each kind of subpacket.
 
-ghost use Rattle.std.specs.Prelude.{◌≡◌, ◌≤◌, ◌<◌, length, MatchOption};
-ghost use Rattle.opgp_sig.specs.SubMeaning.{Means};
+ghost use Rattle.std.specs.Prelude.{◌≡◌, MatchOption, length};
+ghost use Rattle.opgp_octets.specs.Octets.{IsBodySized};
+ghost use Rattle.opgp_sig.specs.Meaning.{unfit};
+ghost use Rattle.opgp_sig.specs.MeaningReading.{meaning_of};
+ghost use Rattle.opgp_sig.specs.SubMeaning.{meaning_shown};
 
 use crate::forms::{
     behind_one, behind_two, ended_by_zero, key_id, named, notation, number, one, pairs, revoker,
-    signature, two,
+    two,
 };
+use crate::sig_view::SigView;
 use crate::sub_meaning::SubMeaning;
+use opgp_octets::SubpacketKind;
 
 /// What the octets mean; None where they are unfit.
-pub(crate) fn typed(kind: u8, o: &[u8]) -> Option<SubMeaning<'_>>
-    requires { length o.now ≤ 4294967295 }
-    ensures { MatchOption result (Means kind o.now SubMeaning.Unfit) (λ m. Means kind o.now m) }
-{
-    if kind < 20 {
-        of_lower_kind(kind, o)
-    } else if kind < 30 {
-        of_middle_kind(kind, o)
-    } else {
-        of_upper_kind(kind, o)
-    }
-}
-
-/// Kinds 0 to 19.
-fn of_lower_kind(kind: u8, o: &[u8]) -> Option<SubMeaning<'_>>
-    requires { kind < 20 }
-    ensures { MatchOption result (Means kind o.now SubMeaning.Unfit) (λ m. Means kind o.now m) }
+#[tactic(auto, unfolding(crate::specs::MeaningReading::meaning_of))]
+pub(crate) fn typed(kind: SubpacketKind, o: &[u8]) -> Option<SubMeaning<'_>>
+    requires { IsBodySized o.now }
+    ensures { MatchOption result (meaning_of kind o.now ≡ unfit) (λ m. meaning_shown m ≡ meaning_of kind o.now) }
 {
     Some(match kind {
-        2 => SubMeaning::Created(number(o)?),
-        3 => SubMeaning::Expires(number(o)?),
-        4 => SubMeaning::Exportable(one(o)?),
-        5 => {
+        SubpacketKind::Created => SubMeaning::Created(number(o)?),
+        SubpacketKind::Expires => SubMeaning::Expires(number(o)?),
+        SubpacketKind::Exportable => SubMeaning::Exportable(one(o)?),
+        SubpacketKind::Trust => {
             let (level, amount) = two(o)?;
             SubMeaning::Trust { level, amount }
         }
-        6 => SubMeaning::RegularExpression(ended_by_zero(o)?),
-        7 => SubMeaning::Revocable(one(o)?),
-        9 => SubMeaning::KeyExpires(number(o)?),
-        11 => SubMeaning::PreferredSymmetric(o),
-        12 => {
+        SubpacketKind::RegularExpression => SubMeaning::RegularExpression(ended_by_zero(o)?),
+        SubpacketKind::Revocable => SubMeaning::Revocable(one(o)?),
+        SubpacketKind::KeyExpires => SubMeaning::KeyExpires(number(o)?),
+        SubpacketKind::PreferredSymmetric => SubMeaning::PreferredSymmetric(o),
+        SubpacketKind::RevocationKey => {
             let (class, algorithm, fingerprint) = revoker(o)?;
             SubMeaning::RevocationKey {
                 class,
@@ -48,46 +40,25 @@ fn of_lower_kind(kind: u8, o: &[u8]) -> Option<SubMeaning<'_>>
                 fingerprint,
             }
         }
-        16 => SubMeaning::Issuer(key_id(o)?),
-        _ => SubMeaning::Unknown,
-    })
-}
-
-/// Kinds 20 to 29.
-fn of_middle_kind(kind: u8, o: &[u8]) -> Option<SubMeaning<'_>>
-    requires above { 20 ≤ kind }
-    requires below { kind < 30 }
-    ensures { MatchOption result (Means kind o.now SubMeaning.Unfit) (λ m. Means kind o.now m) }
-{
-    Some(match kind {
-        20 => {
+        SubpacketKind::Issuer => SubMeaning::Issuer(key_id(o)?),
+        SubpacketKind::Notation => {
             let (flags, name, value) = notation(o)?;
             SubMeaning::Notation { flags, name, value }
         }
-        21 => SubMeaning::PreferredHash(o),
-        22 => SubMeaning::PreferredCompression(o),
-        23 => SubMeaning::KeyServerPreferences(o),
-        24 => SubMeaning::PreferredKeyServer(o),
-        25 => SubMeaning::PrimaryUserId(one(o)?),
-        26 => SubMeaning::PolicyUri(o),
-        27 => SubMeaning::KeyFlags(o),
-        28 => SubMeaning::SignersUserId(o),
-        _ => {
+        SubpacketKind::PreferredHash => SubMeaning::PreferredHash(o),
+        SubpacketKind::PreferredCompression => SubMeaning::PreferredCompression(o),
+        SubpacketKind::KeyServerPreferences => SubMeaning::KeyServerPreferences(o),
+        SubpacketKind::PreferredKeyServer => SubMeaning::PreferredKeyServer(o),
+        SubpacketKind::PrimaryUserId => SubMeaning::PrimaryUserId(one(o)?),
+        SubpacketKind::PolicyUri => SubMeaning::PolicyUri(o),
+        SubpacketKind::KeyFlags => SubMeaning::KeyFlags(o),
+        SubpacketKind::SignersUserId => SubMeaning::SignersUserId(o),
+        SubpacketKind::RevocationReason => {
             let (code, text) = behind_one(o)?;
             SubMeaning::RevocationReason { code, text }
         }
-    })
-}
-
-/// Kinds of 30 and above.
-fn of_upper_kind(kind: u8, o: &[u8]) -> Option<SubMeaning<'_>>
-    requires above { 30 ≤ kind }
-    requires short { length o.now ≤ 4294967295 }
-    ensures { MatchOption result (Means kind o.now SubMeaning.Unfit) (λ m. Means kind o.now m) }
-{
-    Some(match kind {
-        30 => SubMeaning::Features(o),
-        31 => {
+        SubpacketKind::Features => SubMeaning::Features(o),
+        SubpacketKind::SignatureTarget => {
             let (algorithm, hash, digest) = behind_two(o)?;
             SubMeaning::SignatureTarget {
                 algorithm,
@@ -95,22 +66,25 @@ fn of_upper_kind(kind: u8, o: &[u8]) -> Option<SubMeaning<'_>>
                 digest,
             }
         }
-        32 => SubMeaning::EmbeddedSignature(signature(o)?),
-        33 => {
+        SubpacketKind::EmbeddedSignature => {
+            let view = SigView::parse_body(o).ok()?;
+            SubMeaning::EmbeddedSignature(view.body())
+        }
+        SubpacketKind::IssuerFingerprint => {
             let (version, fingerprint) = named(o)?;
             SubMeaning::IssuerFingerprint {
                 version,
                 fingerprint,
             }
         }
-        35 => {
+        SubpacketKind::IntendedRecipient => {
             let (version, fingerprint) = named(o)?;
             SubMeaning::IntendedRecipient {
                 version,
                 fingerprint,
             }
         }
-        39 => SubMeaning::PreferredAead(pairs(o)?),
-        _ => SubMeaning::Unknown,
+        SubpacketKind::PreferredAead => SubMeaning::PreferredAead(pairs(o)?),
+        SubpacketKind::Other(_) => SubMeaning::Unknown,
     })
 }

@@ -1,2 +1,3 @@
 pub mod Fingerprint
 pub mod KeyId
+pub mod PacketBody

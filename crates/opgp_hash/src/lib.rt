@@ -3,6 +3,8 @@
 
 mod fingerprints;
 mod key_hash;
+mod packet_body;
 
 pub use fingerprints::{Fingerprint, KeyId};
 pub use key_hash::{fingerprint, fingerprint_of_view, key_id};
+pub use packet_body::body_fault;

@@ -6,6 +6,7 @@ mod attribute_view;
 mod key;
 mod key_places;
 mod key_view;
+pub mod laws;
 mod literal;
 mod literal_places;
 mod material;

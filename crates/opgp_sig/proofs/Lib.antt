@@ -3,3 +3,4 @@ pub mod FormLaws
 pub mod MeaningLaws
 pub mod SignatureLaws
 pub mod ThreeLaws
+pub mod ValueLaws

@@ -373,8 +373,8 @@ listed_meaning k o fits listed =
       | inr e ↦ subst (λ (m : Meaning). Means k o m) (sym e)
           (fits, listed, λ m h. absurd (unwritten k o m h (sym (written_read k o m fits h) ∙ e)))
     ] where
-  unwritten : (k : SubpacketKind) (o : List ℕ) (m : Meaning) → Writes k o m → m ≡ unfit → ⊥
-  unwritten k o m h e = subst (λ (n : Meaning). Writes k o n) e h
+      unwritten : (k : SubpacketKind) (o : List ℕ) (m : Meaning) → Writes k o m → m ≡ unfit → ⊥
+      unwritten k o m h e = subst (λ (n : Meaning). Writes k o n) e h
 
 unlisted : (k : SubpacketKind) (o : List ℕ) → IsOctets o → (IsListed k → ⊥) → meaning_of k o ≡ unknown
 unfolding meaning_of
@@ -485,4 +485,3 @@ one_spelling k o p (intended_recipient version fingerprint) g h = g.1.0 ∙ sym 
 one_spelling k o p (preferred_aead pairs) g h = g.1 ∙ sym h.1
 one_spelling k o p unfit g h = absurd g
 one_spelling k o p unknown g h = absurd g
-

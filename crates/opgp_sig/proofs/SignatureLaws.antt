@@ -1,5 +1,5 @@
 -- A signature that is read is what the octets spell, what they spell is read, and a fault is the first.
-use Rattle.std.proofs.Common.{◌≡◌, ℕ, ◌==◌, Bool, true, false, cond, List, [], ◌∷◌, Result, Ok, Err, refl, sym, ap, subst, ◌∙◌, inl, inr}
+use Rattle.std.proofs.Common.{◌≡◌, ℕ, ◌==◌, Bool, true, false, cond, List, [], ◌∷◌, Result, Ok, Err, refl, sym, ap, subst, ◌∙◌, inl, inr, ◌⊎◌}
 use Rattle.std.specs.Prelude.{IfOk, IfErr}
 use Rattle.std.proofs.lemmas.Bool.{eqb-true, eqb-false, ne_eqb}
 use Rattle.opgp_octets.specs.declared.fault.Reason.TheVariants.{Short}
@@ -152,6 +152,16 @@ one_value o v w fits a b = same_read v w (sym (sig_only o v fits a) ∙ sig_only
 
 pub one_fault : (o : List ℕ) (f g : BodyFault) → IsOctets o → SignatureFault o f → SignatureFault o g → f ≡ g
 one_fault o f g fits a b = same_ill {A = SignatureValue} f g (sym (sig_refused o f fits a) ∙ sig_refused o g fits b)
+
+pub no_fault : (v : SignatureValue) (o : List ℕ) (f : BodyFault) → IsOctets o → Spells v o → SignatureFault o f → ⊥
+no_fault v o f fits b h = let e = sym (sig_only o v fits b) ∙ sig_refused o f fits h in cc
+
+pub some_answer : (o : List ℕ) → IsOctets o → ((v : SignatureValue) × Spells v o) ⊎ ((f : BodyFault) × SignatureFault o f)
+some_answer o fits =
+    elim (signature_at o) as (λ (r : Result SignatureValue BodyFault). signature_at o ≡ r → ((v : SignatureValue) × Spells v o) ⊎ ((f : BodyFault) × SignatureFault o f)) [
+      | Ok v ↦ λ e. inl (v, sig_found o v fits e)
+      | Err f ↦ λ e. inr (f, sig_fault o f fits e)
+    ] refl
 
 -- ---- what a parser may promise
 

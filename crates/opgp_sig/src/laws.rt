@@ -1,12 +1,14 @@
 //! What the definitions imply: a signature is read exactly where the octets spell it, and a body has
 //! one reading or one first fault; octets of a subpacket have one meaning, and a typed form one spelling.
 
-ghost use Rattle.std.specs.Prelude.{◌≡◌, ◌↔◌, List, ℕ, Ok, Err};
+ghost use Rattle.std.specs.Prelude.{◌≡◌, ◌↔◌, ◌⊎◌, List, ℕ, Ok, Err};
 ghost use Rattle.opgp_octets.specs.Octets.{IsOctets};
 ghost use Rattle.opgp_octets.specs.declared.fault.BodyFault.{BodyFault};
 ghost use Rattle.opgp_octets.specs.declared.subpacket_kind.SubpacketKind.{SubpacketKind};
 ghost use Rattle.opgp_sig.specs.Meaning.{Meaning, Means, Writes, IsListed};
 ghost use Rattle.opgp_sig.specs.MeaningReading.{meaning_of};
+ghost use Rattle.opgp_sig.specs.declared.signature.Signature.{Signature};
+ghost use Rattle.opgp_sig.specs.Signature.{signature_octets, signature_value};
 ghost use Rattle.opgp_sig.specs.SignatureBody.{SignatureValue, Spells, SignatureFault, signature_at};
 
 /// A signature is read of octets exactly where they spell it.
@@ -30,6 +32,23 @@ pub fn one_signature()
 /// Octets have one first fault.
 pub fn one_fault()
     ensures { (o : List ℕ) (f g : BodyFault) → IsOctets o → SignatureFault o f → SignatureFault o g → f ≡ g }
+{}
+
+/// A signature has no fault.
+pub fn no_fault()
+    ensures { (value : SignatureValue) (o : List ℕ) (f : BodyFault) → IsOctets o
+        → Spells value o → SignatureFault o f → ⊥ }
+{}
+
+/// All octets are a signature or have a first fault.
+pub fn some_answer()
+    ensures { (o : List ℕ) → IsOctets o
+        → ((value : SignatureValue) × Spells value o) ⊎ ((f : BodyFault) × SignatureFault o f) }
+{}
+
+/// What a signature writes is read again as that signature.
+pub fn written_signature()
+    ensures { (s : Signature) → signature_at (signature_octets s) ≡ Ok (signature_value s) }
 {}
 
 /// Octets of a kind mean one thing.

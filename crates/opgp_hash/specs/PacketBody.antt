@@ -1,0 +1,19 @@
+-- The fault of a packet's body, by the packet's type (RFC 9580, 5.2, 5.5, 5.9, 5.11, 5.12).
+use Rattle.std.specs.Prelude.{ℕ, List}
+use Rattle.opgp_octets.specs.declared.fault.BodyFault.{BodyFault}
+use Rattle.opgp_octets.specs.declared.packet_type.PacketType.{PacketType}
+use Rattle.opgp_octets.specs.declared.packet_type.PacketType.TheVariants.{Signature, PublicKey, PublicSubkey, LiteralData, UserAttribute}
+use Rattle.opgp_key.specs.AttributeBody.{AttributeFault}
+use Rattle.opgp_key.specs.KeyBody.{KeyFault}
+use Rattle.opgp_key.specs.LiteralBody.{LiteralFault}
+use Rattle.opgp_sig.specs.SignatureBody.{SignatureFault}
+
+-- The octets are no body of a packet of this type, and this is their first fault. Keys, attributes, literals and
+-- signatures may have one; a user ID is any octets, and of other types nothing is read.
+abbrev pub HasBodyFault : PacketType → List ℕ → BodyFault → Type 0
+HasBodyFault Signature o f = SignatureFault o f
+HasBodyFault PublicKey o f = KeyFault o f
+HasBodyFault PublicSubkey o f = KeyFault o f
+HasBodyFault LiteralData o f = LiteralFault o f
+HasBodyFault UserAttribute o f = AttributeFault o f
+HasBodyFault other o f = ⊥

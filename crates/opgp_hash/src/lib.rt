@@ -6,6 +6,3 @@ mod naming;
 
 pub use fingerprints::{Fingerprint, KeyId};
 pub use naming::{fingerprint, key_id};
-
-#[cfg(test)]
-mod tests;

@@ -11,8 +11,6 @@ mod number;
 mod packet_len;
 mod refusal;
 mod sub_len;
-#[cfg(test)]
-mod tests;
 
 pub use fault::{BodyFault, Fault, Layer, Reason};
 pub use fault_text::fault_line;

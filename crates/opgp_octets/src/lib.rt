@@ -17,8 +17,6 @@ mod refusal;
 mod signature_type;
 mod sub_len;
 mod subpacket_kind;
-#[cfg(test)]
-mod tests;
 
 pub use fault::{BodyFault, Fault, Layer, Reason};
 pub use fault_text::fault_line;

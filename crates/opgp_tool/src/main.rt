@@ -16,22 +16,39 @@ mod watched;
 mod writing;
 
 use ending::end_of;
-use running::run;
+use running::{RunFault, run};
+use std::alloc::AllocError;
 use std::process::ExitCode;
 use std::{env, io};
-use task::task_of;
+use task::{Task, task_of};
 use watched::Watched;
 
-fn main(rt: HostRuntime) -> io::Result<ExitCode> {
-    let words: Vec<String> = env::args(&rt)?.collect(rt.alloc())?;
-    let Some(task) = task_of(&words) else {
-        eprintln!(rt; "opgp: usage")?;
-        return Ok(ExitCode::from(2));
+/// The exit status and the line of words that name no task.
+const USAGE: (u8, &str) = (2, "opgp: usage\n");
+
+fn main(rt: HostRuntime) -> ExitCode {
+    let (status, line) = match named_task(&rt) {
+        Ok(Some(task)) => {
+            let mut reader = Watched::new(rt.stdin());
+            let mut writer = Watched::new(rt.stdout());
+            end_of(run(rt.alloc(), &task, &mut reader, &mut writer))
+        }
+        Ok(None) => USAGE,
+        Err(_) => end_of(Err(RunFault::Memory)),
     };
-    let mut reader = Watched::new(rt.stdin());
-    let mut writer = Watched::new(rt.stdout());
-    let outcome = run(rt.alloc(), &task, &mut reader, &mut writer);
-    let (status, line) = end_of(outcome);
-    eprint!(rt; "{line}")?;
-    Ok(ExitCode::from(status))
+    // A standard error that is closed or full changes no status.
+    let _ = eprint!(rt; "{line}");
+    ExitCode::from(status)
+}
+
+/// The task that the command line names. A word that isn't UTF-8 names none.
+fn named_task(rt: &HostRuntime) -> Result<Option<Task>, AllocError> {
+    match env::args(rt) {
+        Ok(words) => {
+            let words: Vec<String> = words.collect(rt.alloc())?;
+            Ok(task_of(&words))
+        }
+        Err(error) if error.kind() == io::ErrorKind::OutOfMemory => Err(AllocError),
+        Err(_) => Ok(None),
+    }
 }

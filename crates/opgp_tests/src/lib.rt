@@ -1,0 +1,5 @@
+//! Tests of the crates of octets, armor and framing, by what they make public.
+#![tactic(auto)]
+
+#[cfg(test)]
+mod octets;

@@ -1,0 +1,209 @@
+use opgp_octets::{
+    Fault, Layer, Limits, Mpi, MpiFault, MpiView, PacketLen, Reason, SubLen, fault_line, read_len,
+    read_sub_len, shortest, write_len, write_sub_len,
+};
+use std::test::Fail;
+
+// The end of the key of RFC 9580, A.1: an integer of 263 bits.
+const POINT: &[u8] =
+    b"\x01\x07\x40\x3F\x09\x89\x94\xBD\xD9\x16\xED\x40\x53\x19\x79\x34\xE4\xA8\x7C\x80\x73\x3A\x12\x80\xD6\x2F\x80\x10\x99\x2E\x43\xEE\x3B\x24\x06";
+
+// The lengths of RFC 9580, 4.2.1.4, and the edges of its forms.
+#[test]
+fn packet_lengths_of_the_standard(rt: HostRuntime) -> Result<(), Fail> {
+    for (octets, len) in [
+        (b"\x64".as_slice(), PacketLen::One(100)),
+        (b"\xC5\xFB".as_slice(), PacketLen::Two(1723)),
+        (b"\xFF\x00\x01\x86\xA0".as_slice(), PacketLen::Five(100000)),
+        (b"\xEF".as_slice(), PacketLen::Partial(15)),
+        (b"\xBF".as_slice(), PacketLen::One(191)),
+        (b"\xC0\x00".as_slice(), PacketLen::Two(192)),
+        (b"\xDF\xFF".as_slice(), PacketLen::Two(8383)),
+    ] {
+        assert_eq!(rt; read_len(octets), Some((len, octets.len())));
+        assert!(rt; len.fits());
+        let mut out = Vec::new(rt.alloc());
+        write_len(&len, &mut out)?;
+        assert_eq!(rt; out.as_slice(), octets);
+    }
+    assert_eq!(rt; read_len(b"\xFF\x00\x00\x00"), None);
+    Ok(())
+}
+
+#[test]
+fn shortest_lengths_at_each_edge(rt: HostRuntime) {
+    for (n, len) in [
+        (191, PacketLen::One(191)),
+        (192, PacketLen::Two(192)),
+        (8383, PacketLen::Two(8383)),
+        (8384, PacketLen::Five(8384)),
+    ] {
+        assert_eq!(rt; shortest(n), len);
+    }
+}
+
+// RFC 9580, 5.2.3.7: a first octet below 255 makes a length of two octets.
+#[test]
+fn subpacket_lengths_of_the_standard(rt: HostRuntime) -> Result<(), Fail> {
+    for (octets, len) in [
+        (b"\xBF".as_slice(), SubLen::One(191)),
+        (b"\xC0\x00".as_slice(), SubLen::Two(192)),
+        (b"\xFE\xFF".as_slice(), SubLen::Two(16319)),
+        (b"\xFF\x00\x00\x00\x05".as_slice(), SubLen::Five(5)),
+    ] {
+        assert_eq!(rt; read_sub_len(octets), Some((len, octets.len())));
+        assert!(rt; len.fits());
+        let mut out = Vec::new(rt.alloc());
+        write_sub_len(&len, &mut out)?;
+        assert_eq!(rt; out.as_slice(), octets);
+    }
+    assert_eq!(rt; SubLen::Two(300).amount(), 300);
+    Ok(())
+}
+
+#[test]
+fn integers_of_the_standard(rt: HostRuntime) -> Result<(), Fail> {
+    for (octets, strict, want) in [
+        (b"\x00\x01\x01".as_slice(), true, Ok((1, 3))),
+        (b"\x00\x09\x01\xFF".as_slice(), true, Ok((9, 4))),
+        (b"\x00\x01\xFF".as_slice(), false, Ok((1, 3))),
+        (b"\x00\x01\xFF".as_slice(), true, Err(Reason::MpiBits)),
+        (b"\x00\x00\x07".as_slice(), true, Ok((0, 2))),
+        (b"\x00\x09\x01".as_slice(), true, Err(Reason::Short)),
+    ] {
+        let got = MpiView::read(octets, strict).map(|x| (x.0.bits(), x.1));
+        assert_eq!(rt; got, want);
+    }
+    Ok(())
+}
+
+#[test]
+fn point_of_the_standard(rt: HostRuntime) -> Result<(), Fail> {
+    let Ok((point, count)) = Mpi::read(rt.alloc(), POINT, true) else {
+        return Err("the point".into());
+    };
+    assert_eq!(rt; (point.bits(), count), (263, 35));
+    let copy = point.copy(rt.alloc())?;
+    assert_eq!(rt; copy.octets(), &POINT[2..]);
+    Ok(())
+}
+
+#[test]
+fn limits_at_each_edge(rt: HostRuntime) {
+    for (line, body, cert, input, pieces, allowed) in [
+        (128, 512, 512, 0, 1, true),
+        (1_048_576, 4_294_967_295, 1 << 40, 1 << 62, 16_777_216, true),
+        (127, 512, 512, 0, 1, false),
+        (128, 511, 512, 0, 1, false),
+        (128, 512, 511, 0, 1, false),
+        (128, 512, 512, 0, 0, false),
+        (1_048_577, 512, 512, 0, 1, false),
+        (128, 4_294_967_296, 512, 0, 1, false),
+        (128, 512, (1 << 40) + 1, 0, 1, false),
+        (128, 512, 512, (1 << 62) + 1, 1, false),
+        (128, 512, 512, 0, 16_777_217, false),
+    ] {
+        let limits = Limits::new(line, body, cert, input, pieces);
+        assert_eq!(rt; limits.is_some(), allowed);
+    }
+    assert_eq!(rt; Limits::usual().line(), 8192);
+}
+
+// The table of docs/FORMAT.md, "Faults".
+const REASONS: [(u8, Reason, &str); 38] = [
+    (1, Reason::Spent, "Spent"),
+    (2, Reason::Short, "Short"),
+    (3, Reason::MpiBits, "MpiBits"),
+    (10, Reason::NoBlock, "NoBlock"),
+    (11, Reason::Label, "Label"),
+    (12, Reason::Header, "Header"),
+    (13, Reason::Letters, "Letters"),
+    (14, Reason::Padding, "Padding"),
+    (15, Reason::AfterChecksum, "AfterChecksum"),
+    (16, Reason::EndLabel, "EndLabel"),
+    (17, Reason::Unfinished, "Unfinished"),
+    (18, Reason::LineTooLong, "LineTooLong"),
+    (19, Reason::InputTooLong, "InputTooLong"),
+    (20, Reason::NotAPacket, "NotAPacket"),
+    (21, Reason::TypeZero, "TypeZero"),
+    (22, Reason::Compressed, "Compressed"),
+    (23, Reason::UnknownCritical, "UnknownCritical"),
+    (24, Reason::Indeterminate, "Indeterminate"),
+    (25, Reason::Truncated, "Truncated"),
+    (26, Reason::PartialKind, "PartialKind"),
+    (27, Reason::FirstPartial, "FirstPartial"),
+    (28, Reason::BodyTooLong, "BodyTooLong"),
+    (29, Reason::TooManyPieces, "TooManyPieces"),
+    (30, Reason::KeyVersion, "KeyVersion"),
+    (31, Reason::KeyTooLong, "KeyTooLong"),
+    (32, Reason::Count, "Count"),
+    (33, Reason::OidSize, "OidSize"),
+    (34, Reason::KdfSize, "KdfSize"),
+    (35, Reason::Trailing, "Trailing"),
+    (36, Reason::SubEmpty, "SubEmpty"),
+    (37, Reason::SubShort, "SubShort"),
+    (40, Reason::AreaShort, "AreaShort"),
+    (41, Reason::SaltSize, "SaltSize"),
+    (50, Reason::NoPrimary, "NoPrimary"),
+    (51, Reason::NotInKeyring, "NotInKeyring"),
+    (52, Reason::CertTooLong, "CertTooLong"),
+    (53, Reason::NotASignedLiteral, "NotASignedLiteral"),
+    (54, Reason::BlockLabel, "BlockLabel"),
+];
+
+#[test]
+fn numbers_and_names_of_reasons(rt: HostRuntime) {
+    for (number, reason, name) in REASONS {
+        assert_eq!(rt; reason.number(), number);
+        assert_eq!(rt; reason.name(), name);
+    }
+}
+
+#[test]
+fn line_of_a_fault(rt: HostRuntime) -> Result<(), Fail> {
+    let fault = Fault {
+        layer: Layer::Framing,
+        reason: Reason::Truncated,
+        block: 1,
+        pos: 100_006,
+        inner: 98_312,
+    };
+    let line = fault_line(rt.alloc(), &fault)?;
+    assert_eq!(rt;
+        line.as_str(),
+        "framing: Truncated block 1 at 100006 inner 98312"
+    );
+    Ok(())
+}
+
+#[test]
+fn lengths_refused_growth(rt: HostRuntime) {
+    let mut out = Vec::new(rt.alloc());
+    let wrote = write_len(&PacketLen::Five(100), &mut out);
+    assert_eq!(rt; out.len(), if wrote.is_ok() { 5 } else { 0 });
+    let mut out = Vec::new(rt.alloc());
+    let wrote = write_sub_len(&SubLen::Two(300), &mut out);
+    assert_eq!(rt; out.len(), if wrote.is_ok() { 2 } else { 0 });
+}
+
+#[test]
+fn refused_growth(rt: HostRuntime) {
+    match Mpi::read(rt.alloc(), POINT, true) {
+        Ok((point, _)) => {
+            if let Ok(copy) = point.copy(rt.alloc()) {
+                assert_eq!(rt; copy.octets(), point.octets());
+            }
+        }
+        Err(fault) => assert_eq!(rt; fault, MpiFault::Memory),
+    }
+    let fault = Fault {
+        layer: Layer::Input,
+        reason: Reason::InputTooLong,
+        block: 0,
+        pos: 52,
+        inner: 0,
+    };
+    if let Ok(line) = fault_line(rt.alloc(), &fault) {
+        assert_eq!(rt; line.as_str(), "input: InputTooLong block 0 at 52 inner 0");
+    }
+}

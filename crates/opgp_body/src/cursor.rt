@@ -199,11 +199,11 @@ impl<'a> Cursor<'a> {
         ensures stays { OnErr result (place_of self.new ≡ place_of self.old) }
         ensures moved { IfOk result (λ _. place_of self.new ≡ place_of self.old + 1) }
     {
-        let [first, ..] = self.rest() else {
+        let [value, ..] = self.rest() else {
             return Err(self.fault(Reason::Short));
         };
         self.at += 1;
-        Ok(*first)
+        Ok(*value)
     }
 
     /// This octet: [`Reason::Short`], and the reason where another stands there.
@@ -232,11 +232,11 @@ impl<'a> Cursor<'a> {
         ensures stays { OnErr result (place_of self.new ≡ place_of self.old) }
         ensures moved { IfOk result (λ _. place_of self.new ≡ place_of self.old + 4) }
     {
-        let Some((number, _)) = u32_at(self.rest()) else {
+        let Some((value, _)) = u32_at(self.rest()) else {
             return Err(self.fault(Reason::Short));
         };
         self.at += 4;
-        Ok(number)
+        Ok(value)
     }
 
     /// A number of four octets, which counts those that follow: [`Reason::Short`], [`Reason::Count`].

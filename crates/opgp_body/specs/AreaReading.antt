@@ -1,5 +1,6 @@
 -- Reading an area of subpackets from left to right, with the first fault.
-use Rattle.std.specs.Prelude.{ℕ, zero, suc, List, [], ◌∷◌, length, take, drop, Option, Some, None, Result, Ok, Err, nat_lt, if◌then◌else◌}
+use Rattle.std.specs.Prelude.{ℕ, zero, suc, List, [], ◌∷◌, length, take, drop, Option, Some, None}
+use Rattle.std.specs.Prelude.{Result, Ok, Err, nat_lt, if◌then◌else◌}
 use Rattle.std.specs.Result.{result_unwrap_or}
 use Rattle.opgp_octets.specs.declared.fault.Reason.{Reason}
 use Rattle.opgp_octets.specs.declared.fault.Reason.TheVariants.{SubEmpty, SubShort}
@@ -33,7 +34,8 @@ sub_at o = or_sub_short (sub_len_at o) >>= λ x. inside_at x.0 (sub_len_amount x
 abbrev pub subs_at : ℕ → ℕ → List ℕ → Result (List Sub) BodyFault
 subs_at end n [] = Ok []
 subs_at end zero (x ∷ o) = Ok []
-subs_at end (suc n) (x ∷ o) = placed end (length (x ∷ o)) (sub_at (x ∷ o)) >>= λ y. subs_at end n y.1 >>= λ z. Ok (y.0 ∷ z)
+subs_at end (suc n) (x ∷ o) =
+    placed end (length (x ∷ o)) (sub_at (x ∷ o)) >>= λ y. subs_at end n y.1 >>= λ z. Ok (y.0 ∷ z)
 
 -- all of them: each takes an octet at least
 unfoldable pub area_at : ℕ → List ℕ → Result (List Sub) BodyFault

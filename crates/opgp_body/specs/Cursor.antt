@@ -14,14 +14,17 @@ body_under c = c.body.now
 abbrev pub place_of : Cursor → ℕ
 place_of c = c.at
 
--- what a call returned, as the field that it shows, is what a field of the kind is there, or its fault
-abbrev pub ReadsField : {X : Type 0} → Kind → (X → Field) → Cursor → Cursor → Result X BodyFault → Type 0
+-- what a call returned, as the field that it shows, is what a field of the kind is there, or its
+-- fault
+abbrev pub ReadsField : {X : Type 0} → Kind → (X → Field) → Cursor → Cursor → Result X BodyFault
+    → Type 0
 ReadsField kind shown old new result =
     Reads (λ x. (shown x, drop (place_of new) (body_under old))) result
     (step_at (length (body_under old)) kind (drop (place_of old) (body_under old)))
 
 -- the same of several fields
-abbrev pub ReadsAll : {X : Type 0} → Grammar → (X → List Field) → Cursor → Cursor → Result X BodyFault → Type 0
+abbrev pub ReadsAll : {X : Type 0} → Grammar → (X → List Field) → Cursor → Cursor
+    → Result X BodyFault → Type 0
 ReadsAll grammar shown old new result =
     Reads (λ x. (shown x, drop (place_of new) (body_under old))) result
     (read_at (length (body_under old)) grammar (drop (place_of old) (body_under old)))

@@ -1,12 +1,17 @@
 -- Reading a body's fields from left to right, with the first fault.
-use Rattle.std.specs.Prelude.{ℕ, ◌-◌, ◌||◌, List, [], ◌∷◌, length, take, drop, Result, Ok, Err, nat_lt, ◌==◌, if◌then◌else◌}
+use Rattle.std.specs.Prelude.{ℕ, ◌-◌, ◌||◌, List, [], ◌∷◌, length, take, drop, Result, Ok, Err}
+use Rattle.std.specs.Prelude.{nat_lt, ◌==◌, if◌then◌else◌}
 use Rattle.std.specs.Int.{w16, w32}
 use Rattle.opgp_octets.specs.declared.fault.Reason.{Reason}
-use Rattle.opgp_octets.specs.declared.fault.Reason.TheVariants.{Short, KeyVersion, KeyTooLong, Count, Trailing, AreaShort}
+use Rattle.opgp_octets.specs.declared.fault.Reason.TheVariants.{Short, KeyVersion, KeyTooLong}
+use Rattle.opgp_octets.specs.declared.fault.Reason.TheVariants.{Count, Trailing, AreaShort}
 use Rattle.opgp_octets.specs.declared.fault.BodyFault.{BodyFault}
 use Rattle.opgp_octets.specs.Reading.{◌>>=◌, number_at, or_short}
 use Rattle.opgp_octets.specs.Mpi.{mpi_at}
-use Rattle.opgp_body.specs.Fields.{Kind, version, octet, exact, four, count, mpi, sized, fixed, whole, never, Extent, to_end, behind_two, behind_four, Field, small, wide, integer, named, bare, subpackets, Grammar, done, field, area, fault_at}
+use Rattle.opgp_body.specs.Fields.{Kind, version, octet, exact, four, count, mpi, sized, fixed}
+use Rattle.opgp_body.specs.Fields.{whole, never, Extent, to_end, behind_two, behind_four, Field}
+use Rattle.opgp_body.specs.Fields.{small, wide, integer, named, bare, subpackets, Grammar, done}
+use Rattle.opgp_body.specs.Fields.{field, area, fault_at}
 use Rattle.opgp_body.specs.AreaReading.{placed, area_at}
 
 abbrev pub octet_at : List ℕ → Result (ℕ × List ℕ) Reason
@@ -28,7 +33,9 @@ abbrev pub count_as : ℕ → List ℕ → Result (Field × List ℕ) Reason
 count_as n o = if n == length o then Ok (wide n, o) else Err Count
 
 abbrev pub sized_as : Reason → ℕ → ℕ → ℕ → List ℕ → Result (Field × List ℕ) Reason
-sized_as reason least most n o = if nat_lt n least || nat_lt most n then Err reason else (some_at n o >>= λ x. Ok (named x.0, x.1))
+sized_as reason least most n o =
+    if nat_lt n least || nat_lt most n then Err reason else
+    (some_at n o >>= λ x. Ok (named x.0, x.1))
 
 -- the field that begins a list and what follows it, or why there is none
 unfoldable pub kind_at : Kind → List ℕ → Result (Field × List ℕ) Reason
@@ -59,12 +66,16 @@ step_at total kind o = placed total (length o) (kind_at kind o)
 
 -- an area of it
 unfoldable pub area_step_at : ℕ → Extent → List ℕ → Result (Field × List ℕ) BodyFault
-area_step_at total extent o = placed total (length o) (extent_at extent o) >>= λ x. area_at (total - length x.1) x.0 >>= λ z. Ok (subpackets extent z, x.1)
+area_step_at total extent o =
+    placed total (length o) (extent_at extent o) >>= λ x. area_at (total - length x.1) x.0
+    >>= λ z. Ok (subpackets extent z, x.1)
 
 abbrev pub read_at : ℕ → Grammar → List ℕ → Result (List Field × List ℕ) BodyFault
 read_at total done o = Ok ([], o)
-read_at total (field kind next) o = step_at total kind o >>= λ x. read_at total (next x.0) x.1 >>= λ y. Ok (x.0 ∷ y.0, y.1)
-read_at total (area extent next) o = area_step_at total extent o >>= λ x. read_at total next x.1 >>= λ y. Ok (x.0 ∷ y.0, y.1)
+read_at total (field kind next) o =
+    step_at total kind o >>= λ x. read_at total (next x.0) x.1 >>= λ y. Ok (x.0 ∷ y.0, y.1)
+read_at total (area extent next) o =
+    area_step_at total extent o >>= λ x. read_at total next x.1 >>= λ y. Ok (x.0 ∷ y.0, y.1)
 
 -- all of the octets
 abbrev pub ended : ℕ → List Field × List ℕ → Result (List Field) BodyFault

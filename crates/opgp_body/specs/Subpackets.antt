@@ -1,5 +1,7 @@
--- Subpackets and areas of them (RFC 9580, 5.2.3.7, 5.12): a length, which counts the type octet, the type octet, octets.
-use Rattle.std.specs.Prelude.{◌≡◌, ℕ, suc, ◌-◌, ◌^◌, ◌<◌, List, ◌∷◌, ◌++◌, length, Option, Some, None, ◌==◌, if◌then◌else◌}
+-- Subpackets and areas of them (RFC 9580, 5.2.3.7, 5.12): a length, which counts the type octet,
+-- the type octet, octets.
+use Rattle.std.specs.Prelude.{◌≡◌, ℕ, suc, ◌-◌, ◌^◌, ◌<◌, List, ◌∷◌, ◌++◌, length, Option, Some}
+use Rattle.std.specs.Prelude.{None, ◌==◌, if◌then◌else◌}
 use Rattle.std.specs.List.{AllByRecursion, flat_map}
 use Rattle.opgp_octets.specs.declared.fault.Reason.{Reason}
 use Rattle.opgp_octets.specs.declared.fault.Reason.TheVariants.{SubEmpty, SubShort}
@@ -49,7 +51,8 @@ reason_by (Some x) = if sub_len_amount x.0 == 0 then SubEmpty else SubShort
 abbrev pub sub_reason : List ℕ → Reason
 sub_reason o = reason_by (sub_len_at o)
 
--- Some subpackets begin the area, which ends at this place of its body, and the next has no spelling there.
+-- Some subpackets begin the area, which ends at this place of its body, and the next has no
+-- spelling there.
 pub record AreaFault (end : ℕ) (o : List ℕ) (f : BodyFault) : Type 0 where
   pub before : List Sub
   pub rest : List ℕ

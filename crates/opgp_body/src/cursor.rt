@@ -1,9 +1,11 @@
 //! The fields of a body and their places, from left to right.
 
-ghost use Rattle.std.specs.Prelude.{◌≡◌, ◌≤◌, ◌+◌, ◌^◌, ◌<◌, ℕ, List, length, drop, IfOk, OnErr, None};
+ghost use Rattle.std.specs.Prelude.{◌≡◌, ◌≤◌, ◌+◌, ◌^◌, ◌<◌, ℕ, List, length, drop, IfOk, OnErr};
+ghost use Rattle.std.specs.Prelude.{None};
 ghost use Rattle.opgp_octets.specs.Octets.{IsOctets, IsBodySized};
 ghost use Rattle.opgp_octets.specs.Reading.{Reads};
-ghost use Rattle.opgp_body.specs.Fields.{version, octet, exact, four, count, mpi, sized, fixed, whole};
+ghost use Rattle.opgp_body.specs.Fields.{version, octet, exact, four, count, mpi, sized, fixed};
+ghost use Rattle.opgp_body.specs.Fields.{whole};
 ghost use Rattle.opgp_body.specs.Fields.{small, wide, named, bare, subpackets, fault_at, Field};
 ghost use Rattle.opgp_body.specs.FieldReading.{step_at, area_step_at, extent_at, area_as, ended};
 ghost use Rattle.opgp_body.specs.AreaReading.{placed, fault_in, subs_in};
@@ -68,7 +70,8 @@ impl<'a> Cursor<'a> {
     /// A multiprecision integer, perhaps a strict one: [`Reason::Short`], [`Reason::MpiBits`].
     #[tactic(auto, unfolding(crate::specs::FieldReading::step_at, crate::specs::FieldReading::kind_at))]
     pub fn mpi(&mut self, strict: bool) -> Result<MpiSpan, BodyFault>
-        ensures reads { ReadsField (mpi strict) (λ p. integer_in p (body_under self.old)) self.old self.new result }
+        ensures reads { ReadsField (mpi strict)
+            (λ p. integer_in p (body_under self.old)) self.old self.new result }
         ensures body { body_under self.new ≡ body_under self.old }
         ensures stays { OnErr result (place_of self.new ≡ place_of self.old) }
         ensures within { IfOk result (λ p. IsMpiIn p (length (body_under self.old))) }
@@ -90,7 +93,8 @@ impl<'a> Cursor<'a> {
     /// `most`, else [`Reason::Short`].
     #[tactic(auto, unfolding(crate::specs::FieldReading::step_at, crate::specs::FieldReading::kind_at))]
     pub fn sized(&mut self, reason: Reason, least: u8, most: u8) -> Result<Span, BodyFault>
-        ensures reads { ReadsField (sized reason least most) (λ p. named (octets_in p (body_under self.old))) self.old self.new result }
+        ensures reads { ReadsField (sized reason least most)
+            (λ p. named (octets_in p (body_under self.old))) self.old self.new result }
         ensures body { body_under self.new ≡ body_under self.old }
         ensures stays { OnErr result (place_of self.new ≡ place_of self.old) }
         ensures within { IfOk result (λ p. IsIn p (length (body_under self.old))) }
@@ -117,7 +121,8 @@ impl<'a> Cursor<'a> {
     /// So many octets: [`Reason::Short`].
     #[tactic(auto, unfolding(crate::specs::FieldReading::step_at, crate::specs::FieldReading::kind_at))]
     pub fn fixed(&mut self, size: usize) -> Result<Span, BodyFault>
-        ensures reads { ReadsField (fixed size) (λ p. bare (octets_in p (body_under self.old))) self.old self.new result }
+        ensures reads { ReadsField (fixed size)
+            (λ p. bare (octets_in p (body_under self.old))) self.old self.new result }
         ensures body { body_under self.new ≡ body_under self.old }
         ensures stays { OnErr result (place_of self.new ≡ place_of self.old) }
         ensures within { IfOk result (λ p. IsIn p (length (body_under self.old))) }
@@ -155,8 +160,13 @@ impl<'a> Cursor<'a> {
     /// All that is left.
     #[tactic(auto, unfolding(crate::specs::FieldReading::step_at, crate::specs::FieldReading::kind_at))]
     pub fn whole(&mut self) -> Span
-        ensures reads { step_at (length (body_under self.old)) whole (drop (place_of self.old) (body_under self.old))
-            ≡ Ok (bare (octets_in result (body_under self.old)), drop (place_of self.new) (body_under self.old)) }
+        ensures reads { step_at (length (body_under self.old)) whole
+            (drop (place_of self.old) (body_under self.old))
+            ≡ Ok (
+              bare (octets_in result (body_under self.old)),
+              drop (place_of self.new)
+                  (body_under self.old),
+            ) }
         ensures body { body_under self.new ≡ body_under self.old }
         ensures within { IsIn result (length (body_under self.old)) }
     {
@@ -170,7 +180,8 @@ impl<'a> Cursor<'a> {
     }
 
     /// The version of a key, 4 or 6: [`Reason::Short`], [`Reason::KeyVersion`], and
-    /// [`Reason::KeyTooLong`] for a version 4 body of more than 65,535 octets (RFC 9580, 5.5.2, 5.5.4.2).
+    /// [`Reason::KeyTooLong`] for a version 4 body of more than 65,535 octets (RFC 9580, 5.5.2,
+    /// 5.5.4.2).
     #[tactic(auto, unfolding(crate::specs::FieldReading::step_at, crate::specs::FieldReading::kind_at))]
     pub fn version(&mut self) -> Result<u8, BodyFault>
         ensures reads { ReadsField version (λ n. small n) self.old self.new result }
@@ -209,7 +220,8 @@ impl<'a> Cursor<'a> {
     /// This octet: [`Reason::Short`], and the reason where another stands there.
     #[tactic(auto, unfolding(crate::specs::FieldReading::step_at, crate::specs::FieldReading::kind_at))]
     pub fn exact(&mut self, reason: Reason, wanted: u8) -> Result<(), BodyFault>
-        ensures reads { ReadsField (exact reason wanted) (λ _. small wanted) self.old self.new result }
+        ensures reads { ReadsField (exact reason wanted)
+            (λ _. small wanted) self.old self.new result }
         ensures body { body_under self.new ≡ body_under self.old }
         ensures stays { OnErr result (place_of self.new ≡ place_of self.old) }
         ensures moved { IfOk result (λ _. place_of self.new ≡ place_of self.old + 1) }
@@ -239,7 +251,8 @@ impl<'a> Cursor<'a> {
         Ok(value)
     }
 
-    /// A number of four octets, which counts those that follow: [`Reason::Short`], [`Reason::Count`].
+    /// A number of four octets, which counts those that follow: [`Reason::Short`],
+    /// [`Reason::Count`].
     #[tactic(auto, unfolding(crate::specs::FieldReading::step_at, crate::specs::FieldReading::kind_at))]
     pub fn count(&mut self) -> Result<u32, BodyFault>
         ensures reads { ReadsField count (λ n. wide n) self.old self.new result }
@@ -261,8 +274,10 @@ impl<'a> Cursor<'a> {
     /// So many octets behind a length of this size: [`Reason::AreaShort`].
     fn behind(&self, size: usize, count: usize) -> Result<Span, BodyFault>
         requires { place_of self.now + size ≤ length (body_under self.now) }
-        ensures reads { Reads (λ p. (octets_in p (body_under self.now), drop p.end (body_under self.now))) result
-            (placed (length (body_under self.now)) (length (drop (place_of self.now) (body_under self.now)))
+        ensures reads { Reads
+            (λ p. (octets_in p (body_under self.now), drop p.end (body_under self.now))) result
+            (placed (length (body_under self.now))
+            (length (drop (place_of self.now) (body_under self.now)))
             (area_as count (drop (place_of self.now + size) (body_under self.now)))) }
         ensures within { IfOk result (λ p. IsIn p (length (body_under self.now))) }
         ensures begins { IfOk result (λ p. p.start ≡ place_of self.now + size) }
@@ -281,8 +296,10 @@ impl<'a> Cursor<'a> {
     /// The octets of an area behind its length: [`Reason::Short`], [`Reason::AreaShort`].
     #[tactic(auto, unfolding(crate::specs::FieldReading::extent_at))]
     fn extent(&self, width: AreaLength) -> Result<Span, BodyFault>
-        ensures reads { Reads (λ p. (octets_in p (body_under self.now), drop p.end (body_under self.now))) result
-            (placed (length (body_under self.now)) (length (drop (place_of self.now) (body_under self.now)))
+        ensures reads { Reads
+            (λ p. (octets_in p (body_under self.now), drop p.end (body_under self.now))) result
+            (placed (length (body_under self.now))
+            (length (drop (place_of self.now) (body_under self.now)))
             (extent_at (extent_of width) (drop (place_of self.now) (body_under self.now)))) }
         ensures within { IfOk result (λ p. IsIn p (length (body_under self.now))) }
         ensures begins { IfOk result (λ p. p.start ≡ place_of self.now + width_of width) }
@@ -303,8 +320,11 @@ impl<'a> Cursor<'a> {
     /// An area of subpackets behind its length: [`Reason::Short`], [`Reason::AreaShort`], and
     /// [`Reason::SubEmpty`] and [`Reason::SubShort`] at a subpacket of it (RFC 9580, 5.2.3.7).
     pub fn area(&mut self, width: AreaLength) -> Result<Span, BodyFault>
-        ensures reads { Reads (λ p. (subpackets (extent_of width) (subs_in (octets_in p (body_under self.old))),
-            drop (place_of self.new) (body_under self.old))) result
+        ensures reads { Reads
+            (λ p. (
+              subpackets (extent_of width) (subs_in (octets_in p (body_under self.old))),
+              drop (place_of self.new) (body_under self.old),
+            )) result
             (area_step_at (length (body_under self.old)) (extent_of width)
             (drop (place_of self.old) (body_under self.old))) }
         ensures body { body_under self.new ≡ body_under self.old }

@@ -52,7 +52,8 @@ pub fn subpackets_are_read()
         → (area_at end o ≡ Ok subs) ↔ Area subs o }
 {}
 
-/// An area's fault is answered exactly where it is that of the first subpacket with no spelling at its place.
+/// An area's fault is answered exactly where it is that of the first subpacket with no spelling at
+/// its place.
 pub fn the_area_fault_is_answered()
     ensures { (end : ℕ) (o : List ℕ) (f : BodyFault) → IsOctets o
         → (area_at end o ≡ Err f) ↔ AreaFault end o f }

@@ -1,7 +1,7 @@
 //! Where the fields of a body lie in it.
 //!
-//! A value that owns its body can't borrow from it, so it keeps where its fields lie, and lends them
-//! from there. A body has at most 4,294,967,295 octets, so a place takes four.
+//! A value that owns its body can't borrow from it, so it keeps where its fields lie, and lends
+//! them from there. A body has at most 4,294,967,295 octets, so a place takes four.
 
 ghost use Rattle.std.specs.Prelude.{◌≡◌, length};
 

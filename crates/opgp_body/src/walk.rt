@@ -7,7 +7,8 @@ ghost use Rattle.opgp_body.specs.AreaReading.{fault_in};
 use crate::subpacket::Subpacket;
 use opgp_octets::BodyFault;
 
-/// The first fault of an area that ends at this place of its body, if there is one. Takes no memory.
+/// The first fault of an area that ends at this place of its body, if there is one. Takes no
+/// memory.
 pub fn fault_in_area(area: &[u8], end: usize) -> Option<BodyFault>
     requires { length area.now ≤ end }
     ensures { result ≡ fault_in end area.now }

@@ -2,14 +2,17 @@
 use Rattle.std.specs.Prelude.{ℕ, List}
 use Rattle.opgp_octets.specs.declared.fault.BodyFault.{BodyFault}
 use Rattle.opgp_octets.specs.declared.packet_type.PacketType.{PacketType}
-use Rattle.opgp_octets.specs.declared.packet_type.PacketType.TheVariants.{Signature, PublicKey, PublicSubkey, LiteralData, UserAttribute}
+use Rattle.opgp_octets.specs.declared.packet_type.PacketType.TheVariants.{Signature, PublicKey}
+use Rattle.opgp_octets.specs.declared.packet_type.PacketType.TheVariants.{PublicSubkey, LiteralData}
+use Rattle.opgp_octets.specs.declared.packet_type.PacketType.TheVariants.{UserAttribute}
 use Rattle.opgp_key.specs.AttributeBody.{AttributeFault}
 use Rattle.opgp_key.specs.KeyBody.{KeyFault}
 use Rattle.opgp_key.specs.LiteralBody.{LiteralFault}
 use Rattle.opgp_sig.specs.SignatureBody.{SignatureFault}
 
--- The octets are no body of a packet of this type, and this is their first fault. Keys, attributes, literals and
--- signatures may have one; a user ID is any octets, and of other types nothing is read.
+-- The octets are no body of a packet of this type, and this is their first fault. Keys, attributes,
+-- literals and signatures may have one; a user ID is any octets, and of other types nothing is
+-- read.
 abbrev pub HasBodyFault : PacketType → List ℕ → BodyFault → Type 0
 HasBodyFault Signature o f = SignatureFault o f
 HasBodyFault PublicKey o f = KeyFault o f

@@ -38,7 +38,8 @@ fn six(body: &[u8]) -> [u8; 32]
 /// The fingerprint of the key that a view shows: a hash of its body, whatever header its packet has
 /// (RFC 9580, 5.5.4). Takes no memory.
 pub fn fingerprint_of_view(key: KeyView<'_>) -> Fingerprint
-    ensures { result ≡ fingerprint_of (key_view_value key.entry).version (key_view_octets key.entry) }
+    ensures { result
+        ≡ fingerprint_of (key_view_value key.entry).version (key_view_octets key.entry) }
 {
     let body = key.body();
     if key.version() == 4 {
@@ -48,8 +49,8 @@ pub fn fingerprint_of_view(key: KeyView<'_>) -> Fingerprint
     }
 }
 
-/// The fingerprint of the key: a hash of its body, whatever header its packet has (RFC 9580, 5.5.4).
-/// Takes no memory.
+/// The fingerprint of the key: a hash of its body, whatever header its packet has (RFC 9580,
+/// 5.5.4). Takes no memory.
 pub fn fingerprint(key: &Key) -> Fingerprint
     ensures { result ≡ fingerprint_of (key_value key.now).version (key_octets key.now) }
 {

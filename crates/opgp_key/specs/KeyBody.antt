@@ -4,8 +4,10 @@ use Rattle.opgp_octets.specs.declared.fault.BodyFault.{BodyFault}
 use Rattle.opgp_octets.specs.declared.fault.Reason.TheVariants.{OidSize, KdfSize}
 use Rattle.opgp_octets.specs.KeyAlgorithm.{key_algorithm_of}
 use Rattle.opgp_body.specs.Fields.{Kind, version, octet, four, count, mpi, sized, fixed, whole}
-use Rattle.opgp_body.specs.Fields.{Field, small, wide, octets_of, Grammar, field, sequence, amount, Body, FirstFault}
-use Rattle.opgp_key.specs.Shape.{Shape, rsa, elgamal, dsa, ecdh, ecdsa, eddsa, x25519, x448, ed25519, ed448, opaque}
+use Rattle.opgp_body.specs.Fields.{Field, small, wide, octets_of, Grammar, field, sequence, amount}
+use Rattle.opgp_body.specs.Fields.{Body, FirstFault}
+use Rattle.opgp_key.specs.Shape.{Shape, rsa, elgamal, dsa, ecdh, ecdsa, eddsa, x25519, x448}
+use Rattle.opgp_key.specs.Shape.{ed25519, ed448, opaque}
 use Rattle.opgp_key.specs.Shape.{shape_of}
 
 -- a curve's object identifier, and parameters of a key derivation: sizes 0 and 255 are reserved
@@ -36,7 +38,8 @@ material_grammar v a = sequence (material_kinds (v == 6) (shape_of (key_algorith
 abbrev pub counted : ℕ → Grammar → Grammar
 counted v next = if v == 6 then field count (λ _. next) else next
 
--- version, creation time, algorithm, in version 6 a count, the material; the integers of version 6 are strict
+-- version, creation time, algorithm, in version 6 a count, the material; the integers of version 6
+-- are strict
 unfoldable pub key : Grammar
 key =
     field version (λ v. field four (λ _. field octet (λ a.

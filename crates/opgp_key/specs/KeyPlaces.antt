@@ -8,7 +8,8 @@ use Rattle.opgp_key.specs.Material.{fields_in}
 abbrev pub key_in : KeyPlaces → List ℕ → KeyValue
 key_in p o = record { version = p.version; created = p.created; algorithm = p.algorithm; material = fields_in p.material o }
 
--- the fields of a key whose body has so many octets: the count of version 6 is that of those behind it
+-- the fields of a key whose body has so many octets: the count of version 6 is that of those behind
+-- it
 abbrev pub fields_of_size : ℕ → KeyValue → List Field
 fields_of_size total v =
     small v.version ∷ wide v.created ∷ small v.algorithm

@@ -2,7 +2,8 @@
 use Rattle.std.specs.Prelude.{ℕ, List, [], ◌∷◌, length}
 use Rattle.opgp_octets.specs.declared.fault.BodyFault.{BodyFault}
 use Rattle.opgp_octets.specs.declared.fault.Reason.TheVariants.{Short}
-use Rattle.opgp_body.specs.Fields.{octet, sized, four, whole, Field, small, named, wide, bare, Grammar, sequence}
+use Rattle.opgp_body.specs.Fields.{octet, sized, four, whole, Field, small, named, wide, bare}
+use Rattle.opgp_body.specs.Fields.{Grammar, sequence}
 use Rattle.opgp_body.specs.Fields.{Body, FirstFault}
 
 -- any size of a name may stand

@@ -1,4 +1,5 @@
--- A key's public material, over what stands for an integer and for octets: places in a body, or views.
+-- A key's public material, over what stands for an integer and for octets: places in a body, or
+-- views.
 use Rattle.std.specs.Prelude.{◌≡◌, ℕ, ◌+◌, List, [], ◌∷◌, length}
 use Rattle.std.specs.Borrow.{Bor}
 use Rattle.std.proofs.Props.{props}
@@ -8,9 +9,12 @@ use Rattle.opgp_body.specs.declared.spans.MpiSpan.{MpiSpan}
 use Rattle.opgp_body.specs.Fields.{Field, named, bare, integer_of}
 use Rattle.opgp_body.specs.Spans.{octets_in, integer_in, IsIn, IsMpiIn}
 use Rattle.opgp_key.specs.declared.material.Material.{Material}
-use Rattle.opgp_key.specs.declared.material.Material.TheVariants.{Rsa, Elgamal, Dsa, Ecdh, Ecdsa, Eddsa}
-use Rattle.opgp_key.specs.declared.material.Material.TheVariants.{X25519, X448, Ed25519, Ed448, Opaque}
-use Rattle.opgp_key.specs.Shape.{Shape, rsa, elgamal, dsa, ecdh, ecdsa, eddsa, x25519, x448, ed25519, ed448, opaque}
+use Rattle.opgp_key.specs.declared.material.Material.TheVariants.{Rsa, Elgamal, Dsa, Ecdh, Ecdsa}
+use Rattle.opgp_key.specs.declared.material.Material.TheVariants.{Eddsa}
+use Rattle.opgp_key.specs.declared.material.Material.TheVariants.{X25519, X448, Ed25519, Ed448}
+use Rattle.opgp_key.specs.declared.material.Material.TheVariants.{Opaque}
+use Rattle.opgp_key.specs.Shape.{Shape, rsa, elgamal, dsa, ecdh, ecdsa, eddsa, x25519, x448}
+use Rattle.opgp_key.specs.Shape.{ed25519, ed448, opaque}
 
 -- its fields, by what an integer and octets stand for
 abbrev pub fields_by : {I O : Type 0} → (I → Field) → (O → List ℕ) → Material I O → List Field

@@ -1,8 +1,11 @@
 -- The forms that a key's public material has, by its algorithm (RFC 9580, 5.5.5, 9.1).
 use Rattle.opgp_octets.specs.declared.key_algorithm.KeyAlgorithm.{KeyAlgorithm}
-use Rattle.opgp_octets.specs.declared.key_algorithm.KeyAlgorithm.TheVariants.{Rsa, RsaEncrypt, RsaSign, Elgamal, Dsa}
-use Rattle.opgp_octets.specs.declared.key_algorithm.KeyAlgorithm.TheVariants.{Ecdh, Ecdsa, EddsaLegacy}
-use Rattle.opgp_octets.specs.declared.key_algorithm.KeyAlgorithm.TheVariants.{X25519, X448, Ed25519, Ed448, Other}
+use Rattle.opgp_octets.specs.declared.key_algorithm.KeyAlgorithm.TheVariants.{Rsa, RsaEncrypt}
+use Rattle.opgp_octets.specs.declared.key_algorithm.KeyAlgorithm.TheVariants.{RsaSign, Elgamal, Dsa}
+use Rattle.opgp_octets.specs.declared.key_algorithm.KeyAlgorithm.TheVariants.{Ecdh, Ecdsa}
+use Rattle.opgp_octets.specs.declared.key_algorithm.KeyAlgorithm.TheVariants.{EddsaLegacy}
+use Rattle.opgp_octets.specs.declared.key_algorithm.KeyAlgorithm.TheVariants.{X25519, X448, Ed25519}
+use Rattle.opgp_octets.specs.declared.key_algorithm.KeyAlgorithm.TheVariants.{Ed448, Other}
 
 pub data Shape : Type 0 where
   rsa elgamal dsa ecdh ecdsa eddsa x25519 x448 ed25519 ed448 opaque : Shape

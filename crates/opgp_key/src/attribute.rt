@@ -10,7 +10,8 @@ ghost use Rattle.opgp_octets.specs.Reading.{Reads};
 ghost use Rattle.opgp_body.specs.AreaReading.{fault_in};
 ghost use Rattle.opgp_body.specs.FieldReading.{body_at};
 ghost use Rattle.opgp_body.specs.Fields.{Field, Body};
-ghost use Rattle.opgp_key.specs.AttributeBody.{attribute, attribute_fields, SpellsAttribute, AttributeFault};
+ghost use Rattle.opgp_key.specs.AttributeBody.{attribute, attribute_fields, SpellsAttribute};
+ghost use Rattle.opgp_key.specs.AttributeBody.{AttributeFault};
 
 use crate::attribute_view::AttributeView;
 use opgp_body::Walk;
@@ -44,7 +45,8 @@ impl Attribute {
         // A fault is that of the first subpacket that has no spelling at its place.
         ensures fault { IfErr result (RefusedBy (AttributeFault o.now)) }
         // A fault is answered whether or not there is memory.
-        ensures refuses { (f : BodyFault) → AttributeFault o.now f → result ≡ Err (ParseFault.Body f) }
+        ensures refuses { (f : BodyFault) → AttributeFault o.now f
+            → result ≡ Err (ParseFault.Body f) }
         // It is what a view of the octets shows, or the same fault.
         ensures exact { Parses (λ a. attribute_fields (attribute_value a)) result
             (body_at attribute o.now) }
@@ -154,7 +156,8 @@ impl Attribute {
         ensures ok { OnOk result (out.new.items ≡ out.old.items ++ attribute_octets self.now) }
         ensures err { OnErr result (out.new.items ≡ out.old.items) }
         // Room that is there suffices.
-        ensures succeeds { vec_len out.old + length (attribute_octets self.now) ≤ vec_capacity out.old
+        ensures succeeds { vec_len out.old + length (attribute_octets self.now)
+            ≤ vec_capacity out.old
             → IsOk result }
     {
         out.extend_from_slice(&self.body)

@@ -7,7 +7,8 @@ ghost use Rattle.opgp_octets.specs.Reading.{Reads};
 ghost use Rattle.opgp_body.specs.AreaReading.{fault_in};
 ghost use Rattle.opgp_body.specs.FieldReading.{body_at};
 ghost use Rattle.opgp_body.specs.Fields.{Field, Body};
-ghost use Rattle.opgp_key.specs.AttributeBody.{attribute, attribute_fields, SpellsAttribute, AttributeFault};
+ghost use Rattle.opgp_key.specs.AttributeBody.{attribute, attribute_fields, SpellsAttribute};
+ghost use Rattle.opgp_key.specs.AttributeBody.{AttributeFault};
 
 use opgp_body::{Subpacket, Walk, fault_in_area};
 use opgp_octets::BodyFault;

@@ -20,7 +20,8 @@ use crate::material::MaterialView;
 use opgp_octets::{BodyFault, OutOfMemory, ParseFault};
 use std::alloc::Global;
 
-/// A public key that owns the octets of its body, and knows where its fields lie in them (RFC 9580, 5.5.2).
+/// A public key that owns the octets of its body, and knows where its fields lie in them (RFC 9580,
+/// 5.5.2).
 #[derive(Drop)]
 pub struct Key {
     body: Vec<u8>,
@@ -61,7 +62,8 @@ impl Key {
     fn read(alloc: Global, o: &[u8]) -> Result<Key, ParseFault>
         requires { IsBodySized o.now }
         ensures exact { Parses (λ k. key_fields (key_value k)) result (body_at key o.now) }
-        ensures refuses { (f : BodyFault) → body_at key o.now ≡ Err f → result ≡ Err (ParseFault.Body f) }
+        ensures refuses { (f : BodyFault) → body_at key o.now ≡ Err f
+            → result ≡ Err (ParseFault.Body f) }
         ensures body { IfOk result (λ k. key_octets k ≡ o.now) }
     {
         let view = KeyView::parse_body(o)?;

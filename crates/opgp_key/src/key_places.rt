@@ -49,7 +49,8 @@ impl KeyPlaces {
         // The octets are octets, which a vector that is moved tells no more.
         ensures octets { IsOctets o.now }
         ensures within { IfOk result (λ p. AreIn p.material (length o.now)) }
-        ensures shape { IfOk result (λ p. shape p.material ≡ shape_of (key_algorithm_of p.algorithm)) }
+        ensures shape { IfOk result
+            (λ p. shape p.material ≡ shape_of (key_algorithm_of p.algorithm)) }
     {
         KeyPlaces::read_fields(o)
     }
@@ -57,9 +58,11 @@ impl KeyPlaces {
     #[tactic(auto, unfolding(opgp_body::specs::FieldReading::body_at, crate::specs::KeyBody::key))]
     fn read_fields(o: &[u8]) -> Result<KeyPlaces, BodyFault>
         requires { IsBodySized o.now }
-        ensures exact { Reads (λ p. fields_of_size (length o.now) (key_in p o.now)) result (body_at key o.now) }
+        ensures exact { Reads (λ p. fields_of_size (length o.now) (key_in p o.now)) result
+            (body_at key o.now) }
         ensures within { IfOk result (λ p. AreIn p.material (length o.now)) }
-        ensures shape { IfOk result (λ p. shape p.material ≡ shape_of (key_algorithm_of p.algorithm)) }
+        ensures shape { IfOk result
+            (λ p. shape p.material ≡ shape_of (key_algorithm_of p.algorithm)) }
     {
         let mut cursor = Cursor::new(o);
         let version = cursor.version()?;

@@ -34,8 +34,8 @@ impl<'a> KeyView<'a> {
     /// The key that the octets spell, all of them. Takes no memory.
     ///
     /// The errors are [`Short`], [`KeyVersion`], [`KeyTooLong`] for a version 4 body of more than
-    /// 65,535 octets, [`Count`], [`MpiBits`] in version 6, [`OidSize`], [`KdfSize`] and [`Trailing`],
-    /// each at the first field that isn't there.
+    /// 65,535 octets, [`Count`], [`MpiBits`] in version 6, [`OidSize`], [`KdfSize`] and
+    /// [`Trailing`], each at the first field that isn't there.
     ///
     /// [`Short`]: opgp_octets::Reason::Short
     /// [`KeyVersion`]: opgp_octets::Reason::KeyVersion
@@ -105,7 +105,8 @@ impl<'a> KeyView<'a> {
     /// Its public material; which variant it is, its algorithm says.
     pub fn material(&self) -> MaterialView<'a>
         ensures fields { material_fields result ≡ (key_view_value self.now).material }
-        ensures shape { shape result ≡ shape_of (key_algorithm_of (key_view_value self.now).algorithm) }
+        ensures shape { shape result
+            ≡ shape_of (key_algorithm_of (key_view_value self.now).algorithm) }
         // X25519 and Ed25519 have 32 octets, X448 has 56, Ed448 has 57.
         ensures sizes { HasSizes result }
     {

@@ -22,15 +22,18 @@ pub fn written_key()
 
 /// What a user attribute writes is read again as that user attribute.
 pub fn written_attribute()
-    ensures { (a : Attribute) → body_at attribute (attribute_octets a) ≡ Ok (attribute_fields (attribute_value a)) }
+    ensures { (a : Attribute)
+        → body_at attribute (attribute_octets a) ≡ Ok (attribute_fields (attribute_value a)) }
 {}
 
 /// What a literal writes is read again as that literal.
 pub fn written_literal()
-    ensures { (l : Literal) → body_at literal (literal_octets l) ≡ Ok (literal_fields (literal_value l)) }
+    ensures { (l : Literal)
+        → body_at literal (literal_octets l) ≡ Ok (literal_fields (literal_value l)) }
 {}
 
 /// What a user ID writes is read again as that user ID.
 pub fn written_user_id()
-    ensures { (u : UserId) → body_at user_id (user_id_octets u) ≡ Ok (user_id_fields (user_id_octets u)) }
+    ensures { (u : UserId)
+        → body_at user_id (user_id_octets u) ≡ Ok (user_id_fields (user_id_octets u)) }
 {}

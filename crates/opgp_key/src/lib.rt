@@ -1,4 +1,5 @@
-//! Bodies of OpenPGP's keys, user IDs, attributes and literals, read to the last octet (RFC 9580, 5.5, 5.9, 5.11, 5.12).
+//! Bodies of OpenPGP's keys, user IDs, attributes and literals, read to the last octet (RFC 9580,
+//! 5.5, 5.9, 5.11, 5.12).
 #![tactic(auto)]
 
 mod attribute;

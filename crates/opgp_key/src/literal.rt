@@ -1,7 +1,8 @@
 //! Literals.
 
 ghost use Rattle.std.specs.Prelude.{◌≡◌, ◌++◌, ◌+◌, ◌≤◌, List, length, None, Ok, Err};
-ghost use Rattle.std.specs.Prelude.{OnOk, OnErr, IfOk, IfErr, IfSome, IfNone, IsOk, vec_len, vec_capacity};
+ghost use Rattle.std.specs.Prelude.{OnOk, OnErr, IfOk, IfErr, IfSome, IfNone, IsOk, vec_len};
+ghost use Rattle.std.specs.Prelude.{vec_capacity};
 ghost use Rattle.opgp_octets.specs.Octets.{IsOctets, IsBodySized};
 ghost use Rattle.opgp_octets.specs.declared.fault.BodyFault.{BodyFault};
 ghost use Rattle.opgp_octets.specs.ParseFault.{Parses, RefusedBy};
@@ -9,7 +10,8 @@ ghost use Rattle.opgp_octets.specs.Reading.{Reads};
 ghost use Rattle.opgp_body.specs.AreaReading.{fault_of};
 ghost use Rattle.opgp_body.specs.FieldReading.{body_at};
 ghost use Rattle.opgp_body.specs.Fields.{Field, Body};
-ghost use Rattle.opgp_key.specs.LiteralBody.{LiteralValue, literal, literal_fields, SpellsLiteral, LiteralFault};
+ghost use Rattle.opgp_key.specs.LiteralBody.{LiteralValue, literal, literal_fields, SpellsLiteral};
+ghost use Rattle.opgp_key.specs.LiteralBody.{LiteralFault};
 ghost use Rattle.opgp_key.specs.LiteralPlaces.{literal_in, LieIn};
 
 use crate::literal_places::LiteralPlaces;
@@ -66,8 +68,10 @@ impl Literal {
         // A fault is that of the first field that has no spelling at its place.
         ensures fault { IfErr result (RefusedBy (LiteralFault o.now)) }
         // A fault is answered whether or not there is memory.
-        ensures refuses { (f : BodyFault) → LiteralFault o.now f → result ≡ Err (ParseFault.Body f) }
-        ensures exact { Parses (λ l. literal_fields (literal_value l)) result (body_at literal o.now) }
+        ensures refuses { (f : BodyFault) → LiteralFault o.now f
+            → result ≡ Err (ParseFault.Body f) }
+        ensures exact { Parses (λ l. literal_fields (literal_value l)) result
+            (body_at literal o.now) }
         ensures body { IfOk result (λ l. literal_octets l ≡ o.now) }
     {
         Literal::read(alloc, o)
@@ -75,7 +79,8 @@ impl Literal {
 
     fn read(alloc: Global, o: &[u8]) -> Result<Literal, ParseFault>
         requires { IsBodySized o.now }
-        ensures exact { Parses (λ l. literal_fields (literal_value l)) result (body_at literal o.now) }
+        ensures exact { Parses (λ l. literal_fields (literal_value l)) result
+            (body_at literal o.now) }
         ensures refuses { (f : BodyFault) → body_at literal o.now ≡ Err f
             → result ≡ Err (ParseFault.Body f) }
         ensures body { IfOk result (λ l. literal_octets l ≡ o.now) }
@@ -95,7 +100,8 @@ impl Literal {
         ensures only { (fields : List Field) → Body literal fields body.items
             → Reads (λ x. literal_fields (literal_value x)) result (Ok fields) }
         ensures fault { IfErr result (LiteralFault body.items) }
-        ensures exact { Reads (λ l. literal_fields (literal_value l)) result (body_at literal body.items) }
+        ensures exact { Reads (λ l. literal_fields (literal_value l)) result
+            (body_at literal body.items) }
         ensures body { IfOk result (λ l. literal_octets l ≡ body.items) }
     {
         Literal::keep(body)
@@ -104,7 +110,8 @@ impl Literal {
     fn keep(body: Vec<u8>) -> Result<Literal, BodyFault>
         requires { IsBodySized body.items }
         ensures octets { IsOctets body.items }
-        ensures exact { Reads (λ l. literal_fields (literal_value l)) result (body_at literal body.items) }
+        ensures exact { Reads (λ l. literal_fields (literal_value l)) result
+            (body_at literal body.items) }
         ensures body { IfOk result (λ l. literal_octets l ≡ body.items) }
     {
         let places = LiteralPlaces::read(&body)?;

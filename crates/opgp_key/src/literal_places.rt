@@ -25,7 +25,8 @@ impl LiteralPlaces {
     #[tactic(auto, unfolding(opgp_body::specs::FieldReading::body_at, crate::specs::LiteralBody::literal))]
     pub(crate) fn read(o: &[u8]) -> Result<LiteralPlaces, BodyFault>
         requires { IsBodySized o.now }
-        ensures exact { Reads (λ p. literal_fields (literal_in p o.now)) result (body_at literal o.now) }
+        ensures exact { Reads (λ p. literal_fields (literal_in p o.now)) result
+            (body_at literal o.now) }
         // The octets are octets, which a vector that is moved tells no more.
         ensures octets { IsOctets o.now }
         ensures within { IfOk result (λ p. LieIn p (length o.now)) }

@@ -3,8 +3,8 @@
 use opgp_body::{MpiSpan, Span};
 use opgp_octets::MpiView;
 
-/// The public material of a key (RFC 9580, 5.5.5), by its algorithm (9.1). `I` stands for an integer, `O` for
-/// octets.
+/// The public material of a key (RFC 9580, 5.5.5), by its algorithm (9.1). `I` stands for an
+/// integer, `O` for octets.
 #[derive(Clone, Copy)]
 pub enum Material<I, O> {
     /// RSA, algorithms 1, 2 and 3.

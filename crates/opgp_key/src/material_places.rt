@@ -13,7 +13,8 @@ use opgp_octets::{BodyFault, KeyAlgorithm, Reason};
 
 /// The modulus and the exponent of RSA (RFC 9580, 5.5.5.1).
 fn rsa(cursor: &mut Cursor<'_>, strict: bool) -> Result<MaterialPlaces, BodyFault>
-    ensures reads { ReadsAll (sequence (material_kinds strict rsa)) (λ m. fields_in m (body_under cursor.old))
+    ensures reads { ReadsAll (sequence (material_kinds strict rsa))
+        (λ m. fields_in m (body_under cursor.old))
         cursor.old cursor.new result }
     ensures shape { IfOk result (λ m. shape m ≡ rsa) }
     ensures body { body_under cursor.new ≡ body_under cursor.old }
@@ -26,7 +27,8 @@ fn rsa(cursor: &mut Cursor<'_>, strict: bool) -> Result<MaterialPlaces, BodyFaul
 
 /// The three integers of Elgamal (RFC 9580, 5.5.5.3).
 fn elgamal(cursor: &mut Cursor<'_>, strict: bool) -> Result<MaterialPlaces, BodyFault>
-    ensures reads { ReadsAll (sequence (material_kinds strict elgamal)) (λ m. fields_in m (body_under cursor.old))
+    ensures reads { ReadsAll (sequence (material_kinds strict elgamal))
+        (λ m. fields_in m (body_under cursor.old))
         cursor.old cursor.new result }
     ensures shape { IfOk result (λ m. shape m ≡ elgamal) }
     ensures body { body_under cursor.new ≡ body_under cursor.old }
@@ -40,7 +42,8 @@ fn elgamal(cursor: &mut Cursor<'_>, strict: bool) -> Result<MaterialPlaces, Body
 
 /// The four integers of DSA (RFC 9580, 5.5.5.2).
 fn dsa(cursor: &mut Cursor<'_>, strict: bool) -> Result<MaterialPlaces, BodyFault>
-    ensures reads { ReadsAll (sequence (material_kinds strict dsa)) (λ m. fields_in m (body_under cursor.old))
+    ensures reads { ReadsAll (sequence (material_kinds strict dsa))
+        (λ m. fields_in m (body_under cursor.old))
         cursor.old cursor.new result }
     ensures shape { IfOk result (λ m. shape m ≡ dsa) }
     ensures body { body_under cursor.new ≡ body_under cursor.old }
@@ -55,7 +58,8 @@ fn dsa(cursor: &mut Cursor<'_>, strict: bool) -> Result<MaterialPlaces, BodyFaul
 
 /// The curve, the point and the key derivation of ECDH (RFC 9580, 5.5.5.6).
 fn ecdh(cursor: &mut Cursor<'_>, strict: bool) -> Result<MaterialPlaces, BodyFault>
-    ensures reads { ReadsAll (sequence (material_kinds strict ecdh)) (λ m. fields_in m (body_under cursor.old))
+    ensures reads { ReadsAll (sequence (material_kinds strict ecdh))
+        (λ m. fields_in m (body_under cursor.old))
         cursor.old cursor.new result }
     ensures shape { IfOk result (λ m. shape m ≡ ecdh) }
     ensures body { body_under cursor.new ≡ body_under cursor.old }

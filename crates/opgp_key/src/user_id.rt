@@ -31,7 +31,8 @@ impl UserId {
         ensures only { (fields : List Field) → Body user_id fields o.now
             → Parses (λ u. user_id_fields (user_id_octets u)) result (Ok fields) }
         ensures fault { IfErr result (λ e. e ≡ ParseFault.Memory) }
-        ensures exact { Parses (λ u. user_id_fields (user_id_octets u)) result (body_at user_id o.now) }
+        ensures exact { Parses (λ u. user_id_fields (user_id_octets u)) result
+            (body_at user_id o.now) }
         ensures body { IfOk result (λ u. user_id_octets u ≡ o.now) }
     {
         UserId::read(alloc, o)
@@ -40,7 +41,8 @@ impl UserId {
     #[tactic(auto, unfolding(opgp_body::specs::FieldReading::body_at, opgp_body::specs::FieldReading::step_at, opgp_body::specs::FieldReading::kind_at))]
     fn read(alloc: Global, o: &[u8]) -> Result<UserId, ParseFault>
         requires { IsBodySized o.now }
-        ensures exact { Parses (λ u. user_id_fields (user_id_octets u)) result (body_at user_id o.now) }
+        ensures exact { Parses (λ u. user_id_fields (user_id_octets u)) result
+            (body_at user_id o.now) }
         ensures body { IfOk result (λ u. user_id_octets u ≡ o.now) }
         ensures fault { IfErr result (λ e. e ≡ ParseFault.Memory) }
     {

@@ -2,9 +2,23 @@
 use Rattle.std.specs.Prelude.{ℕ, List, ◌++◌, codes}
 use Rattle.std.specs.Fmt.{decimal}
 use Rattle.opgp_octets.specs.declared.fault.Layer.{Layer}
-use Rattle.opgp_octets.specs.declared.fault.Layer.TheVariants.{Input, Armor, Framing, Body, Composition}
+use Rattle.opgp_octets.specs.declared.fault.Layer.TheVariants.{Input, Armor, Framing, Body}
+use Rattle.opgp_octets.specs.declared.fault.Layer.TheVariants.{Composition}
 use Rattle.opgp_octets.specs.declared.fault.Reason.{Reason}
-use Rattle.opgp_octets.specs.declared.fault.Reason.TheVariants.{Spent, Short, MpiBits, NoBlock, Label, Header, Letters, Padding, AfterChecksum, EndLabel, Unfinished, LineTooLong, InputTooLong, NotAPacket, TypeZero, Compressed, UnknownCritical, Indeterminate, Truncated, PartialKind, FirstPartial, BodyTooLong, TooManyPieces, KeyVersion, KeyTooLong, Count, OidSize, KdfSize, Trailing, SubEmpty, SubShort, AreaShort, SaltSize, NoPrimary, NotInKeyring, CertTooLong, NotASignedLiteral, BlockLabel}
+use Rattle.opgp_octets.specs.declared.fault.Reason.TheVariants.{Spent, Short, MpiBits, NoBlock}
+use Rattle.opgp_octets.specs.declared.fault.Reason.TheVariants.{Label, Header, Letters, Padding}
+use Rattle.opgp_octets.specs.declared.fault.Reason.TheVariants.{AfterChecksum, EndLabel, Unfinished}
+use Rattle.opgp_octets.specs.declared.fault.Reason.TheVariants.{LineTooLong, InputTooLong}
+use Rattle.opgp_octets.specs.declared.fault.Reason.TheVariants.{NotAPacket, TypeZero, Compressed}
+use Rattle.opgp_octets.specs.declared.fault.Reason.TheVariants.{UnknownCritical, Indeterminate}
+use Rattle.opgp_octets.specs.declared.fault.Reason.TheVariants.{Truncated, PartialKind}
+use Rattle.opgp_octets.specs.declared.fault.Reason.TheVariants.{FirstPartial, BodyTooLong}
+use Rattle.opgp_octets.specs.declared.fault.Reason.TheVariants.{TooManyPieces, KeyVersion}
+use Rattle.opgp_octets.specs.declared.fault.Reason.TheVariants.{KeyTooLong, Count, OidSize, KdfSize}
+use Rattle.opgp_octets.specs.declared.fault.Reason.TheVariants.{Trailing, SubEmpty, SubShort}
+use Rattle.opgp_octets.specs.declared.fault.Reason.TheVariants.{AreaShort, SaltSize, NoPrimary}
+use Rattle.opgp_octets.specs.declared.fault.Reason.TheVariants.{NotInKeyring, CertTooLong}
+use Rattle.opgp_octets.specs.declared.fault.Reason.TheVariants.{NotASignedLiteral, BlockLabel}
 use Rattle.opgp_octets.specs.declared.fault.Fault.{Fault}
 
 -- the name of a layer
@@ -99,4 +113,6 @@ reason_name BlockLabel = codes "BlockLabel"
 
 -- the line of a fault, without its end
 abbrev pub fault_text : Fault → List ℕ
-fault_text f = layer_name f.layer ++ codes ": " ++ reason_name f.reason ++ codes " block " ++ decimal f.block ++ codes " at " ++ decimal f.pos ++ codes " inner " ++ decimal f.inner
+fault_text f =
+    layer_name f.layer ++ codes ": " ++ reason_name f.reason ++ codes " block " ++ decimal f.block
+    ++ codes " at " ++ decimal f.pos ++ codes " inner " ++ decimal f.inner

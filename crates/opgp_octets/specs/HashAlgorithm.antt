@@ -1,7 +1,11 @@
 -- Hash algorithms (RFC 9580, 9.5).
 use Rattle.std.specs.Prelude.{ℕ, List, codes, ◌==◌, if◌then◌else◌}
 use Rattle.opgp_octets.specs.declared.hash_algorithm.HashAlgorithm.{HashAlgorithm}
-use Rattle.opgp_octets.specs.declared.hash_algorithm.HashAlgorithm.TheVariants.{Md5, Sha1, Ripemd160, Sha256, Sha384, Sha512, Sha224, Sha3_256, Sha3_512, Other}
+use Rattle.opgp_octets.specs.declared.hash_algorithm.HashAlgorithm.TheVariants.{Md5, Sha1}
+use Rattle.opgp_octets.specs.declared.hash_algorithm.HashAlgorithm.TheVariants.{Ripemd160, Sha256}
+use Rattle.opgp_octets.specs.declared.hash_algorithm.HashAlgorithm.TheVariants.{Sha384, Sha512}
+use Rattle.opgp_octets.specs.declared.hash_algorithm.HashAlgorithm.TheVariants.{Sha224, Sha3_256}
+use Rattle.opgp_octets.specs.declared.hash_algorithm.HashAlgorithm.TheVariants.{Sha3_512, Other}
 
 -- the number of each
 abbrev pub hash_algorithm_number : HashAlgorithm → ℕ

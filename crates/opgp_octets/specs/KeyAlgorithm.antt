@@ -1,7 +1,12 @@
 -- Public-key algorithms (RFC 9580, 9.1).
 use Rattle.std.specs.Prelude.{ℕ, List, codes, ◌==◌, if◌then◌else◌}
 use Rattle.opgp_octets.specs.declared.key_algorithm.KeyAlgorithm.{KeyAlgorithm}
-use Rattle.opgp_octets.specs.declared.key_algorithm.KeyAlgorithm.TheVariants.{Rsa, RsaEncrypt, RsaSign, Elgamal, Dsa, Ecdh, Ecdsa, EddsaLegacy, X25519, X448, Ed25519, Ed448, Other}
+use Rattle.opgp_octets.specs.declared.key_algorithm.KeyAlgorithm.TheVariants.{Rsa, RsaEncrypt}
+use Rattle.opgp_octets.specs.declared.key_algorithm.KeyAlgorithm.TheVariants.{RsaSign, Elgamal, Dsa}
+use Rattle.opgp_octets.specs.declared.key_algorithm.KeyAlgorithm.TheVariants.{Ecdh, Ecdsa}
+use Rattle.opgp_octets.specs.declared.key_algorithm.KeyAlgorithm.TheVariants.{EddsaLegacy, X25519}
+use Rattle.opgp_octets.specs.declared.key_algorithm.KeyAlgorithm.TheVariants.{X448, Ed25519, Ed448}
+use Rattle.opgp_octets.specs.declared.key_algorithm.KeyAlgorithm.TheVariants.{Other}
 
 -- the number of each
 abbrev pub key_algorithm_number : KeyAlgorithm → ℕ

@@ -1,5 +1,8 @@
--- Multiprecision integers (RFC 9580, 3.2): two octets of a count of bits, then the octets that so many bits take.
-use Rattle.std.specs.Prelude.{◌≡◌, ℕ, ◌+◌, ◌-◌, ◌/◌, ◌%◌, ◌^◌, ◌<◌, ◌≤◌, Bool, true, false, ◌&&◌, ◌||◌, not, List, length, take, drop, ◌++◌, Result, Ok, Err, nat_lt, ◌==◌, if◌then◌else◌, slice_index}
+-- Multiprecision integers (RFC 9580, 3.2): two octets of a count of bits, then the octets that so
+-- many bits take.
+use Rattle.std.specs.Prelude.{◌≡◌, ℕ, ◌+◌, ◌-◌, ◌/◌, ◌%◌, ◌^◌, ◌<◌, ◌≤◌, Bool, true, false, ◌&&◌}
+use Rattle.std.specs.Prelude.{◌||◌, not, List, length, take, drop, ◌++◌, Result, Ok, Err, nat_lt}
+use Rattle.std.specs.Prelude.{◌==◌, if◌then◌else◌, slice_index}
 use Rattle.std.specs.Int.{w16, to_be_bytes}
 use Rattle.opgp_octets.specs.declared.fault.Reason.{Reason}
 use Rattle.opgp_octets.specs.declared.fault.Reason.TheVariants.{Short, MpiBits}
@@ -46,7 +49,9 @@ abbrev pub MpiRefused : Bool → List ℕ → Reason → Type 0
 -- they begin with the spelling of none
 MpiRefused strict o Short = (m : MpiValue) (rest : List ℕ) → IsMpi m → o ≡ mpi_octets m ++ rest → ⊥
 -- they begin with that of one which isn't strict
-MpiRefused strict o MpiBits = (m : MpiValue) × (rest : List ℕ) × IsMpi m × (o ≡ mpi_octets m ++ rest) × (strict ≡ true) × (is_strict m ≡ false)
+MpiRefused strict o MpiBits =
+    (m : MpiValue) × (rest : List ℕ) × IsMpi m × (o ≡ mpi_octets m ++ rest) × (strict ≡ true)
+    × (is_strict m ≡ false)
 MpiRefused strict o other = ⊥
 
 abbrev pub checked : Bool → MpiValue → List ℕ → Result (MpiValue × List ℕ) Reason

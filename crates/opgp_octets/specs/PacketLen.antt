@@ -1,5 +1,7 @@
--- The length of a packet's body in the current format (RFC 9580, 4.2.1), as a table from forms to octets.
-use Rattle.std.specs.Prelude.{◌≡◌, ℕ, ◌+◌, ◌*◌, ◌-◌, ◌/◌, ◌%◌, ◌^◌, ◌<◌, ◌≤◌, List, [], ◌∷◌, length, take, Option, Some, None, option_map, nat_lt, if◌then◌else◌}
+-- The length of a packet's body in the current format (RFC 9580, 4.2.1), as a table from forms to
+-- octets.
+use Rattle.std.specs.Prelude.{◌≡◌, ℕ, ◌+◌, ◌*◌, ◌-◌, ◌/◌, ◌%◌, ◌^◌, ◌<◌, ◌≤◌, List, [], ◌∷◌, length}
+use Rattle.std.specs.Prelude.{take, Option, Some, None, option_map, nat_lt, if◌then◌else◌}
 use Rattle.std.specs.Int.{w32, to_be_bytes}
 use Rattle.opgp_octets.specs.declared.packet_len.PacketLen.{PacketLen}
 use Rattle.opgp_octets.specs.declared.packet_len.PacketLen.TheVariants.{One, Two, Five, Partial}
@@ -50,4 +52,7 @@ packet_two_at a (b ∷ rest) = Some (Two ((a - 192) * 256 + b + 192), 2)
 
 unfoldable pub packet_len_at : List ℕ → Option (PacketLen × ℕ)
 packet_len_at [] = None
-packet_len_at (a ∷ rest) = if nat_lt a 192 then Some (One a, 1) else (if nat_lt a 224 then packet_two_at a rest else (if nat_lt a 255 then Some (Partial (a - 224), 1) else packet_five_at rest))
+packet_len_at (a ∷ rest) =
+    if nat_lt a 192 then Some (One a, 1) else
+    (if nat_lt a 224 then packet_two_at a rest else
+    (if nat_lt a 255 then Some (Partial (a - 224), 1) else packet_five_at rest))

@@ -1,7 +1,21 @@
 -- The types of packets (RFC 9580, 5).
 use Rattle.std.specs.Prelude.{ℕ, List, codes, ◌==◌, if◌then◌else◌}
 use Rattle.opgp_octets.specs.declared.packet_type.PacketType.{PacketType}
-use Rattle.opgp_octets.specs.declared.packet_type.PacketType.TheVariants.{Reserved, PublicKeyEncryptedSessionKey, Signature, SymmetricKeyEncryptedSessionKey, OnePassSignature, SecretKey, PublicKey, SecretSubkey, CompressedData, SymmetricallyEncryptedData, Marker, LiteralData, Trust, UserId, PublicSubkey, UserAttribute, EncryptedIntegrityProtectedData, Padding, Other}
+use Rattle.opgp_octets.specs.declared.packet_type.PacketType.TheVariants.{Reserved}
+use Rattle.opgp_octets.specs.declared.packet_type.PacketType.TheVariants.{PublicKeyEncryptedSessionKey}
+use Rattle.opgp_octets.specs.declared.packet_type.PacketType.TheVariants.{Signature}
+use Rattle.opgp_octets.specs.declared.packet_type.PacketType.TheVariants.{SymmetricKeyEncryptedSessionKey}
+use Rattle.opgp_octets.specs.declared.packet_type.PacketType.TheVariants.{OnePassSignature}
+use Rattle.opgp_octets.specs.declared.packet_type.PacketType.TheVariants.{SecretKey, PublicKey}
+use Rattle.opgp_octets.specs.declared.packet_type.PacketType.TheVariants.{SecretSubkey}
+use Rattle.opgp_octets.specs.declared.packet_type.PacketType.TheVariants.{CompressedData}
+use Rattle.opgp_octets.specs.declared.packet_type.PacketType.TheVariants.{SymmetricallyEncryptedData}
+use Rattle.opgp_octets.specs.declared.packet_type.PacketType.TheVariants.{Marker, LiteralData}
+use Rattle.opgp_octets.specs.declared.packet_type.PacketType.TheVariants.{Trust, UserId}
+use Rattle.opgp_octets.specs.declared.packet_type.PacketType.TheVariants.{PublicSubkey}
+use Rattle.opgp_octets.specs.declared.packet_type.PacketType.TheVariants.{UserAttribute}
+use Rattle.opgp_octets.specs.declared.packet_type.PacketType.TheVariants.{EncryptedIntegrityProtectedData}
+use Rattle.opgp_octets.specs.declared.packet_type.PacketType.TheVariants.{Padding, Other}
 
 -- the number of each
 abbrev pub packet_type_number : PacketType → ℕ
@@ -66,6 +80,7 @@ packet_type_name Trust = codes "Trust"
 packet_type_name UserId = codes "User ID"
 packet_type_name PublicSubkey = codes "Public-Subkey"
 packet_type_name UserAttribute = codes "User Attribute"
-packet_type_name EncryptedIntegrityProtectedData = codes "Symmetrically Encrypted and Integrity Protected Data"
+packet_type_name EncryptedIntegrityProtectedData =
+    codes "Symmetrically Encrypted and Integrity Protected Data"
 packet_type_name Padding = codes "Padding"
 packet_type_name (Other n) = codes "unknown"

@@ -1,5 +1,6 @@
 -- Reading from the front of a list: a value and what follows it, or why there is none.
-use Rattle.std.specs.Prelude.{◌≡◌, ℕ, List, length, take, drop, Option, Some, None, Result, Ok, Err, nat_lt, if◌then◌else◌}
+use Rattle.std.specs.Prelude.{◌≡◌, ℕ, List, length, take, drop, Option, Some, None, Result, Ok, Err}
+use Rattle.std.specs.Prelude.{nat_lt, if◌then◌else◌}
 use Rattle.std.specs.Int.{Width, byte_len, from_be_bytes}
 use Rattle.opgp_octets.specs.declared.fault.Reason.{Reason}
 use Rattle.opgp_octets.specs.declared.fault.Reason.TheVariants.{Short}
@@ -11,7 +12,9 @@ abbrev pub ◌>>=◌ : {A B E : Type 0} → Result A E → (A → Result B E) �
 
 -- a big-endian number of some octets, and what follows
 abbrev pub number_at : Width → List ℕ → Option (ℕ × List ℕ)
-number_at w o = if nat_lt (length o) (byte_len w) then None else Some (from_be_bytes w (take (byte_len w) o), drop (byte_len w) o)
+number_at w o =
+    if nat_lt (length o) (byte_len w) then None else Some
+    (from_be_bytes w (take (byte_len w) o), drop (byte_len w) o)
 
 -- What a function returned, seen by view, is what reading gives.
 abbrev pub Reads : {X Y E : Type 0} → (X → Y) → Result X E → Result Y E → Type 0

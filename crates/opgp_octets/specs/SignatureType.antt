@@ -1,7 +1,21 @@
 -- The types of signatures (RFC 9580, 5.2.1).
 use Rattle.std.specs.Prelude.{ℕ, List, codes, ◌==◌, if◌then◌else◌}
 use Rattle.opgp_octets.specs.declared.signature_type.SignatureType.{SignatureType}
-use Rattle.opgp_octets.specs.declared.signature_type.SignatureType.TheVariants.{Binary, Text, Standalone, GenericCertification, PersonaCertification, CasualCertification, PositiveCertification, SubkeyBinding, PrimaryKeyBinding, DirectKey, KeyRevocation, SubkeyRevocation, CertificationRevocation, Timestamp, ThirdPartyConfirmation, Other}
+use Rattle.opgp_octets.specs.declared.signature_type.SignatureType.TheVariants.{Binary, Text}
+use Rattle.opgp_octets.specs.declared.signature_type.SignatureType.TheVariants.{Standalone}
+use Rattle.opgp_octets.specs.declared.signature_type.SignatureType.TheVariants.{GenericCertification}
+use Rattle.opgp_octets.specs.declared.signature_type.SignatureType.TheVariants.{PersonaCertification}
+use Rattle.opgp_octets.specs.declared.signature_type.SignatureType.TheVariants.{CasualCertification}
+use Rattle.opgp_octets.specs.declared.signature_type.SignatureType.TheVariants.{PositiveCertification}
+use Rattle.opgp_octets.specs.declared.signature_type.SignatureType.TheVariants.{SubkeyBinding}
+use Rattle.opgp_octets.specs.declared.signature_type.SignatureType.TheVariants.{PrimaryKeyBinding}
+use Rattle.opgp_octets.specs.declared.signature_type.SignatureType.TheVariants.{DirectKey}
+use Rattle.opgp_octets.specs.declared.signature_type.SignatureType.TheVariants.{KeyRevocation}
+use Rattle.opgp_octets.specs.declared.signature_type.SignatureType.TheVariants.{SubkeyRevocation}
+use Rattle.opgp_octets.specs.declared.signature_type.SignatureType.TheVariants.{CertificationRevocation}
+use Rattle.opgp_octets.specs.declared.signature_type.SignatureType.TheVariants.{Timestamp}
+use Rattle.opgp_octets.specs.declared.signature_type.SignatureType.TheVariants.{ThirdPartyConfirmation}
+use Rattle.opgp_octets.specs.declared.signature_type.SignatureType.TheVariants.{Other}
 
 -- the number of each
 abbrev pub signature_type_number : SignatureType → ℕ

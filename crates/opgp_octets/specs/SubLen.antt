@@ -1,6 +1,7 @@
--- The length of a subpacket (RFC 9580, 5.2.3.7), as a table from forms to octets. First octets 224 to 254 begin two
--- octets here, and partial lengths in a packet's header.
-use Rattle.std.specs.Prelude.{◌≡◌, ℕ, ◌+◌, ◌*◌, ◌-◌, ◌/◌, ◌%◌, ◌^◌, ◌<◌, ◌≤◌, List, [], ◌∷◌, length, take, Option, Some, None, option_map, nat_lt, if◌then◌else◌}
+-- The length of a subpacket (RFC 9580, 5.2.3.7), as a table from forms to octets. First octets 224
+-- to 254 begin two octets here, and partial lengths in a packet's header.
+use Rattle.std.specs.Prelude.{◌≡◌, ℕ, ◌+◌, ◌*◌, ◌-◌, ◌/◌, ◌%◌, ◌^◌, ◌<◌, ◌≤◌, List, [], ◌∷◌, length}
+use Rattle.std.specs.Prelude.{take, Option, Some, None, option_map, nat_lt, if◌then◌else◌}
 use Rattle.std.specs.Int.{w32, to_be_bytes}
 use Rattle.std.proofs.Props.{props}
 use Rattle.opgp_octets.specs.declared.sub_len.SubLen.{SubLen}
@@ -48,4 +49,6 @@ sub_two_at a (b ∷ rest) = Some (Two ((a - 192) * 256 + b + 192), 2)
 
 unfoldable pub sub_len_at : List ℕ → Option (SubLen × ℕ)
 sub_len_at [] = None
-sub_len_at (a ∷ rest) = if nat_lt a 192 then Some (One a, 1) else (if nat_lt a 255 then sub_two_at a rest else sub_five_at rest)
+sub_len_at (a ∷ rest) =
+    if nat_lt a 192 then Some (One a, 1) else
+    (if nat_lt a 255 then sub_two_at a rest else sub_five_at rest)

@@ -1,7 +1,29 @@
 -- The kinds of subpackets of a signature (RFC 9580, 5.2.3.7).
 use Rattle.std.specs.Prelude.{ℕ, List, codes, ◌==◌, if◌then◌else◌}
 use Rattle.opgp_octets.specs.declared.subpacket_kind.SubpacketKind.{SubpacketKind}
-use Rattle.opgp_octets.specs.declared.subpacket_kind.SubpacketKind.TheVariants.{Created, Expires, Exportable, Trust, RegularExpression, Revocable, KeyExpires, PreferredSymmetric, RevocationKey, Issuer, Notation, PreferredHash, PreferredCompression, KeyServerPreferences, PreferredKeyServer, PrimaryUserId, PolicyUri, KeyFlags, SignersUserId, RevocationReason, Features, SignatureTarget, EmbeddedSignature, IssuerFingerprint, IntendedRecipient, PreferredAead, Other}
+use Rattle.opgp_octets.specs.declared.subpacket_kind.SubpacketKind.TheVariants.{Created, Expires}
+use Rattle.opgp_octets.specs.declared.subpacket_kind.SubpacketKind.TheVariants.{Exportable, Trust}
+use Rattle.opgp_octets.specs.declared.subpacket_kind.SubpacketKind.TheVariants.{RegularExpression}
+use Rattle.opgp_octets.specs.declared.subpacket_kind.SubpacketKind.TheVariants.{Revocable}
+use Rattle.opgp_octets.specs.declared.subpacket_kind.SubpacketKind.TheVariants.{KeyExpires}
+use Rattle.opgp_octets.specs.declared.subpacket_kind.SubpacketKind.TheVariants.{PreferredSymmetric}
+use Rattle.opgp_octets.specs.declared.subpacket_kind.SubpacketKind.TheVariants.{RevocationKey}
+use Rattle.opgp_octets.specs.declared.subpacket_kind.SubpacketKind.TheVariants.{Issuer, Notation}
+use Rattle.opgp_octets.specs.declared.subpacket_kind.SubpacketKind.TheVariants.{PreferredHash}
+use Rattle.opgp_octets.specs.declared.subpacket_kind.SubpacketKind.TheVariants.{PreferredCompression}
+use Rattle.opgp_octets.specs.declared.subpacket_kind.SubpacketKind.TheVariants.{KeyServerPreferences}
+use Rattle.opgp_octets.specs.declared.subpacket_kind.SubpacketKind.TheVariants.{PreferredKeyServer}
+use Rattle.opgp_octets.specs.declared.subpacket_kind.SubpacketKind.TheVariants.{PrimaryUserId}
+use Rattle.opgp_octets.specs.declared.subpacket_kind.SubpacketKind.TheVariants.{PolicyUri, KeyFlags}
+use Rattle.opgp_octets.specs.declared.subpacket_kind.SubpacketKind.TheVariants.{SignersUserId}
+use Rattle.opgp_octets.specs.declared.subpacket_kind.SubpacketKind.TheVariants.{RevocationReason}
+use Rattle.opgp_octets.specs.declared.subpacket_kind.SubpacketKind.TheVariants.{Features}
+use Rattle.opgp_octets.specs.declared.subpacket_kind.SubpacketKind.TheVariants.{SignatureTarget}
+use Rattle.opgp_octets.specs.declared.subpacket_kind.SubpacketKind.TheVariants.{EmbeddedSignature}
+use Rattle.opgp_octets.specs.declared.subpacket_kind.SubpacketKind.TheVariants.{IssuerFingerprint}
+use Rattle.opgp_octets.specs.declared.subpacket_kind.SubpacketKind.TheVariants.{IntendedRecipient}
+use Rattle.opgp_octets.specs.declared.subpacket_kind.SubpacketKind.TheVariants.{PreferredAead}
+use Rattle.opgp_octets.specs.declared.subpacket_kind.SubpacketKind.TheVariants.{Other}
 
 -- the number of each
 abbrev pub subpacket_kind_number : SubpacketKind → ℕ

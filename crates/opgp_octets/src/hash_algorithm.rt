@@ -1,7 +1,8 @@
 //! Hash algorithms (RFC 9580, 9.5).
 
 ghost use Rattle.std.specs.Prelude.{◌≡◌};
-ghost use Rattle.opgp_octets.specs.HashAlgorithm.{hash_algorithm_of, hash_algorithm_number, hash_algorithm_name};
+ghost use Rattle.opgp_octets.specs.HashAlgorithm.{hash_algorithm_of, hash_algorithm_number};
+ghost use Rattle.opgp_octets.specs.HashAlgorithm.{hash_algorithm_name};
 
 /// A hash algorithm (RFC 9580, 9.5).
 #[derive(Clone, Copy, PartialEq, Eq)]

@@ -1,7 +1,8 @@
 //! Public-key algorithms (RFC 9580, 9.1).
 
 ghost use Rattle.std.specs.Prelude.{◌≡◌};
-ghost use Rattle.opgp_octets.specs.KeyAlgorithm.{key_algorithm_of, key_algorithm_number, key_algorithm_name};
+ghost use Rattle.opgp_octets.specs.KeyAlgorithm.{key_algorithm_of, key_algorithm_number};
+ghost use Rattle.opgp_octets.specs.KeyAlgorithm.{key_algorithm_name};
 
 /// A public-key algorithm (RFC 9580, 9.1).
 #[derive(Clone, Copy, PartialEq, Eq)]

@@ -15,13 +15,15 @@ pub struct Limits {
 }
 
 impl Limits {
-    ghost use Rattle.opgp_octets.specs.Limits.{line_limit, body_limit, cert_limit, input_limit, pieces_limit};
+    ghost use Rattle.opgp_octets.specs.Limits.{line_limit, body_limit, cert_limit, input_limit};
+    ghost use Rattle.opgp_octets.specs.Limits.{pieces_limit};
 
     /// These limits, or None where one is out of its range:
     ///
     /// - `line`, 128 to 1,048,576: octets of an armored line without its line feed;
     /// - `body`, 512 to 4,294,967,295: octets of a packet's body, its pieces joined;
-    /// - `cert`, 512 to 2^40: octets that a certificate's packets are spelled in, or those before the first;
+    /// - `cert`, 512 to 2^40: octets that a certificate's packets are spelled in, or those before
+    ///   the first;
     /// - `input`, 0 to 2^62: octets of the input;
     /// - `pieces`, 1 to 16,777,216: partial lengths of one packet.
     pub fn new(line: u64, body: u64, cert: u64, input: u64, pieces: u64) -> Option<Limits>

@@ -1,7 +1,8 @@
 //! Multiprecision integers that own their octets (RFC 9580, 3.2).
 
 ghost use Rattle.std.specs.Prelude.{◌≡◌, ◌++◌, List, ℕ, length, IfOk, IfErr, IsOk, Err};
-ghost use Rattle.opgp_octets.specs.Mpi.{MpiValue, MpiBegins, mpi_octets, IsMpi, MayStand, octets_of};
+ghost use Rattle.opgp_octets.specs.Mpi.{MpiValue, MpiBegins, mpi_octets, IsMpi, MayStand};
+ghost use Rattle.opgp_octets.specs.Mpi.{octets_of};
 ghost use Rattle.opgp_octets.specs.Octets.{IsOctets};
 
 use crate::fault::Reason;
@@ -44,8 +45,10 @@ impl Mpi {
     pub fn read(alloc: Global, o: &[u8], strict: bool) -> Result<(Mpi, usize), MpiFault>
         // What is read is an integer that may stand, whose spelling begins the octets.
         ensures found { IfOk result (λ x. MpiBegins strict o.now (mpi_owned x.0) x.1) }
-        // What begins with the spelling of an integer that may stand is read, unless memory is wanting.
-        ensures only { (m : MpiValue) (rest : List ℕ) → IsMpi m → MayStand strict m → o.now ≡ mpi_octets m ++ rest
+        // What begins with the spelling of an integer that may stand is read, unless memory is
+        // wanting.
+        ensures only { (m : MpiValue) (rest : List ℕ) → IsMpi m → MayStand strict m
+            → o.now ≡ mpi_octets m ++ rest
             → IfErr result (λ e. e ≡ MpiFault.Memory) }
         ensures refused { IfErr result (λ e. MpiFaultOf strict o.now e) }
     {

@@ -1,7 +1,9 @@
 //! Multiprecision integers over the octets that they were read from (RFC 9580, 3.2).
 
-ghost use Rattle.std.specs.Prelude.{◌≡◌, ◌&&◌, not, ◌⊎◌, ◌++◌, ◌<◌, ◌≤◌, ◌^◌, ◌↔◌, List, ℕ, length, take, drop, IsTrue, IfOk, IfErr, IsOk, MatchResult, option_map};
-ghost use Rattle.opgp_octets.specs.Mpi.{MpiValue, MpiBegins, MpiRefused, mpi_octets, IsMpi, is_strict, MayStand, mpi_at, octets_of};
+ghost use Rattle.std.specs.Prelude.{◌≡◌, ◌&&◌, not, ◌⊎◌, ◌++◌, ◌<◌, ◌≤◌, ◌^◌, ◌↔◌, List, ℕ, length};
+ghost use Rattle.std.specs.Prelude.{take, drop, IsTrue, IfOk, IfErr, IsOk, MatchResult, option_map};
+ghost use Rattle.opgp_octets.specs.Mpi.{MpiValue, MpiBegins, MpiRefused, mpi_octets, IsMpi};
+ghost use Rattle.opgp_octets.specs.Mpi.{is_strict, MayStand, mpi_at, octets_of};
 ghost use Rattle.opgp_octets.specs.Octets.{IsOctets};
 ghost use Rattle.opgp_octets.specs.Reading.{Reads};
 
@@ -66,7 +68,8 @@ impl<'a> MpiView<'a> {
         // What is read is an integer that may stand, whose spelling begins the octets.
         ensures found { IfOk result (λ x. MpiBegins strict o.now (mpi_seen x.0) x.1) }
         // What begins with the spelling of an integer that may stand is read.
-        ensures only { (m : MpiValue) (rest : List ℕ) → IsMpi m → MayStand strict m → o.now ≡ mpi_octets m ++ rest → IsOk result }
+        ensures only { (m : MpiValue) (rest : List ℕ) → IsMpi m → MayStand strict m
+            → o.now ≡ mpi_octets m ++ rest → IsOk result }
         ensures refused { IfErr result (λ e. MpiRefused strict o.now e) }
         ensures kinds { IfErr result (λ e. (e ≡ Reason.Short) ⊎ (e ≡ Reason.MpiBits)) }
         ensures exact { Reads (λ x. (mpi_seen x.0, drop x.1 o.now)) result (mpi_at strict o.now) }

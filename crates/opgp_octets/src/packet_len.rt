@@ -1,7 +1,10 @@
 //! The length of a packet's body, in the current format (RFC 9580, 4.2.1).
 
-ghost use Rattle.std.specs.Prelude.{◌≡◌, ◌+◌, ◌++◌, ◌<◌, ◌≤◌, ◌^◌, ◌↔◌, List, ℕ, length, take, IsTrue, IfSome, IfNone, OnOk, OnErr, IsOk, vec_len, vec_capacity};
-ghost use Rattle.opgp_octets.specs.PacketLen.{packet_len_octets, PacketLenFits, PacketLenBegins, packet_len_amount, IsPartial, packet_len_at};
+ghost use Rattle.std.specs.Prelude.{◌≡◌, ◌+◌, ◌++◌, ◌<◌, ◌≤◌, ◌^◌, ◌↔◌, List, ℕ, length, take};
+ghost use Rattle.std.specs.Prelude.{IsTrue, IfSome, IfNone, OnOk, OnErr, IsOk, vec_len};
+ghost use Rattle.std.specs.Prelude.{vec_capacity};
+ghost use Rattle.opgp_octets.specs.PacketLen.{packet_len_octets, PacketLenFits, PacketLenBegins};
+ghost use Rattle.opgp_octets.specs.PacketLen.{packet_len_amount, IsPartial, packet_len_at};
 
 use crate::number::u32_at;
 use crate::refusal::OutOfMemory;
@@ -55,14 +58,17 @@ fn len_of(o: &[u8]) -> Option<(PacketLen, usize)>
     }
 }
 
-/// The length that begins the octets, and how many octets it takes; None where its octets aren't all there.
+/// The length that begins the octets, and how many octets it takes; None where its octets aren't
+/// all there.
 ///
 /// Takes no memory.
 pub fn read_len(o: &[u8]) -> Option<(PacketLen, usize)>
     // What is read is a length whose spelling begins the octets.
     ensures found { IfSome result (λ x. PacketLenBegins o.now x.0 x.1) }
     // Nothing is read only where no length's spelling begins the octets.
-    ensures none { IfNone result ((len : PacketLen) (rest : List ℕ) → PacketLenFits len → o.now ≡ packet_len_octets len ++ rest → ⊥) }
+    ensures none { IfNone result
+        ((len : PacketLen) (rest : List ℕ) → PacketLenFits len
+        → o.now ≡ packet_len_octets len ++ rest → ⊥) }
     ensures exact { result ≡ packet_len_at o.now }
 {
     len_of(o)
@@ -101,7 +107,9 @@ pub fn shortest(n: u32) -> PacketLen
     ensures fits { PacketLenFits result }
     ensures amount { packet_len_amount result ≡ n }
     ensures whole { IsPartial result → ⊥ }
-    ensures least { (len : PacketLen) → PacketLenFits len → (IsPartial len → ⊥) → packet_len_amount len ≡ n → length (packet_len_octets result) ≤ length (packet_len_octets len) }
+    ensures least { (len : PacketLen) → PacketLenFits len → (IsPartial len → ⊥)
+        → packet_len_amount len ≡ n
+        → length (packet_len_octets result) ≤ length (packet_len_octets len) }
 {
     if n < 192 {
         PacketLen::One(n as u8)

@@ -1,7 +1,8 @@
 //! The types of packets (RFC 9580, 5).
 
 ghost use Rattle.std.specs.Prelude.{◌≡◌};
-ghost use Rattle.opgp_octets.specs.PacketType.{packet_type_of, packet_type_number, packet_type_name};
+ghost use Rattle.opgp_octets.specs.PacketType.{packet_type_of, packet_type_number};
+ghost use Rattle.opgp_octets.specs.PacketType.{packet_type_name};
 
 /// The type of a packet (RFC 9580, 5).
 #[derive(Clone, Copy, PartialEq, Eq)]
@@ -127,7 +128,8 @@ impl PacketType {
             PacketType::UserId => "User ID",
             PacketType::PublicSubkey => "Public-Subkey",
             PacketType::UserAttribute => "User Attribute",
-            PacketType::EncryptedIntegrityProtectedData => "Symmetrically Encrypted and Integrity Protected Data",
+            PacketType::EncryptedIntegrityProtectedData =>
+                "Symmetrically Encrypted and Integrity Protected Data",
             PacketType::Padding => "Padding",
             PacketType::Other(_) => "unknown",
         }

@@ -1,7 +1,8 @@
 //! The types of signatures (RFC 9580, 5.2.1).
 
 ghost use Rattle.std.specs.Prelude.{◌≡◌};
-ghost use Rattle.opgp_octets.specs.SignatureType.{signature_type_of, signature_type_number, signature_type_name};
+ghost use Rattle.opgp_octets.specs.SignatureType.{signature_type_of, signature_type_number};
+ghost use Rattle.opgp_octets.specs.SignatureType.{signature_type_name};
 
 /// The type of a signature (RFC 9580, 5.2.1).
 #[derive(Clone, Copy, PartialEq, Eq)]

@@ -1,6 +1,8 @@
 //! The length of a subpacket (RFC 9580, 5.2.3.7).
 
-ghost use Rattle.std.specs.Prelude.{◌≡◌, ◌+◌, ◌++◌, ◌<◌, ◌≤◌, ◌^◌, ◌↔◌, List, ℕ, length, take, IsTrue, IfSome, IfNone, OnOk, OnErr, IsOk, vec_len, vec_capacity};
+ghost use Rattle.std.specs.Prelude.{◌≡◌, ◌+◌, ◌++◌, ◌<◌, ◌≤◌, ◌^◌, ◌↔◌, List, ℕ, length, take};
+ghost use Rattle.std.specs.Prelude.{IsTrue, IfSome, IfNone, OnOk, OnErr, IsOk, vec_len};
+ghost use Rattle.std.specs.Prelude.{vec_capacity};
 ghost use Rattle.opgp_octets.specs.SubLen.{sub_len_octets, SubLenFits, SubLenBegins, sub_len_at};
 
 use crate::number::u32_at;
@@ -64,14 +66,16 @@ fn len_of(o: &[u8]) -> Option<(SubLen, usize)>
     }
 }
 
-/// The length that begins the octets, and how many octets it takes; None where its octets aren't all there.
+/// The length that begins the octets, and how many octets it takes; None where its octets aren't
+/// all there.
 ///
 /// Takes no memory.
 pub fn read_sub_len(o: &[u8]) -> Option<(SubLen, usize)>
     // What is read is a length whose spelling begins the octets.
     ensures found { IfSome result (λ x. SubLenBegins o.now x.0 x.1) }
     // Nothing is read only where no length's spelling begins the octets.
-    ensures none { IfNone result ((len : SubLen) (rest : List ℕ) → SubLenFits len → o.now ≡ sub_len_octets len ++ rest → ⊥) }
+    ensures none { IfNone result
+        ((len : SubLen) (rest : List ℕ) → SubLenFits len → o.now ≡ sub_len_octets len ++ rest → ⊥) }
     ensures exact { result ≡ sub_len_at o.now }
 {
     len_of(o)

@@ -1,7 +1,8 @@
 //! The kinds of subpackets of a signature (RFC 9580, 5.2.3.7).
 
 ghost use Rattle.std.specs.Prelude.{◌≡◌};
-ghost use Rattle.opgp_octets.specs.SubpacketKind.{subpacket_kind_of, subpacket_kind_number, subpacket_kind_name};
+ghost use Rattle.opgp_octets.specs.SubpacketKind.{subpacket_kind_of, subpacket_kind_number};
+ghost use Rattle.opgp_octets.specs.SubpacketKind.{subpacket_kind_name};
 
 /// The kind of a signature's subpacket (RFC 9580, 5.2.3.7).
 #[derive(Clone, Copy, PartialEq, Eq)]

@@ -23,7 +23,8 @@ IsSound area = fault_in (length area) area ≡ None
 abbrev pub areas_fields : AreasValue → List Field
 areas_fields v =
     small v.version ∷ small v.kind ∷ small v.algorithm ∷ small v.hash
-    ∷ subpackets (extent v.version) (subs_in v.hashed) ∷ subpackets (extent v.version) (subs_in v.unhashed)
+    ∷ subpackets (extent v.version) (subs_in v.hashed)
+    ∷ subpackets (extent v.version) (subs_in v.unhashed)
     ∷ bare v.left ∷ (if v.version == 6 then named v.salt ∷ v.material else v.material)
 
 -- what a signature hashes of itself: from its version to the end of the hashed area (5.2.4)

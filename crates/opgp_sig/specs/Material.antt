@@ -1,4 +1,5 @@
--- A signature's material, over what stands for an integer and for octets: places in a body, or views.
+-- A signature's material, over what stands for an integer and for octets: places in a body, or
+-- views.
 use Rattle.std.specs.Prelude.{◌≡◌, ℕ, ◌+◌, List, [], ◌∷◌, length}
 use Rattle.std.specs.Borrow.{Bor}
 use Rattle.std.proofs.Props.{props}
@@ -8,11 +9,13 @@ use Rattle.opgp_body.specs.declared.spans.MpiSpan.{MpiSpan}
 use Rattle.opgp_body.specs.Fields.{Field, bare, integer_of}
 use Rattle.opgp_body.specs.Spans.{octets_in, integer_in, IsIn, IsMpiIn}
 use Rattle.opgp_sig.specs.declared.material.SignatureMaterial.{SignatureMaterial}
-use Rattle.opgp_sig.specs.declared.material.SignatureMaterial.TheVariants.{Rsa, Dsa, Ecdsa, Eddsa, Ed25519, Ed448, Opaque}
+use Rattle.opgp_sig.specs.declared.material.SignatureMaterial.TheVariants.{Rsa, Dsa, Ecdsa, Eddsa}
+use Rattle.opgp_sig.specs.declared.material.SignatureMaterial.TheVariants.{Ed25519, Ed448, Opaque}
 use Rattle.opgp_sig.specs.Shape.{Shape, rsa, dsa, ecdsa, eddsa, ed25519, ed448, opaque}
 
 -- its fields, by what an integer and octets stand for
-abbrev pub fields_by : {I O : Type 0} → (I → Field) → (O → List ℕ) → SignatureMaterial I O → List Field
+abbrev pub fields_by : {I O : Type 0} → (I → Field) → (O → List ℕ) → SignatureMaterial I O
+    → List Field
 fields_by f g (Rsa s) = f s ∷ []
 fields_by f g (Dsa r s) = f r ∷ f s ∷ []
 fields_by f g (Ecdsa r s) = f r ∷ f s ∷ []

@@ -1,4 +1,5 @@
--- What a subpacket of a signature means, on lists: its typed form by its kind (RFC 9580, 5.2.3.11 to 5.2.3.36).
+-- What a subpacket of a signature means, on lists: its typed form by its kind (RFC 9580, 5.2.3.11
+-- to 5.2.3.36).
 use Rattle.std.specs.Prelude.{◌≡◌, ℕ, ◌+◌, ◌^◌, ◌<◌, ◌⊎◌, List, [], ◌∷◌, ◌++◌, length}
 use Rattle.std.specs.Int.{w16, w32, to_be_bytes}
 use Rattle.opgp_octets.specs.Octets.{IsOctets}
@@ -67,7 +68,8 @@ IsNumber o n = (n < 2 ^ 32) × (o ≡ to_be_bytes w32 n)
 abbrev pub IsNotation : List ℕ → ℕ → List ℕ → List ℕ → Type 0
 IsNotation o flags name value =
     (flags < 2 ^ 32) × (length name < 2 ^ 16) × (length value < 2 ^ 16)
-    × (o ≡ to_be_bytes w32 flags ++ (to_be_bytes w16 (length name) ++ (to_be_bytes w16 (length value) ++ (name ++ value))))
+    × (o ≡ to_be_bytes w32 flags
+    ++ (to_be_bytes w16 (length name) ++ (to_be_bytes w16 (length value) ++ (name ++ value))))
 
 -- a version, and a fingerprint of its size (5.2.3.35)
 abbrev pub IsNamed : List ℕ → ℕ → List ℕ → Type 0
@@ -85,7 +87,8 @@ Writes k o (regular_expression text) = (k ≡ RegularExpression) × (o ≡ text 
 Writes k o (revocable n) = (k ≡ Revocable) × (o ≡ n ∷ [])
 Writes k o (key_expires n) = (k ≡ KeyExpires) × IsNumber o n
 Writes k o (preferred_symmetric list) = (k ≡ PreferredSymmetric) × (o ≡ list)
-Writes k o (revocation_key class algorithm fingerprint) = (k ≡ RevocationKey) × (o ≡ class ∷ algorithm ∷ fingerprint) × (length fingerprint ≡ 20)
+Writes k o (revocation_key class algorithm fingerprint) =
+    (k ≡ RevocationKey) × (o ≡ class ∷ algorithm ∷ fingerprint) × (length fingerprint ≡ 20)
 Writes k o (issuer id) = (k ≡ Issuer) × (o ≡ id) × (length id ≡ 8)
 Writes k o (notation flags name value) = (k ≡ Notation) × IsNotation o flags name value
 Writes k o (preferred_hash list) = (k ≡ PreferredHash) × (o ≡ list)
@@ -98,11 +101,16 @@ Writes k o (key_flags flags) = (k ≡ KeyFlags) × (o ≡ flags)
 Writes k o (signers_user_id text) = (k ≡ SignersUserId) × (o ≡ text)
 Writes k o (revocation_reason code text) = (k ≡ RevocationReason) × (o ≡ code ∷ text)
 Writes k o (features flags) = (k ≡ Features) × (o ≡ flags)
-Writes k o (signature_target algorithm hash digest) = (k ≡ SignatureTarget) × (o ≡ algorithm ∷ hash ∷ digest)
-Writes k o (embedded_signature body) = (k ≡ EmbeddedSignature) × (o ≡ body) × ((value : SignatureValue) × Spells value o)
-Writes k o (issuer_fingerprint version fingerprint) = (k ≡ IssuerFingerprint) × IsNamed o version fingerprint
-Writes k o (intended_recipient version fingerprint) = (k ≡ IntendedRecipient) × IsNamed o version fingerprint
-Writes k o (preferred_aead pairs) = (k ≡ PreferredAead) × (o ≡ pairs) × ((n : ℕ) × (length o ≡ n + n))
+Writes k o (signature_target algorithm hash digest) =
+    (k ≡ SignatureTarget) × (o ≡ algorithm ∷ hash ∷ digest)
+Writes k o (embedded_signature body) =
+    (k ≡ EmbeddedSignature) × (o ≡ body) × ((value : SignatureValue) × Spells value o)
+Writes k o (issuer_fingerprint version fingerprint) =
+    (k ≡ IssuerFingerprint) × IsNamed o version fingerprint
+Writes k o (intended_recipient version fingerprint) =
+    (k ≡ IntendedRecipient) × IsNamed o version fingerprint
+Writes k o (preferred_aead pairs) =
+    (k ≡ PreferredAead) × (o ≡ pairs) × ((n : ℕ) × (length o ≡ n + n))
 Writes k o unfit = ⊥
 Writes k o unknown = ⊥
 
@@ -111,7 +119,8 @@ abbrev pub IsListed : SubpacketKind → Type 0
 IsListed (Other n) = ⊥
 IsListed k = Unit {0}
 
--- What the octets of this kind mean: the typed form that writes them, or that none does, or that the kind has none.
+-- What the octets of this kind mean: the typed form that writes them, or that none does, or that
+-- the kind has none.
 abbrev pub Means : SubpacketKind → List ℕ → Meaning → Type 0
 Means k o unfit = IsOctets o × IsListed k × ((m : Meaning) → Writes k o m → ⊥)
 Means k o unknown = IsOctets o × (IsListed k → ⊥)

@@ -1,5 +1,6 @@
 -- The typed form that octets have, read from left to right.
-use Rattle.std.specs.Prelude.{ℕ, ◌+◌, ◌-◌, ◌%◌, ◌&&◌, ◌||◌, not, List, [], ◌∷◌, length, take, drop, slice_index, is_ok, nat_lt, ◌==◌, if◌then◌else◌}
+use Rattle.std.specs.Prelude.{ℕ, ◌+◌, ◌-◌, ◌%◌, ◌&&◌, ◌||◌, not, List, [], ◌∷◌, length, take, drop}
+use Rattle.std.specs.Prelude.{slice_index, is_ok, nat_lt, ◌==◌, if◌then◌else◌}
 use Rattle.std.specs.Prelude.{Option, Some, None}
 use Rattle.std.specs.Int.{w16, w32, from_be_bytes}
 use Rattle.opgp_octets.specs.declared.subpacket_kind.SubpacketKind.TheVariants.{Created, Expires}
@@ -54,7 +55,9 @@ two_in (n ∷ m ∷ k ∷ o) = None
 
 -- what stands before an octet 0 at the end
 abbrev pub ended_in : List ℕ → Option (List ℕ)
-ended_in o = if nat_lt 0 (length o) && (slice_index o (length o - 1) == 0) then Some (take (length o - 1) o) else None
+ended_in o =
+    if nat_lt 0 (length o) && (slice_index o (length o - 1) == 0) then Some
+    (take (length o - 1) o) else None
 
 abbrev pub behind_one_in : List ℕ → Option (ℕ × List ℕ)
 behind_one_in [] = None
@@ -102,7 +105,9 @@ embedded_in o = if is_ok (signature_at o) then Some o else None
 -- a version, and a fingerprint of its size
 abbrev pub named_of : Option (ℕ × List ℕ) → Option (ℕ × List ℕ)
 named_of None = None
-named_of (Some x) = if ((x.0 == 4) && (length x.1 == 20)) || ((x.0 == 6) && (length x.1 == 32)) then Some x else None
+named_of (Some x) =
+    if ((x.0 == 4) && (length x.1 == 20)) ||
+    ((x.0 == 6) && (length x.1 == 32)) then Some x else None
 
 abbrev pub named_in : List ℕ → Option (ℕ × List ℕ)
 named_in o = named_of (behind_one_in o)

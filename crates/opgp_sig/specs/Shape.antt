@@ -1,8 +1,11 @@
 -- The forms that a signature's material has, by its algorithm (RFC 9580, 5.2.3.1 to 5.2.3.5, 9.1).
 use Rattle.opgp_octets.specs.declared.key_algorithm.KeyAlgorithm.{KeyAlgorithm}
-use Rattle.opgp_octets.specs.declared.key_algorithm.KeyAlgorithm.TheVariants.{Rsa, RsaEncrypt, RsaSign, Elgamal, Dsa}
-use Rattle.opgp_octets.specs.declared.key_algorithm.KeyAlgorithm.TheVariants.{Ecdh, Ecdsa, EddsaLegacy}
-use Rattle.opgp_octets.specs.declared.key_algorithm.KeyAlgorithm.TheVariants.{X25519, X448, Ed25519, Ed448, Other}
+use Rattle.opgp_octets.specs.declared.key_algorithm.KeyAlgorithm.TheVariants.{Rsa, RsaEncrypt}
+use Rattle.opgp_octets.specs.declared.key_algorithm.KeyAlgorithm.TheVariants.{RsaSign, Elgamal, Dsa}
+use Rattle.opgp_octets.specs.declared.key_algorithm.KeyAlgorithm.TheVariants.{Ecdh, Ecdsa}
+use Rattle.opgp_octets.specs.declared.key_algorithm.KeyAlgorithm.TheVariants.{EddsaLegacy}
+use Rattle.opgp_octets.specs.declared.key_algorithm.KeyAlgorithm.TheVariants.{X25519, X448, Ed25519}
+use Rattle.opgp_octets.specs.declared.key_algorithm.KeyAlgorithm.TheVariants.{Ed448, Other}
 
 pub data Shape : Type 0 where
   rsa dsa ecdsa eddsa ed25519 ed448 opaque : Shape

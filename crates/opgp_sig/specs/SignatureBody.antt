@@ -1,15 +1,21 @@
 -- The body of a signature (RFC 9580, 5.2.2, 5.2.3), as the tables of its fields in each version.
-use Rattle.std.specs.Prelude.{◌≡◌, ℕ, Bool, true, false, ◌==◌, ◌⊎◌, if◌then◌else◌, List, [], ◌∷◌, length, Option, Some, None, Result, Ok, Err}
+use Rattle.std.specs.Prelude.{◌≡◌, ℕ, Bool, true, false, ◌==◌, ◌⊎◌, if◌then◌else◌, List, [], ◌∷◌}
+use Rattle.std.specs.Prelude.{length, Option, Some, None, Result, Ok, Err}
 use Rattle.opgp_octets.specs.declared.fault.Reason.TheVariants.{Short, SaltSize}
 use Rattle.opgp_octets.specs.declared.fault.BodyFault.{BodyFault}
 use Rattle.opgp_octets.specs.declared.hash_algorithm.HashAlgorithm.{HashAlgorithm}
-use Rattle.opgp_octets.specs.declared.hash_algorithm.HashAlgorithm.TheVariants.{Md5, Sha1, Ripemd160, Sha256, Sha384, Sha512}
-use Rattle.opgp_octets.specs.declared.hash_algorithm.HashAlgorithm.TheVariants.{Sha224, Sha3_256, Sha3_512, Other}
+use Rattle.opgp_octets.specs.declared.hash_algorithm.HashAlgorithm.TheVariants.{Md5, Sha1}
+use Rattle.opgp_octets.specs.declared.hash_algorithm.HashAlgorithm.TheVariants.{Ripemd160, Sha256}
+use Rattle.opgp_octets.specs.declared.hash_algorithm.HashAlgorithm.TheVariants.{Sha384, Sha512}
+use Rattle.opgp_octets.specs.declared.hash_algorithm.HashAlgorithm.TheVariants.{Sha224, Sha3_256}
+use Rattle.opgp_octets.specs.declared.hash_algorithm.HashAlgorithm.TheVariants.{Sha3_512, Other}
 use Rattle.opgp_octets.specs.HashAlgorithm.{hash_algorithm_of}
 use Rattle.opgp_octets.specs.KeyAlgorithm.{key_algorithm_of}
 use Rattle.opgp_octets.specs.Reading.{◌>>=◌}
-use Rattle.opgp_body.specs.Fields.{Kind, octet, exact, four, mpi, sized, fixed, whole, never, Extent, behind_two, behind_four}
-use Rattle.opgp_body.specs.Fields.{Field, Grammar, field, area, sequence, amount, Body, fault_at, FirstFault}
+use Rattle.opgp_body.specs.Fields.{Kind, octet, exact, four, mpi, sized, fixed, whole, never}
+use Rattle.opgp_body.specs.Fields.{Extent, behind_two, behind_four}
+use Rattle.opgp_body.specs.Fields.{Field, Grammar, field, area, sequence, amount, Body, fault_at}
+use Rattle.opgp_body.specs.Fields.{FirstFault}
 use Rattle.opgp_body.specs.FieldReading.{body_at}
 use Rattle.opgp_sig.specs.Shape.{Shape, rsa, dsa, ecdsa, eddsa, ed25519, ed448, opaque, shape_of}
 
@@ -47,10 +53,12 @@ salt_of_size None = sized SaltSize 0 255
 abbrev pub salt_of : ℕ → Kind
 salt_of h = salt_of_size (salt_size (hash_algorithm_of h))
 
--- version, the length of what is hashed, type, creation time, issuer, key algorithm, hash algorithm, two left octets, material
+-- version, the length of what is hashed, type, creation time, issuer, key algorithm, hash
+-- algorithm, two left octets, material
 unfoldable pub version_three : Grammar
 version_three =
-    field (exact Short 3) (λ _. field (exact Short 5) (λ _. field octet (λ _. field four (λ _. field (fixed 8) (λ _.
+    field (exact Short 3)
+    (λ _. field (exact Short 5) (λ _. field octet (λ _. field four (λ _. field (fixed 8) (λ _.
     field octet (λ a. field octet (λ _. field (fixed 2) (λ _.
     sequence (old_material_kinds (shape_of (key_algorithm_of (amount a))))))))))))
 
@@ -62,13 +70,14 @@ extent v = if v == 6 then behind_four else behind_two
 abbrev pub salted : ℕ → ℕ → Grammar → Grammar
 salted v h next = if v == 6 then field (salt_of h) (λ _. next) else next
 
--- version, type, key algorithm, hash algorithm, hashed area, unhashed area, two left octets, in version 6 a salt,
--- material, whose integers are strict in version 6
+-- version, type, key algorithm, hash algorithm, hashed area, unhashed area, two left octets, in
+-- version 6 a salt, material, whose integers are strict in version 6
 unfoldable pub with_areas : ℕ → Grammar
 with_areas v =
     field (exact Short v) (λ _. field octet (λ _. field octet (λ a. field octet (λ h.
     area (extent v) (area (extent v) (field (fixed 2) (λ _.
-    salted v (amount h) (sequence (material_kinds (v == 6) (shape_of (key_algorithm_of (amount a))))))))))))
+    salted v (amount h)
+    (sequence (material_kinds (v == 6) (shape_of (key_algorithm_of (amount a))))))))))))
 
 abbrev pub version_four : Grammar
 version_four = with_areas 4
@@ -86,7 +95,8 @@ pub data SignatureValue : Type 0 where
 -- a body of another version, or one of version 3 that isn't typed
 abbrev pub IsOther : List ℕ → Type 0
 IsOther [] = ⊥
-IsOther (v ∷ o) = (v ≡ 4 → ⊥) × (v ≡ 6 → ⊥) × ((fields : List Field) → Body version_three fields (v ∷ o) → ⊥)
+IsOther (v ∷ o) =
+    (v ≡ 4 → ⊥) × (v ≡ 6 → ⊥) × ((fields : List Field) → Body version_three fields (v ∷ o) → ⊥)
 
 -- the octets are the signature, and nothing more
 abbrev pub Spells : SignatureValue → List ℕ → Type 0
@@ -95,7 +105,8 @@ Spells (of_four fields) o = Body version_four fields o
 Spells (of_six fields) o = Body version_six fields o
 Spells (of_other octets) o = (o ≡ octets) × IsOther o
 
--- No version is there, or in version 4 or 6 some fields begin the octets and the next has no spelling there.
+-- No version is there, or in version 4 or 6 some fields begin the octets and the next has no
+-- spelling there.
 abbrev pub SignatureFault : List ℕ → BodyFault → Type 0
 SignatureFault [] f = f ≡ fault_at 0 0 Short
 SignatureFault (v ∷ o) f =

@@ -36,7 +36,8 @@ meaning_shown (RegularExpression text) = regular_expression text.now
 meaning_shown (Revocable n) = revocable n
 meaning_shown (KeyExpires n) = key_expires n
 meaning_shown (PreferredSymmetric list) = preferred_symmetric list.now
-meaning_shown (RevocationKey class algorithm fingerprint) = revocation_key class algorithm fingerprint.now
+meaning_shown (RevocationKey class algorithm fingerprint) =
+    revocation_key class algorithm fingerprint.now
 meaning_shown (Issuer id) = issuer id
 meaning_shown (Notation flags name value) = notation flags name.now value.now
 meaning_shown (PreferredHash list) = preferred_hash list.now

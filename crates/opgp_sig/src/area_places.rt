@@ -83,7 +83,8 @@ impl AreaPlaces {
         // The octets are octets, which a vector that is moved tells no more.
         ensures octets { IsOctets o.now }
         ensures within { IfOk result (λ p. AreasLie version p o.now) }
-        ensures shape { IfOk result (λ p. shape p.material ≡ shape_of (key_algorithm_of p.algorithm)) }
+        ensures shape { IfOk result
+            (λ p. shape p.material ≡ shape_of (key_algorithm_of p.algorithm)) }
     {
         let mut cursor = Cursor::new(o);
         cursor.exact(Reason::Short, version)?;

@@ -17,8 +17,8 @@ use crate::areas_view::AreasView;
 use opgp_octets::{BodyFault, OutOfMemory};
 use std::alloc::Global;
 
-/// A signature of version 4 or 6, which is `V`, that owns the octets of its body, and knows where its
-/// fields lie in them (RFC 9580, 5.2.3).
+/// A signature of version 4 or 6, which is `V`, that owns the octets of its body, and knows where
+/// its fields lie in them (RFC 9580, 5.2.3).
 #[derive(Drop)]
 pub struct AreasSignature<const V: u8> {
     pub(crate) body: Vec<u8>,
@@ -89,7 +89,8 @@ impl<const V: u8> AreasSignature<V> {
     pub fn body(&self) -> &[u8]
         ensures value { result.now ≡ areas_signature_octets self.now }
         ensures small { IsBodySized result.now }
-        ensures spelled { Body (with_areas V) (areas_fields (areas_signature_value self.now)) result.now }
+        ensures spelled { Body (with_areas V)
+            (areas_fields (areas_signature_value self.now)) result.now }
     {
         self.view().body()
     }
@@ -98,8 +99,10 @@ impl<const V: u8> AreasSignature<V> {
     ///
     /// An error is want of memory.
     pub fn copy(&self, alloc: Global) -> Result<AreasSignature<V>, OutOfMemory>
-        ensures body { IfOk result (λ s. areas_signature_octets s ≡ areas_signature_octets self.now) }
-        ensures fields { IfOk result (λ s. areas_signature_value s ≡ areas_signature_value self.now) }
+        ensures body { IfOk result
+            (λ s. areas_signature_octets s ≡ areas_signature_octets self.now) }
+        ensures fields { IfOk result
+            (λ s. areas_signature_value s ≡ areas_signature_value self.now) }
     {
         AreasSignature::of(alloc, self.view())
     }

@@ -46,7 +46,8 @@ impl<'a, const V: u8> AreasView<'a, V> {
     /// The signature that the octets spell, all of them.
     pub(crate) fn read(o: &'a [u8]) -> Result<AreasView<'a, V>, BodyFault>
         requires { IsBodySized o.now }
-        ensures exact { Reads (λ v. areas_fields (areas_view_value v)) result (body_at (with_areas V) o.now) }
+        ensures exact { Reads (λ v. areas_fields (areas_view_value v)) result
+            (body_at (with_areas V) o.now) }
         ensures body { IfOk result (λ v. areas_view_octets v ≡ o.now) }
     {
         let places = AreaPlaces::read(o, V)?;
@@ -131,7 +132,8 @@ impl<'a, const V: u8> AreasView<'a, V> {
     pub fn salt(&self) -> &'a [u8]
         ensures value { result.now ≡ (areas_view_value self.now).salt }
         // In version 6 it has the size of its hash algorithm.
-        ensures size { V ≡ 6 → (n : ℕ) → salt_size (hash_algorithm_of (areas_view_value self.now).hash) ≡ Some n
+        ensures size { V ≡ 6 → (n : ℕ)
+            → salt_size (hash_algorithm_of (areas_view_value self.now).hash) ≡ Some n
             → length result.now ≡ n }
     {
         self.places.salt.lend(self.body)
@@ -140,7 +142,8 @@ impl<'a, const V: u8> AreasView<'a, V> {
     /// What its algorithm made; which variant it is, its algorithm says.
     pub fn material(&self) -> SignatureMaterialView<'a>
         ensures fields { material_fields result ≡ (areas_view_value self.now).material }
-        ensures shape { shape result ≡ shape_of (key_algorithm_of (areas_view_value self.now).algorithm) }
+        ensures shape { shape result
+            ≡ shape_of (key_algorithm_of (areas_view_value self.now).algorithm) }
         // Ed25519 has 64 octets, Ed448 has 114.
         ensures sizes { HasSizes result }
     {
@@ -151,7 +154,8 @@ impl<'a, const V: u8> AreasView<'a, V> {
     pub fn body(&self) -> &'a [u8]
         ensures value { result.now ≡ areas_view_octets self.now }
         ensures small { IsBodySized result.now }
-        ensures spelled { Body (with_areas V) (areas_fields (areas_view_value self.now)) result.now }
+        ensures spelled { Body (with_areas V)
+            (areas_fields (areas_view_value self.now)) result.now }
     {
         self.body
     }

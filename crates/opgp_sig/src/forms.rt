@@ -1,9 +1,12 @@
-//! The forms that the octets of a subpacket have. Each is None only where the octets are of no such form.
+//! The forms that the octets of a subpacket have. Each is None only where the octets are of no such
+//! form.
 
 ghost use Rattle.std.specs.Prelude.{◌≡◌, ◌≤◌, length, option_map, IfSome, IfNone, ℕ, List};
 ghost use Rattle.opgp_octets.specs.Octets.{IsBodySized};
-ghost use Rattle.opgp_sig.specs.MeaningReading.{number_in, one_in, two_in, ended_in, behind_one_in, behind_two_in};
-ghost use Rattle.opgp_sig.specs.MeaningReading.{revoker_in, eight_in, notation_in, named_in, pairs_in};
+ghost use Rattle.opgp_sig.specs.MeaningReading.{number_in, one_in, two_in, ended_in, behind_one_in};
+ghost use Rattle.opgp_sig.specs.MeaningReading.{behind_two_in};
+ghost use Rattle.opgp_sig.specs.MeaningReading.{revoker_in, eight_in, notation_in, named_in};
+ghost use Rattle.opgp_sig.specs.MeaningReading.{pairs_in};
 
 use crate::sub_meaning::KeyId8;
 use opgp_octets::{u16_at, u32_at};

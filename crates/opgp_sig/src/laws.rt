@@ -1,5 +1,6 @@
-//! What the definitions imply: a signature is read exactly where the octets spell it, and a body has
-//! one reading or one first fault; octets of a subpacket have one meaning, and a typed form one spelling.
+//! What the definitions imply: a signature is read exactly where the octets spell it, and a body
+//! has one reading or one first fault; octets of a subpacket have one meaning, and a typed form one
+//! spelling.
 
 ghost use Rattle.std.specs.Prelude.{◌≡◌, ◌↔◌, ◌⊎◌, List, ℕ, Ok, Err};
 ghost use Rattle.opgp_octets.specs.Octets.{IsOctets};
@@ -9,7 +10,8 @@ ghost use Rattle.opgp_sig.specs.Meaning.{Meaning, Means, Writes, IsListed};
 ghost use Rattle.opgp_sig.specs.MeaningReading.{meaning_of};
 ghost use Rattle.opgp_sig.specs.declared.signature.Signature.{Signature};
 ghost use Rattle.opgp_sig.specs.Signature.{signature_octets, signature_value};
-ghost use Rattle.opgp_sig.specs.SignatureBody.{SignatureValue, Spells, SignatureFault, signature_at};
+ghost use Rattle.opgp_sig.specs.SignatureBody.{SignatureValue, Spells, SignatureFault};
+ghost use Rattle.opgp_sig.specs.SignatureBody.{signature_at};
 
 /// A signature is read of octets exactly where they spell it.
 pub fn signatures_are_read()
@@ -25,13 +27,15 @@ pub fn the_first_fault_is_answered()
 
 /// A body is that of one signature.
 pub fn one_signature()
-    ensures { (value other : SignatureValue) (o : List ℕ) → IsOctets o → Spells value o → Spells other o
+    ensures { (value other : SignatureValue) (o : List ℕ) → IsOctets o → Spells value o
+        → Spells other o
         → value ≡ other }
 {}
 
 /// Octets have one first fault.
 pub fn one_fault()
-    ensures { (o : List ℕ) (f g : BodyFault) → IsOctets o → SignatureFault o f → SignatureFault o g → f ≡ g }
+    ensures { (o : List ℕ) (f g : BodyFault) → IsOctets o → SignatureFault o f → SignatureFault o g
+        → f ≡ g }
 {}
 
 /// A signature has no fault.
@@ -53,7 +57,8 @@ pub fn written_signature()
 
 /// Octets of a kind mean one thing.
 pub fn one_meaning()
-    ensures { (kind : SubpacketKind) (o : List ℕ) (m n : Meaning) → Means kind o m → Means kind o n → m ≡ n }
+    ensures { (kind : SubpacketKind) (o : List ℕ) (m n : Meaning) → Means kind o m → Means kind o n
+        → m ≡ n }
 {}
 
 /// What reading octets as a kind gives is what they mean.
@@ -63,7 +68,8 @@ pub fn meanings_are_read()
 
 /// A typed form is that of one list of octets.
 pub fn one_spelling()
-    ensures { (kind : SubpacketKind) (o p : List ℕ) (m : Meaning) → Writes kind o m → Writes kind p m → o ≡ p }
+    ensures { (kind : SubpacketKind) (o p : List ℕ) (m : Meaning) → Writes kind o m
+        → Writes kind p m → o ≡ p }
 {}
 
 /// Each kind that is listed has a form.

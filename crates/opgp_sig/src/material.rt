@@ -3,8 +3,8 @@
 use opgp_body::{MpiSpan, Span};
 use opgp_octets::MpiView;
 
-/// What a signature's algorithm made (RFC 9580, 5.2.3.1 to 5.2.3.5), by its algorithm (9.1). `I` stands for an
-/// integer, `O` for octets.
+/// What a signature's algorithm made (RFC 9580, 5.2.3.1 to 5.2.3.5), by its algorithm (9.1). `I`
+/// stands for an integer, `O` for octets.
 #[derive(Clone, Copy)]
 pub enum SignatureMaterial<I, O> {
     /// RSA, algorithms 1 and 3.

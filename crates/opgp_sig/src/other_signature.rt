@@ -8,8 +8,8 @@ use crate::other_view::OtherView;
 use opgp_octets::OutOfMemory;
 use std::alloc::Global;
 
-/// A signature that isn't typed, and owns the octets of its body: its version isn't 3, 4 or 6, or it is
-/// 3 and the body isn't one that is known (RFC 9580, 5.2).
+/// A signature that isn't typed, and owns the octets of its body: its version isn't 3, 4 or 6, or
+/// it is 3 and the body isn't one that is known (RFC 9580, 5.2).
 #[derive(Drop)]
 pub struct OtherSignature {
     pub(crate) body: Vec<u8>,

@@ -4,8 +4,8 @@ ghost use Rattle.std.specs.Prelude.{◌≡◌, ◌≤◌, length, Ok};
 ghost use Rattle.opgp_octets.specs.Octets.{IsOctets, IsBodySized};
 ghost use Rattle.opgp_sig.specs.SignatureBody.{signature_at, of_other};
 
-/// A signature that isn't typed: its version isn't 3, 4 or 6, or it is 3 and the body isn't one that is
-/// known (RFC 9580, 5.2).
+/// A signature that isn't typed: its version isn't 3, 4 or 6, or it is 3 and the body isn't one
+/// that is known (RFC 9580, 5.2).
 #[derive(Clone, Copy)]
 pub struct OtherView<'a> {
     pub(crate) body: &'a [u8],

@@ -3,7 +3,8 @@
 ghost use Rattle.std.specs.Prelude.{◌≡◌, ◌≤◌, length, Ok, IfOk, IfErr};
 ghost use Rattle.opgp_octets.specs.Octets.{IsBodySized};
 ghost use Rattle.opgp_octets.specs.Reading.{Reads};
-ghost use Rattle.opgp_sig.specs.SignatureBody.{SignatureValue, Spells, SignatureFault, signature_at};
+ghost use Rattle.opgp_sig.specs.SignatureBody.{SignatureValue, Spells, SignatureFault};
+ghost use Rattle.opgp_sig.specs.SignatureBody.{signature_at};
 
 use crate::areas_view::{FourView, SixView};
 use crate::other_view::OtherView;
@@ -31,7 +32,8 @@ impl<'a> SigView<'a> {
     /// octets, which looks at no subpacket's meaning.
     ///
     /// A body of another version than 4 and 6 is never refused, unless it is empty. The errors are
-    /// [`Short`], [`AreaShort`], [`SubEmpty`] and [`SubShort`] at a subpacket, in version 6 [`SaltSize`]
+    /// [`Short`], [`AreaShort`], [`SubEmpty`] and [`SubShort`] at a subpacket, in version 6
+    /// [`SaltSize`]
     /// and [`MpiBits`], and [`Trailing`], each at the first field that isn't there.
     ///
     /// [`Short`]: opgp_octets::Reason::Short

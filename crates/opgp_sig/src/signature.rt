@@ -6,7 +6,8 @@ ghost use Rattle.opgp_octets.specs.declared.fault.BodyFault.{BodyFault};
 ghost use Rattle.opgp_octets.specs.Octets.{IsOctets, IsBodySized};
 ghost use Rattle.opgp_octets.specs.ParseFault.{Parses, RefusedBy};
 ghost use Rattle.opgp_octets.specs.Reading.{Reads};
-ghost use Rattle.opgp_sig.specs.SignatureBody.{SignatureValue, Spells, SignatureFault, signature_at};
+ghost use Rattle.opgp_sig.specs.SignatureBody.{SignatureValue, Spells, SignatureFault};
+ghost use Rattle.opgp_sig.specs.SignatureBody.{signature_at};
 
 use crate::areas_signature::{FourSignature, SixSignature};
 use crate::other_signature::OtherSignature;
@@ -46,7 +47,8 @@ impl Signature {
         // A fault is that of the first field that has no spelling at its place.
         ensures fault { IfErr result (RefusedBy (SignatureFault o.now)) }
         // A fault is answered whether or not there is memory.
-        ensures refuses { (f : BodyFault) → SignatureFault o.now f → result ≡ Err (ParseFault.Body f) }
+        ensures refuses { (f : BodyFault) → SignatureFault o.now f
+            → result ≡ Err (ParseFault.Body f) }
         ensures exact { Parses signature_value result (signature_at o.now) }
         ensures body { IfOk result (λ s. signature_octets s ≡ o.now) }
     {
@@ -172,7 +174,8 @@ impl Signature {
         ensures ok { OnOk result (out.new.items ≡ out.old.items ++ signature_octets self.now) }
         ensures err { OnErr result (out.new.items ≡ out.old.items) }
         // Room that is there suffices.
-        ensures succeeds { vec_len out.old + length (signature_octets self.now) ≤ vec_capacity out.old
+        ensures succeeds { vec_len out.old + length (signature_octets self.now)
+            ≤ vec_capacity out.old
             → IsOk result }
     {
         out.extend_from_slice(self.body())

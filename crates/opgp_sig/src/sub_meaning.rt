@@ -100,7 +100,8 @@ pub enum SubMeaning<'a> {
         /// The fingerprint: 20 octets in version 4, 32 in version 6.
         fingerprint: &'a [u8],
     },
-    /// Kind 39: AEAD ciphersuites, the most preferred first: pairs of a symmetric and an AEAD algorithm.
+    /// Kind 39: AEAD ciphersuites, the most preferred first: pairs of a symmetric and an AEAD
+    /// algorithm.
     PreferredAead(&'a [u8]),
     /// One of these kinds, whose octets are of no such form.
     Unfit,

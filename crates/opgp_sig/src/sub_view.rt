@@ -55,8 +55,9 @@ impl<'a> SubView<'a> {
         self.sub.octets()
     }
 
-    /// The signature that a subpacket of kind 32 holds (RFC 9580, 5.2.3.34); None for other kinds, and
-    /// where its octets are no signature's body. Takes no memory; the work is linear in its octets.
+    /// The signature that a subpacket of kind 32 holds (RFC 9580, 5.2.3.34); None for other kinds,
+    /// and where its octets are no signature's body. Takes no memory; the work is linear in its
+    /// octets.
     pub fn embedded(&self) -> Option<SigView<'a>>
         ensures found { IfSome result (λ v. (kind_shown (sub_shown self.now).kind ≡ 32)
             × Spells (sig_view_value v) (sub_shown self.now).octets
@@ -71,14 +72,16 @@ impl<'a> SubView<'a> {
     }
 
     /// What it means: the typed form that its octets have, or [`SubMeaning::Unfit`], or
-    /// [`SubMeaning::Unknown`]. Takes no memory; the work is linear in its octets. For kind 32 it reads a
+    /// [`SubMeaning::Unknown`]. Takes no memory; the work is linear in its octets. For kind 32 it
+    /// reads a
     /// whole signature: whoever looks for another kind asks for [`SubView::kind`] first.
     pub fn meaning(&self) -> SubMeaning<'a>
         ensures means { Means (subpacket_kind_of (kind_shown (sub_shown self.now).kind))
             (sub_shown self.now).octets (meaning_shown result) }
         // It is what reading the octets as that kind gives.
         ensures exact { meaning_shown result
-            ≡ meaning_of (subpacket_kind_of (kind_shown (sub_shown self.now).kind)) (sub_shown self.now).octets }
+            ≡ meaning_of (subpacket_kind_of (kind_shown (sub_shown self.now).kind))
+            (sub_shown self.now).octets }
         ensures small { IsBodySized (sub_shown self.now).octets }
     {
         self.read_meaning()
@@ -86,7 +89,8 @@ impl<'a> SubView<'a> {
 
     fn read_meaning(&self) -> SubMeaning<'a>
         ensures exact { meaning_shown result
-            ≡ meaning_of (subpacket_kind_of (kind_shown (sub_shown self.now).kind)) (sub_shown self.now).octets }
+            ≡ meaning_of (subpacket_kind_of (kind_shown (sub_shown self.now).kind))
+            (sub_shown self.now).octets }
         ensures small { IsBodySized (sub_shown self.now).octets }
         ensures octets { IsOctets (sub_shown self.now).octets }
     {

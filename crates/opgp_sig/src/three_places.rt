@@ -47,11 +47,13 @@ impl ThreePlaces {
     #[tactic(auto, unfolding(opgp_body::specs::FieldReading::body_at, crate::specs::SignatureBody::version_three))]
     pub(crate) fn read(o: &[u8]) -> Result<ThreePlaces, BodyFault>
         requires { IsBodySized o.now }
-        ensures exact { Reads (λ p. three_fields (three_in p o.now)) result (body_at version_three o.now) }
+        ensures exact { Reads (λ p. three_fields (three_in p o.now)) result
+            (body_at version_three o.now) }
         // The octets are octets, which a vector that is moved tells no more.
         ensures octets { IsOctets o.now }
         ensures within { IfOk result (λ p. AreIn p.material (length o.now)) }
-        ensures shape { IfOk result (λ p. shape p.material ≡ shape_of (key_algorithm_of p.algorithm)) }
+        ensures shape { IfOk result
+            (λ p. shape p.material ≡ shape_of (key_algorithm_of p.algorithm)) }
     {
         let mut cursor = Cursor::new(o);
         cursor.exact(Reason::Short, 3)?;

@@ -39,7 +39,8 @@ impl ThreeSignature {
         requires small { IsBodySized body.items }
         requires within { AreIn places.material (length body.items) }
         requires shape { shape places.material ≡ shape_of (key_algorithm_of places.algorithm) }
-        requires parses { body_at version_three body.items ≡ Ok (three_fields (three_in places body.items)) }
+        requires parses { body_at version_three body.items
+            ≡ Ok (three_fields (three_in places body.items)) }
         ensures body { three_signature_octets result ≡ body.items }
         ensures fields { three_signature_value result ≡ three_in places body.items }
     {
@@ -83,7 +84,8 @@ impl ThreeSignature {
     pub fn body(&self) -> &[u8]
         ensures value { result.now ≡ three_signature_octets self.now }
         ensures small { IsBodySized result.now }
-        ensures spelled { Body version_three (three_fields (three_signature_value self.now)) result.now }
+        ensures spelled { Body version_three
+            (three_fields (three_signature_value self.now)) result.now }
     {
         self.view().body()
     }
@@ -92,8 +94,10 @@ impl ThreeSignature {
     ///
     /// An error is want of memory.
     pub fn copy(&self, alloc: Global) -> Result<ThreeSignature, OutOfMemory>
-        ensures body { IfOk result (λ s. three_signature_octets s ≡ three_signature_octets self.now) }
-        ensures fields { IfOk result (λ s. three_signature_value s ≡ three_signature_value self.now) }
+        ensures body { IfOk result
+            (λ s. three_signature_octets s ≡ three_signature_octets self.now) }
+        ensures fields { IfOk result
+            (λ s. three_signature_value s ≡ three_signature_value self.now) }
     {
         ThreeSignature::of(alloc, self.view())
     }

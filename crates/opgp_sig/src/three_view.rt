@@ -36,7 +36,8 @@ impl<'a> ThreeView<'a> {
     /// The signature that the octets spell, all of them.
     pub(crate) fn read(o: &'a [u8]) -> Result<ThreeView<'a>, BodyFault>
         requires { IsBodySized o.now }
-        ensures exact { Reads (λ v. three_fields (three_view_value v)) result (body_at version_three o.now) }
+        ensures exact { Reads (λ v. three_fields (three_view_value v)) result
+            (body_at version_three o.now) }
         ensures body { IfOk result (λ v. three_view_octets v ≡ o.now) }
     {
         let places = ThreePlaces::read(o)?;
@@ -90,7 +91,8 @@ impl<'a> ThreeView<'a> {
     /// What its algorithm made; which variant it is, its algorithm says.
     pub fn material(&self) -> SignatureMaterialView<'a>
         ensures fields { material_fields result ≡ (three_view_value self.now).material }
-        ensures shape { shape result ≡ shape_of (key_algorithm_of (three_view_value self.now).algorithm) }
+        ensures shape { shape result
+            ≡ shape_of (key_algorithm_of (three_view_value self.now).algorithm) }
         ensures sizes { HasSizes result }
     {
         self.places.material.lend(self.body)

@@ -18,7 +18,8 @@ use opgp_octets::SubpacketKind;
 #[tactic(auto, unfolding(crate::specs::MeaningReading::meaning_of))]
 pub(crate) fn typed(kind: SubpacketKind, o: &[u8]) -> Option<SubMeaning<'_>>
     requires { IsBodySized o.now }
-    ensures { MatchOption result (meaning_of kind o.now ≡ unfit) (λ m. meaning_shown m ≡ meaning_of kind o.now) }
+    ensures { MatchOption result (meaning_of kind o.now ≡ unfit)
+        (λ m. meaning_shown m ≡ meaning_of kind o.now) }
 {
     Some(match kind {
         SubpacketKind::Created => SubMeaning::Created(number(o)?),

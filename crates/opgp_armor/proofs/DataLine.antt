@@ -7,7 +7,7 @@ use Rattle.base64.specs.Engines.{standard}
 use Rattle.base64.specs.GeneralPurpose.{decoded_of}
 use Rattle.opgp_armor.specs.Letters.{is_letter, is_equals, is_octet, may_stand, base64_of, Pending, groups_of, rest_of, after_groups, data_line}
 use Rattle.opgp_armor.proofs.Octets.{AreOctets}
-use Rattle.opgp_armor.proofs.Pending.{Holds, Awaits}
+use Rattle.opgp_armor.proofs.Awaiting.{Holds, Awaits}
 use Rattle.opgp_armor.proofs.Groups.{begins_with_equals}
 use Rattle.opgp_armor.proofs.Standard.{parts_at, base64_of-nil, base64_of-append, no_equals, base64_stands, base64_size, octets_from_test, octets_test, bytes_from, letter_octet, decoded_is, decoded_some}
 
@@ -186,7 +186,7 @@ and_right : (a : Bool) (n : ℕ) → n ≡ 0 → (a && nat_lt 0 n) ≡ false
 and_right true n e = rw e refl
 and_right false n e = refl
 
-line_goes : (p : Pending) (content : List ℕ) (o : List ℕ) → list_all may_stand content ≡ true → p.padded ≡ false → decoded_of standard (groups_of (p.letters ++ content)) ≡ Some o
+pub line_goes : (p : Pending) (content : List ℕ) (o : List ℕ) → list_all may_stand content ≡ true → p.padded ≡ false → decoded_of standard (groups_of (p.letters ++ content)) ≡ Some o
     → list_all is_octet o ≡ true → list_any is_equals (rest_of (p.letters ++ content)) ≡ false → (not (length o % 3 == 0) && nat_lt 0 (length (rest_of (p.letters ++ content)))) ≡ false
     → data_line p content ≡ Ok (record { letters = rest_of (p.letters ++ content); padded = not (length o % 3 == 0) }, o)
 unfolding data_line

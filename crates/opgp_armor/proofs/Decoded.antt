@@ -22,7 +22,7 @@ or_none : (a b c : Bool) → a ≡ false → (b || c) ≡ false → ((a || b) ||
 or_none true b c h k = cc h
 or_none false b c h k = k
 
-bytes_test : (o : List ℕ) → IsBytes o → list_all is_octet o ≡ true
+pub bytes_test : (o : List ℕ) → IsBytes o → list_all is_octet o ≡ true
 bytes_test [] h = refl
 bytes_test (x ∷ o) h = let l : x < 256 = h 0 in rw (lt-ltb x 256 l) (bytes_test o (λ i. h (suc i)))
 

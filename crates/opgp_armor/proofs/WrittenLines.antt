@@ -8,7 +8,7 @@ use Rattle.opgp_octets.specs.Octets.{IsOctets}
 use Rattle.opgp_armor.specs.declared.label.Label.{Label}
 use Rattle.opgp_armor.specs.declared.label.Label.TheVariants.{Message, PublicKeyBlock, PrivateKeyBlock, Signature}
 use Rattle.opgp_armor.specs.Letters.{is_equals, may_stand, base64_of}
-use Rattle.opgp_armor.specs.Splits.{is_plain}
+use Rattle.opgp_armor.specs.Cuts.{is_plain}
 use Rattle.opgp_armor.specs.Text.{Line, content, strip, is_trailing, begin_line, end_line}
 use Rattle.opgp_armor.specs.Armored.{Block, Armored, Whole, IsBlock, IsHeader, AreHeaders, IsDataLine, begins_with, is_dash}
 use Rattle.opgp_armor.specs.Written.{text_of, is_feed, ends_trailing, IsWritable, AreWritable, header_line, rows, letter_lines, armor_lines, armor_text, IsWithin, AreWithin}
@@ -18,7 +18,6 @@ use Rattle.opgp_armor.proofs.Standard.{parts_at, base64_of-nil, base64_begins, b
 use Rattle.opgp_armor.proofs.DataLine.{all_parts, all_both, octets_back, or_false}
 use Rattle.opgp_armor.proofs.Lists.{recursion-append}
 use Rattle.opgp_armor.proofs.Texts.{IsPlain, lines-text_plain}
-use Rattle.opgp_armor.proofs.Answer.{one_list}
 
 -- ---- lines of letters
 pub letter_lines-nil : letter_lines [] ≡ []
@@ -269,8 +268,3 @@ module _ (limit : ℕ) (label : Label) (hs : List (List ℕ × List ℕ)) (o : L
     };
     some = omega arith;
   }
-
-pub written_again : (limit : ℕ) (label : Label) (hs : List (List ℕ × List ℕ)) (o : List ℕ) → 128 ≤ limit → IsOctets o → AreWritable hs → AreWithin limit hs
-    → (blocks : List Block) → Armored limit (armor_text label hs o) blocks → blocks ≡ record { label = label; headers = hs; octets = o } ∷ []
-written_again limit label hs o large octets writable within blocks a =
-    one_list limit (armor_text label hs o) blocks (record { label = label; headers = hs; octets = o } ∷ []) a (written_armored limit label hs o large octets writable within)

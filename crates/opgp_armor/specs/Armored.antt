@@ -6,8 +6,8 @@ use Rattle.std.specs.declared.option.Option.{Option}
 use Rattle.std.specs.declared.option.Option.TheVariants.{None, Some}
 use Rattle.opgp_armor.specs.declared.label.Label.{Label}
 use Rattle.opgp_armor.specs.declared.label.Label.TheVariants.{Message, PublicKeyBlock, PrivateKeyBlock, Signature}
-use Rattle.opgp_armor.specs.declared.place.Place.{Place}
-use Rattle.opgp_armor.specs.declared.place.Place.TheVariants.{Outside, Headers, Data, AfterChecksum}
+use Rattle.opgp_armor.specs.declared.section.Section.{Section}
+use Rattle.opgp_armor.specs.declared.section.Section.TheVariants.{Outside, Headers, Data, AfterChecksum}
 use Rattle.opgp_octets.specs.Octets.{IsOctets}
 use Rattle.opgp_octets.specs.declared.fault.Fault.{Fault}
 use Rattle.opgp_octets.specs.declared.fault.Layer.TheVariants as layer
@@ -153,14 +153,14 @@ label_at spelled c =
 
 -- Where the next line stands, and how many blocks are finished: what the lines of an armored text do.
 pub record Situation : Type 0 where
-  pub place : Place
+  pub section : Section
   pub finished : ℕ
 
-abbrev pub opened_by : Option Label → Place
+abbrev pub opened_by : Option Label → Section
 opened_by None = Outside
 opened_by (Some label) = Headers label
 
-abbrev pub after_content : Place → List ℕ → Place
+abbrev pub after_content : Section → List ℕ → Section
 after_content Outside c = opened_by (label_at begin_line c)
 after_content (Headers label) [] = Data label
 after_content (Headers label) (d ∷ c) = Headers label
@@ -168,20 +168,20 @@ after_content (Data label) c = if begins_with is_equals c then AfterChecksum lab
 after_content (AfterChecksum label) c = if begins_with is_dash c then Outside else AfterChecksum label
 
 -- 1 where a block ends
-abbrev pub ended_by : Place → List ℕ → ℕ
+abbrev pub ended_by : Section → List ℕ → ℕ
 ended_by Outside c = 0
 ended_by (Headers label) c = 0
 ended_by (Data label) c = if begins_with is_dash c then 1 else 0
 ended_by (AfterChecksum label) c = if begins_with is_dash c then 1 else 0
 
 abbrev pub after_line : Situation → Line → Situation
-after_line s l = record { place = after_content s.place (content l); finished = s.finished + ended_by s.place (content l) }
+after_line s l = record { section = after_content s.section (content l); finished = s.finished + ended_by s.section (content l) }
 
 unfoldable pub situation : List Line → Situation
-situation ls = fold after_line (record { place = Outside; finished = 0 }) ls
+situation ls = fold after_line (record { section = Outside; finished = 0 }) ls
 
--- why a line is refused at its place
-abbrev pub short_reason : Place → List ℕ → Reason
+-- why a line is refused at its section
+abbrev pub short_reason : Section → List ℕ → Reason
 short_reason Outside c = reason.Label
 short_reason (Headers label) c = reason.Header
 short_reason (Data label) c =
@@ -190,8 +190,8 @@ short_reason (Data label) c =
     else if list_all may_stand c then reason.Padding else reason.Letters
 short_reason (AfterChecksum label) c = if begins_with is_dash c then reason.EndLabel else reason.AfterChecksum
 
-abbrev pub reason_of : ℕ → Place → Line → Reason
-reason_of limit place l = if nat_lt limit (length l) then reason.LineTooLong else short_reason place (content l)
+abbrev pub reason_of : ℕ → Section → Line → Reason
+reason_of limit section l = if nat_lt limit (length l) then reason.LineTooLong else short_reason section (content l)
 
 -- The first line with which no armored text begins so.
 pub record LineFault (limit : ℕ) (text : List ℕ) (why : Reason) (block pos : ℕ) : Type 0 where
@@ -201,11 +201,11 @@ pub record LineFault (limit : ℕ) (text : List ℕ) (why : Reason) (block pos :
   pub are : lines text ≡ before ++ line ∷ after
   pub opens : Opens limit before
   pub refused : Opens limit (before ++ line ∷ []) → ⊥
-  pub why_is : why ≡ reason_of limit (situation before).place line
+  pub why_is : why ≡ reason_of limit (situation before).section line
   pub block_is : block ≡ (situation before).finished
   pub pos_is : pos ≡ offset before
 
-abbrev pub end_reason : Place → Reason
+abbrev pub end_reason : Section → Reason
 end_reason Outside = reason.NoBlock
 end_reason (Headers label) = reason.Unfinished
 end_reason (Data label) = reason.Unfinished
@@ -215,7 +215,7 @@ end_reason (AfterChecksum label) = reason.Unfinished
 pub record EndFault (limit : ℕ) (text : List ℕ) (why : Reason) (block pos : ℕ) : Type 0 where
   pub opens : Opens limit (lines text)
   pub refused : (blocks : List Block) → Armored limit text blocks → ⊥
-  pub why_is : why ≡ end_reason (situation (lines text)).place
+  pub why_is : why ≡ end_reason (situation (lines text)).section
   pub block_is : block ≡ (situation (lines text)).finished
   pub pos_is : pos ≡ length text
 
@@ -223,7 +223,7 @@ abbrev pub ArmorFault : ℕ → List ℕ → Reason → ℕ → ℕ → Type 0
 ArmorFault limit text why block pos = LineFault limit text why block pos ⊎ EndFault limit text why block pos
 
 -- The fault of a text, as it is answered.
-pub record IsFault (limit : ℕ) (text : List ℕ) (f : Fault) : Type 0 where
+pub record IsArmorFault (limit : ℕ) (text : List ℕ) (f : Fault) : Type 0 where
   pub layer_is : f.layer ≡ layer.Armor
   pub inner_is : f.inner ≡ 0
   pub found : ArmorFault limit text f.reason f.block f.pos

@@ -4,7 +4,7 @@ use Rattle.std.specs.declared.alloc.Global.{Global}
 use Rattle.opgp_armor.specs.declared.block.Block.{Block as StoredBlock}
 use Rattle.opgp_armor.specs.declared.dearmoring.Building.{Building}
 use Rattle.opgp_armor.specs.Armored.{Block}
-use Rattle.opgp_armor.specs.Machine.{Built}
+use Rattle.opgp_armor.specs.Events.{Built}
 
 -- a header as it is stored: its key and its value
 abbrev pub StoredHeader : Type 0

@@ -45,6 +45,10 @@ groups_of letters = take (4 * (length letters / 4)) letters
 abbrev pub rest_of : List ℕ → List ℕ
 rest_of letters = drop (4 * (length letters / 4)) letters
 
+-- what stands behind whole groups can't: letters alone can, and nothing behind padding
+abbrev pub spoils : List ℕ → Bool → Bool
+spoils rest padded = not (list_all is_letter rest) || (padded && nat_lt 0 (length rest))
+
 -- what whole groups give, and then the letters that wait
 abbrev pub after_groups : List ℕ → Option (List ℕ) → Result (Pending × List ℕ) Reason
 after_groups rest None = Err reason.Padding

@@ -2,22 +2,22 @@
 #![tactic(auto)]
 
 mod block;
+
 mod dearmoring;
 mod event;
 mod label;
 pub mod laws;
 mod letters;
 mod lines;
-mod place;
+mod pending;
 mod reader;
 mod refusal;
-#[cfg(test)]
-mod tests;
+mod section;
 mod writing;
 
 pub use block::Block;
+pub use reader::Dearmor;
 pub use dearmoring::dearmor;
 pub use event::ArmorEvent;
 pub use label::Label;
-pub use reader::Dearmor;
 pub use writing::armor;

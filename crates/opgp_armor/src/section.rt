@@ -3,8 +3,8 @@
 use crate::label::Label;
 
 /// Where a line stands: outside of all blocks, or in a part of a block with that label.
-#[derive(Clone, Copy, Debug, PartialEq, Eq)]
-pub enum Place {
+#[derive(Clone, Copy)]
+pub(crate) enum Section {
     Outside,
     Headers(Label),
     Data(Label),

@@ -1,5 +1,5 @@
 -- Which octets a reader has been given, and which events were taken from it.
-use Rattle.std.specs.Prelude.{◌≡◌, ℕ, ◌+◌, Bool, false, List, [], ◌∷◌, ◌++◌, length, is_some}
+use Rattle.std.specs.Prelude.{◌≡◌, ℕ, ◌+◌, ◌<◌, Bool, false, List, [], ◌∷◌, ◌++◌, length, take, is_some}
 use Rattle.std.specs.declared.option.Option.{Option}
 use Rattle.std.specs.declared.option.Option.TheVariants.{None, Some}
 use Rattle.std.specs.declared.result.Result.TheVariants.{Ok, Err}
@@ -9,11 +9,11 @@ use Rattle.opgp_octets.specs.declared.fault.Layer.TheVariants as layer
 use Rattle.opgp_octets.specs.declared.fault.Reason.TheVariants as reason
 use Rattle.opgp_armor.specs.declared.reader.Dearmor.{Dearmor}
 use Rattle.opgp_armor.specs.Text.{Line, offset}
-use Rattle.opgp_armor.specs.Machine.{Event, Answer, Run, run, step, built}
-use Rattle.opgp_armor.specs.Events.{events_of, state_of}
-use Rattle.opgp_armor.specs.Ends.{ends_in}
+use Rattle.opgp_armor.specs.Events.{Event, built, events_of, ends_in, octets_held}
+use Rattle.opgp_armor.specs.Machine.{Answer, Run, run, step}
+use Rattle.opgp_armor.specs.LineAnswer.{pending_of, state_of}
 use Rattle.opgp_armor.specs.Cuts.{cut, lines_ended, kept}
-use Rattle.opgp_armor.specs.Held.{octets_held}
+use Rattle.opgp_armor.specs.Shown.{Shown}
 
 -- the most octets of a line
 abbrev pub line_limit_of : Dearmor → ℕ
@@ -40,8 +40,8 @@ abbrev pub fault_of : Dearmor → Option Fault
 fault_of d = d.fault
 
 -- the octets that the reader keeps
-abbrev pub held_by : Dearmor → ℕ
-held_by d = octets_held d.buffer.items d.letters.items d.ready
+abbrev pub held_of : Dearmor → ℕ
+held_of d = octets_held d.buffer.items (pending_of d.pending).letters d.ready
 
 -- what a reader that is spent answers in the end
 abbrev pub spent_fault : Fault
@@ -51,9 +51,9 @@ spent_fault = record { layer = layer.Armor; reason = reason.Spent; block = 0; po
 pub record Going (d : Dearmor) (given : List ℕ) (taken : List Event) : Type 0 where
   pub last : Run
   pub ran : run d.limit (lines_ended d.ended given) ≡ Ok last
-  pub state : last.state ≡ state_of d.place d.letters.items d.padded
+  pub state : last.state ≡ state_of d.section d.pending
   pub events : last.events ≡ taken ++ events_of d.ready
-  pub buffered : d.ended ≡ false → d.buffer.items ≡ kept d.limit d.place (cut given).tail
+  pub buffered : d.ended ≡ false → d.buffer.items ≡ kept d.limit d.section (cut given).tail
   pub begins : d.ended ≡ false → d.start ≡ offset (cut given).ended
   pub finished : d.finished ≡ length (built last.events).blocks
 
@@ -83,6 +83,22 @@ pub record Fed (d : Dearmor) (given : List ℕ) (taken : List Event) : Type 0 wh
   pub count : d.given ≡ length given
   pub stands : Stands d d.fault given taken
 
+-- whatever the old reader was given and had handed out, the new one was given these octets more and has handed out
+-- these events more
+abbrev pub KeepsFed : Dearmor → Dearmor → List ℕ → List Event → Type 0
+KeepsFed old new octets events =
+    (given : List ℕ) (taken : List Event) → Fed old given taken → Fed new (given ++ octets) (taken ++ events)
+
+-- fewer than n octets of the piece show no event more than those that were taken
+abbrev pub IsQuiet : Dearmor → List ℕ → ℕ → Type 0
+IsQuiet d piece n = (k : ℕ) → k < n → (given : List ℕ) (taken : List Event) → Fed d given taken
+    → Shown (line_limit_of d) (lines_ended false (given ++ take k piece)) taken
+
+-- the events that were taken, and what is ready
+abbrev pub events_so_far : Dearmor → List Event → List Event
+events_so_far d taken = taken ++ events_of d.ready
+
+-- ---- the end of a line
 -- what stays as a line ends
 pub record SameReader (old new : Dearmor) : Type 0 where
   pub limit : line_limit_of new ≡ line_limit_of old
@@ -90,12 +106,11 @@ pub record SameReader (old new : Dearmor) : Type 0 where
   pub spent : is_spent new ≡ is_spent old
   pub ended : has_ended new ≡ has_ended old
 
--- the buffered line was answered so
+-- a line was answered so
 abbrev pub AfterLine : Dearmor → Dearmor → Answer → Type 0
-AfterLine old new (Ok (s, more)) = (s ≡ state_of new.place new.letters.items new.padded) × (more ≡ events_of new.ready) × (new.fault ≡ None)
+AfterLine old new (Ok (s, more)) =
+    (s ≡ state_of new.section new.pending) × (more ≡ events_of new.ready) × (new.fault ≡ None)
     × (new.finished ≡ old.finished + ends_in more) × (new.buffer.items ≡ []) × (new.start ≡ old.given)
-AfterLine old new (Err e) = (new.fault ≡ Some (record { layer = layer.Armor; reason = e; block = old.finished; pos = old.start; inner = 0 })) × (new.ready ≡ None)
-
--- the events that were taken, and what is ready
-abbrev pub events_so_far : Dearmor → List Event → List Event
-events_so_far d taken = taken ++ events_of d.ready
+AfterLine old new (Err e) =
+    (new.fault ≡ Some (record { layer = layer.Armor; reason = e; block = old.finished; pos = old.start; inner = 0 }))
+    × (new.ready ≡ None)

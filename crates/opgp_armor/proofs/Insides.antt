@@ -46,3 +46,10 @@ after_dash k p (x ∷ c) h e = rw e refl
 pub after_other : (k : Label) (p : Pending) (c : List ℕ) → length c ≢ 0 → slice_index c 0 ≢ 45 → inside (AfterChecksum k) p c ≡ Err reason.AfterChecksum
 after_other k p [] h e = absurd (h refl)
 after_other k p (x ∷ c) h e = rw (ne_eqb x 45 e) refl
+
+-- the lines of each section
+pub ruleset header_lines = (headers_blank, headers_other)
+
+pub ruleset data_lines = (data_blank, data_waits, data_checksum, data_dash, data_other)
+
+pub ruleset after_lines = (after_blank, after_dash, after_other)

@@ -1,5 +1,6 @@
 -- The lines of a text that have ended, and what is kept of an unfinished one.
-use Rattle.std.specs.Prelude.{◌≡◌, ℕ, ◌==◌, ◌<◌, ◌≤◌, ◌+◌, Bool, true, false, not, if◌then◌else◌, List, [], ◌∷◌, ◌++◌, length, take}
+use Rattle.std.specs.Prelude.{◌≡◌, ℕ, ◌==◌, ◌<◌, ◌≤◌, ◌+◌, Bool, true, false, not, if◌then◌else◌}
+use Rattle.std.specs.Prelude.{List, [], ◌∷◌, ◌++◌, length, take}
 use Rattle.std.specs.List.{fold, list_all}
 use Rattle.opgp_armor.specs.declared.section.Section.{Section}
 use Rattle.opgp_armor.specs.Text.{Line, lines}

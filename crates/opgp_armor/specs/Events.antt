@@ -27,8 +27,8 @@ abbrev pub events_of : Option ArmorEvent → List Event
 events_of None = []
 events_of (Some e) = event_of e ∷ []
 
--- Events in the order of blocks, behind an open block (true) or none (false): a block begins where none is open, then
--- come its headers and octets, and it ends.
+-- Events in the order of blocks, behind an open block (true) or none (false): a block begins where
+-- none is open, then come its headers and octets, and it ends.
 abbrev pub AreInOrder : Bool → List Event → Type 0
 AreInOrder inside [] = Unit {0}
 AreInOrder false (Begin l ∷ es) = AreInOrder true es

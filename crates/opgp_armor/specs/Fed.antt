@@ -1,11 +1,13 @@
 -- Which octets a reader has been given, and which events were taken from it.
-use Rattle.std.specs.Prelude.{◌≡◌, ℕ, ◌+◌, ◌<◌, Bool, false, List, [], ◌∷◌, ◌++◌, length, take, is_some}
+use Rattle.std.specs.Prelude.{◌≡◌, ℕ, ◌+◌, ◌<◌, Bool, false, List, [], ◌∷◌, ◌++◌, length, take}
+use Rattle.std.specs.Prelude.{is_some}
 use Rattle.std.specs.declared.option.Option.{Option}
 use Rattle.std.specs.declared.option.Option.TheVariants.{None, Some}
 use Rattle.std.specs.declared.result.Result.TheVariants.{Ok, Err}
 use Rattle.opgp_octets.specs.Octets.{IsOctets}
 use Rattle.opgp_octets.specs.declared.fault.Fault.{Fault}
 use Rattle.opgp_octets.specs.declared.fault.Layer.TheVariants as layer
+use Rattle.opgp_octets.specs.declared.fault.Reason.{Reason}
 use Rattle.opgp_octets.specs.declared.fault.Reason.TheVariants as reason
 use Rattle.opgp_armor.specs.declared.reader.Dearmor.{Dearmor}
 use Rattle.opgp_armor.specs.Text.{Line, offset}
@@ -45,7 +47,8 @@ held_of d = octets_held d.buffer.items (pending_of d.pending).letters d.ready
 
 -- what a reader that is spent answers in the end
 abbrev pub spent_fault : Fault
-spent_fault = record { layer = layer.Armor; reason = reason.Spent; block = 0; pos = 0; inner = 0 }
+spent_fault =
+    record { layer = layer.Armor; reason = reason.Spent; block = 0; pos = 0; inner = 0 }
 
 -- The reader goes on: it stands where the run over the ended lines does.
 pub record Going (d : Dearmor) (given : List ℕ) (taken : List Event) : Type 0 where
@@ -58,7 +61,8 @@ pub record Going (d : Dearmor) (given : List ℕ) (taken : List Event) : Type 0 
   pub finished : d.finished ≡ length (built last.events).blocks
 
 -- The reader has met a line that the machine refuses.
-pub record Stopped (d : Dearmor) (fault : Fault) (given : List ℕ) (taken : List Event) : Type 0 where
+pub record Stopped (d : Dearmor) (fault : Fault) (given : List ℕ)
+    (taken : List Event) : Type 0 where
   pub before : List Line
   pub line : Line
   pub after : List Line
@@ -83,11 +87,12 @@ pub record Fed (d : Dearmor) (given : List ℕ) (taken : List Event) : Type 0 wh
   pub count : d.given ≡ length given
   pub stands : Stands d d.fault given taken
 
--- whatever the old reader was given and had handed out, the new one was given these octets more and has handed out
--- these events more
+-- whatever the old reader was given and had handed out, the new one was given these octets more and
+-- has handed out these events more
 abbrev pub KeepsFed : Dearmor → Dearmor → List ℕ → List Event → Type 0
 KeepsFed old new octets events =
-    (given : List ℕ) (taken : List Event) → Fed old given taken → Fed new (given ++ octets) (taken ++ events)
+    (given : List ℕ) (taken : List Event) → Fed old given taken
+    → Fed new (given ++ octets) (taken ++ events)
 
 -- fewer than n octets of the piece show no event more than those that were taken
 abbrev pub IsQuiet : Dearmor → List ℕ → ℕ → Type 0
@@ -99,6 +104,10 @@ abbrev pub events_so_far : Dearmor → List Event → List Event
 events_so_far d taken = taken ++ events_of d.ready
 
 -- ---- the end of a line
+abbrev pub fault_at : Reason → ℕ → ℕ → Fault
+fault_at why block pos =
+    record { layer = layer.Armor; reason = why; block = block; pos = pos; inner = 0 }
+
 -- what stays as a line ends
 pub record SameReader (old new : Dearmor) : Type 0 where
   pub limit : line_limit_of new ≡ line_limit_of old
@@ -110,7 +119,7 @@ pub record SameReader (old new : Dearmor) : Type 0 where
 abbrev pub AfterLine : Dearmor → Dearmor → Answer → Type 0
 AfterLine old new (Ok (s, more)) =
     (s ≡ state_of new.section new.pending) × (more ≡ events_of new.ready) × (new.fault ≡ None)
-    × (new.finished ≡ old.finished + ends_in more) × (new.buffer.items ≡ []) × (new.start ≡ old.given)
+    × (new.finished ≡ old.finished + ends_in more) × (new.buffer.items ≡ [])
+    × (new.start ≡ old.given)
 AfterLine old new (Err e) =
-    (new.fault ≡ Some (record { layer = layer.Armor; reason = e; block = old.finished; pos = old.start; inner = 0 }))
-    × (new.ready ≡ None)
+    (new.fault ≡ Some (fault_at e old.finished old.start)) × (new.ready ≡ None)

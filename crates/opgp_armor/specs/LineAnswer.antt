@@ -1,4 +1,4 @@
--- What functions answer for one line, against the machine: the same without where it lies in memory.
+-- What functions answer for one line, without where it lies in memory, against the machine.
 use Rattle.std.specs.Prelude.{◌≡◌, ℕ, List, [], take}
 use denote.Ref.{Bor}
 use Rattle.std.specs.declared.option.Option.{Option}

@@ -1,5 +1,6 @@
 -- Armor line by line: the plain definition that code follows.
-use Rattle.std.specs.Prelude.{ℕ, nat_eq, nat_lt, Bool, false, not, if◌then◌else◌, List, [], ◌∷◌, ◌++◌, length}
+use Rattle.std.specs.Prelude.{ℕ, nat_eq, nat_lt, Bool, false, not, if◌then◌else◌, List, [], ◌∷◌}
+use Rattle.std.specs.Prelude.{◌++◌, length}
 use Rattle.std.specs.List.{starts_with, fold}
 use Rattle.std.specs.Str.{bytes_eq}
 use Rattle.std.specs.declared.option.Option.{Option}
@@ -8,7 +9,8 @@ use Rattle.std.specs.declared.result.Result.{Result}
 use Rattle.std.specs.declared.result.Result.TheVariants.{Ok, Err}
 use Rattle.opgp_armor.specs.declared.label.Label.{Label}
 use Rattle.opgp_armor.specs.declared.section.Section.{Section}
-use Rattle.opgp_armor.specs.declared.section.Section.TheVariants.{Outside, Headers, Data, AfterChecksum}
+use Rattle.opgp_armor.specs.declared.section.Section.TheVariants.{Outside, Headers, Data}
+use Rattle.opgp_armor.specs.declared.section.Section.TheVariants.{AfterChecksum}
 use Rattle.opgp_octets.specs.declared.fault.Reason.{Reason}
 use Rattle.opgp_octets.specs.declared.fault.Reason.TheVariants as reason
 use Rattle.opgp_armor.specs.Letters.{is_equals, Pending, no_letters, data_line}
@@ -51,7 +53,8 @@ on_begin (Some l) = Ok (record { section = Headers l; pending = no_letters }, Be
 
 abbrev pub on_header : Label → Pending → Option (List ℕ × List ℕ) → Answer
 on_header l p None = Err reason.Header
-on_header l p (Some (key, value)) = Ok (record { section = Headers l; pending = p }, Header key value ∷ [])
+on_header l p (Some (key, value)) =
+    Ok (record { section = Headers l; pending = p }, Header key value ∷ [])
 
 abbrev pub some_octets : List ℕ → List Event
 some_octets [] = []
@@ -78,11 +81,15 @@ inside (Headers l) p [] = Ok (record { section = Data l; pending = p }, [])
 inside (Headers l) p (c ∷ cs) = on_header l p (header_of (c ∷ cs))
 inside (Data l) p [] = Ok (record { section = Data l; pending = p }, [])
 inside (Data l) p (c ∷ cs) =
-    if is_equals c then (if waits p then Err reason.Padding else Ok (record { section = AfterChecksum l; pending = p }, []))
+    if is_equals c then (
+      if waits p then Err reason.Padding
+      else Ok (record { section = AfterChecksum l; pending = p }, [])
+    )
     else if is_dash c then closing l p (c ∷ cs)
     else on_letters l (data_line p (c ∷ cs))
 inside (AfterChecksum l) p [] = Ok (record { section = AfterChecksum l; pending = p }, [])
-inside (AfterChecksum l) p (c ∷ cs) = if is_dash c then closing l p (c ∷ cs) else Err reason.AfterChecksum
+inside (AfterChecksum l) p (c ∷ cs) =
+    if is_dash c then closing l p (c ∷ cs) else Err reason.AfterChecksum
 
 -- the line lies outside of all blocks
 abbrev pub passes_by : Section → Line → Bool

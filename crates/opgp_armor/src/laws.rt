@@ -1,6 +1,7 @@
 //! Laws of armor: what the definitions say of each other, and what holds of every reader.
 
-ghost use Rattle.std.specs.Prelude.{◌≡◌, ◌+◌, ◌≤◌, ◌⊎◌, ◌++◌, ◌∷◌, [], ℕ, List, Some, false, length, sum_by};
+ghost use Rattle.std.specs.Prelude.{◌≡◌, ◌+◌, ◌≤◌, ◌⊎◌, ◌++◌, ◌∷◌, [], ℕ, List, Some, false};
+ghost use Rattle.std.specs.Prelude.{length, sum_by};
 ghost use Rattle.std.specs.List.{AllByRecursion};
 ghost use Rattle.opgp_octets.specs.Octets.{IsOctets};
 ghost use Rattle.opgp_octets.specs.declared.fault.Fault.{Fault};
@@ -15,14 +16,14 @@ ghost use Rattle.opgp_armor.specs.Written.{AreWithin, AreWritable, armor_text};
 
 /// A text has at most one list of blocks.
 pub fn one_list()
-    ensures { (limit : ℕ) (text : List ℕ) (a b : List Block) → Armored limit text a → Armored limit text b
-        → a ≡ b }
+    ensures { (limit : ℕ) (text : List ℕ) (a b : List Block) → Armored limit text a
+        → Armored limit text b → a ≡ b }
 {}
 
 /// A text has at most one fault.
 pub fn one_fault()
-    ensures { (limit : ℕ) (text : List ℕ) (f g : Fault) → IsArmorFault limit text f → IsArmorFault limit text g
-        → f ≡ g }
+    ensures { (limit : ℕ) (text : List ℕ) (f g : Fault) → IsArmorFault limit text f
+        → IsArmorFault limit text g → f ≡ g }
 {}
 
 /// An armored text has no fault.
@@ -34,7 +35,8 @@ pub fn no_fault()
 /// A text that isn't armored has a fault.
 pub fn some_answer()
     ensures { (limit : ℕ) (text : List ℕ) → 128 ≤ limit → IsOctets text
-        → ((blocks : List Block) × Armored limit text blocks) ⊎ ((f : Fault) × IsArmorFault limit text f) }
+        → ((blocks : List Block) × Armored limit text blocks)
+        ⊎ ((f : Fault) × IsArmorFault limit text f) }
 {}
 
 /// The octets of blocks are octets.
@@ -43,8 +45,8 @@ pub fn blocks_hold_octets()
         → AllByRecursion (λ b. IsOctets b.octets) blocks }
 {}
 
-/// However a text is cut into pieces, what was taken and what is ready are the events of the longest
-/// list of first ended lines with which an armored text begins.
+/// However a text is cut into pieces, what was taken and what is ready are the events of the
+/// longest list of first ended lines with which an armored text begins.
 pub fn events_are_those_of_the_longest_opening()
     ensures { (d : Dearmor) (given : List ℕ) (taken : List Event) → Fed d given taken
         → Shown (line_limit_of d) (lines_ended (has_ended d) given) (events_so_far d taken) }
@@ -52,11 +54,12 @@ pub fn events_are_those_of_the_longest_opening()
 
 /// Lines have at most one list of events.
 pub fn one_list_of_events()
-    ensures { (limit : ℕ) (ls : List (List ℕ)) (a b : List Event) → Shown limit ls a → Shown limit ls b
-        → a ≡ b }
+    ensures { (limit : ℕ) (ls : List (List ℕ)) (a b : List Event) → Shown limit ls a
+        → Shown limit ls b → a ≡ b }
 {}
 
-/// What was taken and what is ready come in the order of blocks: a begin line, its headers, its octets, its end line.
+/// What was taken and what is ready come in the order of blocks: a begin line, its headers, its
+/// octets, its end line.
 pub fn events_are_in_order()
     ensures { (d : Dearmor) (given : List ℕ) (taken : List Event) → Fed d given taken
         → AreInOrder false (events_so_far d taken) }
@@ -68,13 +71,15 @@ pub fn events_have_no_more_octets_than_given()
         → event_octets (events_so_far d taken) ≤ length given }
 {}
 
-/// The octets of the open block, and of the events behind those that built it, are no more than the octets given.
+/// The octets of the open block, and of the events behind those that built it, are no more than the
+/// octets given.
 pub fn no_more_octets_than_given()
     ensures { (d : Dearmor) (given : List ℕ) (taken more : List Event) → Fed d given (taken ++ more)
         → length (built taken).octets + event_octets more ≤ length given }
 {}
 
-/// The octets of the blocks that events build, the open one among them, are no more than those of the events.
+/// The octets of the blocks that events build, the open one among them, are no more than those of
+/// the events.
 pub fn blocks_have_no_more_octets_than_events()
     ensures { (events : List Event) → sum_by (λ b. length b.octets) (built events).blocks
         + length (built events).octets ≤ event_octets events }

@@ -1,6 +1,7 @@
 //! The letters of a block's data lines.
 
-ghost use Rattle.std.specs.Prelude.{◌≡◌, ◌++◌, ℕ, List, true, false, if◌then◌else◌, length, Ok, IfOk, IfErr};
+ghost use Rattle.std.specs.Prelude.{◌≡◌, ◌++◌, ℕ, List, true, false, if◌then◌else◌, length, Ok};
+ghost use Rattle.std.specs.Prelude.{IfOk, IfErr};
 ghost use Rattle.std.specs.List.{list_all};
 ghost use Rattle.base64.specs.Engines.{standard};
 ghost use Rattle.base64.specs.GeneralPurpose.{decode_of, IsBytes, IsDecodeFailure};
@@ -48,7 +49,8 @@ fn all_stand(content: &[u8]) -> bool
 
 /// Why a data line is refused: for an octet that is no letter, else for its padding.
 fn refused(content: &[u8]) -> Reason
-    ensures { result ≡ (if list_all may_stand content.now then Reason.Padding else Reason.Letters) }
+    ensures { result ≡
+        (if list_all may_stand content.now then Reason.Padding else Reason.Letters) }
 {
     if all_stand(content) {
         Reason::Padding
@@ -75,10 +77,11 @@ fn decoded(alloc: Global, groups: &[u8]) -> Result<Vec<u8>, DecodeAllocError>
     STANDARD.decode(alloc, groups)
 }
 
-/// What a line gives, where all of its letters and of those before it are these, and no group was padded.
+/// What a line gives, where these are the letters that waited and its own, and no group was padded.
 fn groups_of_letters(alloc: Global, all: &[u8], content: &[u8]) -> Result<Letters, Refusal>
-    ensures { (letters : List ℕ) → list_all is_letter letters ≡ true → all.now ≡ letters ++ content.now
-        → AnswersLetters result (data_line (record { letters = letters; padded = false }) content.now) }
+    ensures { (letters : List ℕ) → list_all is_letter letters ≡ true
+        → all.now ≡ letters ++ content.now → AnswersLetters result
+        (data_line (record { letters = letters; padded = false }) content.now) }
 {
     let (groups, rest) = all.split_at(4 * (all.len() / 4));
     match decoded(alloc, groups) {

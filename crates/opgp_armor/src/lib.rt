@@ -1,4 +1,4 @@
-//! ASCII armor (RFC 9580, section 6): armored blocks among other text, read in any pieces, and written.
+//! ASCII armor (RFC 9580, 6): armored blocks among other text, read in any pieces, and written.
 #![tactic(auto)]
 
 mod block;

@@ -1,13 +1,16 @@
 //! The lines of armor.
 
-ghost use Rattle.std.specs.Prelude.{◌≡◌, ◌+◌, ◌^◌, ◌<◌, ◌≤◌, ℕ, List, [], ◌∷◌, ◌++◌, true, nat_eq, length, take, not, Some, None, Ok, Err};
+ghost use Rattle.std.specs.Prelude.{◌≡◌, ◌+◌, ◌^◌, ◌<◌, ◌≤◌, ℕ, List, [], ◌∷◌, ◌++◌, true, nat_eq};
+ghost use Rattle.std.specs.Prelude.{length, take, not, Some, None, Ok, Err};
 ghost use Rattle.std.specs.Str.{bytes_eq};
 ghost use Rattle.std.specs.List.{starts_with};
 ghost use Rattle.opgp_armor.specs.Letters.{data_line};
 ghost use Rattle.opgp_armor.specs.Text.{content, begin_line, end_line, begin_mark, is_trailing};
 ghost use Rattle.opgp_armor.specs.Armored.{label_at};
-ghost use Rattle.opgp_armor.specs.Machine.{without_space, header_of, closing, inside, on_begin, on_header, on_letters, passes_by, step};
-ghost use Rattle.opgp_armor.specs.declared.section.Section.TheVariants.{Headers, Data, AfterChecksum};
+ghost use Rattle.opgp_armor.specs.Machine.{without_space, header_of, closing, inside, on_begin};
+ghost use Rattle.opgp_armor.specs.Machine.{on_header, on_letters, passes_by, step};
+ghost use Rattle.opgp_armor.specs.declared.section.Section.TheVariants.{Headers, Data};
+ghost use Rattle.opgp_armor.specs.declared.section.Section.TheVariants.{AfterChecksum};
 ghost use Rattle.opgp_armor.specs.LineAnswer.{pending_of, state_of, header_view, IsAnswer};
 
 use crate::event::ArmorEvent;
@@ -188,7 +191,7 @@ fn begin(content: &[u8]) -> Result<Reaction, Refusal>
 }
 
 /// What a line among the headers does.
-#[tactic(auto, using(crate::proofs::Insides::headers_blank, crate::proofs::Insides::headers_other))]
+#[tactic(auto, using(crate::proofs::Insides::header_lines))]
 fn in_headers(
     alloc: Global,
     label: Label,
@@ -205,7 +208,7 @@ fn in_headers(
 }
 
 /// What a line among the data does.
-#[tactic(auto, using(crate::proofs::Insides::data_blank, crate::proofs::Insides::data_waits, crate::proofs::Insides::data_checksum, crate::proofs::Insides::data_dash, crate::proofs::Insides::data_other))]
+#[tactic(auto, using(crate::proofs::Insides::data_lines))]
 fn in_data(
     alloc: Global,
     label: Label,
@@ -230,7 +233,7 @@ fn in_data(
 }
 
 /// What a line after a checksum line does.
-#[tactic(auto, using(crate::proofs::Insides::after_blank, crate::proofs::Insides::after_dash, crate::proofs::Insides::after_other))]
+#[tactic(auto, using(crate::proofs::Insides::after_lines))]
 fn after_checksum(label: Label, pending: Pending, content: &[u8]) -> Result<Reaction, Refusal>
     ensures { IsAnswer result (inside (AfterChecksum label) (pending_of pending) content.now) }
 {

@@ -4,7 +4,8 @@ ghost use Rattle.std.specs.Prelude.{◌≡◌, ◌≤◌, ◌<◌, take, length,
 ghost use Rattle.std.specs.List.{list_all};
 ghost use Rattle.opgp_armor.specs.Letters.{is_letter};
 
-/// The letters behind the last whole group of a block (at most three), and whether a group was padded.
+/// The letters behind the last whole group of a block, at most three, and whether a group was
+/// padded.
 #[derive(Clone, Copy)]
 pub(crate) struct Pending {
     letters: [u8; 3],

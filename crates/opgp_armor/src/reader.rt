@@ -1,6 +1,8 @@
 //! A reader of armor that takes a text in any pieces.
 
-ghost use Rattle.std.specs.Prelude.{◌≡◌, ◌+◌, ◌-◌, ◌^◌, ◌<◌, ◌≤◌, ◌↔◌, ℕ, List, [], ◌++◌, true, false, is_some, length, take, Some, None, Ok, Err, IfOk, OnOk, OnErr, MatchOption, MatchResult};
+ghost use Rattle.std.specs.Prelude.{◌≡◌, ◌+◌, ◌-◌, ◌^◌, ◌<◌, ◌≤◌, ◌↔◌, ℕ, List, [], ◌++◌, true};
+ghost use Rattle.std.specs.Prelude.{false, is_some, length, take, Some, None, Ok, Err, IfOk, OnOk};
+ghost use Rattle.std.specs.Prelude.{OnErr, MatchOption, MatchResult};
 ghost use Rattle.opgp_armor.specs.Armored.{end_reason};
 ghost use Rattle.opgp_armor.specs.Events.{events_of, ends_in, octets_held};
 ghost use Rattle.opgp_armor.specs.Machine.{step};
@@ -18,7 +20,8 @@ use opgp_octets::{Fault, Layer, Limits, OutOfMemory, PushFault, Reason};
 use std::alloc::{AllocError, Global};
 use std::mem;
 
-/// A reader of armored text (RFC 9580, 6.2), which takes it in any pieces and hands out one event at a time.
+/// A reader of armored text (RFC 9580, 6.2), which takes it in any pieces and hands out one event
+/// at a time.
 ///
 /// It keeps an unfinished line, at most three letters, and the event that is ready.
 #[derive(Drop)]
@@ -72,7 +75,12 @@ fn keep_outside(buffer: &mut Vec<u8>, limit: usize, part: &[u8]) -> Result<(), O
 }
 
 /// Keeps what is needed of an unfinished line, whose next octets are these.
-fn keep(buffer: &mut Vec<u8>, limit: usize, section: Section, part: &[u8]) -> Result<(), OutOfMemory>
+fn keep(
+    buffer: &mut Vec<u8>,
+    limit: usize,
+    section: Section,
+    part: &[u8],
+) -> Result<(), OutOfMemory>
     requires low { 128 ≤ limit }
     requires high { limit ≤ 1048576 }
     ensures kept { OnOk result ((tail : List ℕ) → buffer.old.items ≡ kept limit section tail
@@ -100,7 +108,8 @@ fn ended_blocks(event: &Option<ArmorEvent>) -> u64
     }
 }
 
-/// The octets before the first line end, how many that is with the line end, and whether it is there.
+/// The octets before the first line end, how many that is with the line end, and whether there is
+/// one.
 fn split_line(rest: &[u8]) -> (&[u8], usize, bool)
     requires { 0 < length rest.now }
     ensures split { IsLineSplit rest.now result.0.now result.1 result.2 }
@@ -126,7 +135,9 @@ fn end_of_text(section: Section, finished: u64) -> Option<Reason>
                 None
             }
         }
-        Section::Headers(_) | Section::Data(_) | Section::AfterChecksum(_) => Some(Reason::Unfinished),
+        Section::Headers(_) | Section::Data(_) | Section::AfterChecksum(_) => {
+            Some(Reason::Unfinished)
+        }
     }
 }
 
@@ -135,7 +146,9 @@ impl Dearmor {
     ghost use Rattle.opgp_octets.specs.declared.fault.Fault.{Fault};
     ghost use Rattle.opgp_armor.specs.Armored.{Armored, IsArmorFault};
     ghost use Rattle.opgp_armor.specs.Events.{Event, built};
-    ghost use Rattle.opgp_armor.specs.Fed.{Fed, KeepsFed, IsQuiet, AfterLine, SameReader, line_limit_of, is_ready, count_of, is_spent, has_ended, fault_of, held_of, spent_fault};
+    ghost use Rattle.opgp_armor.specs.Fed.{Fed, KeepsFed, IsQuiet, AfterLine, SameReader};
+    ghost use Rattle.opgp_armor.specs.Fed.{line_limit_of, is_ready, count_of, is_spent, has_ended};
+    ghost use Rattle.opgp_armor.specs.Fed.{fault_of, held_of, spent_fault};
 
     /// A reader that was given nothing. Lines have at most as many octets as the limits say.
     ///
@@ -249,7 +262,8 @@ impl Dearmor {
         requires room { self.old.finished < self.old.given }
         ensures same { SameReader self.old self.new }
         ensures line { OnOk result (AfterLine self.old self.new
-            (step self.old.limit (state_of self.old.section self.old.pending) self.old.buffer.items)) }
+            (step self.old.limit (state_of self.old.section self.old.pending)
+            self.old.buffer.items)) }
         ensures free { OnErr result (self.new.ready ≡ None) }
     {
         let mut line = mem::replace(&mut self.buffer, Vec::new(self.alloc));
@@ -259,7 +273,8 @@ impl Dearmor {
         Ok(())
     }
 
-    /// Takes the octets up to the first line end, or all, and ends that line; after a fault takes all.
+    /// Takes the octets up to the first line end, or all, and ends that line; after a fault takes
+    /// all.
     fn part(&mut self, rest: &[u8]) -> Result<usize, OutOfMemory>
         requires some { 0 < length rest.now }
         requires free { self.old.ready ≡ None }
@@ -273,7 +288,8 @@ impl Dearmor {
         ensures limits { self.new.limit ≡ self.old.limit }
         ensures free { OnErr result (self.new.ready ≡ None) }
         ensures faulty { (f : Fault) → self.old.fault ≡ Some f
-            → (result ≡ Ok (length rest.now)) × (self.new.fault ≡ Some f) × (self.new.ready ≡ None) }
+            → (result ≡ Ok (length rest.now)) × (self.new.fault ≡ Some f)
+            × (self.new.ready ≡ None) }
         ensures quiet { IfOk result (IsQuiet self.old rest.now) }
     {
         if self.fault.is_some() {
@@ -308,12 +324,12 @@ impl Dearmor {
         self.spent = true;
     }
 
-    /// Takes the first octets of the piece, up to the one that makes an event ready, or all of it, and answers how many.
-    /// The conditions are that nothing is ready, that the text hasn't ended, and that fewer than 2^63 octets are given
-    /// in all.
+    /// Takes the first octets of the piece, up to the one that makes an event ready, or all of it,
+    /// and answers how many. The conditions are that nothing is ready, that the text hasn't ended,
+    /// and that fewer than 2^63 octets are given in all.
     ///
-    /// After a fault all octets are taken and nothing becomes ready. An error is want of memory; the reader is spent
-    /// from then on, and the piece doesn't count as given.
+    /// After a fault all octets are taken and nothing becomes ready. An error is want of memory;
+    /// the reader is spent from then on, and the piece doesn't count as given.
     pub fn push(&mut self, piece: &[u8]) -> Result<usize, PushFault>
         requires free { is_ready self.old ≡ false }
         requires open { has_ended self.old ≡ false }
@@ -324,7 +340,8 @@ impl Dearmor {
         ensures stops { IfOk result (λ n. n < length piece.now → is_ready self.new ≡ true) }
         ensures count { IfOk result (λ n. count_of self.new ≡ count_of self.old + n) }
         ensures faulty { (f : Fault) → is_spent self.old ≡ false → fault_of self.old ≡ Some f
-            → (result ≡ Ok (length piece.now)) × (fault_of self.new ≡ Some f) × (is_ready self.new ≡ false) }
+            → (result ≡ Ok (length piece.now)) × (fault_of self.new ≡ Some f)
+            × (is_ready self.new ≡ false) }
         ensures sound { OnOk result (is_spent self.new ≡ false) }
         ensures spent { OnErr result ((is_spent self.new ≡ true) × (is_ready self.new ≡ false)
             × (count_of self.new ≡ count_of self.old)) }
@@ -333,7 +350,7 @@ impl Dearmor {
         ensures held { held_of self.new ≤ line_limit_of self.new + 16 }
         ensures open { has_ended self.new ≡ false }
 
-        // Where no event gets ready, an octet too few shows none: what is ready was made by the last octet taken.
+        // It stops no later than at the octet that makes an event ready.
         ensures quiet { IfOk result (IsQuiet self.old piece.now) }
     {
         if self.spent {
@@ -359,7 +376,8 @@ impl Dearmor {
     fn end_last(&mut self) -> Result<(), OutOfMemory>
         requires free { self.old.ready ≡ None }
         requires open { self.old.ended ≡ false }
-        ensures fed { OnOk result ((given : List ℕ) (taken : List Event) → Fed self.old given taken → Fed self.new given taken) }
+        ensures fed { OnOk result ((given : List ℕ) (taken : List Event)
+            → Fed self.old given taken → Fed self.new given taken) }
         ensures count { self.new.given ≡ self.old.given }
         ensures spent { self.new.spent ≡ self.old.spent }
         ensures ended { self.new.ended ≡ true }
@@ -376,8 +394,8 @@ impl Dearmor {
         Ok(())
     }
 
-    /// Ends the text, and with it a last line that has no line end, and hands out the event that this
-    /// line makes. The conditions are that nothing is ready and that the text hasn't ended.
+    /// Ends the text, and with it a last line that has no line end, and hands out the event that
+    /// this line makes. The conditions are that nothing is ready and that the text hasn't ended.
     ///
     /// An error is want of memory; the reader is spent from then on.
     pub fn last(&mut self) -> Result<Option<ArmorEvent>, PushFault>
@@ -409,10 +427,11 @@ impl Dearmor {
         }
     }
 
-    /// Ends the reading: the events that were taken are those of an armored text. The conditions are that nothing is
-    /// ready and that the text has ended.
+    /// Ends the reading: the events that were taken are those of an armored text. The conditions
+    /// are that nothing is ready and that the text has ended.
     ///
-    /// An error is the fault of the text; after want of memory its reason is `Spent` and its places are 0.
+    /// An error is the fault of the text; after want of memory its reason is `Spent` and its places
+    /// are 0.
     ///
     /// Takes no memory.
     pub fn finish(self) -> Result<(), Fault>
@@ -421,7 +440,8 @@ impl Dearmor {
         ensures ok { (given : List ℕ) (taken : List Event) → Fed self given taken
             → MatchResult result (λ _. Armored (line_limit_of self) given (built taken).blocks)
             (IsArmorFault (line_limit_of self) given) }
-        ensures faulty { (f : Fault) → is_spent self ≡ false → fault_of self ≡ Some f → result ≡ Err f }
+        ensures faulty { (f : Fault) → is_spent self ≡ false → fault_of self ≡ Some f
+            → result ≡ Err f }
         ensures spent { is_spent self ≡ true → result ≡ Err spent_fault }
     {
         if self.spent {

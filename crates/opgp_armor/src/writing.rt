@@ -5,7 +5,8 @@ ghost use Rattle.opgp_armor.specs.Armored.{Armored};
 ghost use Rattle.opgp_armor.specs.Blocks.{headers_of};
 ghost use Rattle.opgp_armor.specs.Text.{begin_line, end_line};
 ghost use Rattle.opgp_armor.specs.Letters.{base64_of};
-ghost use Rattle.opgp_armor.specs.Written.{AreWithin, AreWritable, armor_text, header_line, letter_lines, text_of};
+ghost use Rattle.opgp_armor.specs.Written.{AreWithin, AreWritable, armor_text, header_line};
+ghost use Rattle.opgp_armor.specs.Written.{letter_lines, text_of};
 
 use crate::label::Label;
 use base64::engine::general_purpose::STANDARD;
@@ -81,10 +82,12 @@ fn text_size(label: Label, headers: &[(Vec<u8>, Vec<u8>)], octets: &[u8]) -> usi
     size.saturating_add(letters).saturating_add(octets.len().div_ceil(48))
 }
 
-/// One block as an armored text (RFC 9580, 6.2): 64 letters a line, lines that end in a line feed, no checksum.
+/// One block as an armored text (RFC 9580, 6.2): 64 letters a line, lines that end in a line feed,
+/// no checksum.
 ///
-/// A header's key isn't empty and has neither a colon nor a line feed; its value has no line feed and
-/// doesn't end in a space, a tab or a carriage return.
+/// The condition is that each header can be written: its key isn't empty and has neither a colon
+/// nor a line feed, and its value has no line feed and doesn't end in a space, a tab or a carriage
+/// return.
 ///
 /// The text is a vector of its own, which is reserved once. An error is want of memory.
 pub fn armor(
@@ -94,9 +97,10 @@ pub fn armor(
     octets: &[u8],
 ) -> Result<Vec<u8>, OutOfMemory>
     requires { AreWritable (headers_of headers.now) }
-    ensures text { IfOk result (λ text. text.items ≡ armor_text label (headers_of headers.now) octets.now) }
-    ensures block { IfOk result (λ text. (limit : ℕ) → 128 ≤ limit → AreWithin limit (headers_of headers.now)
-        → Armored limit text.items
+    ensures text { IfOk result (λ text.
+        text.items ≡ armor_text label (headers_of headers.now) octets.now) }
+    ensures block { IfOk result (λ text. (limit : ℕ) → 128 ≤ limit
+        → AreWithin limit (headers_of headers.now) → Armored limit text.items
         (record { label = label; headers = headers_of headers.now; octets = octets.now } ∷ [])) }
 {
     let mut text = Vec::new(alloc);

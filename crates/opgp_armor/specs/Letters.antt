@@ -57,7 +57,7 @@ abbrev pub after_groups : List ℕ → Option (List ℕ) → Result (Pending × 
 after_groups rest None = Err reason.Padding
 after_groups rest (Some octets) =
     if not (list_all is_octet octets) || list_any is_equals rest
-        || (not (length octets % 3 == 0) && nat_lt 0 (length rest))
+    || (not (length octets % 3 == 0) && nat_lt 0 (length rest))
     then Err reason.Padding
     else Ok (record { letters = rest; padded = not (length octets % 3 == 0) }, octets)
 
@@ -67,8 +67,8 @@ data_line p content =
     if not (list_all may_stand content) then Err reason.Letters
     else if p.padded then Err reason.Padding
     else
-      after_groups (rest_of (p.letters ++ content))
-      (decoded_of standard (groups_of (p.letters ++ content)))
+    after_groups (rest_of (p.letters ++ content))
+    (decoded_of standard (groups_of (p.letters ++ content)))
 
 abbrev pub no_letters : Pending
 no_letters = record { letters = []; padded = false }

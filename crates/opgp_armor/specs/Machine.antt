@@ -82,8 +82,8 @@ inside (Headers l) p (c ∷ cs) = on_header l p (header_of (c ∷ cs))
 inside (Data l) p [] = Ok (record { section = Data l; pending = p }, [])
 inside (Data l) p (c ∷ cs) =
     if is_equals c then (
-      if waits p then Err reason.Padding
-      else Ok (record { section = AfterChecksum l; pending = p }, [])
+    if waits p then Err reason.Padding
+    else Ok (record { section = AfterChecksum l; pending = p }, [])
     )
     else if is_dash c then closing l p (c ∷ cs)
     else on_letters l (data_line p (c ∷ cs))

@@ -47,12 +47,12 @@ LineMakes limit Outside letters l events = events ≡ begun (label_at begin_line
 LineMakes limit (Headers label) letters l events =
     ((content l ≡ []) × (events ≡ []))
     ⊎ ((header : List ℕ × List ℕ) × IsHeader limit l header
-        × (events ≡ Header header.0 header.1 ∷ []))
+    × (events ≡ Header header.0 header.1 ∷ []))
 LineMakes limit (Data label) letters l events =
     ((begins_with is_equals (content l) ≡ true) × (events ≡ []))
     ⊎ ((begins_with is_dash (content l) ≡ true) × (events ≡ End ∷ []))
     ⊎ ((begins_with is_equals (content l) ≡ false) × (begins_with is_dash (content l) ≡ false)
-        × EndsGroups letters (content l) events)
+    × EndsGroups letters (content l) events)
 LineMakes limit (AfterChecksum label) letters l events =
     events ≡ (if begins_with is_dash (content l) then End ∷ [] else [])
 

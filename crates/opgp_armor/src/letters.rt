@@ -26,11 +26,7 @@ pub(crate) struct Letters {
 fn is_a_letter(c: u8) -> bool
     ensures { result ≡ is_letter c }
 {
-    c.is_ascii_uppercase()
-        || c.is_ascii_lowercase()
-        || c.is_ascii_digit()
-        || c == b'+'
-        || c == b'/'
+    c.is_ascii_uppercase() || c.is_ascii_lowercase() || c.is_ascii_digit() || c == b'+' || c == b'/'
 }
 
 /// Whether each octet is a letter.

@@ -2,7 +2,6 @@
 #![tactic(auto)]
 
 mod block;
-
 mod dearmoring;
 mod event;
 mod label;
@@ -16,8 +15,8 @@ mod section;
 mod writing;
 
 pub use block::Block;
-pub use reader::Dearmor;
 pub use dearmoring::dearmor;
 pub use event::ArmorEvent;
 pub use label::Label;
+pub use reader::Dearmor;
 pub use writing::armor;

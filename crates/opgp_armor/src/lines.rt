@@ -155,12 +155,7 @@ fn header(
 }
 
 /// What a data line does.
-fn data(
-    alloc: Global,
-    label: Label,
-    pending: Pending,
-    content: &[u8],
-) -> Result<Reaction, Refusal>
+fn data(alloc: Global, label: Label, pending: Pending, content: &[u8]) -> Result<Reaction, Refusal>
     ensures { IsAnswer result (on_letters label (data_line (pending_of pending) content.now)) }
 {
     let Letters { pending, octets } = letters_of(alloc, &pending, content)?;

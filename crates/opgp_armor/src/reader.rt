@@ -187,7 +187,9 @@ impl Dearmor {
 
     /// How many octets pushes have answered as taken.
     pub fn given(&self) -> u64
-        ensures { result ≡ count_of self.now }
+        ensures count { result ≡ count_of self.now }
+        ensures fed { (given : List ℕ) (taken : List Event) → Fed self.now given taken
+            → result ≡ length given }
     {
         self.given
     }
@@ -209,8 +211,8 @@ impl Dearmor {
         ensures open { has_ended self.new ≡ has_ended self.old }
         ensures count { count_of self.new ≡ count_of self.old }
         ensures limits { line_limit_of self.new ≡ line_limit_of self.old }
-        ensures held { held_of self.new ≤ held_of self.old }
-        ensures within { held_of self.new ≤ line_limit_of self.new + 16 }
+        ensures held { held_of self.new ≤ line_limit_of self.new + 16 }
+        ensures shrinks { held_of self.new ≤ held_of self.old }
     {
         self.ready.take()
     }

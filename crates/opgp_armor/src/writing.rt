@@ -76,10 +76,14 @@ fn add_letters(text: &mut Vec<u8>, octets: &[u8]) -> Result<(), OutOfMemory>
 fn text_size(label: Label, headers: &[(Vec<u8>, Vec<u8>)], octets: &[u8]) -> usize {
     let mut size = label.begin_line().len() + label.end_line().len() + 3;
     for (key, value) in headers {
-        size = size.saturating_add(key.len()).saturating_add(value.len()).saturating_add(3);
+        size = size
+            .saturating_add(key.len())
+            .saturating_add(value.len())
+            .saturating_add(3);
     }
     let letters = octets.len().div_ceil(3).saturating_mul(4);
-    size.saturating_add(letters).saturating_add(octets.len().div_ceil(48))
+    size.saturating_add(letters)
+        .saturating_add(octets.len().div_ceil(48))
 }
 
 /// One block as an armored text (RFC 9580, 6.2): 64 letters a line, lines that end in a line feed,

@@ -5,7 +5,6 @@ use Rattle.std.specs.Option.{is_some}
 use Rattle.std.proofs.lemmas.Bool.{cases_Bool, eqb-true}
 use Rattle.std.specs.List.{fold, list_all}
 use Rattle.std.specs.declared.result.Result.{Result}
-use Rattle.opgp_armor.specs.declared.section.Section.TheVariants.{Outside}
 use Rattle.opgp_armor.specs.declared.event.ArmorEvent.{ArmorEvent}
 use Rattle.opgp_octets.specs.declared.fault.Reason.{Reason}
 use Rattle.opgp_armor.specs.declared.reader.Dearmor.{Dearmor}

@@ -1,5 +1,5 @@
 -- What a data line gives, against what decoding the letters so far answers.
-use Rattle.std.proofs.Common.{◌≡◌, ℕ, suc, ◌+◌, ◌%◌, ◌==◌, ◌<◌, Bool, true, false, cond, not, ◌||◌, ◌&&◌, nat_lt, List, [], ◌∷◌, ◌++◌, length, refl, sym, ap, ◌∙◌, inl, inr, Ok, Err}
+use Rattle.std.proofs.Common.{◌≡◌, ℕ, ◌%◌, ◌==◌, Bool, true, false, cond, not, ◌||◌, ◌&&◌, nat_lt, List, [], ◌∷◌, ◌++◌, length, refl, sym, ap, ◌∙◌, inl, inr, Ok, Err}
 use Rattle.std.proofs.lemmas.Bool.{cases_Bool, eqb-true}
 use Rattle.std.specs.List.{list_any, list_all}
 use Rattle.base64.specs.declared.decode.DecodeError.{DecodeError}
@@ -13,7 +13,7 @@ use Rattle.opgp_armor.specs.Letters.{is_letter, is_equals, may_stand, base64_of,
 use Rattle.opgp_armor.proofs.Octets.{all_octets}
 use Rattle.opgp_armor.proofs.Standard.{base64_stands}
 use Rattle.opgp_armor.proofs.Decoded.{bytes_test, after_spoilt, after_bad}
-use Rattle.opgp_armor.proofs.DataLine.{all_parts, all_both, letters_stand, stand_letters, groups_rest, line_goes, or_false}
+use Rattle.opgp_armor.proofs.DataLine.{all_parts, all_both, letters_stand, stand_letters, groups_rest, line_goes}
 
 -- letters that wait where no group was padded
 abbrev pub waiting : List ℕ → Pending

@@ -1,7 +1,7 @@
-use Rattle.std.proofs.Common.{◌≡◌, ◌∙◌, ℕ, List, ap, subst, arith, take, ◌++◌}
-use Rattle.std.proofs.lemmas.List.{take_all}
+use Rattle.std.proofs.Common.{◌≡◌, ◌∙◌, ℕ, List, ap, subst, arith, take, drop, length, ◌-◌, ◌++◌}
+use Rattle.std.proofs.lemmas.List.{length-take, take_all}
 use Rattle.opgp_octets.specs.Limits.{line_limit}
-use Rattle.opgp_armor.specs.Armored.{Armored, Block}
+use Rattle.opgp_armor.specs.Armored.{Armored, Block, IsArmorFault}
 use Rattle.opgp_armor.specs.Blocks.{built_of}
 use Rattle.opgp_armor.specs.Events.{events_of, Built, Event, built}
 use Rattle.opgp_armor.specs.Fed.{Fed, line_limit_of}
@@ -34,3 +34,23 @@ returns-in-Ok-finish c =
     let is : built (r.taken ++ more) ≡ built_of c.absorb_some-2.new.self = built_next (built_of c.pieces.building) (built_of c.absorb_some-2.new.self) r.taken more r.built_is c.in_ok-absorb_some-2.ensures in
     subst (λ (v : List Block). Armored (line_limit c.args.limits.now) text v) (ap (λ (v : Built). v.blocks) is)
     (subst (λ (v : ℕ). Armored v text (built (r.taken ++ more)).blocks) (l.limits ∙ r.limit_is) armored)
+
+pub push-requires : goal.push-requires
+push-requires c = let r = c.pieces.invariant in record { free = r.quiet; «open» = r.going; room = omega (arith, r.count, length-take (length c.args.text.now - c.pieces.at) (drop c.pieces.at c.args.text.now)) }
+
+pub last-requires : goal.last-requires
+last-requires c = let r = c.pieces.invariant in record { free = r.quiet; «open» = r.going }
+
+pub finish-requires : goal.finish-requires
+finish-requires c = let l = c.in-Ok-last.ensures in record { free = l.free; ended = l.ended }
+
+pub returns-in-Err : goal.returns-in-Err
+returns-in-Err c =
+    let r = c.pieces.invariant in
+    let l = c.in-Ok-last.ensures in
+    let text : List ℕ = c.args.text.now in
+    let more : List Event = events_of c.in-Ok-last.event in
+    let fed : Fed c.last.new.self (take c.pieces.at text) (r.taken ++ more) = without_octet _ _ (r.taken ++ more) (l.fed (take c.pieces.at text) r.taken r.fed) in
+    let whole : take c.pieces.at text ≡ text = take_all c.pieces.at text (omega arith) in
+    subst (λ (v : ℕ). IsArmorFault v text c.in-Err.fault) (l.limits ∙ r.limit_is)
+    (c.in-Err.ensures.ok text (r.taken ++ more) (subst (λ (v : List ℕ). Fed c.last.new.self v (r.taken ++ more)) whole fed))

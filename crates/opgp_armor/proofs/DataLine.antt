@@ -1,5 +1,5 @@
 -- One data line: what it gives is right, and it refuses nothing that can go on.
-use Rattle.std.proofs.Common.{◌≡◌, ℕ, ◌+◌, ◌*◌, ◌/◌, ◌%◌, ◌==◌, ◌<◌, ◌≤◌, nat_lt, Bool, true, false, cond, not, ◌&&◌, ◌||◌, List, [], ◌∷◌, ◌++◌, length, take, refl, sym, ap, ◌∙◌, arith, inl, inr, ◌⊎◌, subst, Option, None, Some, Ok}
+use Rattle.std.proofs.Common.{◌≡◌, ℕ, ◌+◌, ◌*◌, ◌/◌, ◌%◌, ◌==◌, ◌<◌, ◌≤◌, nat_lt, Bool, true, false, not, ◌&&◌, ◌||◌, List, [], ◌∷◌, ◌++◌, length, take, refl, sym, ap, ◌∙◌, arith, inl, inr, subst, Option, None, Some, Ok}
 use Rattle.std.proofs.lemmas.List.{append_assoc, length-append, nil_from_length, take-append-drop, length-take-le, length-drop, take_at}
 use Rattle.std.proofs.lemmas.Bool.{cases_Bool, eqb-true, ltb-false}
 use Rattle.std.specs.List.{list_any, list_all}
@@ -10,11 +10,6 @@ use Rattle.opgp_armor.proofs.Octets.{AreOctets}
 use Rattle.opgp_armor.proofs.Awaiting.{Holds, Awaits}
 use Rattle.opgp_armor.proofs.Groups.{begins_with_equals}
 use Rattle.opgp_armor.proofs.Standard.{parts_at, base64_of-nil, base64_of-append, no_equals, base64_stands, base64_size, octets_from_test, octets_test, bytes_from, letter_octet, decoded_is, decoded_some}
-
--- which way a test went
-pub chosen : {X : Type 0} (b : Bool) (x y z : X) → cond b x y ≡ z → ((b ≡ true) × (x ≡ z)) ⊎ ((b ≡ false) × (y ≡ z))
-chosen true x y z h = inl (refl, h)
-chosen false x y z h = inr (refl, h)
 
 pub or_false : (a b : Bool) → (a || b) ≡ false → (a ≡ false) × (b ≡ false)
 or_false true b h = cc h
@@ -127,10 +122,6 @@ data_line_ok p content x h = elim (cases_Bool (not (list_all may_stand content))
     | inr n2 ↦ record { stand = not_false _ n; open_ = n2; went = after_groups_ok _ _ x (rw (n, n2) at h) }
   ]
 ]
-
-or_from : (a b : Bool) → a ≡ false → b ≡ false → (a || b) ≡ false
-or_from true b h k = cc h
-or_from false b h k = k
 
 and_false : (a b : Bool) → (a && b) ≡ false → a ≡ true → b ≡ false
 and_false true b h k = h

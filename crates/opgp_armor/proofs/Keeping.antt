@@ -118,11 +118,6 @@ keeps_beginning limit n tail part b rest large is test within first rest_is =
     ] in
     now ∙ end.1 ∙ sym (kept_beginning limit (tail ++ part) end.0)
 
--- in a block
-pub keeps_inside : (limit : ℕ) (tail part b : List ℕ) → b ≡ take (limit + 1) tail → b ++ take (limit + 1 - length b) part ≡ take (limit + 1) (tail ++ part)
-keeps_inside limit tail part b is =
-    filled (limit + 1) b part (omega (arith, ap length is, length-take (limit + 1) tail)) ∙ ap (λ (v : List ℕ). take (limit + 1) (v ++ part)) is ∙ take_seen (limit + 1) tail part
-
 -- ---- the machine looks at no more of a line
 passes_seen : (n : ℕ) (section : Section) (l : Line) → 15 ≤ n → passes_by section (take n l) ≡ passes_by section l
 passes_seen n Outside l large = ap not (mark_seen n l large)

@@ -19,10 +19,6 @@ use Rattle.opgp_armor.proofs.DataLine.{all_parts, all_both, letters_stand, stand
 abbrev pub waiting : List ℕ → Pending
 waiting l = record { letters = l; padded = false }
 
-pub padded_line : (p : Pending) (c : List ℕ) → p.padded ≡ true → data_line p c ≡ Err (cond (list_all may_stand c) reason.Padding reason.Letters)
-unfolding data_line
-padded_line p c h = elim (cases_Bool (list_all may_stand c)) [ inl y ↦ rw (y, h) refl | inr n ↦ rw n refl ]
-
 pub bad_line : (l c : List ℕ) (d : DecodeError) → decode_of standard (groups_of (l ++ c)) ≡ Err d → data_line (waiting l) c ≡ Err (cond (list_all may_stand c) reason.Padding reason.Letters)
 unfolding data_line
 bad_line l c d err = elim (cases_Bool (list_all may_stand c)) [

@@ -116,9 +116,6 @@ stands_plain (c ∷ s) h = elim (cases_Bool (may_stand c)) [
 ]
 
 -- a line that doesn't end in a blank is its own content
-strip_some : (c d : ℕ) (ds : List ℕ) → strip c (d ∷ ds) ≡ c ∷ d ∷ ds
-strip_some c d ds = refl
-
 pub content_kept : (l : List ℕ) → ends_trailing l ≡ false → content l ≡ l
 unfolding content
 content_kept [] h = refl

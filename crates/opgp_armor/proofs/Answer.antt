@@ -8,8 +8,8 @@ use Rattle.std.specs.declared.result.Result.{Result}
 use Rattle.base64.specs.Engines.{standard}
 use Rattle.base64.specs.GeneralPurpose.{decoded_of}
 use Rattle.opgp_armor.specs.declared.label.Label.{Label}
-use Rattle.opgp_armor.specs.declared.place.Place.{Place}
-use Rattle.opgp_armor.specs.declared.place.Place.TheVariants.{Outside, Headers, Data, AfterChecksum}
+use Rattle.opgp_armor.specs.declared.section.Section.{Section}
+use Rattle.opgp_armor.specs.declared.section.Section.TheVariants.{Outside, Headers, Data, AfterChecksum}
 use Rattle.opgp_octets.specs.declared.fault.Reason.{Reason}
 use Rattle.opgp_octets.specs.declared.fault.Reason.TheVariants as reason
 use Rattle.opgp_armor.specs.Letters.{is_equals, may_stand, is_octet, Pending, data_line, after_groups, groups_of, rest_of}
@@ -17,7 +17,8 @@ use Rattle.opgp_octets.specs.Octets.{IsOctets}
 use Rattle.opgp_armor.proofs.Octets.{AreOctets, all_octets}
 use Rattle.opgp_armor.specs.Text.{Line, lines, content, offset, begin_mark, begin_line, end_line}
 use Rattle.opgp_armor.specs.Armored.{Armored, Opens, label_at, Block, is_dash, Situation, opened_by, after_content, ended_by, after_line, situation, short_reason, reason_of, LineFault, ArmorFault, end_reason}
-use Rattle.opgp_armor.specs.Machine.{Event, End, State, Run, Built, Answer, absorb, built, header_of, on_begin, on_header, on_letters, waits, closing, inside, passes_by, step, start, onward, run_from, first, run}
+use Rattle.opgp_armor.specs.Events.{Event, End, Built, absorb, built}
+use Rattle.opgp_armor.specs.Machine.{State, Run, Answer, header_of, on_begin, on_header, on_letters, waits, closing, inside, passes_by, step, start, onward, run_from, first, run}
 use Rattle.opgp_armor.proofs.Lists.{fold-both, label_at_some}
 use Rattle.opgp_armor.proofs.Sound.{Upto, Stage, relist, sound, ok_pair, not_true, run_err, run-cons, run-nil, built_more}
 use Rattle.opgp_armor.proofs.Complete.{complete, begins_mark}
@@ -82,7 +83,7 @@ second a b x y z e ha hb h = rw (ha, hb) h
 third : (a b : Bool) (x y z e : Reason) → a ≡ false → b ≡ false → e ≡ z → e ≡ cond a x (cond b y z)
 third a b x y z e ha hb h = rw (ha, hb) h
 
-inside_reason : (limit : ℕ) (place : Place) (p : Pending) (b : Built) (ls : List Line) (c : List ℕ) (e : Reason) → Stage limit place p b ls → inside place p c ≡ Err e → e ≡ short_reason place c
+inside_reason : (limit : ℕ) (section : Section) (p : Pending) (b : Built) (ls : List Line) (c : List ℕ) (e : Reason) → Stage limit section p b ls → inside section p c ≡ Err e → e ≡ short_reason section c
 inside_reason limit Outside p b ls c e stage h = begin_reason (label_at begin_line c) e h
 inside_reason limit (Headers k) p b ls [] e stage h = cc h
 inside_reason limit (Headers k) p b ls (x ∷ c) e stage h = header_reason k p (header_of (x ∷ c)) e h
@@ -105,50 +106,50 @@ inside_reason limit (AfterChecksum k) p b ls (x ∷ c) e stage h = elim (cases_B
   | inr n ↦ rw n (cc (rw n at h))
 ]
 
-step_reason : (limit : ℕ) (s : State) (b : Built) (ls : List Line) (l : Line) (e : Reason) → Stage limit s.place s.pending b ls → step limit s l ≡ Err e → e ≡ reason_of limit s.place l
+step_reason : (limit : ℕ) (s : State) (b : Built) (ls : List Line) (l : Line) (e : Reason) → Stage limit s.section s.pending b ls → step limit s l ≡ Err e → e ≡ reason_of limit s.section l
 unfolding step
-step_reason limit s b ls l e stage h = elim (cases_Bool (passes_by s.place l)) [
+step_reason limit s b ls l e stage h = elim (cases_Bool (passes_by s.section l)) [
   | inl y ↦ cc (rw y at h)
   | inr n ↦ elim (cases_Bool (nat_lt limit (length l))) [
     | inl y ↦ rw y (cc (rw (n, y) at h))
-    | inr n2 ↦ rw n2 (inside_reason limit s.place s.pending b ls (content l) e stage (rw (n, n2) at h))
+    | inr n2 ↦ rw n2 (inside_reason limit s.section s.pending b ls (content l) e stage (rw (n, n2) at h))
   ]
 ]
 
 -- ---- the situation
 situation-more : (a b : List Line) → situation (a ++ b) ≡ fold after_line (situation a) b
 unfolding situation
-situation-more a b = fold-both after_line (record { place = Outside; finished = 0 }) a b
+situation-more a b = fold-both after_line (record { section = Outside; finished = 0 }) a b
 
 -- the machine stands where the situation says
 pub record Tracks (ls : List Line) (r : Run) : Type 0 where
-  pub place : r.state.place ≡ (situation ls).place
+  pub section : r.state.section ≡ (situation ls).section
   pub finished : length (built r.events).blocks ≡ (situation ls).finished
 
 ok_state : (s t : State) (more other : List Event) → ◌≡◌ {A = Answer} (Ok (t, other)) (Ok (s, more)) → (t ≡ s) × (other ≡ more)
 ok_state s t more other h = ok_pair {E = Reason} t s other more h
 
--- what a step does to the place, and to the count of blocks
-abbrev pub Moves : Place → List ℕ → Built → State → List Event → Type 0
-Moves place c b s more = (s.place ≡ after_content place c) × (length (fold absorb b more).blocks ≡ length b.blocks + ended_by place c)
+-- what a step does to the section, and to the count of blocks
+abbrev pub Moves : Section → List ℕ → Built → State → List Event → Type 0
+Moves section c b s more = (s.section ≡ after_content section c) × (length (fold absorb b more).blocks ≡ length b.blocks + ended_by section c)
 
-moved : (place : Place) (c : List ℕ) (b : Built) (s t : State) (more other : List Event) → ◌≡◌ {A = Answer} (Ok (t, other)) (Ok (s, more)) → Moves place c b t other → Moves place c b s more
-moved place c b s t more other h m = let e = ok_state s t more other h in rw (← e.0, ← e.1) m
+moved : (section : Section) (c : List ℕ) (b : Built) (s t : State) (more other : List Event) → ◌≡◌ {A = Answer} (Ok (t, other)) (Ok (s, more)) → Moves section c b t other → Moves section c b s more
+moved section c b s t more other h m = let e = ok_state s t more other h in rw (← e.0, ← e.1) m
 
-begin_moves : (o : Option Label) (b : Built) (s : State) (more : List Event) → on_begin o ≡ Ok (s, more) → (s.place ≡ opened_by o) × (length (fold absorb b more).blocks ≡ length b.blocks + 0)
+begin_moves : (o : Option Label) (b : Built) (s : State) (more : List Event) → on_begin o ≡ Ok (s, more) → (s.section ≡ opened_by o) × (length (fold absorb b more).blocks ≡ length b.blocks + 0)
 begin_moves None b s more h = cc h
 begin_moves (Some k) b s more h = let e = ok_state s _ more _ h in rw (← e.0, ← e.1) (refl, omega arith)
 
-header_moves : (k : Label) (p : Pending) (o : Option (List ℕ × List ℕ)) (b : Built) (s : State) (more : List Event) → on_header k p o ≡ Ok (s, more) → (s.place ≡ Headers k) × (length (fold absorb b more).blocks ≡ length b.blocks + 0)
+header_moves : (k : Label) (p : Pending) (o : Option (List ℕ × List ℕ)) (b : Built) (s : State) (more : List Event) → on_header k p o ≡ Ok (s, more) → (s.section ≡ Headers k) × (length (fold absorb b more).blocks ≡ length b.blocks + 0)
 header_moves k p None b s more h = cc h
 header_moves k p (Some (key, value)) b s more h = let e = ok_state s _ more _ h in rw (← e.0, ← e.1) (refl, omega arith)
 
-letters_move : (k : Label) (a : Result (Pending × List ℕ) Reason) (b : Built) (s : State) (more : List Event) → on_letters k a ≡ Ok (s, more) → (s.place ≡ Data k) × (length (fold absorb b more).blocks ≡ length b.blocks + 0)
+letters_move : (k : Label) (a : Result (Pending × List ℕ) Reason) (b : Built) (s : State) (more : List Event) → on_letters k a ≡ Ok (s, more) → (s.section ≡ Data k) × (length (fold absorb b more).blocks ≡ length b.blocks + 0)
 letters_move k (Err e) b s more h = cc h
 letters_move k (Ok (p, [])) b s more h = let e = ok_state s _ more _ h in rw (← e.0, ← e.1) (refl, omega arith)
 letters_move k (Ok (p, x ∷ o)) b s more h = let e = ok_state s _ more _ h in rw (← e.0, ← e.1) (refl, omega arith)
 
-closing_moves : (k : Label) (p : Pending) (c : List ℕ) (b : Built) (s : State) (more : List Event) → closing k p c ≡ Ok (s, more) → (s.place ≡ Outside) × (length (fold absorb b more).blocks ≡ length b.blocks + 1)
+closing_moves : (k : Label) (p : Pending) (c : List ℕ) (b : Built) (s : State) (more : List Event) → closing k p c ≡ Ok (s, more) → (s.section ≡ Outside) × (length (fold absorb b more).blocks ≡ length b.blocks + 1)
 unfolding closing
 closing_moves k p c b s more h = elim (cases_Bool (bytes_eq c (end_line k))) [
   | inl y ↦ elim (cases_Bool (waits p)) [
@@ -158,16 +159,16 @@ closing_moves k p c b s more h = elim (cases_Bool (bytes_eq c (end_line k))) [
   | inr n ↦ cc (rw n at h)
 ]
 
-inside_moves : (place : Place) (p : Pending) (c : List ℕ) (b : Built) (s : State) (more : List Event) → inside place p c ≡ Ok (s, more) → Moves place c b s more
+inside_moves : (section : Section) (p : Pending) (c : List ℕ) (b : Built) (s : State) (more : List Event) → inside section p c ≡ Ok (s, more) → Moves section c b s more
 inside_moves Outside p c b s more h = begin_moves (label_at begin_line c) b s more h
-inside_moves (Headers k) p [] b s more h = moved (Headers k) [] b s (record { place = Data k; pending = p }) more [] h (refl, omega arith)
+inside_moves (Headers k) p [] b s more h = moved (Headers k) [] b s (record { section = Data k; pending = p }) more [] h (refl, omega arith)
 inside_moves (Headers k) p (x ∷ c) b s more h = header_moves k p (header_of (x ∷ c)) b s more h
-inside_moves (Data k) p [] b s more h = moved (Data k) [] b s (record { place = Data k; pending = p }) more [] h (refl, omega arith)
+inside_moves (Data k) p [] b s more h = moved (Data k) [] b s (record { section = Data k; pending = p }) more [] h (refl, omega arith)
 inside_moves (Data k) p (x ∷ c) b s more h = elim (cases_Bool (is_equals x)) [
   | inl y ↦ elim (cases_Bool (waits p)) [
     | inl y2 ↦ cc (rw (y, y2) at h)
     | inr n2 ↦ let none : is_dash x ≡ false = rw (eqb-true x 61 y) refl in
-        let e = ok_state s (record { place = AfterChecksum k; pending = p }) more [] (rw (y, n2) at h) in
+        let e = ok_state s (record { section = AfterChecksum k; pending = p }) more [] (rw (y, n2) at h) in
         rw (← e.0, ← e.1, y, none) (refl, omega arith)
   ]
   | inr n ↦ elim (cases_Bool (is_dash x)) [
@@ -175,7 +176,7 @@ inside_moves (Data k) p (x ∷ c) b s more h = elim (cases_Bool (is_equals x)) [
     | inr n2 ↦ let m = letters_move k (data_line p (x ∷ c)) b s more (rw (n, n2) at h) in rw (n, n2) m
   ]
 ]
-inside_moves (AfterChecksum k) p [] b s more h = moved (AfterChecksum k) [] b s (record { place = AfterChecksum k; pending = p }) more [] h (refl, omega arith)
+inside_moves (AfterChecksum k) p [] b s more h = moved (AfterChecksum k) [] b s (record { section = AfterChecksum k; pending = p }) more [] h (refl, omega arith)
 inside_moves (AfterChecksum k) p (x ∷ c) b s more h = elim (cases_Bool (is_dash x)) [
   | inl y ↦ let m = closing_moves k p (x ∷ c) b s more (rw y at h) in rw y m
   | inr n ↦ cc (rw n at h)
@@ -185,22 +186,22 @@ no_label : (l : Line) (o : Option Label) → ((k : Label) → o ≡ Some k → c
 no_label l None f h = refl
 no_label l (Some k) f h = cc (sym (begins_mark k l (f k refl)) ∙ h)
 
-passing_moves : (place : Place) (l : Line) → passes_by place l ≡ true → (place ≡ after_content place (content l)) × (0 ≡ ended_by place (content l))
+passing_moves : (section : Section) (l : Line) → passes_by section l ≡ true → (section ≡ after_content section (content l)) × (0 ≡ ended_by section (content l))
 passing_moves Outside l h = (sym (no_label l (label_at begin_line (content l)) (λ k e. label_at_some begin_line (content l) k e) (not_true _ h)), refl)
 passing_moves (Headers k) l h = cc h
 passing_moves (Data k) l h = cc h
 passing_moves (AfterChecksum k) l h = cc h
 
-pub step_moves : (limit : ℕ) (s t : State) (b : Built) (l : Line) (more : List Event) → step limit s l ≡ Ok (t, more) → Moves s.place (content l) b t more
+pub step_moves : (limit : ℕ) (s t : State) (b : Built) (l : Line) (more : List Event) → step limit s l ≡ Ok (t, more) → Moves s.section (content l) b t more
 unfolding step
-step_moves limit s t b l more h = elim (cases_Bool (passes_by s.place l)) [
+step_moves limit s t b l more h = elim (cases_Bool (passes_by s.section l)) [
   | inl y ↦
       let e = ok_state t s more [] (rw y at h) in
-      let m = passing_moves s.place l y in
+      let m = passing_moves s.section l y in
       rw (← e.0, ← e.1) (m.0, omega (arith, m.1))
   | inr n ↦ elim (cases_Bool (nat_lt limit (length l))) [
     | inl y ↦ cc (rw (n, y) at h)
-    | inr n2 ↦ inside_moves s.place s.pending (content l) b t more (rw (n, n2) at h)
+    | inr n2 ↦ inside_moves s.section s.pending (content l) b t more (rw (n, n2) at h)
   ]
 ]
 
@@ -211,9 +212,9 @@ step_tracks limit ls r l s more t h =
     let sit : situation (ls ++ l ∷ []) ≡ after_line (situation ls) l = situation-more ls (l ∷ []) in
     let now : built (r.events ++ more) ≡ fold absorb (built r.events) more = built_more r.events more in
     record {
-      place = m.0 ∙ ap (λ (v : Place). after_content v (content l)) t.place ∙ ap (λ (v : Situation). v.place) (sym sit);
-      finished = ap (λ (v : Built). length v.blocks) now ∙ m.1 ∙ ap (λ (v : ℕ). v + ended_by r.state.place (content l)) t.finished
-          ∙ ap (λ (v : Place). (situation ls).finished + ended_by v (content l)) t.place ∙ ap (λ (v : Situation). v.finished) (sym sit);
+      section = m.0 ∙ ap (λ (v : Section). after_content v (content l)) t.section ∙ ap (λ (v : Situation). v.section) (sym sit);
+      finished = ap (λ (v : Built). length v.blocks) now ∙ m.1 ∙ ap (λ (v : ℕ). v + ended_by r.state.section (content l)) t.finished
+          ∙ ap (λ (v : Section). (situation ls).finished + ended_by v (content l)) t.section ∙ ap (λ (v : Situation). v.finished) (sym sit);
     }
 
 -- ---- what each step keeps, a run keeps
@@ -237,7 +238,7 @@ run_keeps limit P keeps front (l ∷ ls) r q p h =
 
 tracks_first : Tracks [] first
 unfolding situation built
-tracks_first = record { place = refl; finished = refl }
+tracks_first = record { section = refl; finished = refl }
 
 pub tracks : (limit : ℕ) (ls : List Line) (r : Run) → run limit ls ≡ Ok r → Tracks ls r
 tracks limit ls r h = run_keeps limit Tracks (λ front q l s more t k. step_tracks limit front q l s more t k) [] ls first r tracks_first h
@@ -289,7 +290,7 @@ line_fault limit text before l after r e large octets are ran stops =
       are = are;
       opens = extends limit large before r (recursion_front IsLine before (l ∷ after) whole) ran;
       refused = stopped limit before l r e ran stops;
-      why_is = step_reason limit r.state (built r.events) upto.open_ l e upto.stage stops ∙ ap (λ (v : Place). reason_of limit v l) t.place;
+      why_is = step_reason limit r.state (built r.events) upto.open_ l e upto.stage stops ∙ ap (λ (v : Section). reason_of limit v l) t.section;
       block_is = t.finished;
       pos_is = refl;
     }
@@ -305,15 +306,15 @@ shorter (w ∷ a) (z ∷ b) x y us vs e h =
     let more = shorter a b x y us vs e1 (omega arith) in
     (more.0, ap (λ v. z ∷ v) more.1 ∙ ap (λ v. v ∷ (a ++ x ∷ more.0)) (sym e0))
 
-same_place : (a b : List Line) (x y : Line) (us vs : List Line) → a ++ x ∷ us ≡ b ++ y ∷ vs → length a ≡ length b → (a ≡ b) × (x ≡ y)
-same_place [] [] x y us vs e h = (refl, cc)
-same_place (w ∷ a) (z ∷ b) x y us vs e h =
+same_section : (a b : List Line) (x y : Line) (us vs : List Line) → a ++ x ∷ us ≡ b ++ y ∷ vs → length a ≡ length b → (a ≡ b) × (x ≡ y)
+same_section [] [] x y us vs e h = (refl, cc)
+same_section (w ∷ a) (z ∷ b) x y us vs e h =
     let e0 : w ≡ z = cc in
     let e1 : a ++ x ∷ us ≡ b ++ y ∷ vs = cc in
-    let more = same_place a b x y us vs e1 (omega arith) in
+    let more = same_section a b x y us vs e1 (omega arith) in
     (rw (e0, more.0) refl, more.1)
-same_place [] (z ∷ b) x y us vs e h = absurd (omega arith)
-same_place (w ∷ a) [] x y us vs e h = absurd (omega arith)
+same_section [] (z ∷ b) x y us vs e h = absurd (omega arith)
+same_section (w ∷ a) [] x y us vs e h = absurd (omega arith)
 
 opens_front : (limit : ℕ) (a b : List Line) → Opens limit (a ++ b) → Opens limit a
 opens_front limit a b o = record { text = o.text; blocks = o.blocks; more = b ++ o.more; octets = o.octets; armored = o.armored; begins = o.begins ∙ append_assoc a b o.more }
@@ -333,8 +334,8 @@ one_line_fault limit text why why' block block' pos pos' f g =
       | inr ge ↦ elim (cases_lt (length g.before) (length f.before)) [
         | inl gt ↦ absurd (no_later limit g.before f.before g.line f.line g.after f.after (sym e) gt f.opens g.refused)
         | inr le ↦
-            let s = same_place f.before g.before f.line g.line f.after g.after e (omega arith) in (
-              f.why_is ∙ ap (λ (v : List Line). reason_of limit (situation v).place f.line) s.0 ∙ ap (λ (v : Line). reason_of limit (situation g.before).place v) s.1 ∙ sym g.why_is,
+            let s = same_section f.before g.before f.line g.line f.after g.after e (omega arith) in (
+              f.why_is ∙ ap (λ (v : List Line). reason_of limit (situation v).section f.line) s.0 ∙ ap (λ (v : Line). reason_of limit (situation g.before).section v) s.1 ∙ sym g.why_is,
               f.block_is ∙ ap (λ (v : List Line). (situation v).finished) s.0 ∙ sym g.block_is,
               f.pos_is ∙ ap offset s.0 ∙ sym g.pos_is,
             )
@@ -370,17 +371,17 @@ abbrev pub Answered : ℕ → List ℕ → Type 0
 Answered limit text = ((blocks : List Block) × Armored limit text blocks) ⊎ ((why : Reason) × (block : ℕ) × (pos : ℕ) × ArmorFault limit text why block pos)
 
 -- a run that isn't outside ends no armored text
-pub open_yet : (limit : ℕ) (text : List ℕ) (r : Run) → run limit (lines text) ≡ Ok r → (r.state.place ≡ Outside → ⊥) → (blocks : List Block) → Armored limit text blocks → ⊥
+pub open_yet : (limit : ℕ) (text : List ℕ) (r : Run) → run limit (lines text) ≡ Ok r → (r.state.section ≡ Outside → ⊥) → (blocks : List Block) → Armored limit text blocks → ⊥
 open_yet limit text r ran n blocks a =
     let p = complete limit (lines text) blocks a.whole in
     let same : r ≡ p.last = cc (sym ran ∙ p.ran) in
-    n (ap (λ (v : Run). v.state.place) same ∙ ap (λ (v : State). v.place) p.outside)
+    n (ap (λ (v : Run). v.state.section) same ∙ ap (λ (v : State). v.section) p.outside)
 
 -- the run is over: outside of all blocks, with some of them finished, or too early
-ended_place : (limit : ℕ) (text : List ℕ) (r : Run) (place : Place) → place ≡ r.state.place → run limit (lines text) ≡ Ok r → Upto limit (lines text) r
+ended_section : (limit : ℕ) (text : List ℕ) (r : Run) (section : Section) → section ≡ r.state.section → run limit (lines text) ≡ Ok r → Upto limit (lines text) r
     → ((blocks : List Block) × Armored limit text blocks) ⊎ ((blocks : List Block) → Armored limit text blocks → ⊥)
-ended_place limit text r Outside is ran upto =
-    let stage : Stage limit Outside r.state.pending (built r.events) upto.open_ = subst (λ (v : Place). Stage limit v r.state.pending (built r.events) upto.open_) (sym is) upto.stage in
+ended_section limit text r Outside is ran upto =
+    let stage : Stage limit Outside r.state.pending (built r.events) upto.open_ = subst (λ (v : Section). Stage limit v r.state.pending (built r.events) upto.open_) (sym is) upto.stage in
     let whole : upto.done ≡ lines text = sym (upto.are ∙ ap (λ (v : List Line). upto.done ++ v) stage.0 ∙ append-nil upto.done) in
     elim (cases_lt 0 (length (built r.events).blocks)) [
       | inl some ↦ inl ((built r.events).blocks, record { whole = relist limit upto.done (lines text) (built r.events).blocks (built r.events).blocks whole refl upto.pieces; some = some })
@@ -391,9 +392,9 @@ ended_place limit text r Outside is ran upto =
           let some = a.some in
           absurd (omega arith))
     ]
-ended_place limit text r (Headers k) is ran upto = inr (open_yet limit text r ran (λ e. let f : Headers k ≡ Outside = is ∙ e in cc f))
-ended_place limit text r (Data k) is ran upto = inr (open_yet limit text r ran (λ e. let f : Data k ≡ Outside = is ∙ e in cc f))
-ended_place limit text r (AfterChecksum k) is ran upto = inr (open_yet limit text r ran (λ e. let f : AfterChecksum k ≡ Outside = is ∙ e in cc f))
+ended_section limit text r (Headers k) is ran upto = inr (open_yet limit text r ran (λ e. let f : Headers k ≡ Outside = is ∙ e in cc f))
+ended_section limit text r (Data k) is ran upto = inr (open_yet limit text r ran (λ e. let f : Data k ≡ Outside = is ∙ e in cc f))
+ended_section limit text r (AfterChecksum k) is ran upto = inr (open_yet limit text r ran (λ e. let f : AfterChecksum k ≡ Outside = is ∙ e in cc f))
 
 pub some_answer : (limit : ℕ) (text : List ℕ) → 128 ≤ limit → IsOctets text → Answered limit text
 some_answer limit text large all = by_run_ (run limit (lines text)) refl
@@ -408,16 +409,16 @@ some_answer limit text large all = by_run_ (run limit (lines text)) refl
     by_run_ (Ok r) is =
         let upto = sound limit (lines text) r is in
         let t = tracks limit (lines text) r is in
-        elim (ended_place limit text r r.state.place refl is upto) [
+        elim (ended_section limit text r r.state.section refl is upto) [
           | inl a ↦ inl a
           | inr none ↦ inr (
-            end_reason r.state.place,
+            end_reason r.state.section,
             length (built r.events).blocks,
             length text,
             inr (record {
               opens = extends limit large (lines text) r (are_lines text octets) is;
               refused = none;
-              why_is = ap end_reason t.place;
+              why_is = ap end_reason t.section;
               block_is = t.finished;
               pos_is = refl;
             }),

@@ -6,15 +6,16 @@ use Rattle.std.specs.List.{fold, flat_map, AllByRecursion, starts_with}
 use Rattle.std.specs.declared.result.Result.{Result}
 use Rattle.opgp_armor.specs.declared.label.Label.{Label}
 use Rattle.opgp_armor.specs.declared.label.Label.TheVariants.{Message, PublicKeyBlock, PrivateKeyBlock, Signature}
-use Rattle.opgp_armor.specs.declared.place.Place.{Place}
-use Rattle.opgp_armor.specs.declared.place.Place.TheVariants.{Outside, Headers, Data, AfterChecksum}
+use Rattle.opgp_armor.specs.declared.section.Section.{Section}
+use Rattle.opgp_armor.specs.declared.section.Section.TheVariants.{Outside, Headers, Data, AfterChecksum}
 use Rattle.opgp_octets.specs.declared.fault.Reason.{Reason}
 use Rattle.opgp_armor.specs.Letters.{is_equals, IsBase64, base64_of, Pending, no_letters, data_line}
 use Rattle.opgp_armor.proofs.Octets.{all_octets}
-use Rattle.opgp_armor.proofs.Pending.{Awaits}
+use Rattle.opgp_armor.proofs.Awaiting.{Awaits}
 use Rattle.opgp_armor.specs.Text.{Line, content, strip, is_trailing, begin_mark, begin_line, end_line}
 use Rattle.opgp_armor.specs.Armored.{label_at, Block, ArePieces, Piece, Other, Whole, IsPiece, IsBlock, IsBody, IsChecked, IsBlank, IsDataLine, IsHeader, AreHeaders, begins_with, is_dash, lines_of, blocks_of}
-use Rattle.opgp_armor.specs.Machine.{Event, Begin, Header, End, State, Run, Built, Answer, absorb, built, nothing_built, header_of, on_begin, on_header, on_letters, some_octets, waits, closing, inside, passes_by, step, start, onward, run_from, first, run}
+use Rattle.opgp_armor.specs.Events.{Event, Begin, Header, End, Built, absorb, built, nothing_built}
+use Rattle.opgp_armor.specs.Machine.{State, Run, Answer, header_of, on_begin, on_header, on_letters, some_octets, waits, closing, inside, passes_by, step, start, onward, run_from, first, run}
 use Rattle.opgp_armor.proofs.Lists.{text_same}
 use Rattle.opgp_armor.proofs.HeaderLines.{header_found, header_of-nil}
 use Rattle.opgp_armor.proofs.Groups.{begins_with_equals}
@@ -60,11 +61,11 @@ pub reaches-cons : (limit : ℕ) (s s1 s2 : State) (b b1 b2 : Built) (l : Line) 
 reaches-cons limit s s1 s2 b b1 b2 l ls more h e rest = reaches-append limit s s1 s2 b b1 b2 (l ∷ []) ls (reaches_one limit s s1 b b1 l more h e) rest
 
 -- ---- single lines
-pub step_inside : (limit : ℕ) (s : State) (l : Line) → passes_by s.place l ≡ false → length l ≤ limit → step limit s l ≡ inside s.place s.pending (content l)
+pub step_inside : (limit : ℕ) (s : State) (l : Line) → passes_by s.section l ≡ false → length l ≤ limit → step limit s l ≡ inside s.section s.pending (content l)
 unfolding step
 step_inside limit s l n within = rw (n, le-ltb limit (length l) within) refl
 
-pub step_passes : (limit : ℕ) (s : State) (l : Line) → passes_by s.place l ≡ true → step limit s l ≡ Ok (s, [])
+pub step_passes : (limit : ℕ) (s : State) (l : Line) → passes_by s.section l ≡ true → step limit s l ≡ Ok (s, [])
 unfolding step
 step_passes limit s l y = rw y refl
 
@@ -102,35 +103,35 @@ begins_mark k l e =
     subst (λ (v : List ℕ). starts_with nat_eq v begin_mark ≡ true) (sym whole) (begin_text k f.0)
 
 pub begin_step : (limit : ℕ) (p : Pending) (k : Label) (l : Line) → content l ≡ begin_line k → length l ≤ limit
-    → step limit (record { place = Outside; pending = p }) l ≡ Ok (record { place = Headers k; pending = no_letters }, Begin k ∷ [])
+    → step limit (record { section = Outside; pending = p }) l ≡ Ok (record { section = Headers k; pending = no_letters }, Begin k ∷ [])
 begin_step limit p k l e within =
-    step_inside limit (record { place = Outside; pending = p }) l (ap not (begins_mark k l e)) within
+    step_inside limit (record { section = Outside; pending = p }) l (ap not (begins_mark k l e)) within
     ∙ ap (λ (v : List ℕ). on_begin (label_at begin_line v)) e ∙ ap on_begin (begin_label k)
 
 header_step : (limit : ℕ) (p : Pending) (k : Label) (l : Line) (h : List ℕ × List ℕ) → IsHeader limit l h
-    → step limit (record { place = Headers k; pending = p }) l ≡ Ok (record { place = Headers k; pending = p }, Header h.0 h.1 ∷ [])
+    → step limit (record { section = Headers k; pending = p }) l ≡ Ok (record { section = Headers k; pending = p }, Header h.0 h.1 ∷ [])
 header_step limit p k l h is =
-    step_inside limit (record { place = Headers k; pending = p }) l refl is.within
+    step_inside limit (record { section = Headers k; pending = p }) l refl is.within
     ∙ by_header (content l) (header_found limit l h is)
   where
-    by_header : (c : List ℕ) → header_of c ≡ Some (h.0, h.1) → inside (Headers k) p c ≡ Ok (record { place = Headers k; pending = p }, Header h.0 h.1 ∷ [])
+    by_header : (c : List ℕ) → header_of c ≡ Some (h.0, h.1) → inside (Headers k) p c ≡ Ok (record { section = Headers k; pending = p }, Header h.0 h.1 ∷ [])
     by_header [] e = cc (sym header_of-nil ∙ e)
     by_header (x ∷ c) e = ap (on_header k p) e
 
 pub gap_step : (limit : ℕ) (p : Pending) (k : Label) (l : Line) → IsBlank limit l
-    → step limit (record { place = Headers k; pending = p }) l ≡ Ok (record { place = Data k; pending = p }, [])
-gap_step limit p k l is = step_inside limit (record { place = Headers k; pending = p }) l refl is.within ∙ ap (inside (Headers k) p) is.blank
+    → step limit (record { section = Headers k; pending = p }) l ≡ Ok (record { section = Data k; pending = p }, [])
+gap_step limit p k l is = step_inside limit (record { section = Headers k; pending = p }) l refl is.within ∙ ap (inside (Headers k) p) is.blank
 
 rest_step : (limit : ℕ) (p : Pending) (k : Label) (l : Line) → IsBlank limit l
-    → step limit (record { place = AfterChecksum k; pending = p }) l ≡ Ok (record { place = AfterChecksum k; pending = p }, [])
-rest_step limit p k l is = step_inside limit (record { place = AfterChecksum k; pending = p }) l refl is.within ∙ ap (inside (AfterChecksum k) p) is.blank
+    → step limit (record { section = AfterChecksum k; pending = p }) l ≡ Ok (record { section = AfterChecksum k; pending = p }, [])
+rest_step limit p k l is = step_inside limit (record { section = AfterChecksum k; pending = p }) l refl is.within ∙ ap (inside (AfterChecksum k) p) is.blank
 
 checksum_step : (limit : ℕ) (p : Pending) (k : Label) (l : Line) → begins_with is_equals (content l) ≡ true → length l ≤ limit → waits p ≡ false
-    → step limit (record { place = Data k; pending = p }) l ≡ Ok (record { place = AfterChecksum k; pending = p }, [])
+    → step limit (record { section = Data k; pending = p }) l ≡ Ok (record { section = AfterChecksum k; pending = p }, [])
 checksum_step limit p k l e within none =
-    step_inside limit (record { place = Data k; pending = p }) l refl within ∙ by_content (content l) e
+    step_inside limit (record { section = Data k; pending = p }) l refl within ∙ by_content (content l) e
   where
-    by_content : (c : List ℕ) → begins_with is_equals c ≡ true → inside (Data k) p c ≡ Ok (record { place = AfterChecksum k; pending = p }, [])
+    by_content : (c : List ℕ) → begins_with is_equals c ≡ true → inside (Data k) p c ≡ Ok (record { section = AfterChecksum k; pending = p }, [])
     by_content [] e = cc e
     by_content (x ∷ c) e = rw (e, none) refl
 
@@ -139,19 +140,19 @@ unfolding closing
 closes p k none = rw (text_same (end_line k) (end_line k) refl, none) refl
 
 pub end_step : (limit : ℕ) (p : Pending) (k : Label) (l : Line) → content l ≡ end_line k → length l ≤ limit → waits p ≡ false
-    → (step limit (record { place = Data k; pending = p }) l ≡ Ok (start, End ∷ []))
-    × (step limit (record { place = AfterChecksum k; pending = p }) l ≡ Ok (start, End ∷ []))
+    → (step limit (record { section = Data k; pending = p }) l ≡ Ok (start, End ∷ []))
+    × (step limit (record { section = AfterChecksum k; pending = p }) l ≡ Ok (start, End ∷ []))
 end_step limit p k l e within none = (
-  step_inside limit (record { place = Data k; pending = p }) l refl within ∙ ap (inside (Data k) p) e ∙ closes p k none,
-  step_inside limit (record { place = AfterChecksum k; pending = p }) l refl within ∙ ap (inside (AfterChecksum k) p) e ∙ closes p k none,
+  step_inside limit (record { section = Data k; pending = p }) l refl within ∙ ap (inside (Data k) p) e ∙ closes p k none,
+  step_inside limit (record { section = AfterChecksum k; pending = p }) l refl within ∙ ap (inside (AfterChecksum k) p) e ∙ closes p k none,
 )
 
 -- ---- the parts of a block
 headers_reach : (limit : ℕ) (p : Pending) (k : Label) (b : Built) (ls : List Line) (hs : List (List ℕ × List ℕ)) → AreHeaders limit ls hs
-    → Reaches limit (record { place = Headers k; pending = p }) b ls (record { place = Headers k; pending = p }) (record b { headers = b.headers ++ hs })
-headers_reach limit p k b [] [] are = rw (append-nil b.headers) (reaches-nil limit (record { place = Headers k; pending = p }) b)
+    → Reaches limit (record { section = Headers k; pending = p }) b ls (record { section = Headers k; pending = p }) (record b { headers = b.headers ++ hs })
+headers_reach limit p k b [] [] are = rw (append-nil b.headers) (reaches-nil limit (record { section = Headers k; pending = p }) b)
 headers_reach limit p k b (l ∷ ls) (h ∷ hs) are =
-    let s : State = record { place = Headers k; pending = p } in
+    let s : State = record { section = Headers k; pending = p } in
     let b1 : Built = record b { headers = b.headers ++ h ∷ [] } in
     let rest = headers_reach limit p k b1 ls hs are.1 in
     reaches-cons limit s s s b b1 (record b { headers = b.headers ++ h ∷ hs }) l ls (Header h.0 h.1 ∷ []) (header_step limit p k l h are.0) refl
@@ -160,10 +161,10 @@ headers_reach limit p k b [] (h ∷ hs) are = absurd are
 headers_reach limit p k b (l ∷ ls) [] are = absurd are
 
 blanks_reach : (limit : ℕ) (p : Pending) (k : Label) (b : Built) (ls : List Line) → AllByRecursion (IsBlank limit) ls
-    → Reaches limit (record { place = AfterChecksum k; pending = p }) b ls (record { place = AfterChecksum k; pending = p }) b
-blanks_reach limit p k b [] are = reaches-nil limit (record { place = AfterChecksum k; pending = p }) b
+    → Reaches limit (record { section = AfterChecksum k; pending = p }) b ls (record { section = AfterChecksum k; pending = p }) b
+blanks_reach limit p k b [] are = reaches-nil limit (record { section = AfterChecksum k; pending = p }) b
 blanks_reach limit p k b (l ∷ ls) are =
-    let s : State = record { place = AfterChecksum k; pending = p } in
+    let s : State = record { section = AfterChecksum k; pending = p } in
     reaches-cons limit s s s b b b l ls [] (rest_step limit p k l are.0) refl (blanks_reach limit p k b ls are.1)
 
 -- letters of data lines don't begin with `=`
@@ -184,7 +185,7 @@ record DataStep (limit : ℕ) (k : Label) (p : Pending) (l : Line) (more octets 
   after : Pending
   out : List ℕ
   left : List ℕ
-  stepped : step limit (record { place = Data k; pending = p }) l ≡ Ok (record { place = Data k; pending = after }, some_octets out)
+  stepped : step limit (record { section = Data k; pending = p }) l ≡ Ok (record { section = Data k; pending = after }, some_octets out)
   whole : octets ≡ out ++ left
   awaits : Awaits after more left
 
@@ -194,7 +195,7 @@ data_by limit k p l more octets [] e n1 n2 within awaits begins = record {
   after = p;
   out = [];
   left = octets;
-  stepped = step_inside limit (record { place = Data k; pending = p }) l refl within ∙ ap (inside (Data k) p) (sym e);
+  stepped = step_inside limit (record { section = Data k; pending = p }) l refl within ∙ ap (inside (Data k) p) (sym e);
   whole = refl;
   awaits = awaits;
 }
@@ -205,7 +206,7 @@ data_by limit k p l more octets (x ∷ c) e n1 n2 within awaits begins =
       after = goes.next;
       out = goes.out;
       left = goes.left;
-      stepped = step_inside limit (record { place = Data k; pending = p }) l refl within ∙ ap (inside (Data k) p) (sym e) ∙ is ∙ ap (on_letters k) goes.ok;
+      stepped = step_inside limit (record { section = Data k; pending = p }) l refl within ∙ ap (inside (Data k) p) (sym e) ∙ is ∙ ap (on_letters k) goes.ok;
       whole = goes.whole;
       awaits = goes.awaits;
     }
@@ -213,7 +214,7 @@ data_by limit k p l more octets (x ∷ c) e n1 n2 within awaits begins =
 record DataEnd (limit : ℕ) (k : Label) (p : Pending) (b : Built) (ls : List Line) (octets : List ℕ) : Type 0 where
   after : Pending
   none : waits after ≡ false
-  reaches : Reaches limit (record { place = Data k; pending = p }) b ls (record { place = Data k; pending = after }) (record b { octets = b.octets ++ octets })
+  reaches : Reaches limit (record { section = Data k; pending = p }) b ls (record { section = Data k; pending = after }) (record b { octets = b.octets ++ octets })
 
 data_reach : (limit : ℕ) (p : Pending) (k : Label) (b : Built) (ls : List Line) (octets : List ℕ) → AllByRecursion (IsDataLine limit) ls → Awaits p (flat_map content ls) octets
     → DataEnd limit k p b ls octets
@@ -221,7 +222,7 @@ data_reach limit p k b [] octets are awaits =
     let l : length (base64_of octets) ≡ length p.letters = ap length (sym awaits.joined ∙ append-nil p.letters) in
     let z : octets ≡ [] = base64_long octets (let few = awaits.few in omega arith) in
     let zero : length p.letters ≡ 0 = sym l ∙ ap length (ap base64_of z ∙ base64_of-nil) in
-    record { after = p; none = rw zero refl; reaches = rw (z, append-nil b.octets) (reaches-nil limit (record { place = Data k; pending = p }) b) }
+    record { after = p; none = rw zero refl; reaches = rw (z, append-nil b.octets) (reaches-nil limit (record { section = Data k; pending = p }) b) }
 data_reach limit p k b (l ∷ ls) octets are awaits =
     let one = data_by limit k p l (flat_map content ls) octets (content l) refl are.0.no_checksum are.0.no_end are.0.within awaits (data_begin limit ls are.1) in
     let b1 : Built = record b { octets = b.octets ++ one.out } in
@@ -230,38 +231,38 @@ data_reach limit p k b (l ∷ ls) octets are awaits =
     record {
       after = rest.after;
       none = rest.none;
-      reaches = reaches-cons limit (record { place = Data k; pending = p }) (record { place = Data k; pending = one.after }) (record { place = Data k; pending = rest.after })
+      reaches = reaches-cons limit (record { section = Data k; pending = p }) (record { section = Data k; pending = one.after }) (record { section = Data k; pending = rest.after })
           b b1 (record b { octets = b.octets ++ octets }) l ls (some_octets one.out) one.stepped (octets_absorbed b one.out)
-          (subst (λ (v : List ℕ). Reaches limit (record { place = Data k; pending = one.after }) b1 ls (record { place = Data k; pending = rest.after }) (record b { octets = v })) same rest.reaches);
+          (subst (λ (v : List ℕ). Reaches limit (record { section = Data k; pending = one.after }) b1 ls (record { section = Data k; pending = rest.after }) (record b { octets = v })) same rest.reaches);
     }
 
 -- the front of a block, up to its end line
 record Front (limit : ℕ) (b : Built) (block : Block) (ls : List Line) : Type 0 where
-  place : Place
+  section : Section
   pending : Pending
   none : waits pending ≡ false
-  where_ : (place ≡ Data block.label) ⊎ (place ≡ AfterChecksum block.label)
-  reaches : Reaches limit start b ls (record { place = place; pending = pending }) (record { blocks = b.blocks; label = block.label; headers = block.headers; octets = block.octets })
+  where_ : (section ≡ Data block.label) ⊎ (section ≡ AfterChecksum block.label)
+  reaches : Reaches limit start b ls (record { section = section; pending = pending }) (record { blocks = b.blocks; label = block.label; headers = block.headers; octets = block.octets })
 
 awaits_all : (letters octets : List ℕ) → IsBase64 letters octets → Awaits no_letters letters octets
 awaits_all letters octets is = record { joined = is.1; are_octets = all_octets octets is.0; few = omega arith; end = λ e. cc e }
 
 body_reach : (limit : ℕ) (b : Built) (block : Block) (letters : List ℕ) (ls : List Line) → IsBody limit block.label block.headers letters ls → IsBase64 letters block.octets
-    → (p : Pending) × (waits p ≡ false) × Reaches limit start b ls (record { place = Data block.label; pending = p }) (record { blocks = b.blocks; label = block.label; headers = block.headers; octets = block.octets })
+    → (p : Pending) × (waits p ≡ false) × Reaches limit start b ls (record { section = Data block.label; pending = p }) (record { blocks = b.blocks; label = block.label; headers = block.headers; octets = block.octets })
 body_reach limit b block letters ls body spelled =
     let k : Label = block.label in
     let b1 : Built = record b { label = k; headers = []; octets = [] } in
     let b2 : Built = record b1 { headers = block.headers } in
     let b3 : Built = record b2 { octets = block.octets } in
-    let s1 : State = record { place = Headers k; pending = no_letters } in
-    let s2 : State = record { place = Data k; pending = no_letters } in
+    let s1 : State = record { section = Headers k; pending = no_letters } in
+    let s2 : State = record { section = Data k; pending = no_letters } in
     let head = body.is_head in
     let awaits : Awaits no_letters (flat_map content body.data_lines) block.octets = subst (λ (v : List ℕ). Awaits no_letters v block.octets) body.joined (awaits_all letters block.octets spelled) in
     let one : Reaches limit start b (head.first ∷ head.rest) s1 b2 =
     reaches-cons limit start s1 s1 b b1 b2 head.first head.rest (Begin k ∷ []) (begin_step limit no_letters k head.first head.begins head.within) refl
     (headers_reach limit no_letters k b1 head.rest block.headers head.headers_are) in
     let data_ = data_reach limit no_letters k b2 body.data_lines block.octets body.are_data_lines awaits in
-    let s3 : State = record { place = Data k; pending = data_.after } in
+    let s3 : State = record { section = Data k; pending = data_.after } in
     let two : Reaches limit s1 b2 (body.gap ∷ body.data_lines) s3 b3 =
     reaches-cons limit s1 s2 s3 b2 b2 b3 body.gap body.data_lines [] (gap_step limit no_letters k body.gap body.is_gap) refl data_.reaches in
     let all : Reaches limit start b ((head.first ∷ head.rest) ++ body.gap ∷ body.data_lines) s3 b3 =
@@ -273,18 +274,18 @@ front_reach : (limit : ℕ) (b : Built) (block : Block) (letters : List ℕ) (ls
     → IsBase64 letters block.octets → Front limit b block ls
 front_reach limit b block letters ls (inl body) spelled =
     let f = body_reach limit b block letters ls body spelled in
-    record { place = Data block.label; pending = f.0; none = f.1; where_ = inl refl; reaches = f.2 }
+    record { section = Data block.label; pending = f.0; none = f.1; where_ = inl refl; reaches = f.2 }
 front_reach limit b block letters ls (inr checked) spelled =
     let k : Label = block.label in
     let f = body_reach limit b block letters checked.body checked.is_body spelled in
-    let s1 : State = record { place = Data k; pending = f.0 } in
-    let s2 : State = record { place = AfterChecksum k; pending = f.0 } in
+    let s1 : State = record { section = Data k; pending = f.0 } in
+    let s2 : State = record { section = AfterChecksum k; pending = f.0 } in
     let b3 : Built = record { blocks = b.blocks; label = block.label; headers = block.headers; octets = block.octets } in
     let two : Reaches limit s1 b3 (checked.checksum ∷ checked.blanks) s2 b3 =
     reaches-cons limit s1 s2 s2 b3 b3 b3 checked.checksum checked.blanks [] (checksum_step limit f.0 k checked.checksum checked.is_checksum checked.within f.1) refl
     (blanks_reach limit f.0 k b3 checked.blanks checked.are_blanks) in
     let all = reaches-append limit start s1 s2 b b3 b3 checked.body (checked.checksum ∷ checked.blanks) f.2 two in
-    record { place = AfterChecksum k; pending = f.0; none = f.1; where_ = inr refl; reaches = subst (λ (v : List Line). Reaches limit start b v s2 b3) (sym checked.are) all }
+    record { section = AfterChecksum k; pending = f.0; none = f.1; where_ = inr refl; reaches = subst (λ (v : List Line). Reaches limit start b v s2 b3) (sym checked.are) all }
 
 -- what is built after a block
 abbrev after_block : Built → Block → Built
@@ -294,12 +295,12 @@ block_reach : (limit : ℕ) (b : Built) (block : Block) (ls : List Line) → IsB
 block_reach limit b block ls is =
     let k : Label = block.label in
     let f = front_reach limit b block is.letters is.front is.is_front is.spelled in
-    let s1 : State = record { place = f.place; pending = f.pending } in
+    let s1 : State = record { section = f.section; pending = f.pending } in
     let b3 : Built = record { blocks = b.blocks; label = block.label; headers = block.headers; octets = block.octets } in
     let steps = end_step limit f.pending k is.last is.ends is.within f.none in
     let stepped : step limit s1 is.last ≡ Ok (start, End ∷ []) = elim f.where_ [
-      | inl e ↦ ap (λ (v : Place). step limit (record { place = v; pending = f.pending }) is.last) e ∙ steps.0
-      | inr e ↦ ap (λ (v : Place). step limit (record { place = v; pending = f.pending }) is.last) e ∙ steps.1
+      | inl e ↦ ap (λ (v : Section). step limit (record { section = v; pending = f.pending }) is.last) e ∙ steps.0
+      | inr e ↦ ap (λ (v : Section). step limit (record { section = v; pending = f.pending }) is.last) e ∙ steps.1
     ] in
     let last : Reaches limit s1 b3 (is.last ∷ []) start (after_block b block) = reaches_one limit s1 start b3 (after_block b block) is.last (End ∷ []) stepped refl in
     let all = reaches-append limit start s1 start b b3 (after_block b block) is.front (is.last ∷ []) f.reaches last in

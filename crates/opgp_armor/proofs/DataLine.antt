@@ -1,5 +1,5 @@
 -- One data line: what it gives is right, and it refuses nothing that can go on.
-use Rattle.std.proofs.Common.{◌≡◌, ℕ, ◌+◌, ◌*◌, ◌/◌, ◌%◌, ◌==◌, ◌<◌, ◌≤◌, nat_lt, Bool, true, false, cond, not, ◌&&◌, ◌||◌, List, [], ◌∷◌, ◌++◌, length, take, refl, sym, ap, ◌∙◌, arith, inl, inr, ◌⊎◌, subst, Option, None, Some, Ok}
+use Rattle.std.proofs.Common.{◌≡◌, ℕ, ◌+◌, ◌*◌, ◌/◌, ◌%◌, ◌==◌, ◌<◌, ◌≤◌, nat_lt, Bool, true, false, not, ◌&&◌, ◌||◌, List, [], ◌∷◌, ◌++◌, length, take, refl, sym, ap, ◌∙◌, arith, inl, inr, subst, Option, None, Some, Ok}
 use Rattle.std.proofs.lemmas.List.{append_assoc, length-append, nil_from_length, take-append-drop, length-take-le, length-drop, take_at}
 use Rattle.std.proofs.lemmas.Bool.{cases_Bool, eqb-true, ltb-false}
 use Rattle.std.specs.List.{list_any, list_all}
@@ -7,14 +7,9 @@ use Rattle.base64.specs.Engines.{standard}
 use Rattle.base64.specs.GeneralPurpose.{decoded_of}
 use Rattle.opgp_armor.specs.Letters.{is_letter, is_equals, is_octet, may_stand, base64_of, Pending, groups_of, rest_of, after_groups, data_line}
 use Rattle.opgp_armor.proofs.Octets.{AreOctets}
-use Rattle.opgp_armor.proofs.Pending.{Holds, Awaits}
+use Rattle.opgp_armor.proofs.Awaiting.{Holds, Awaits}
 use Rattle.opgp_armor.proofs.Groups.{begins_with_equals}
 use Rattle.opgp_armor.proofs.Standard.{parts_at, base64_of-nil, base64_of-append, no_equals, base64_stands, base64_size, octets_from_test, octets_test, bytes_from, letter_octet, decoded_is, decoded_some}
-
--- which way a test went
-pub chosen : {X : Type 0} (b : Bool) (x y z : X) → cond b x y ≡ z → ((b ≡ true) × (x ≡ z)) ⊎ ((b ≡ false) × (y ≡ z))
-chosen true x y z h = inl (refl, h)
-chosen false x y z h = inr (refl, h)
 
 pub or_false : (a b : Bool) → (a || b) ≡ false → (a ≡ false) × (b ≡ false)
 or_false true b h = cc h
@@ -128,10 +123,6 @@ data_line_ok p content x h = elim (cases_Bool (not (list_all may_stand content))
   ]
 ]
 
-or_from : (a b : Bool) → a ≡ false → b ≡ false → (a || b) ≡ false
-or_from true b h k = cc h
-or_from false b h k = k
-
 and_false : (a b : Bool) → (a && b) ≡ false → a ≡ true → b ≡ false
 and_false true b h k = h
 and_false false b h k = cc k
@@ -186,7 +177,7 @@ and_right : (a : Bool) (n : ℕ) → n ≡ 0 → (a && nat_lt 0 n) ≡ false
 and_right true n e = rw e refl
 and_right false n e = refl
 
-line_goes : (p : Pending) (content : List ℕ) (o : List ℕ) → list_all may_stand content ≡ true → p.padded ≡ false → decoded_of standard (groups_of (p.letters ++ content)) ≡ Some o
+pub line_goes : (p : Pending) (content : List ℕ) (o : List ℕ) → list_all may_stand content ≡ true → p.padded ≡ false → decoded_of standard (groups_of (p.letters ++ content)) ≡ Some o
     → list_all is_octet o ≡ true → list_any is_equals (rest_of (p.letters ++ content)) ≡ false → (not (length o % 3 == 0) && nat_lt 0 (length (rest_of (p.letters ++ content)))) ≡ false
     → data_line p content ≡ Ok (record { letters = rest_of (p.letters ++ content); padded = not (length o % 3 == 0) }, o)
 unfolding data_line

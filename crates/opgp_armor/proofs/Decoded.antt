@@ -18,23 +18,13 @@ or_true : (a b c : Bool) → (b || c) ≡ true → ((a || b) || c) ≡ true
 or_true true b c h = refl
 or_true false b c h = h
 
-or_none : (a b c : Bool) → a ≡ false → (b || c) ≡ false → ((a || b) || c) ≡ false
-or_none true b c h k = cc h
-or_none false b c h k = k
-
-bytes_test : (o : List ℕ) → IsBytes o → list_all is_octet o ≡ true
+pub bytes_test : (o : List ℕ) → IsBytes o → list_all is_octet o ≡ true
 bytes_test [] h = refl
 bytes_test (x ∷ o) h = let l : x < 256 = h 0 in rw (lt-ltb x 256 l) (bytes_test o (λ i. h (suc i)))
 
 pub after_spoilt : (s rest o : List ℕ) → decode_of standard s ≡ Ok o → spoilt rest o ≡ true → after_groups rest (decoded_of standard s) ≡ Err reason.Padding
 after_spoilt s rest o ok h =
     ap (after_groups rest) (decoded_of-ok standard s o ok) ∙ rw (or_true (not (list_all is_octet o)) (list_any is_equals rest) (not (length o % 3 == 0) && nat_lt 0 (length rest)) h) refl
-
-pub after_good : (s rest o : List ℕ) → decode_of standard s ≡ Ok o → IsBytes o → spoilt rest o ≡ false
-    → after_groups rest (decoded_of standard s) ≡ Ok (record { letters = rest; padded = not (length o % 3 == 0) }, o)
-after_good s rest o ok bytes h =
-    ap (after_groups rest) (decoded_of-ok standard s o ok)
-    ∙ rw (or_none (not (list_all is_octet o)) (list_any is_equals rest) (not (length o % 3 == 0) && nat_lt 0 (length rest)) (ap not (bytes_test o bytes)) h) refl
 
 pub after_bad : (s rest : List ℕ) (d : DecodeError) → decode_of standard s ≡ Err d → after_groups rest (decoded_of standard s) ≡ Err reason.Padding
 unfolding decoded_of

@@ -3,9 +3,8 @@ use Rattle.std.proofs.Common.{◌≡◌, ℕ, ◌==◌, true, false, List, [], �
 use Rattle.std.proofs.lemmas.List.{append_assoc, append-nil}
 use Rattle.std.proofs.lemmas.Bool.{cases_Bool, eqb-true}
 use Rattle.std.specs.List.{fold, list_all}
-use Rattle.opgp_armor.specs.Splits.{is_plain}
+use Rattle.opgp_armor.specs.Cuts.{is_plain, Cut, feed, uncut, cut}
 use Rattle.opgp_armor.specs.Text.{Line, lines}
-use Rattle.opgp_armor.specs.Cuts.{Cut, feed, uncut, cut}
 use Rattle.opgp_armor.proofs.DataLine.{all_both}
 use Rattle.opgp_armor.proofs.Texts.{lines-line}
 

@@ -7,15 +7,16 @@ use Rattle.std.specs.List.{flat_map, AllByRecursion, list_all}
 use Rattle.std.specs.declared.result.Result.{Result}
 use Rattle.opgp_armor.specs.declared.label.Label.{Label}
 use Rattle.opgp_armor.specs.declared.label.Label.TheVariants.{Message, PublicKeyBlock, PrivateKeyBlock, Signature}
-use Rattle.opgp_armor.specs.declared.place.Place.{Place}
-use Rattle.opgp_armor.specs.declared.place.Place.TheVariants.{Outside, Headers, Data, AfterChecksum}
+use Rattle.opgp_armor.specs.declared.section.Section.{Section}
+use Rattle.opgp_armor.specs.declared.section.Section.TheVariants.{Outside, Headers, Data, AfterChecksum}
 use Rattle.opgp_octets.specs.declared.fault.Reason.{Reason}
 use Rattle.opgp_armor.specs.Letters.{is_equals, is_octet, IsBase64, base64_of, Pending}
 use Rattle.opgp_armor.proofs.Octets.{each_octet}
-use Rattle.opgp_armor.proofs.Pending.{Holds}
+use Rattle.opgp_armor.proofs.Awaiting.{Holds}
 use Rattle.opgp_armor.specs.Text.{Line, lines, content, begin_line, end_line}
 use Rattle.opgp_armor.specs.Armored.{Opens, Block, ArePieces, Whole, IsBlock, IsHead, IsBody, IsChecked, IsBlank, IsDataLine, begins_with, is_dash}
-use Rattle.opgp_armor.specs.Machine.{Run, Built, Answer, built, waits, step, onward, run_from, first, run}
+use Rattle.opgp_armor.specs.Machine.{Run, Answer, waits, step, onward, run_from, first, run}
+use Rattle.opgp_armor.specs.Events.{Built, built}
 use Rattle.opgp_armor.proofs.Lists.{recursion-append, piece_more}
 use Rattle.opgp_armor.proofs.Standard.{base64_of-nil, base64_of-append, complete as complete_group}
 use Rattle.opgp_armor.proofs.DataLine.{not_false, octets-append}
@@ -24,7 +25,7 @@ use Rattle.opgp_armor.proofs.Sound.{Stage, sound, relist, run-more, run_err, run
 use Rattle.opgp_armor.proofs.Complete.{complete}
 use Rattle.opgp_armor.specs.Written.{text_of}
 use Rattle.opgp_armor.proofs.Texts.{IsLine, lines-text_of, octets-text_of}
-use Rattle.opgp_armor.specs.Splits.{is_plain}
+use Rattle.opgp_armor.specs.Cuts.{is_plain}
 
 -- lines that complete an open block
 record Closed (limit : ℕ) (ls : List Line) : Type 0 where
@@ -167,7 +168,7 @@ module _ (limit : ℕ) (large : 128 ≤ limit) where
       let c = close_head Message [] (begin_line Message ∷ []) head in
       record { extra = begin_line Message ∷ c.extra; block = c.block; are_extra = (begin_is.0, c.are_extra); is_block = c.is_block }
 
-  close_stage : (place : Place) (p : Pending) (b : Built) (ls : List Line) → Stage limit place p b ls → Closed limit ls
+  close_stage : (section : Section) (p : Pending) (b : Built) (ls : List Line) → Stage limit section p b ls → Closed limit ls
   close_stage Outside p b ls stage = subst (Closed limit) (sym stage.0) close_none
   close_stage (Headers k) p b ls stage = close_head k b.headers ls stage.1
   close_stage (Data k) p b ls stage = close_data k b.headers stage.0 b.octets p ls stage.2 stage.3
@@ -177,7 +178,7 @@ module _ (limit : ℕ) (large : 128 ≤ limit) where
   pub extends : (ls : List Line) (r : Run) → AllByRecursion IsLine ls → run limit ls ≡ Ok r → Opens limit ls
   extends ls r are ran =
       let upto = sound limit ls r ran in
-      let c = close_stage r.state.place r.state.pending (built r.events) upto.open_ upto.stage in
+      let c = close_stage r.state.section r.state.pending (built r.events) upto.open_ upto.stage in
       let bs : List Block = (built r.events).blocks ++ c.block ∷ [] in
       let pieces : ArePieces limit (upto.done ++ (upto.open_ ++ c.extra)) bs =
       piece_more limit upto.done (upto.open_ ++ c.extra) (built r.events).blocks (c.block ∷ []) (Whole (upto.open_ ++ c.extra) c.block) upto.pieces c.is_block refl refl in

@@ -5,23 +5,21 @@ use Rattle.std.specs.Option.{is_some}
 use Rattle.std.proofs.lemmas.Bool.{cases_Bool, eqb-true}
 use Rattle.std.specs.List.{fold, list_all}
 use Rattle.std.specs.declared.result.Result.{Result}
-use Rattle.opgp_armor.specs.declared.place.Place.TheVariants.{Outside}
 use Rattle.opgp_armor.specs.declared.event.ArmorEvent.{ArmorEvent}
 use Rattle.opgp_octets.specs.declared.fault.Reason.{Reason}
 use Rattle.opgp_armor.specs.declared.reader.Dearmor.{Dearmor}
 use Rattle.opgp_octets.specs.declared.fault.Fault.{Fault}
 use Rattle.opgp_armor.specs.Text.{Line, offset}
-use Rattle.opgp_armor.specs.Machine.{Event, Begin, Header, Octets, End, Answer, Run, Built, State, run, run_from, first, onward, step, built, absorb}
-use Rattle.opgp_armor.specs.Events.{events_of, state_of}
-use Rattle.opgp_armor.specs.Ends.{ends_in}
+use Rattle.opgp_armor.specs.Events.{Event, Begin, Header, Octets, End, Built, built, absorb, events_of, ends_in}
+use Rattle.opgp_armor.specs.Machine.{Answer, Run, State, start, run, run_from, first, onward, step}
+use Rattle.opgp_armor.specs.LineAnswer.{state_of}
 use Rattle.opgp_octets.specs.Octets.{IsOctets}
-use Rattle.opgp_armor.specs.Cuts.{Cut, feed, uncut, cut, lines_ended, kept, kept_most}
-use Rattle.opgp_armor.specs.Reader.{Going, Stopped, Stands, Fed, AfterLine, SameReader}
+use Rattle.opgp_armor.specs.Cuts.{Cut, feed, uncut, cut, lines_ended, kept, kept_most, is_plain, IsLineSplit}
+use Rattle.opgp_armor.specs.Fed.{Going, Stopped, Stands, Fed, AfterLine, SameReader}
 use Rattle.opgp_armor.proofs.Lists.{fold-both}
-use Rattle.opgp_armor.specs.Splits.{is_plain, IsLineSplit}
 use Rattle.opgp_armor.proofs.Octets.{AreOctets, each_octet, all_octets}
 use Rattle.opgp_armor.proofs.DataLine.{octets-append, octets_front}
-use Rattle.opgp_armor.proofs.Keeping.{step_seen}
+use Rattle.opgp_armor.proofs.Keeping.{step_seen, kept_none}
 use Rattle.opgp_armor.proofs.Sound.{run-more, run-cons, run-nil, built_more}
 
 -- ---- cutting goes on
@@ -56,15 +54,15 @@ pub take_nil : (n : ℕ) → ◌≡◌ {A = List ℕ} [] (take n [])
 take_nil zero = refl
 take_nil (suc n) = refl
 
-pub going_first : (d : Dearmor) → state_of d.place d.letters.items d.padded ≡ state_of Outside [] false → d.ready ≡ None → d.buffer.items ≡ [] → d.start ≡ 0 → d.finished ≡ 0 → d.ended ≡ false → Going d [] []
+pub going_first : (d : Dearmor) → state_of d.section d.pending ≡ start → d.ready ≡ None → d.buffer.items ≡ [] → d.start ≡ 0 → d.finished ≡ 0 → d.ended ≡ false → Going d [] []
 unfolding cut built
-going_first d place ready buffer start finished open_ =
+going_first d section ready buffer start finished open_ =
     record {
       last = first;
       ran = rw open_ (run-nil d.limit (Ok first));
-      state = sym place;
+      state = sym section;
       events = ap events_of (sym ready);
-      buffered = λ e. buffer ∙ take_nil (kept_most d.limit d.place []);
+      buffered = λ e. buffer ∙ take_nil (kept_most d.limit d.section []);
       begins = λ e. start;
       finished = finished;
     }
@@ -74,9 +72,9 @@ going_first d place ready buffer start finished open_ =
 pub record Open (d : Dearmor) (given : List ℕ) (taken : List Event) : Type 0 where
   pub last : Run
   pub ran : run d.limit (cut given).ended ≡ Ok last
-  pub state : last.state ≡ state_of d.place d.letters.items d.padded
+  pub state : last.state ≡ state_of d.section d.pending
   pub events : last.events ≡ taken ++ events_of d.ready
-  pub buffered : d.buffer.items ≡ kept d.limit d.place (cut given).tail
+  pub buffered : d.buffer.items ≡ kept d.limit d.section (cut given).tail
   pub begins : d.start ≡ offset (cut given).ended
   pub finished : d.finished ≡ length (built last.events).blocks
 
@@ -103,21 +101,42 @@ going_open d given taken open_ going = record {
 }
 
 -- ---- more octets of the same line
-pub going_more : (d e : Dearmor) (given part : List ℕ) (taken : List Event) → Open d given taken → list_all is_plain part ≡ true → e.limit ≡ d.limit → e.place ≡ d.place
-    → state_of d.place d.letters.items d.padded ≡ state_of e.place e.letters.items e.padded → events_of d.ready ≡ events_of e.ready
-    → ((tail : List ℕ) → d.buffer.items ≡ kept d.limit d.place tail → e.buffer.items ≡ kept d.limit d.place (tail ++ part)) → e.start ≡ d.start → e.finished ≡ d.finished → Open e (given ++ part) taken
-going_more d e given part taken going plain limit place state ready buffer start finished =
-    let now = cut_plain given part plain in
-    let ended : (cut given).ended ≡ (cut (given ++ part)).ended = ap (λ (v : Cut). v.ended) (sym now) in
-    let tail : (cut given).tail ++ part ≡ (cut (given ++ part)).tail = ap (λ (v : Cut). v.tail) (sym now) in
+-- the same, whatever of its unfinished line is kept
+pub record Before (d : Dearmor) (given : List ℕ) (taken : List Event) : Type 0 where
+  pub last : Run
+  pub ran : run d.limit (cut given).ended ≡ Ok last
+  pub state : last.state ≡ state_of d.section d.pending
+  pub events : last.events ≡ taken ++ events_of d.ready
+  pub begins : d.start ≡ offset (cut given).ended
+  pub finished : d.finished ≡ length (built last.events).blocks
+
+pub before_more : (d e : Dearmor) (given part : List ℕ) (taken : List Event) → Open d given taken → list_all is_plain part ≡ true → e.limit ≡ d.limit
+    → state_of d.section d.pending ≡ state_of e.section e.pending → events_of d.ready ≡ events_of e.ready → e.start ≡ d.start → e.finished ≡ d.finished → Before e (given ++ part) taken
+before_more d e given part taken going plain limit state ready start finished =
+    let ended : (cut given).ended ≡ (cut (given ++ part)).ended = ap (λ (v : Cut). v.ended) (sym (cut_plain given part plain)) in
     record {
       last = going.last;
       ran = rw (limit, ← ended) going.ran;
       state = going.state ∙ state;
       events = going.events ∙ ap (λ (v : List Event). taken ++ v) ready;
-      buffered = rw (limit, place, ← tail) (buffer (cut given).tail going.buffered);
       begins = start ∙ going.begins ∙ ap offset ended;
       finished = finished ∙ going.finished;
+    }
+
+pub going_more : (d e : Dearmor) (given part : List ℕ) (taken : List Event) → Open d given taken → list_all is_plain part ≡ true → e.limit ≡ d.limit → e.section ≡ d.section
+    → state_of d.section d.pending ≡ state_of e.section e.pending → events_of d.ready ≡ events_of e.ready
+    → ((tail : List ℕ) → d.buffer.items ≡ kept d.limit d.section tail → e.buffer.items ≡ kept d.limit d.section (tail ++ part)) → e.start ≡ d.start → e.finished ≡ d.finished → Open e (given ++ part) taken
+going_more d e given part taken going plain limit section state ready buffer start finished =
+    let tail : (cut given).tail ++ part ≡ (cut (given ++ part)).tail = ap (λ (v : Cut). v.tail) (sym (cut_plain given part plain)) in
+    let more = before_more d e given part taken going plain limit state ready start finished in
+    record {
+      last = more.last;
+      ran = more.ran;
+      state = more.state;
+      events = more.events;
+      buffered = rw (limit, section, ← tail) (buffer (cut given).tail going.buffered);
+      begins = more.begins;
+      finished = more.finished;
     }
 
 -- ---- after a fault
@@ -189,13 +208,11 @@ pub cut_length : (given : List ℕ) → offset (cut given).ended + length (cut g
 unfolding cut
 cut_length given = omega (arith, fold_length uncut given)
 
-module _ (m e : Dearmor) (given : List ℕ) (taken : List Event) (large : 128 ≤ m.limit) (going : Open m given taken) (none : m.ready ≡ None)
+module _ (m e : Dearmor) (given seen : List ℕ) (taken : List Event) (going : Before m given taken) (none : m.ready ≡ None)
+    (looks : step m.limit (state_of m.section m.pending) seen ≡ step m.limit (state_of m.section m.pending) (cut given).tail)
     (limit : e.limit ≡ m.limit) (count : m.given ≡ length given + 1) (open_ : e.ended ≡ false) where
-  line_state : step m.limit (state_of m.place m.letters.items m.padded) m.buffer.items ≡ step m.limit going.last.state (cut given).tail
-  line_state =
-      ap (λ (v : State). step m.limit v m.buffer.items) (sym going.state)
-      ∙ ap (step m.limit going.last.state) (going.buffered ∙ ap (λ (v : State). kept m.limit v.place (cut given).tail) (sym going.state))
-      ∙ step_seen m.limit going.last.state (cut given).tail large
+  line_state : step m.limit (state_of m.section m.pending) seen ≡ step m.limit going.last.state (cut given).tail
+  line_state = looks ∙ ap (λ (v : State). step m.limit v (cut given).tail) (sym going.state)
 
   now : cut (given ++ 10 ∷ []) ≡ record { ended = (cut given).ended ++ (cut given).tail ∷ []; tail = [] }
   now = cut_line given [] refl ∙ ap (λ (v : List ℕ). record { ended = (cut given).ended ++ v ∷ []; tail = [] }) (append-nil (cut given).tail)
@@ -203,7 +220,7 @@ module _ (m e : Dearmor) (given : List ℕ) (taken : List Event) (large : 128 �
   quiet : going.last.events ≡ taken
   quiet = going.events ∙ ap (λ (v : Option ArmorEvent). taken ++ events_of v) none ∙ append-nil taken
 
-  ended_by : (a : Answer) → step m.limit (state_of m.place m.letters.items m.padded) m.buffer.items ≡ a → AfterLine m e a → Stands e e.fault (given ++ 10 ∷ []) taken
+  ended_by : (a : Answer) → step m.limit (state_of m.section m.pending) seen ≡ a → AfterLine m e a → Stands e e.fault (given ++ 10 ∷ []) taken
   ended_by (Ok (s, more)) is after =
       let r : Run = record { state = s; events = going.last.events ++ more } in
       let ended : (cut given).ended ++ (cut given).tail ∷ [] ≡ (cut (given ++ 10 ∷ [])).ended = ap (λ (v : Cut). v.ended) (sym now) in
@@ -217,7 +234,7 @@ module _ (m e : Dearmor) (given : List ℕ) (taken : List Event) (large : 128 �
         ran = rw (limit, ← ended) ran;
         state = after.0;
         events = ap (λ (v : List Event). v ++ more) quiet ∙ ap (λ (v : List Event). taken ++ v) after.1;
-        buffered = after.4 ∙ take_nil (kept_most e.limit e.place []) ∙ ap (kept e.limit e.place) tail;
+        buffered = after.4 ∙ take_nil (kept_most e.limit e.section []) ∙ ap (kept e.limit e.section) tail;
         begins = after.5 ∙ count ∙ rw (← ended) (omega (arith, offset-more (cut given).ended (cut given).tail, cut_length given));
         finished = after.3 ∙ ap (λ (v : ℕ). v + ends_in more) going.finished ∙ sym (blocks_end (built going.last.events) more) ∙ ap (λ (v : Built). length v.blocks) (sym (built_more going.last.events more));
       }))
@@ -251,13 +268,13 @@ pub going_of : (d : Dearmor) (given : List ℕ) (taken : List Event) → Fed d g
 going_of d given taken fed none = subst (λ (v : Option Fault). Stands d v given taken) none fed.stands
 
 pub part_plain : (d e : Dearmor) (piece line : List ℕ) (n : ℕ) (given : List ℕ) (taken : List Event) → Fed d given taken → IsOctets piece → d.fault ≡ None → d.ended ≡ false → IsLineSplit piece line n false
-    → e.fault ≡ d.fault → e.given ≡ d.given + n → e.limit ≡ d.limit → e.spent ≡ d.spent → e.ended ≡ d.ended → e.place ≡ d.place
-    → state_of d.place d.letters.items d.padded ≡ state_of e.place e.letters.items e.padded → events_of d.ready ≡ events_of e.ready
-    → ((tail : List ℕ) → d.buffer.items ≡ kept d.limit d.place tail → e.buffer.items ≡ kept d.limit d.place (tail ++ line)) → e.start ≡ d.start → e.finished ≡ d.finished
+    → e.fault ≡ d.fault → e.given ≡ d.given + n → e.limit ≡ d.limit → e.spent ≡ d.spent → e.ended ≡ d.ended → e.section ≡ d.section
+    → state_of d.section d.pending ≡ state_of e.section e.pending → events_of d.ready ≡ events_of e.ready
+    → ((tail : List ℕ) → d.buffer.items ≡ kept d.limit d.section tail → e.buffer.items ≡ kept d.limit d.section (tail ++ line)) → e.start ≡ d.start → e.finished ≡ d.finished
     → Fed e (given ++ take n piece) taken
-part_plain d e piece line n given taken fed octets none open_ split fault count limit spent ended place state ready buffer start finished =
+part_plain d e piece line n given taken fed octets none open_ split fault count limit spent ended section state ready buffer start finished =
     let going = open_of d given taken open_ (going_of d given taken fed none) in
-    let more = going_open e (given ++ line) taken (ended ∙ open_) (going_more d e given line taken going split.plain limit place state ready buffer start finished) in
+    let more = going_open e (given ++ line) taken (ended ∙ open_) (going_more d e given line taken going split.plain limit section state ready buffer start finished) in
     record {
       sound = spent ∙ fed.sound;
       octets = octets_more given piece n fed.octets octets;
@@ -266,25 +283,56 @@ part_plain d e piece line n given taken fed octets none open_ split fault count 
           (subst (λ (v : List ℕ). Going e (given ++ v) taken) (sym split.front) more);
     }
 
-pub part_line : (d m e : Dearmor) (piece line : List ℕ) (n : ℕ) (given : List ℕ) (taken : List Event) → Fed d given taken → IsOctets piece → d.fault ≡ None → d.ended ≡ false → d.ready ≡ None → IsLineSplit piece line n true
-    → m.given ≡ d.given + n → m.limit ≡ d.limit → 128 ≤ m.limit → m.spent ≡ d.spent → m.ended ≡ d.ended → m.place ≡ d.place
-    → state_of d.place d.letters.items d.padded ≡ state_of m.place m.letters.items m.padded → d.ready ≡ m.ready
-    → ((tail : List ℕ) → d.buffer.items ≡ kept d.limit d.place tail → m.buffer.items ≡ kept d.limit d.place (tail ++ line)) → m.start ≡ d.start → m.finished ≡ d.finished
-    → SameReader m e → AfterLine m e (step m.limit (state_of m.place m.letters.items m.padded) m.buffer.items)
+-- what is answered of an unfinished line, is answered of the line
+abbrev pub Looks : Dearmor → List ℕ → List ℕ → Type 0
+Looks d line seen = (tail : List ℕ) → d.buffer.items ≡ kept d.limit d.section tail
+    → step d.limit (state_of d.section d.pending) seen ≡ step d.limit (state_of d.section d.pending) (tail ++ line)
+
+-- where it was kept ..
+pub looks_buffered : (d : Dearmor) (line seen : List ℕ)
+    → ((tail : List ℕ) → d.buffer.items ≡ kept d.limit d.section tail → seen ≡ kept d.limit d.section (tail ++ line)) → Looks d line seen
+looks_buffered d line seen buffer = λ tail is.
+    ap (step d.limit (state_of d.section d.pending)) (buffer tail is) ∙ step_seen d.limit (state_of d.section d.pending) (tail ++ line) d.low
+
+-- .. and where it lies whole in a piece
+pub looks_whole : (d : Dearmor) (line : List ℕ) → d.buffer.items ≡ [] → Looks d line line
+looks_whole d line empty = λ tail is.
+    ap (λ (v : List ℕ). step d.limit (state_of d.section d.pending) (v ++ line)) (sym (kept_none d.limit d.section tail (sym is ∙ empty)))
+
+pub part_line : (d m e : Dearmor) (piece line seen : List ℕ) (n : ℕ) (given : List ℕ) (taken : List Event) → Fed d given taken → IsOctets piece → d.fault ≡ None → d.ended ≡ false → d.ready ≡ None → IsLineSplit piece line n true
+    → Looks d line seen → m.given ≡ d.given + n → m.limit ≡ d.limit → m.spent ≡ d.spent → m.ended ≡ d.ended
+    → state_of d.section d.pending ≡ state_of m.section m.pending → d.ready ≡ m.ready → m.start ≡ d.start → m.finished ≡ d.finished
+    → SameReader m e → AfterLine m e (step m.limit (state_of m.section m.pending) seen)
     → Fed e (given ++ take n piece) taken
-part_line d m e piece line n given taken fed octets none open_ quiet_ split count limit large spent ended place state ready buffer start finished same after =
+part_line d m e piece line seen n given taken fed octets none open_ quiet_ split look count limit spent ended state ready start finished same after =
     let going = open_of d given taken open_ (going_of d given taken fed none) in
-    let mid : Open m (given ++ line) taken = going_more d m given line taken going split.plain limit place state (ap events_of ready) buffer start finished in
+    let mid : Before m (given ++ line) taken = before_more d m given line taken going split.plain limit state (ap events_of ready) start finished in
     let cut_ : n ≡ length line + 1 = sym (length-take-le n piece split.within) ∙ ap length split.front ∙ length-append line (10 ∷ []) in
     let all : (given ++ line) ++ 10 ∷ [] ≡ given ++ take n piece = append_assoc given line (10 ∷ []) ∙ ap (λ (v : List ℕ). given ++ v) (sym split.front) in
     let counted : m.given ≡ length (given ++ line) + 1 = omega (arith, count, fed.count, length-append given line) in
-    let stands = ended_by m e (given ++ line) taken large mid (sym ready ∙ quiet_) same.limit counted (same.ended ∙ ended ∙ open_) (step m.limit (state_of m.place m.letters.items m.padded) m.buffer.items) refl after in
+    let tail : (cut given).tail ++ line ≡ (cut (given ++ line)).tail = ap (λ (v : Cut). v.tail) (sym (cut_plain given line split.plain)) in
+    let looked : step m.limit (state_of m.section m.pending) seen ≡ step m.limit (state_of m.section m.pending) (cut (given ++ line)).tail =
+    rw (limit, ← state, ← tail) (look (cut given).tail going.buffered) in
+    let stands = ended_by m e (given ++ line) seen taken mid (sym ready ∙ quiet_) looked same.limit counted (same.ended ∙ ended ∙ open_) (step m.limit (state_of m.section m.pending) seen) refl after in
     record {
       sound = same.spent ∙ spent ∙ fed.sound;
       octets = octets_more given piece n fed.octets octets;
       count = same.given ∙ count ∙ rw (count_more given piece n split.within) (omega (arith, fed.count));
       stands = subst (λ (v : List ℕ). Stands e e.fault v taken) all stands;
     }
+
+-- ---- octets or events in turn
+pub no_event : (e : Dearmor) (given : List ℕ) (taken : List Event) → Fed e given taken → Fed e given (taken ++ [])
+no_event e given taken fed = subst (Fed e given) (sym (append-nil taken)) fed
+
+pub without_event : (e : Dearmor) (given : List ℕ) (taken : List Event) → Fed e given (taken ++ []) → Fed e given taken
+without_event e given taken fed = subst (Fed e given) (append-nil taken) fed
+
+pub no_octet : (e : Dearmor) (given : List ℕ) (taken : List Event) → Fed e given taken → Fed e (given ++ []) taken
+no_octet e given taken fed = subst (λ (v : List ℕ). Fed e v taken) (sym (append-nil given)) fed
+
+pub without_octet : (e : Dearmor) (given : List ℕ) (taken : List Event) → Fed e (given ++ []) taken → Fed e given taken
+without_octet e given taken fed = subst (λ (v : List ℕ). Fed e v taken) (append-nil given) fed
 
 some_stands : (d e : Dearmor) (f : Option Fault) (given part : List ℕ) (taken : List Event) → (f ≡ None → ⊥) → Stands d f given taken → d.ended ≡ false → e.ended ≡ d.ended → e.limit ≡ d.limit → events_of d.ready ≡ events_of e.ready
     → Stands e f (given ++ part) taken

@@ -4,8 +4,8 @@ use Rattle.std.proofs.lemmas.List.{append_assoc, append-nil, length-append, take
 use Rattle.std.proofs.lemmas.Bool.{cases_Bool, cases_lt, lt-ltb}
 use Rattle.std.specs.Cmp.Lexicographic.{pointwise}
 use Rattle.std.specs.List.{starts_with}
-use Rattle.opgp_armor.specs.declared.place.Place.{Place}
-use Rattle.opgp_armor.specs.declared.place.Place.TheVariants.{Outside, Headers, Data, AfterChecksum}
+use Rattle.opgp_armor.specs.declared.section.Section.{Section}
+use Rattle.opgp_armor.specs.declared.section.Section.TheVariants.{Outside, Headers, Data, AfterChecksum}
 use Rattle.opgp_octets.specs.declared.fault.Reason.TheVariants as reason
 use Rattle.opgp_armor.specs.Text.{Line, begin_mark}
 use Rattle.opgp_armor.specs.Machine.{State, passes_by, step}
@@ -118,46 +118,41 @@ keeps_beginning limit n tail part b rest large is test within first rest_is =
     ] in
     now ∙ end.1 ∙ sym (kept_beginning limit (tail ++ part) end.0)
 
--- in a block
-pub keeps_inside : (limit : ℕ) (tail part b : List ℕ) → b ≡ take (limit + 1) tail → b ++ take (limit + 1 - length b) part ≡ take (limit + 1) (tail ++ part)
-keeps_inside limit tail part b is =
-    filled (limit + 1) b part (omega (arith, ap length is, length-take (limit + 1) tail)) ∙ ap (λ (v : List ℕ). take (limit + 1) (v ++ part)) is ∙ take_seen (limit + 1) tail part
-
 -- ---- the machine looks at no more of a line
-passes_seen : (n : ℕ) (place : Place) (l : Line) → 15 ≤ n → passes_by place (take n l) ≡ passes_by place l
+passes_seen : (n : ℕ) (section : Section) (l : Line) → 15 ≤ n → passes_by section (take n l) ≡ passes_by section l
 passes_seen n Outside l large = ap not (mark_seen n l large)
 passes_seen n (Headers k) l large = refl
 passes_seen n (Data k) l large = refl
 passes_seen n (AfterChecksum k) l large = refl
 
-step_passing : (limit : ℕ) (s : State) (l : Line) → passes_by s.place l ≡ true → step limit s l ≡ Ok (s, [])
+step_passing : (limit : ℕ) (s : State) (l : Line) → passes_by s.section l ≡ true → step limit s l ≡ Ok (s, [])
 unfolding step
 step_passing limit s l h = rw h refl
 
-step_long : (limit : ℕ) (s : State) (l : Line) → passes_by s.place l ≡ false → limit < length l → step limit s l ≡ Err reason.LineTooLong
+step_long : (limit : ℕ) (s : State) (l : Line) → passes_by s.section l ≡ false → limit < length l → step limit s l ≡ Err reason.LineTooLong
 unfolding step
 step_long limit s l n h = rw (n, lt-ltb limit (length l) h) refl
 
-pub step_seen : (limit : ℕ) (s : State) (l : Line) → 128 ≤ limit → step limit s (kept limit s.place l) ≡ step limit s l
-step_seen limit s l large = elim (cases_Bool (passes_by s.place l)) [
+pub step_seen : (limit : ℕ) (s : State) (l : Line) → 128 ≤ limit → step limit s (kept limit s.section l) ≡ step limit s l
+step_seen limit s l large = elim (cases_Bool (passes_by s.section l)) [
   | inl y ↦
-      let is : kept limit s.place l ≡ take 15 l = ap (λ (v : Bool). take (cond v 15 (limit + 1)) l) y in
-      ap (step limit s) is ∙ step_passing limit s (take 15 l) (passes_seen 15 s.place l (omega arith) ∙ y) ∙ sym (step_passing limit s l y)
+      let is : kept limit s.section l ≡ take 15 l = ap (λ (v : Bool). take (cond v 15 (limit + 1)) l) y in
+      ap (step limit s) is ∙ step_passing limit s (take 15 l) (passes_seen 15 s.section l (omega arith) ∙ y) ∙ sym (step_passing limit s l y)
   | inr n ↦
-      let is : kept limit s.place l ≡ take (limit + 1) l = ap (λ (v : Bool). take (cond v 15 (limit + 1)) l) n in
+      let is : kept limit s.section l ≡ take (limit + 1) l = ap (λ (v : Bool). take (cond v 15 (limit + 1)) l) n in
       elim (cases_lt limit (length l)) [
         | inl lt ↦
             ap (step limit s) is
-            ∙ step_long limit s (take (limit + 1) l) (passes_seen (limit + 1) s.place l (omega arith) ∙ n) (omega (arith, length-take (limit + 1) l))
+            ∙ step_long limit s (take (limit + 1) l) (passes_seen (limit + 1) s.section l (omega arith) ∙ n) (omega (arith, length-take (limit + 1) l))
             ∙ sym (step_long limit s l n lt)
         | inr ge ↦ ap (step limit s) (is ∙ take_all (limit + 1) l (omega arith))
       ]
 ]
 
 -- nothing is kept of a line exactly where it has no octets
-pub kept_none : (limit : ℕ) (place : Place) (l : Line) → kept limit place l ≡ [] → l ≡ []
-kept_none limit place [] h = refl
-kept_none limit place (c ∷ l) h = elim (cases_Bool (passes_by place (c ∷ l))) [
+pub kept_none : (limit : ℕ) (section : Section) (l : Line) → kept limit section l ≡ [] → l ≡ []
+kept_none limit section [] h = refl
+kept_none limit section (c ∷ l) h = elim (cases_Bool (passes_by section (c ∷ l))) [
   | inl y ↦ cc (sym (ap (λ (v : Bool). take (cond v 15 (limit + 1)) (c ∷ l)) y) ∙ h)
   | inr n ↦ absurd (some_kept limit c l (sym (ap (λ (v : Bool). take (cond v 15 (limit + 1)) (c ∷ l)) n) ∙ h))
 ]

@@ -8,18 +8,17 @@ use Rattle.opgp_octets.specs.Octets.{IsOctets}
 use Rattle.opgp_octets.specs.declared.fault.Fault.{Fault}
 use Rattle.opgp_octets.specs.declared.fault.Layer.TheVariants as layer
 use Rattle.opgp_octets.specs.declared.fault.Reason.{Reason}
-use Rattle.opgp_armor.specs.declared.place.Place.{Place}
-use Rattle.opgp_armor.specs.declared.place.Place.TheVariants.{Outside}
+use Rattle.opgp_armor.specs.declared.section.Section.{Section}
+use Rattle.opgp_armor.specs.declared.section.Section.TheVariants.{Outside}
 use Rattle.opgp_armor.specs.declared.event.ArmorEvent.{ArmorEvent}
 use Rattle.opgp_armor.specs.declared.reader.Dearmor.{Dearmor}
-use Rattle.opgp_armor.specs.Splits.{is_plain}
+use Rattle.opgp_armor.specs.Cuts.{is_plain, Cut, feed, uncut, cut, lines_ended, kept, kept_most}
 use Rattle.opgp_armor.specs.Text.{Line, lines, onto}
-use Rattle.opgp_armor.specs.Armored.{Armored, end_reason, IsFault}
-use Rattle.opgp_armor.specs.Machine.{Event, Answer, Run, Built, State, run, run_from, first, onward, step, built}
-use Rattle.opgp_armor.specs.Events.{events_of, state_of}
-use Rattle.opgp_armor.specs.Ends.{ends_in}
-use Rattle.opgp_armor.specs.Cuts.{Cut, feed, uncut, cut, lines_ended, kept, kept_most}
-use Rattle.opgp_armor.specs.Reader.{Stopped, Stands, Fed, AfterLine, SameReader}
+use Rattle.opgp_armor.specs.Armored.{Armored, end_reason, IsArmorFault}
+use Rattle.opgp_armor.specs.Events.{Event, Built, built, events_of, ends_in}
+use Rattle.opgp_armor.specs.Machine.{Answer, Run, State, run, run_from, first, onward, step}
+use Rattle.opgp_armor.specs.LineAnswer.{state_of}
+use Rattle.opgp_armor.specs.Fed.{Stopped, Stands, Fed, AfterLine, SameReader}
 use Rattle.opgp_armor.proofs.Octets.{AreOctets, all_octets}
 use Rattle.opgp_armor.proofs.DataLine.{all_both, octets-append}
 use Rattle.opgp_armor.proofs.Texts.{are_lines, lines-cons, lines-nil}
@@ -105,10 +104,10 @@ last_stopped d e given taken fed some open_ ended fault count limit spent ready 
 
 -- where no line is unfinished
 pub last_none : (d e : Dearmor) (given : List ℕ) (taken : List Event) → Fed d given taken → d.fault ≡ None → d.ended ≡ false → d.buffer.items ≡ [] → e.ended ≡ true → e.fault ≡ d.fault → e.given ≡ d.given → e.limit ≡ d.limit → e.spent ≡ d.spent
-    → state_of d.place d.letters.items d.padded ≡ state_of e.place e.letters.items e.padded → e.finished ≡ d.finished → events_of d.ready ≡ events_of e.ready → Fed e given taken
+    → state_of d.section d.pending ≡ state_of e.section e.pending → e.finished ≡ d.finished → events_of d.ready ≡ events_of e.ready → Fed e given taken
 last_none d e given taken fed none open_ empty ended fault count limit spent state finished ready =
     let going = open_of d given taken open_ (going_of d given taken fed none) in
-    let bare : (cut given).tail ≡ [] = kept_none d.limit d.place (cut given).tail (sym going.buffered ∙ empty) in
+    let bare : (cut given).tail ≡ [] = kept_none d.limit d.section (cut given).tail (sym going.buffered ∙ empty) in
     let all : (cut given).ended ≡ lines_ended e.ended given = sym (lines_none given bare) ∙ ap (λ (v : Bool). lines_ended v given) (sym ended) in
     record {
       sound = spent ∙ fed.sound;
@@ -126,25 +125,25 @@ last_none d e given taken fed none open_ empty ended fault count limit spent sta
     }
 
 module _ (d m e : Dearmor) (given : List ℕ) (taken : List Event) (going : Open d given taken) (none : d.ready ≡ None) (some : d.buffer.items ≡ [] → ⊥) (limit : m.limit ≡ d.limit)
-    (state : state_of d.place d.letters.items d.padded ≡ state_of m.place m.letters.items m.padded) (buffer : m.buffer.items ≡ d.buffer.items) (begins : m.start ≡ d.start) (finished : m.finished ≡ d.finished)
+    (state : state_of d.section d.pending ≡ state_of m.section m.pending) (buffer : m.buffer.items ≡ d.buffer.items) (begins : m.start ≡ d.start) (finished : m.finished ≡ d.finished)
     (same : SameReader m e) (ended : m.ended ≡ true) where
   tail_some : (cut given).tail ≡ [] → ⊥
-  tail_some is = some (going.buffered ∙ ap (kept d.limit d.place) is ∙ sym (take_nil (kept_most d.limit d.place [])))
+  tail_some is = some (going.buffered ∙ ap (kept d.limit d.section) is ∙ sym (take_nil (kept_most d.limit d.section [])))
 
   all : lines_ended e.ended given ≡ (cut given).ended ++ (cut given).tail ∷ []
   all = ap (λ (v : Bool). lines_ended v given) (same.ended ∙ ended) ∙ lines_last given tail_some
 
-  line_state : step m.limit (state_of m.place m.letters.items m.padded) m.buffer.items ≡ step d.limit going.last.state (cut given).tail
+  line_state : step m.limit (state_of m.section m.pending) m.buffer.items ≡ step d.limit going.last.state (cut given).tail
   line_state =
-      ap (λ (v : ℕ). step v (state_of m.place m.letters.items m.padded) m.buffer.items) limit
+      ap (λ (v : ℕ). step v (state_of m.section m.pending) m.buffer.items) limit
       ∙ ap (λ (v : State). step d.limit v m.buffer.items) (sym state ∙ sym going.state)
-      ∙ ap (step d.limit going.last.state) (buffer ∙ going.buffered ∙ ap (λ (v : State). kept d.limit v.place (cut given).tail) (sym going.state))
+      ∙ ap (step d.limit going.last.state) (buffer ∙ going.buffered ∙ ap (λ (v : State). kept d.limit v.section (cut given).tail) (sym going.state))
       ∙ step_seen d.limit going.last.state (cut given).tail d.low
 
   quiet : going.last.events ≡ taken
   quiet = going.events ∙ ap (λ (v : Option ArmorEvent). taken ++ events_of v) none ∙ append-nil taken
 
-  last_by : (a : Answer) → step m.limit (state_of m.place m.letters.items m.padded) m.buffer.items ≡ a → AfterLine m e a → Stands e e.fault given taken
+  last_by : (a : Answer) → step m.limit (state_of m.section m.pending) m.buffer.items ≡ a → AfterLine m e a → Stands e e.fault given taken
   last_by (Ok (s, more)) is after =
       let r : Run = record { state = s; events = going.last.events ++ more } in
       let stepped : step d.limit going.last.state (cut given).tail ≡ Ok (s, more) = sym line_state ∙ is in
@@ -178,19 +177,19 @@ module _ (d m e : Dearmor) (given : List ℕ) (taken : List Event) (going : Open
 
 -- an unfinished line ends with the text
 pub last_line : (d m e : Dearmor) (given : List ℕ) (taken : List Event) → Fed d given taken → d.fault ≡ None → d.ended ≡ false → d.ready ≡ None → (d.buffer.items ≡ [] → ⊥) → m.limit ≡ d.limit → m.given ≡ d.given → m.spent ≡ d.spent
-    → state_of d.place d.letters.items d.padded ≡ state_of m.place m.letters.items m.padded → m.buffer.items ≡ d.buffer.items → m.start ≡ d.start → m.finished ≡ d.finished → m.ended ≡ true
-    → SameReader m e → AfterLine m e (step m.limit (state_of m.place m.letters.items m.padded) m.buffer.items) → Fed e given taken
+    → state_of d.section d.pending ≡ state_of m.section m.pending → m.buffer.items ≡ d.buffer.items → m.start ≡ d.start → m.finished ≡ d.finished → m.ended ≡ true
+    → SameReader m e → AfterLine m e (step m.limit (state_of m.section m.pending) m.buffer.items) → Fed e given taken
 last_line d m e given taken fed none open_ quiet_ some limit count spent state buffer begins finished ended same after =
     let going = open_of d given taken open_ (going_of d given taken fed none) in
     record {
       sound = same.spent ∙ spent ∙ fed.sound;
       octets = fed.octets;
       count = same.given ∙ count ∙ fed.count;
-      stands = last_by d m e given taken going quiet_ some limit state buffer begins finished same ended (step m.limit (state_of m.place m.letters.items m.padded) m.buffer.items) refl after;
+      stands = last_by d m e given taken going quiet_ some limit state buffer begins finished same ended (step m.limit (state_of m.section m.pending) m.buffer.items) refl after;
     }
 
 -- ---- the answer
-stopped_fault : (d : Dearmor) (fault : Fault) (given : List ℕ) (taken : List Event) → AreOctets given → d.ended ≡ true → Stopped d fault given taken → IsFault d.limit given fault
+stopped_fault : (d : Dearmor) (fault : Fault) (given : List ℕ) (taken : List Event) → AreOctets given → d.ended ≡ true → Stopped d fault given taken → IsArmorFault d.limit given fault
 stopped_fault d fault given taken octets ended s =
     let are : lines given ≡ s.before ++ s.line ∷ s.after = subst (λ (v : Bool). lines_ended v given ≡ s.before ++ s.line ∷ s.after) ended s.are in
     let f = line_fault d.limit given s.before s.line s.after s.last fault.reason d.low octets are s.ran s.stops in
@@ -200,20 +199,20 @@ stopped_fault d fault given taken octets ended s =
       found = inl (record { before = f.before; line = f.line; after = f.after; are = f.are; opens = f.opens; refused = f.refused; why_is = f.why_is; block_is = s.block ∙ f.block_is; pos_is = s.pos ∙ f.pos_is });
     }
 
-pub finish_stopped : (d : Dearmor) (fault : Fault) (given : List ℕ) (taken : List Event) → Fed d given taken → d.ended ≡ true → d.fault ≡ Some fault → IsFault d.limit given fault
+pub finish_stopped : (d : Dearmor) (fault : Fault) (given : List ℕ) (taken : List Event) → Fed d given taken → d.ended ≡ true → d.fault ≡ Some fault → IsArmorFault d.limit given fault
 finish_stopped d fault given taken fed ended is =
     stopped_fault d fault given taken (all_octets given fed.octets) ended (subst (λ (v : Option Fault). Stands d v given taken) is fed.stands)
 
 -- the blocks of the events that were taken, outside of all blocks
-pub finish_armored : (d : Dearmor) (given : List ℕ) (taken : List Event) → Fed d given taken → d.ended ≡ true → d.ready ≡ None → d.fault ≡ None → d.place ≡ Outside → 0 < d.finished
+pub finish_armored : (d : Dearmor) (given : List ℕ) (taken : List Event) → Fed d given taken → d.ended ≡ true → d.ready ≡ None → d.fault ≡ None → d.section ≡ Outside → 0 < d.finished
     → Armored d.limit given (built taken).blocks
 finish_armored d given taken fed ended none no_fault outside some =
     let going = going_of d given taken fed no_fault in
     let ran : run d.limit (lines given) ≡ Ok going.last = subst (λ (v : Bool). run d.limit (lines_ended v given) ≡ Ok going.last) ended going.ran in
     let events : going.last.events ≡ taken = going.events ∙ ap (λ (v : Option ArmorEvent). taken ++ events_of v) none ∙ append-nil taken in
     let upto = sound d.limit (lines given) going.last ran in
-    let place : going.last.state.place ≡ Outside = ap (λ (v : State). v.place) going.state ∙ outside in
-    let stage : Stage d.limit Outside going.last.state.pending (built going.last.events) upto.open_ = subst (λ (v : Place). Stage d.limit v going.last.state.pending (built going.last.events) upto.open_) place upto.stage in
+    let section : going.last.state.section ≡ Outside = ap (λ (v : State). v.section) going.state ∙ outside in
+    let stage : Stage d.limit Outside going.last.state.pending (built going.last.events) upto.open_ = subst (λ (v : Section). Stage d.limit v going.last.state.pending (built going.last.events) upto.open_) section upto.stage in
     let whole : upto.done ≡ lines given = sym (upto.are ∙ ap (λ (v : List Line). upto.done ++ v) stage.0 ∙ append-nil upto.done) in
     let blocks : (built going.last.events).blocks ≡ (built taken).blocks = ap (λ (v : List Event). (built v).blocks) events in
     record {
@@ -222,13 +221,13 @@ finish_armored d given taken fed ended none no_fault outside some =
     }
 
 -- the text ends too early
-pub finish_early : (d : Dearmor) (given : List ℕ) (taken : List Event) (fault : Fault) → Fed d given taken → d.ended ≡ true → d.fault ≡ None → (d.place ≡ Outside → d.finished ≡ 0)
-    → fault.layer ≡ layer.Armor → fault.inner ≡ 0 → fault.reason ≡ end_reason d.place → fault.block ≡ d.finished → fault.pos ≡ d.given → IsFault d.limit given fault
+pub finish_early : (d : Dearmor) (given : List ℕ) (taken : List Event) (fault : Fault) → Fed d given taken → d.ended ≡ true → d.fault ≡ None → (d.section ≡ Outside → d.finished ≡ 0)
+    → fault.layer ≡ layer.Armor → fault.inner ≡ 0 → fault.reason ≡ end_reason d.section → fault.block ≡ d.finished → fault.pos ≡ d.given → IsArmorFault d.limit given fault
 finish_early d given taken fault fed ended no_fault early layer_is inner_is reason_is block_is pos_is =
     let going = going_of d given taken fed no_fault in
     let ran : run d.limit (lines given) ≡ Ok going.last = subst (λ (v : Bool). run d.limit (lines_ended v given) ≡ Ok going.last) ended going.ran in
     let t = tracks d.limit (lines given) going.last ran in
-    let place : d.place ≡ going.last.state.place = ap (λ (v : State). v.place) (sym going.state) in
+    let section : d.section ≡ going.last.state.section = ap (λ (v : State). v.section) (sym going.state) in
     record {
       layer_is = layer_is;
       inner_is = inner_is;
@@ -237,19 +236,19 @@ finish_early d given taken fault fed ended no_fault early layer_is inner_is reas
         refused = λ blocks a.
             let p = complete d.limit (lines given) blocks a.whole in
             let same : p.last ≡ going.last = cc (sym p.ran ∙ ran) in
-            let outside : d.place ≡ Outside = place ∙ ap (λ (v : Run). v.state.place) (sym same) ∙ ap (λ (v : State). v.place) p.outside in
+            let outside : d.section ≡ Outside = section ∙ ap (λ (v : Run). v.state.section) (sym same) ∙ ap (λ (v : State). v.section) p.outside in
             let count : length blocks ≡ d.finished = ap length (sym p.blocks_are) ∙ ap (λ (v : Run). length (built v.events).blocks) same ∙ sym going.finished in
             let zero_ : d.finished ≡ 0 = early outside in
             let some = a.some in
             absurd (omega arith);
-        why_is = reason_is ∙ ap end_reason (place ∙ t.place);
+        why_is = reason_is ∙ ap end_reason (section ∙ t.section);
         block_is = block_is ∙ going.finished ∙ t.finished;
         pos_is = pos_is ∙ fed.count;
       });
     }
 
 -- a fault stays, whatever follows
-stays_by : (d : Dearmor) (f : Fault) (given more : List ℕ) (taken : List Event) → IsOctets given → IsOctets more → d.ended ≡ false → Stopped d f given taken → IsFault d.limit (given ++ more) f
+stays_by : (d : Dearmor) (f : Fault) (given more : List ℕ) (taken : List Event) → IsOctets given → IsOctets more → d.ended ≡ false → Stopped d f given taken → IsArmorFault d.limit (given ++ more) f
 stays_by d f given more taken all rest open_ s =
     let later = fold_ended (cut given) more in
     let were : (cut given).ended ≡ s.before ++ s.line ∷ s.after = subst (λ (v : Bool). lines_ended v given ≡ s.before ++ s.line ∷ s.after) open_ s.are in
@@ -267,6 +266,6 @@ stays_by d f given more taken all rest open_ s =
       found = inl (record { before = g.before; line = g.line; after = g.after; are = g.are; opens = g.opens; refused = g.refused; why_is = g.why_is; block_is = s.block ∙ g.block_is; pos_is = s.pos ∙ g.pos_is });
     }
 
-pub a_fault_stays : (d : Dearmor) (given more : List ℕ) (taken : List Event) (f : Fault) → IsOctets more → d.ended ≡ false → Fed d given taken → d.fault ≡ Some f → IsFault d.limit (given ++ more) f
+pub a_fault_stays : (d : Dearmor) (given more : List ℕ) (taken : List Event) (f : Fault) → IsOctets more → d.ended ≡ false → Fed d given taken → d.fault ≡ Some f → IsArmorFault d.limit (given ++ more) f
 a_fault_stays d given more taken f rest open_ fed is =
     stays_by d f given more taken fed.octets rest open_ (subst (λ (v : Option Fault). Stands d v given taken) is fed.stands)

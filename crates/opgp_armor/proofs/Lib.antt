@@ -1,5 +1,5 @@
 pub mod Octets
-pub mod Pending
+pub mod Awaiting
 pub mod Groups
 pub mod Standard
 pub mod DataLine
@@ -24,3 +24,7 @@ pub mod Lasting
 pub mod Reading
 pub mod WrittenLines
 pub mod Stored
+pub mod LetterLines
+pub mod Sizes
+pub mod Order
+pub mod Wholes

@@ -9,8 +9,7 @@ use Rattle.std.specs.Str.{bytes_eq}
 use Rattle.opgp_armor.specs.declared.label.Label.{Label}
 use Rattle.opgp_armor.specs.declared.label.Label.TheVariants.{Message, PublicKeyBlock, PrivateKeyBlock, Signature}
 use Rattle.opgp_armor.specs.Text.{Line}
-use Rattle.opgp_armor.specs.Armored.{label_at}
-use Rattle.opgp_armor.specs.Armored.{ArePieces, IsPiece, Piece, Block, lines_of, blocks_of}
+use Rattle.opgp_armor.specs.Armored.{label_at, ArePieces, IsPiece, Piece, Block, lines_of, blocks_of}
 
 pub fold-both : {A B : Type 0} (f : B → A → B) (z : B) (a b : List A) → fold f z (a ++ b) ≡ fold f (fold f z a) b
 fold-both f z [] b = refl

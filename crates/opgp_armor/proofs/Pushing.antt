@@ -5,17 +5,15 @@ use Rattle.std.proofs.lemmas.Bool.{cases_lt}
 use Rattle.std.specs.List.{list_all, AllByRecursion}
 use Rattle.opgp_octets.specs.declared.fault.Fault.{Fault}
 use Rattle.opgp_armor.specs.declared.reader.Dearmor.{Dearmor}
-use Rattle.opgp_armor.specs.Splits.{is_plain, IsLineSplit}
+use Rattle.opgp_armor.specs.Cuts.{is_plain, IsLineSplit, Cut, cut, lines_ended}
 use Rattle.opgp_armor.specs.Text.{Line, lines}
-use Rattle.opgp_armor.specs.Machine.{Event}
-use Rattle.opgp_armor.specs.Events.{events_of}
-use Rattle.opgp_armor.specs.Cuts.{Cut, cut, lines_ended}
+use Rattle.opgp_armor.specs.Events.{Event, events_of}
 use Rattle.opgp_armor.specs.Shown.{Shown}
-use Rattle.opgp_armor.specs.Reader.{Stands, Fed}
+use Rattle.opgp_armor.specs.Fed.{Stands, Fed, KeepsFed, IsQuiet}
 use Rattle.opgp_armor.proofs.Octets.{AreOctets, all_octets}
 use Rattle.opgp_armor.proofs.DataLine.{all_parts}
 use Rattle.opgp_armor.proofs.Texts.{IsLine, are_lines, recursion_front}
-use Rattle.opgp_armor.proofs.Feeding.{cut_plain, cut-more, fold_ended, next_part, take_parts, part_fits}
+use Rattle.opgp_armor.proofs.Feeding.{no_event, without_event, no_octet, cut_plain, cut-more, fold_ended, next_part, take_parts, part_fits}
 use Rattle.opgp_armor.proofs.Ending.{lines_cut}
 use Rattle.opgp_armor.proofs.Showing.{shown_going, shown_stopped}
 
@@ -87,9 +85,9 @@ pub record Pushed (d e : Dearmor) (piece : List ℕ) (n : ℕ) : Type 0 where
   pub spent : e.spent ≡ false
   pub open_ : e.ended ≡ false
   pub limit : e.limit ≡ d.limit
-  pub fed : (given : List ℕ) (taken : List Event) → Fed d given taken → Fed e (given ++ take n piece) taken
+  pub fed : KeepsFed d e (take n piece) []
   pub stopped : (f : Fault) → d.fault ≡ Some f → (e.fault ≡ Some f) × (e.ready ≡ None)
-  pub quiet : (k : ℕ) → k < n → (given : List ℕ) (taken : List Event) → Fed d given taken → Shown d.limit (cut (given ++ take k piece)).ended taken
+  pub quiet : IsQuiet d piece n
 
 pub pushed_none : (d : Dearmor) (piece : List ℕ) → d.spent ≡ false → d.ended ≡ false → d.ready ≡ None → Pushed d d piece 0
 pushed_none d piece spent open_ none = record {
@@ -99,16 +97,16 @@ pushed_none d piece spent open_ none = record {
   spent = spent;
   open_ = open_;
   limit = refl;
-  fed = λ given taken fed. subst (λ (v : List ℕ). Fed d v taken) (sym (append-nil given)) fed;
+  fed = λ given taken fed. no_octet d given (taken ++ []) (no_event d given taken fed);
   stopped = λ f e. (e, none);
   quiet = λ k h. absurd (omega arith);
 }
 
 -- one part more
 pub pushed_more : (d m e : Dearmor) (piece : List ℕ) (t n : ℕ) → Pushed d m piece t → 0 < n → n ≤ length (take (length piece - t) (drop t piece)) → e.given ≡ m.given + n → e.spent ≡ m.spent → e.ended ≡ false → e.limit ≡ m.limit
-    → ((given : List ℕ) (taken : List Event) → Fed m given taken → Fed e (given ++ take n (take (length piece - t) (drop t piece))) taken)
+    → KeepsFed m e (take n (take (length piece - t) (drop t piece))) []
     → ((f : Fault) → m.fault ≡ Some f → (e.fault ≡ Some f) × (e.ready ≡ None))
-    → ((k : ℕ) → k < n → (given : List ℕ) (taken : List Event) → Fed m given taken → Shown m.limit (cut (given ++ take k (take (length piece - t) (drop t piece)))).ended taken)
+    → IsQuiet m (take (length piece - t) (drop t piece)) n
     → Pushed d e piece (t + n)
 pushed_more d m e piece t n p some within count spent open_ limit fed stopped quiet = record {
   within = part_fits piece t n p.within within;
@@ -117,14 +115,14 @@ pushed_more d m e piece t n p some within count spent open_ limit fed stopped qu
   spent = spent ∙ p.spent;
   open_ = open_;
   limit = limit ∙ p.limit;
-  fed = λ given taken f. next_part e given piece t n taken (fed (given ++ take t piece) taken (p.fed given taken f));
+  fed = λ given taken f. next_part e given piece t n (taken ++ []) (without_event e _ (taken ++ []) (fed (given ++ take t piece) (taken ++ []) (p.fed given taken f)));
   stopped = λ f is. stopped f (p.stopped f is).0;
   quiet = λ k h given taken f. elim (cases_lt k t) [
     | inl lt ↦ p.quiet k lt given taken f
     | inr ge ↦
         let j : ℕ = k - t in
         let is : t + j ≡ k = omega arith in
-        let now = quiet j (omega arith) (given ++ take t piece) taken (p.fed given taken f) in
+        let now = quiet j (omega arith) (given ++ take t piece) taken (without_event m _ taken (p.fed given taken f)) in
         let same : (given ++ take t piece) ++ take j (take (length piece - t) (drop t piece)) ≡ given ++ take k piece =
         ap (λ (v : List ℕ). (given ++ take t piece) ++ take j v) (take_rest piece t)
         ∙ append_assoc given (take t piece) (take j (drop t piece))

@@ -4,11 +4,11 @@ use Rattle.std.proofs.lemmas.List.{take_rest}
 use Rattle.std.specs.List.{fold}
 use Rattle.opgp_armor.specs.declared.dearmoring.Building.{Building}
 use Rattle.opgp_armor.specs.declared.reader.Dearmor.{Dearmor}
-use Rattle.opgp_armor.specs.Machine.{Event, Built, absorb, built, nothing_built}
+use Rattle.opgp_armor.specs.Events.{Event, Built, absorb, built, nothing_built}
 use Rattle.opgp_armor.specs.Blocks.{built_of}
-use Rattle.opgp_armor.specs.Reader.{Fed, is_ready, has_ended, count_of, line_limit_of}
+use Rattle.opgp_armor.specs.Fed.{Fed, KeepsFed, is_ready, has_ended, count_of, line_limit_of}
 use Rattle.opgp_armor.proofs.Sound.{built_more}
-use Rattle.opgp_armor.proofs.Feeding.{take_parts, part_fits}
+use Rattle.opgp_armor.proofs.Feeding.{without_event, without_octet, take_parts, part_fits}
 
 -- So much of the text was given, and what was taken has built this.
 pub record Reads (limit : ℕ) (reader : Dearmor) (b : Building) (text : List ℕ) (at : ℕ) : Type 0 where
@@ -44,8 +44,7 @@ given_more text at n = ap (λ (v : List ℕ). take at text ++ take n v) (take_re
 
 -- one piece more
 pub reads_more : (limit : ℕ) (d m e : Dearmor) (b b1 : Building) (text : List ℕ) (at n : ℕ) (more : List Event) → Reads limit d b text at → n ≤ length (take (length text - at) (drop at text))
-    → ((given : List ℕ) (taken : List Event) → Fed d given taken → Fed m (given ++ take n (take (length text - at) (drop at text))) taken)
-    → ((given : List ℕ) (taken : List Event) → Fed m given taken → Fed e given (taken ++ more))
+    → KeepsFed d m (take n (take (length text - at) (drop at text))) [] → KeepsFed m e [] more
     → is_ready e ≡ false → has_ended e ≡ false → count_of e ≡ count_of d + n → line_limit_of e ≡ line_limit_of d → built_of b1 ≡ fold absorb (built_of b) more
     → Reads limit e b1 text (at + n)
 reads_more limit d m e b b1 text at n more r within pushed took quiet going count limit_is is = record {
@@ -55,6 +54,7 @@ reads_more limit d m e b b1 text at n more r within pushed took quiet going coun
   count = omega (arith, count, r.count);
   limit_is = limit_is ∙ r.limit_is;
   taken = r.taken ++ more;
-  fed = subst (λ (v : List ℕ). Fed e v (r.taken ++ more)) (given_more text at n) (took _ r.taken (pushed (take at text) r.taken r.fed));
+  fed = subst (λ (v : List ℕ). Fed e v (r.taken ++ more)) (given_more text at n)
+      (without_octet e _ (r.taken ++ more) (took _ r.taken (without_event m _ r.taken (pushed (take at text) r.taken r.fed))));
   built_is = built_next (built_of b) (built_of b1) r.taken more r.built_is is;
 }

@@ -9,16 +9,17 @@ use Rattle.std.specs.Str.{bytes_eq}
 use Rattle.std.specs.declared.result.Result.{Result}
 use Rattle.opgp_octets.specs.declared.fault.Reason.{Reason}
 use Rattle.opgp_armor.specs.declared.label.Label.{Label}
-use Rattle.opgp_armor.specs.declared.place.Place.{Place}
-use Rattle.opgp_armor.specs.declared.place.Place.TheVariants.{Outside, Headers, Data, AfterChecksum}
+use Rattle.opgp_armor.specs.declared.section.Section.{Section}
+use Rattle.opgp_armor.specs.declared.section.Section.TheVariants.{Outside, Headers, Data, AfterChecksum}
 use Rattle.opgp_armor.specs.Letters.{is_equals, base64_of, IsBase64, groups_of, Pending, no_letters, data_line}
 use Rattle.opgp_armor.specs.Text.{Line, content, begin_mark, begin_line, end_line}
 use Rattle.opgp_armor.specs.Armored.{Opens, IsHeader, begins_with, is_dash, label_at, after_content}
-use Rattle.opgp_armor.specs.Machine.{Event, Begin, Header, End, State, Run, Built, Answer, absorb, built, header_of, on_begin, on_header, on_letters, some_octets, waits, closing, inside, passes_by, step, start, first, run}
+use Rattle.opgp_armor.specs.Events.{Event, Begin, Header, End, Built, absorb, built}
+use Rattle.opgp_armor.specs.Machine.{State, Run, Answer, header_of, on_begin, on_header, on_letters, some_octets, waits, closing, inside, passes_by, step, start, first, run}
 use Rattle.opgp_armor.specs.Shown.{Standing, letters_after, after_standing, begun, EndsGroups, LineMakes, Makes, at_start, Shown}
 use Rattle.opgp_armor.proofs.Octets.{AreOctets, each_octet, all_octets}
 use Rattle.opgp_armor.proofs.Standard.{decoded_some}
-use Rattle.opgp_armor.proofs.Pending.{Holds}
+use Rattle.opgp_armor.proofs.Awaiting.{Holds}
 use Rattle.opgp_armor.proofs.DataLine.{data_line_holds, holds_groups}
 use Rattle.opgp_armor.proofs.Lists.{fold-both, label_at_some}
 use Rattle.opgp_armor.proofs.HeaderLines.{header_is, header_found, header_of-nil, some_pair}
@@ -30,22 +31,22 @@ use Rattle.opgp_armor.proofs.Answer.{step_moves, run_keeps}
 
 -- one line more
 pub makes-append : (limit : ℕ) (s : Standing) (ls : List Line) (l : Line) (events more : List Event) → Makes limit s ls events
-    → (let t : Standing = fold after_standing s ls in LineMakes limit t.place t.letters l more) → Makes limit s (ls ++ l ∷ []) (events ++ more)
+    → (let t : Standing = fold after_standing s ls in LineMakes limit t.section t.letters l more) → Makes limit s (ls ++ l ∷ []) (events ++ more)
 makes-append limit s [] l events more made here = (more, [], ap (λ (v : List Event). v ++ more) made ∙ sym (append-nil more), here, refl)
 makes-append limit s (k ∷ ls) l events more made here =
     (made.0, made.1 ++ more, ap (λ (v : List Event). v ++ more) made.2 ∙ append_assoc made.0 made.1 more, made.3, makes-append limit (after_standing s k) ls l made.1 more made.4 here)
 
 -- what the machine keeps of the letters of a block so far
-abbrev pub Knows : Place → List ℕ → List ℕ → Pending → Type 0
+abbrev pub Knows : Section → List ℕ → List ℕ → Pending → Type 0
 Knows Outside letters octets p = Unit {0}
 Knows (Headers k) letters octets p = (octets ≡ []) × (p ≡ no_letters)
 Knows (Data k) letters octets p = Holds letters octets p
 Knows (AfterChecksum k) letters octets p = Unit {0}
 
 -- what a line does is what it makes
-record Told (limit : ℕ) (place : Place) (letters : List ℕ) (b : Built) (l : Line) (s : State) (more : List Event) : Type 0 where
-  made : LineMakes limit place letters l more
-  knows : Knows s.place (letters_after place letters (content l)) (fold absorb b more).octets s.pending
+record Told (limit : ℕ) (section : Section) (letters : List ℕ) (b : Built) (l : Line) (s : State) (more : List Event) : Type 0 where
+  made : LineMakes limit section letters l more
+  knows : Knows s.section (letters_after section letters (content l)) (fold absorb b more).octets s.pending
 
 ends_none : (letters octets : List ℕ) (p : Pending) → Holds letters octets p → EndsGroups letters [] []
 ends_none letters octets p held =
@@ -56,27 +57,27 @@ module _ (limit : ℕ) (w : List ℕ) (b : Built) (p : Pending) (l : Line) (with
   begin_told : (o : Option Label) → o ≡ label_at begin_line (content l) → on_begin o ≡ Ok (s, more) → Told limit Outside w b l s more
   begin_told None is h = cc h
   begin_told (Some k) is h =
-      let e = ok_pair {E = Reason} (record { place = Headers k; pending = no_letters }) s (Begin k ∷ []) more h in
+      let e = ok_pair {E = Reason} (record { section = Headers k; pending = no_letters }) s (Begin k ∷ []) more h in
       rw (← e.0, ← e.1) (record { made = ap begun is; knows = (refl, refl) })
 
-  gap_told : (k : Label) → [] ≡ content l → Knows (Headers k) w b.octets p → ◌≡◌ {A = Answer} (Ok (record { place = Data k; pending = p }, [])) (Ok (s, more)) → Told limit (Headers k) w b l s more
+  gap_told : (k : Label) → [] ≡ content l → Knows (Headers k) w b.octets p → ◌≡◌ {A = Answer} (Ok (record { section = Data k; pending = p }, [])) (Ok (s, more)) → Told limit (Headers k) w b l s more
   gap_told k is knows h =
-      let e = ok_pair {E = Reason} (record { place = Data k; pending = p }) s [] more h in
+      let e = ok_pair {E = Reason} (record { section = Data k; pending = p }) s [] more h in
       rw (← e.0, ← e.1) (record { made = inl (sym is, refl); knows = rw (knows.0, knows.1) letters_nil })
 
   header_told : (k : Label) (o : Option (List ℕ × List ℕ)) → o ≡ header_of (content l) → Knows (Headers k) w b.octets p → on_header k p o ≡ Ok (s, more) → Told limit (Headers k) w b l s more
   header_told k None is knows h = cc h
   header_told k (Some (key, value)) is knows h =
-      let e = ok_pair {E = Reason} (record { place = Headers k; pending = p }) s (Header key value ∷ []) more h in
+      let e = ok_pair {E = Reason} (record { section = Headers k; pending = p }) s (Header key value ∷ []) more h in
       let parts = header_is (content l) key value (sym is) in
       rw (← e.0, ← e.1) (record {
         made = inr ((key, value), record { named = parts.named_; plain = parts.plain; spelled = parts.spelled; within = within }, refl);
         knows = knows;
       })
 
-  blank_told : (k : Label) → [] ≡ content l → Holds w b.octets p → ◌≡◌ {A = Answer} (Ok (record { place = Data k; pending = p }, [])) (Ok (s, more)) → Told limit (Data k) w b l s more
+  blank_told : (k : Label) → [] ≡ content l → Holds w b.octets p → ◌≡◌ {A = Answer} (Ok (record { section = Data k; pending = p }, [])) (Ok (s, more)) → Told limit (Data k) w b l s more
   blank_told k is held h =
-      let e = ok_pair {E = Reason} (record { place = Data k; pending = p }) s [] more h in
+      let e = ok_pair {E = Reason} (record { section = Data k; pending = p }) s [] more h in
       rw (← e.0, ← e.1) (record {
         made = inr (inr (ap (begins_with is_equals) (sym is), ap (begins_with is_dash) (sym is), subst (λ (v : List ℕ). EndsGroups w v []) is (ends_none w b.octets p held)));
         knows = subst (λ (v : List ℕ). Holds v b.octets p) (sym (append-nil w) ∙ ap (λ (v : List ℕ). w ++ v) is) held;
@@ -86,7 +87,7 @@ module _ (limit : ℕ) (w : List ℕ) (b : Built) (p : Pending) (l : Line) (with
       → on_letters k a ≡ Ok (s, more) → Told limit (Data k) w b l s more
   letters_told k (Err x) is n1 n2 held h = cc h
   letters_told k (Ok (q, o)) is n1 n2 held h =
-      let e = ok_pair {E = Reason} (record { place = Data k; pending = q }) s (some_octets o) more h in
+      let e = ok_pair {E = Reason} (record { section = Data k; pending = q }) s (some_octets o) more h in
       let now : Holds (w ++ content l) (b.octets ++ o) q = data_line_holds p (content l) w b.octets (q, o) held (sym is) in
       let octets : (fold absorb b (some_octets o)).octets ≡ b.octets ++ o = built_octets o in
       rw (← e.0, ← e.1) (record {
@@ -118,7 +119,7 @@ module _ (limit : ℕ) (w : List ℕ) (b : Built) (p : Pending) (l : Line) (with
     | inr n ↦ cc (rw n at h)
   ]
 
-  inside_told : (place : Place) (c : List ℕ) → c ≡ content l → Knows place w b.octets p → inside place p c ≡ Ok (s, more) → Told limit place w b l s more
+  inside_told : (section : Section) (c : List ℕ) → c ≡ content l → Knows section w b.octets p → inside section p c ≡ Ok (s, more) → Told limit section w b l s more
   inside_told Outside c is knows h = begin_told (label_at begin_line c) (ap (label_at begin_line) is) h
   inside_told (Headers k) [] is knows h = gap_told k is knows h
   inside_told (Headers k) (x ∷ c) is knows h = header_told k (header_of (x ∷ c)) (ap header_of is) knows h
@@ -127,7 +128,7 @@ module _ (limit : ℕ) (w : List ℕ) (b : Built) (p : Pending) (l : Line) (with
     | inl y ↦ elim (cases_Bool (waits p)) [
       | inl y2 ↦ cc (rw (y, y2) at h)
       | inr n2 ↦
-          let e = ok_pair {E = Reason} (record { place = AfterChecksum k; pending = p }) s [] more (rw (y, n2) at h) in
+          let e = ok_pair {E = Reason} (record { section = AfterChecksum k; pending = p }) s [] more (rw (y, n2) at h) in
           rw (← e.0, ← e.1) (record { made = inl (rw (← is) y, refl); knows = tt })
     ]
     | inr n ↦ elim (cases_Bool (is_dash x)) [
@@ -138,7 +139,7 @@ module _ (limit : ℕ) (w : List ℕ) (b : Built) (p : Pending) (l : Line) (with
     ]
   ]
   inside_told (AfterChecksum k) [] is knows h =
-      let e = ok_pair {E = Reason} (record { place = AfterChecksum k; pending = p }) s [] more h in
+      let e = ok_pair {E = Reason} (record { section = AfterChecksum k; pending = p }) s [] more h in
       rw (← e.0, ← e.1) (record { made = ap (λ (v : List ℕ). cond (begins_with is_dash v) (End ∷ []) []) is; knows = tt })
   inside_told (AfterChecksum k) (x ∷ c) is knows h = elim (cases_Bool (is_dash x)) [
     | inl y ↦
@@ -154,7 +155,7 @@ no_begin : (l : Line) (o : Option Label) → ((k : Label) → o ≡ Some k → c
 no_begin l None f h = refl
 no_begin l (Some k) f h = cc (sym (begins_mark k l (f k refl)) ∙ h)
 
-passing_told : (limit : ℕ) (place : Place) (w : List ℕ) (b : Built) (p : Pending) (l : Line) → passes_by place l ≡ true → Told limit place w b l (record { place = place; pending = p }) []
+passing_told : (limit : ℕ) (section : Section) (w : List ℕ) (b : Built) (p : Pending) (l : Line) → passes_by section l ≡ true → Told limit section w b l (record { section = section; pending = p }) []
 passing_told limit Outside w b p l h = record {
   made = no_begin l (label_at begin_line (content l)) (λ k e. label_at_some begin_line (content l) k e) (not_true _ h);
   knows = tt;
@@ -163,23 +164,23 @@ passing_told limit (Headers k) w b p l h = cc h
 passing_told limit (Data k) w b p l h = cc h
 passing_told limit (AfterChecksum k) w b p l h = cc h
 
-step_told : (limit : ℕ) (s t : State) (w : List ℕ) (b : Built) (l : Line) (more : List Event) → Knows s.place w b.octets s.pending → step limit s l ≡ Ok (t, more) → Told limit s.place w b l t more
+step_told : (limit : ℕ) (s t : State) (w : List ℕ) (b : Built) (l : Line) (more : List Event) → Knows s.section w b.octets s.pending → step limit s l ≡ Ok (t, more) → Told limit s.section w b l t more
 unfolding step
-step_told limit s t w b l more knows h = elim (cases_Bool (passes_by s.place l)) [
+step_told limit s t w b l more knows h = elim (cases_Bool (passes_by s.section l)) [
   | inl y ↦
       let e = ok_pair {E = Reason} s t [] more (rw y at h) in
-      rw (← e.0, ← e.1) (passing_told limit s.place w b s.pending l y)
+      rw (← e.0, ← e.1) (passing_told limit s.section w b s.pending l y)
   | inr n ↦ elim (cases_Bool (nat_lt limit (length l))) [
     | inl y ↦ cc (rw (n, y) at h)
-    | inr n2 ↦ inside_told limit w b s.pending l (ltb-false limit (length l) n2) t more s.place (content l) refl knows (rw (n, n2) at h)
+    | inr n2 ↦ inside_told limit w b s.pending l (ltb-false limit (length l) n2) t more s.section (content l) refl knows (rw (n, n2) at h)
   ]
 ]
 
 -- the run so far has made what the lines make
 record Follows (limit : ℕ) (ls : List Line) (r : Run) : Type 0 where
   made : Makes limit at_start ls r.events
-  place : r.state.place ≡ (fold after_standing at_start ls).place
-  knows : Knows r.state.place (fold after_standing at_start ls).letters (built r.events).octets r.state.pending
+  section : r.state.section ≡ (fold after_standing at_start ls).section
+  knows : Knows r.state.section (fold after_standing at_start ls).letters (built r.events).octets r.state.pending
 
 step_follows : (limit : ℕ) (ls : List Line) (r : Run) (l : Line) (s : State) (more : List Event) → Follows limit ls r → step limit r.state l ≡ Ok (s, more)
     → Follows limit (ls ++ l ∷ []) (record { state = s; events = r.events ++ more })
@@ -190,16 +191,16 @@ step_follows limit ls r l s more f h =
     let now : built (r.events ++ more) ≡ fold absorb (built r.events) more = built_more r.events more in
     let next : fold after_standing at_start (ls ++ l ∷ []) ≡ after_standing t l = fold-both after_standing at_start ls (l ∷ []) in
     record {
-      made = makes-append limit at_start ls l r.events more f.made (subst (λ (v : Place). LineMakes limit v t.letters l more) f.place told.made);
-      place = moves.0 ∙ ap (λ (v : Place). after_content v (content l)) f.place ∙ ap (λ (v : Standing). v.place) (sym next);
-      knows = subst (λ (v : Built). Knows s.place (fold after_standing at_start (ls ++ l ∷ [])).letters v.octets s.pending) (sym now)
-          (subst (λ (v : List ℕ). Knows s.place v (fold absorb (built r.events) more).octets s.pending)
-          (ap (λ (v : Place). letters_after v t.letters (content l)) f.place ∙ ap (λ (v : Standing). v.letters) (sym next)) told.knows);
+      made = makes-append limit at_start ls l r.events more f.made (subst (λ (v : Section). LineMakes limit v t.letters l more) f.section told.made);
+      section = moves.0 ∙ ap (λ (v : Section). after_content v (content l)) f.section ∙ ap (λ (v : Standing). v.section) (sym next);
+      knows = subst (λ (v : Built). Knows s.section (fold after_standing at_start (ls ++ l ∷ [])).letters v.octets s.pending) (sym now)
+          (subst (λ (v : List ℕ). Knows s.section v (fold absorb (built r.events) more).octets s.pending)
+          (ap (λ (v : Section). letters_after v t.letters (content l)) f.section ∙ ap (λ (v : Standing). v.letters) (sym next)) told.knows);
     }
 
 pub run_makes : (limit : ℕ) (ls : List Line) (r : Run) → run limit ls ≡ Ok r → Makes limit at_start ls r.events
 run_makes limit ls r h =
-    (run_keeps limit (Follows limit) (λ front q l s more f k. step_follows limit front q l s more f k) [] ls first r (record { made = refl; place = refl; knows = tt }) h).made
+    (run_keeps limit (Follows limit) (λ front q l s more f k. step_follows limit front q l s more f k) [] ls first r (record { made = refl; section = refl; knows = tt }) h).made
 
 -- the lines so far go on
 pub shown_going : (limit : ℕ) (ls : List Line) (r : Run) → 128 ≤ limit → AllByRecursion IsLine ls → run limit ls ≡ Ok r → Shown limit ls r.events
@@ -250,7 +251,7 @@ both_begin : (c : List ℕ) → begins_with is_equals c ≡ true → begins_with
 both_begin [] h k = cc h
 both_begin (x ∷ c) h k = cc (sym (ap is_dash (eqb-true x 61 h)) ∙ k)
 
-line_one : (limit : ℕ) (place : Place) (letters : List ℕ) (l : Line) (a b : List Event) → LineMakes limit place letters l a → LineMakes limit place letters l b → a ≡ b
+line_one : (limit : ℕ) (section : Section) (letters : List ℕ) (l : Line) (a b : List Event) → LineMakes limit section letters l a → LineMakes limit section letters l b → a ≡ b
 line_one limit Outside letters l a b x y = x ∙ sym y
 line_one limit (Headers k) letters l a b (inl x) (inl y) = x.1 ∙ sym y.1
 line_one limit (Headers k) letters l a b (inl x) (inr y) = absurd (header_none limit l y.0 x.0 y.1)
@@ -273,7 +274,7 @@ makes_one : (limit : ℕ) (s : Standing) (ls : List Line) (a b : List Event) →
 makes_one limit s [] a b x y = x ∙ sym y
 makes_one limit s (l ∷ ls) a b x y =
     x.2
-    ∙ ap (λ (v : List Event). v ++ x.1) (line_one limit s.place s.letters l x.0 y.0 x.3 y.3)
+    ∙ ap (λ (v : List Event). v ++ x.1) (line_one limit s.section s.letters l x.0 y.0 x.3 y.3)
     ∙ ap (λ (v : List Event). y.0 ++ v) (makes_one limit (after_standing s l) ls x.1 y.1 x.4 y.4)
     ∙ sym y.2
 

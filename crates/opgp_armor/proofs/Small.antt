@@ -7,39 +7,40 @@ use Rattle.std.specs.Str.{bytes_eq}
 use Rattle.std.specs.declared.result.Result.{Result}
 use Rattle.opgp_octets.specs.declared.fault.Reason.{Reason}
 use Rattle.opgp_armor.specs.declared.label.Label.{Label}
-use Rattle.opgp_armor.specs.declared.place.Place.{Place}
-use Rattle.opgp_armor.specs.declared.place.Place.TheVariants.{Outside, Headers, Data, AfterChecksum}
+use Rattle.opgp_armor.specs.declared.section.Section.{Section}
+use Rattle.opgp_armor.specs.declared.section.Section.TheVariants.{Outside, Headers, Data, AfterChecksum}
 use Rattle.opgp_armor.specs.Letters.{is_letter, is_equals, Pending, no_letters, data_line}
 use Rattle.opgp_armor.specs.Text.{Line, content, begin_line, end_line}
 use Rattle.opgp_armor.specs.Armored.{is_dash, label_at}
-use Rattle.opgp_armor.specs.Machine.{Event, Begin, Header, End, State, Answer, header_of, on_begin, on_header, on_letters, some_octets, waits, closing, inside, passes_by, step, start}
-use Rattle.opgp_armor.specs.Held.{event_octets}
+use Rattle.opgp_armor.specs.Events.{Event, Begin, Header, End, event_octets}
+use Rattle.opgp_armor.specs.Machine.{State, Answer, header_of, on_begin, on_header, on_letters, some_octets, waits, closing, inside, passes_by, step, start}
 use Rattle.opgp_armor.proofs.DataLine.{data_line_shrinks}
 use Rattle.opgp_armor.proofs.Sound.{ok_pair}
 use Rattle.opgp_armor.proofs.HeaderLines.{header_is}
 use Rattle.opgp_armor.proofs.Complete.{content_front}
 
-pub record IsSmall (limit : ℕ) (s : State) (more : List Event) : Type 0 where
+-- behind so many letters that waited, a line of at most so many octets leaves behind no more than both
+pub record IsSmall (limit waiting : ℕ) (s : State) (more : List Event) : Type 0 where
   pub few : length s.pending.letters < 4
   pub are_letters : list_all is_letter s.pending.letters ≡ true
-  pub held : event_octets more + length s.pending.letters ≤ limit + 3
+  pub held : event_octets more + length s.pending.letters ≤ limit + waiting
 
 module _ (limit : ℕ) (p : Pending) (few : length p.letters < 4) (letters : list_all is_letter p.letters ≡ true) (s : State) (more : List Event) where
-  stays : (place : Place) → ◌≡◌ {A = Answer} (Ok (record { place = place; pending = p }, [])) (Ok (s, more)) → IsSmall limit s more
-  stays place h =
-      let e = ok_pair {E = Reason} (record { place = place; pending = p }) s [] more h in
+  stays : (section : Section) → ◌≡◌ {A = Answer} (Ok (record { section = section; pending = p }, [])) (Ok (s, more)) → IsSmall limit (length p.letters) s more
+  stays section h =
+      let e = ok_pair {E = Reason} (record { section = section; pending = p }) s [] more h in
       rw (← e.0, ← e.1) (record { few = few; are_letters = letters; held = omega arith })
 
-  begin_small : (o : Option Label) → on_begin o ≡ Ok (s, more) → IsSmall limit s more
+  begin_small : (o : Option Label) → on_begin o ≡ Ok (s, more) → IsSmall limit (length p.letters) s more
   begin_small None h = cc h
   begin_small (Some k) h =
-      let e = ok_pair {E = Reason} (record { place = Headers k; pending = no_letters }) s (Begin k ∷ []) more h in
+      let e = ok_pair {E = Reason} (record { section = Headers k; pending = no_letters }) s (Begin k ∷ []) more h in
       rw (← e.0, ← e.1) (record { few = omega arith; are_letters = refl; held = omega arith })
 
-  header_small : (k : Label) (o : Option (List ℕ × List ℕ)) → ((key value : List ℕ) → o ≡ Some (key, value) → length key + length value ≤ limit) → on_header k p o ≡ Ok (s, more) → IsSmall limit s more
+  header_small : (k : Label) (o : Option (List ℕ × List ℕ)) → ((key value : List ℕ) → o ≡ Some (key, value) → length key + length value ≤ limit) → on_header k p o ≡ Ok (s, more) → IsSmall limit (length p.letters) s more
   header_small k None parts h = cc h
   header_small k (Some (key, value)) parts h =
-      let e = ok_pair {E = Reason} (record { place = Headers k; pending = p }) s (Header key value ∷ []) more h in
+      let e = ok_pair {E = Reason} (record { section = Headers k; pending = p }) s (Header key value ∷ []) more h in
       let size = parts key value refl in
       rw (← e.0, ← e.1) (record { few = few; are_letters = letters; held = omega arith })
 
@@ -47,15 +48,15 @@ module _ (limit : ℕ) (p : Pending) (few : length p.letters < 4) (letters : lis
   octets_of_some [] = refl
   octets_of_some (x ∷ o) = omega arith
 
-  letters_small : (k : Label) (c : List ℕ) (a : Result (Pending × List ℕ) Reason) → a ≡ data_line p c → length c ≤ limit → on_letters k a ≡ Ok (s, more) → IsSmall limit s more
+  letters_small : (k : Label) (c : List ℕ) (a : Result (Pending × List ℕ) Reason) → a ≡ data_line p c → length c ≤ limit → on_letters k a ≡ Ok (s, more) → IsSmall limit (length p.letters) s more
   letters_small k c (Err x) is within h = cc h
   letters_small k c (Ok (q, o)) is within h =
-      let e = ok_pair {E = Reason} (record { place = Data k; pending = q }) s (some_octets o) more h in
+      let e = ok_pair {E = Reason} (record { section = Data k; pending = q }) s (some_octets o) more h in
       let small = data_line_shrinks p c (q, o) letters (sym is) in
       let held : length o + length q.letters ≤ length p.letters + length c = small.held in
       rw (← e.0, ← e.1) (record { few = small.few; are_letters = small.are_letters; held = omega (arith, octets_of_some o) })
 
-  closing_small : (k : Label) (c : List ℕ) → closing k p c ≡ Ok (s, more) → IsSmall limit s more
+  closing_small : (k : Label) (c : List ℕ) → closing k p c ≡ Ok (s, more) → IsSmall limit (length p.letters) s more
   unfolding closing
   closing_small k c h = elim (cases_Bool (bytes_eq c (end_line k))) [
     | inl y ↦ elim (cases_Bool (waits p)) [
@@ -73,7 +74,7 @@ module _ (limit : ℕ) (p : Pending) (few : length p.letters < 4) (letters : lis
     | inr e ↦ omega (arith, ap length e, length-append key (58 ∷ 32 ∷ value))
   ]
 
-  inside_small : (place : Place) (c : List ℕ) → length c ≤ limit → inside place p c ≡ Ok (s, more) → IsSmall limit s more
+  inside_small : (section : Section) (c : List ℕ) → length c ≤ limit → inside section p c ≡ Ok (s, more) → IsSmall limit (length p.letters) s more
   inside_small Outside c within h = begin_small (label_at begin_line c) h
   inside_small (Headers k) [] within h = stays (Data k) h
   inside_small (Headers k) (x ∷ c) within h = header_small k (header_of (x ∷ c)) (header_size (x ∷ c) within) h
@@ -94,15 +95,29 @@ module _ (limit : ℕ) (p : Pending) (few : length p.letters < 4) (letters : lis
     | inr n ↦ cc (rw n at h)
   ]
 
-pub step_small : (limit : ℕ) (s t : State) (l : Line) (more : List Event) → length s.pending.letters < 4 → list_all is_letter s.pending.letters ≡ true → step limit s l ≡ Ok (t, more) → IsSmall limit t more
+pub step_small : (limit : ℕ) (s t : State) (l : Line) (more : List Event) → length s.pending.letters < 4 → list_all is_letter s.pending.letters ≡ true → step limit s l ≡ Ok (t, more) → IsSmall limit (length s.pending.letters) t more
 unfolding step
-step_small limit s t l more few letters h = elim (cases_Bool (passes_by s.place l)) [
-  | inl y ↦ stays limit s.pending few letters t more s.place (rw y at h)
+step_small limit s t l more few letters h = elim (cases_Bool (passes_by s.section l)) [
+  | inl y ↦ stays limit s.pending few letters t more s.section (rw y at h)
   | inr n ↦ elim (cases_Bool (nat_lt limit (length l))) [
     | inl y ↦ cc (rw (n, y) at h)
     | inr n2 ↦
         let within : length l ≤ limit = ltb-false limit (length l) n2 in
         let f = content_front l in
-        inside_small limit s.pending few letters t more s.place (content l) (omega (arith, ap length f.1, length-append (content l) f.0)) (rw (n, n2) at h)
+        inside_small limit s.pending few letters t more s.section (content l) (omega (arith, ap length f.1, length-append (content l) f.0)) (rw (n, n2) at h)
+  ]
+]
+
+-- whatever the limit, a line leaves behind no more octets than it has, beside the letters that waited
+pub step_shrinks : (limit : ℕ) (s t : State) (l : Line) (more : List Event) → length s.pending.letters < 4 → list_all is_letter s.pending.letters ≡ true → step limit s l ≡ Ok (t, more)
+    → IsSmall (length l) (length s.pending.letters) t more
+unfolding step
+step_shrinks limit s t l more few letters h = elim (cases_Bool (passes_by s.section l)) [
+  | inl y ↦ stays (length l) s.pending few letters t more s.section (rw y at h)
+  | inr n ↦ elim (cases_Bool (nat_lt limit (length l))) [
+    | inl y ↦ cc (rw (n, y) at h)
+    | inr n2 ↦
+        let f = content_front l in
+        inside_small (length l) s.pending few letters t more s.section (content l) (omega (arith, ap length f.1, length-append (content l) f.0)) (rw (n, n2) at h)
   ]
 ]

@@ -7,15 +7,16 @@ use Rattle.std.specs.List.{fold, flat_map, starts_with}
 use Rattle.std.specs.Str.{bytes_eq}
 use Rattle.std.specs.declared.result.Result.{Result}
 use Rattle.opgp_armor.specs.declared.label.Label.{Label}
-use Rattle.opgp_armor.specs.declared.place.Place.{Place}
-use Rattle.opgp_armor.specs.declared.place.Place.TheVariants.{Outside, Headers, Data, AfterChecksum}
+use Rattle.opgp_armor.specs.declared.section.Section.{Section}
+use Rattle.opgp_armor.specs.declared.section.Section.TheVariants.{Outside, Headers, Data, AfterChecksum}
 use Rattle.opgp_octets.specs.declared.fault.Reason.{Reason}
 use Rattle.opgp_armor.specs.Letters.{is_equals, base64_of, Pending, no_letters, data_line}
 use Rattle.opgp_armor.proofs.Octets.{each_octet}
-use Rattle.opgp_armor.proofs.Pending.{Holds}
+use Rattle.opgp_armor.proofs.Awaiting.{Holds}
 use Rattle.opgp_armor.specs.Text.{Line, content, begin_mark, begin_line, end_line}
 use Rattle.opgp_armor.specs.Armored.{label_at, Block, ArePieces, Other, Whole, IsBlock, IsHead, IsBody, IsChecked, IsBlank, IsDataLine, IsHeader, AreHeaders, begins_with, is_dash}
-use Rattle.opgp_armor.specs.Machine.{Event, Begin, Header, End, State, Run, Built, Answer, absorb, built, nothing_built, header_of, on_begin, on_header, on_letters, some_octets, waits, closing, inside, passes_by, step, start, onward, next, run_from, first, run}
+use Rattle.opgp_armor.specs.Events.{Event, Begin, Header, End, Built, absorb, built, nothing_built}
+use Rattle.opgp_armor.specs.Machine.{State, Run, Answer, header_of, on_begin, on_header, on_letters, some_octets, waits, closing, inside, passes_by, step, start, onward, next, run_from, first, run}
 use Rattle.opgp_armor.proofs.Lists.{fold-both, recursion-append, same_text, label_at_some, piece_more}
 use Rattle.opgp_armor.proofs.HeaderLines.{Header as HeaderParts, header_is}
 use Rattle.opgp_armor.proofs.DataLine.{data_line_holds, not_false}
@@ -26,8 +27,8 @@ ok_pair {X} {Y} a c b d h =
     let e : ◌≡◌ {A = X × Y} (a, b) (c, d) = cc in
     (ap (λ (p : X × Y). p.0) e, ap (λ (p : X × Y). p.1) e)
 
--- the open lines are what the place says, and gave what is built
-abbrev pub Stage : ℕ → Place → Pending → Built → List Line → Type 0
+-- the open lines are what the section says, and gave what is built
+abbrev pub Stage : ℕ → Section → Pending → Built → List Line → Type 0
 Stage limit Outside p b ls = (ls ≡ []) × (p ≡ no_letters)
 Stage limit (Headers l) p b ls = (b.label ≡ l) × IsHead limit l b.headers ls × (b.octets ≡ []) × (p ≡ no_letters)
 Stage limit (Data l) p b ls = (letters : List ℕ) × (b.label ≡ l) × IsBody limit l b.headers letters ls × Holds letters b.octets p
@@ -36,7 +37,7 @@ Stage limit (AfterChecksum l) p b ls = (letters : List ℕ) × (b.label ≡ l) �
 -- one line more: it goes on, or a block ends
 abbrev pub Grows : ℕ → Built → List Line → State → List Event → Type 0
 Grows limit b ls s more =
-    (((fold absorb b more).blocks ≡ b.blocks) × Stage limit s.place s.pending (fold absorb b more) ls)
+    (((fold absorb b more).blocks ≡ b.blocks) × Stage limit s.section s.pending (fold absorb b more) ls)
     ⊎ ((block : Block) × IsBlock limit block ls × ((fold absorb b more).blocks ≡ b.blocks ++ block ∷ []) × (s ≡ start))
 
 headers-append : (limit : ℕ) (ls : List Line) (hs : List (List ℕ × List ℕ)) (l : Line) (h : List ℕ × List ℕ) → AreHeaders limit ls hs → IsHeader limit l h → AreHeaders limit (ls ++ l ∷ []) (hs ++ h ∷ [])
@@ -56,14 +57,14 @@ module _ (limit : ℕ) (b : Built) (ls : List Line) (l : Line) (s : State) (more
   begin_grows : (o : Option Label) → ((k : Label) → o ≡ Some k → content l ≡ begin_line k) → ls ≡ [] → on_begin o ≡ Ok (s, more) → Grows limit b (ls ++ l ∷ []) s more
   begin_grows None spelled empty h = cc h
   begin_grows (Some k) spelled empty h =
-      let p = ok_pair {E = Reason} (record { place = Headers k; pending = no_letters }) s (Begin k ∷ []) more h in
+      let p = ok_pair {E = Reason} (record { section = Headers k; pending = no_letters }) s (Begin k ∷ []) more h in
       rw (← p.0, ← p.1) (inl (refl, (refl, record { first = l; rest = []; are = ap (λ (v : List Line). v ++ l ∷ []) empty; begins = spelled k refl; within = within; headers_are = tt }, refl, refl)))
 
   header_grows : (k : Label) (p : Pending) (o : Option (List ℕ × List ℕ)) → ((key value : List ℕ) → o ≡ Some (key, value) → HeaderParts (content l) key value) → Stage limit (Headers k) p b ls
       → on_header k p o ≡ Ok (s, more) → Grows limit b (ls ++ l ∷ []) s more
   header_grows k p None parts stage h = cc h
   header_grows k p (Some (key, value)) parts stage h =
-      let e = ok_pair {E = Reason} (record { place = Headers k; pending = p }) s (Header key value ∷ []) more h in
+      let e = ok_pair {E = Reason} (record { section = Headers k; pending = p }) s (Header key value ∷ []) more h in
       let is = parts key value refl in
       let head = stage.1 in
       rw (← e.0, ← e.1) (inl (
@@ -84,9 +85,9 @@ module _ (limit : ℕ) (b : Built) (ls : List Line) (l : Line) (s : State) (more
       ))
 
   gap_grows : (k : Label) (p : Pending) → content l ≡ [] → Stage limit (Headers k) p b ls
-      → ◌≡◌ {A = Answer} (Ok (record { place = Data k; pending = p }, [])) (Ok (s, more)) → Grows limit b (ls ++ l ∷ []) s more
+      → ◌≡◌ {A = Answer} (Ok (record { section = Data k; pending = p }, [])) (Ok (s, more)) → Grows limit b (ls ++ l ∷ []) s more
   gap_grows k p blank stage h =
-      let e = ok_pair {E = Reason} (record { place = Data k; pending = p }) s [] more h in
+      let e = ok_pair {E = Reason} (record { section = Data k; pending = p }) s [] more h in
       rw (← e.0, ← e.1) (inl (
         refl,
         (
@@ -128,7 +129,7 @@ module _ (limit : ℕ) (b : Built) (ls : List Line) (l : Line) (s : State) (more
       → Stage limit (Data k) p b ls → on_letters k r ≡ Ok (s, more) → Grows limit b (ls ++ l ∷ []) s more
   letters_grow k p (Err e) is n1 n2 stage h = cc h
   letters_grow k p (Ok (q, o)) is n1 n2 stage h =
-      let e = ok_pair {E = Reason} (record { place = Data k; pending = q }) s (some_octets o) more h in
+      let e = ok_pair {E = Reason} (record { section = Data k; pending = q }) s (some_octets o) more h in
       let g = octets_built o in
       rw (← e.0, ← e.1) (inl (
         g.3,
@@ -141,16 +142,16 @@ module _ (limit : ℕ) (b : Built) (ls : List Line) (l : Line) (s : State) (more
       ))
 
   blank_grows : (k : Label) (p : Pending) → content l ≡ [] → Stage limit (Data k) p b ls
-      → ◌≡◌ {A = Answer} (Ok (record { place = Data k; pending = p }, [])) (Ok (s, more)) → Grows limit b (ls ++ l ∷ []) s more
+      → ◌≡◌ {A = Answer} (Ok (record { section = Data k; pending = p }, [])) (Ok (s, more)) → Grows limit b (ls ++ l ∷ []) s more
   blank_grows k p blank stage h =
-      let e = ok_pair {E = Reason} (record { place = Data k; pending = p }) s [] more h in
+      let e = ok_pair {E = Reason} (record { section = Data k; pending = p }) s [] more h in
       let same : stage.0 ++ content l ≡ stage.0 = rw blank (append-nil stage.0) in
       rw (← e.0, ← e.1) (inl (refl, (stage.0 ++ content l, stage.1, data_body k stage.0 stage.2 (rw blank refl) (rw blank refl), rw same stage.3)))
 
   checksum_grows : (k : Label) (p : Pending) → begins_with is_equals (content l) ≡ true → waits p ≡ false → Stage limit (Data k) p b ls
-      → ◌≡◌ {A = Answer} (Ok (record { place = AfterChecksum k; pending = p }, [])) (Ok (s, more)) → Grows limit b (ls ++ l ∷ []) s more
+      → ◌≡◌ {A = Answer} (Ok (record { section = AfterChecksum k; pending = p }, [])) (Ok (s, more)) → Grows limit b (ls ++ l ∷ []) s more
   checksum_grows k p equals none stage h =
-      let e = ok_pair {E = Reason} (record { place = AfterChecksum k; pending = p }) s [] more h in
+      let e = ok_pair {E = Reason} (record { section = AfterChecksum k; pending = p }) s [] more h in
       rw (← e.0, ← e.1) (inl (
         refl,
         (
@@ -172,9 +173,9 @@ module _ (limit : ℕ) (b : Built) (ls : List Line) (l : Line) (s : State) (more
       ))
 
   rest_grows : (k : Label) (p : Pending) → content l ≡ [] → Stage limit (AfterChecksum k) p b ls
-      → ◌≡◌ {A = Answer} (Ok (record { place = AfterChecksum k; pending = p }, [])) (Ok (s, more)) → Grows limit b (ls ++ l ∷ []) s more
+      → ◌≡◌ {A = Answer} (Ok (record { section = AfterChecksum k; pending = p }, [])) (Ok (s, more)) → Grows limit b (ls ++ l ∷ []) s more
   rest_grows k p blank stage h =
-      let e = ok_pair {E = Reason} (record { place = AfterChecksum k; pending = p }) s [] more h in
+      let e = ok_pair {E = Reason} (record { section = AfterChecksum k; pending = p }) s [] more h in
       let is = stage.2 in
       rw (← e.0, ← e.1) (inl (
         refl,
@@ -216,7 +217,7 @@ module _ (limit : ℕ) (b : Built) (ls : List Line) (l : Line) (s : State) (more
     ]
   ]
 
-  inside_grows : (place : Place) (p : Pending) (c : List ℕ) → c ≡ content l → Stage limit place p b ls → inside place p c ≡ Ok (s, more) → Grows limit b (ls ++ l ∷ []) s more
+  inside_grows : (section : Section) (p : Pending) (c : List ℕ) → c ≡ content l → Stage limit section p b ls → inside section p c ≡ Ok (s, more) → Grows limit b (ls ++ l ∷ []) s more
   inside_grows Outside p c is stage h = begin_grows (label_at begin_line c) (λ k o. sym is ∙ label_at_some begin_line c k o) stage.0 h
   inside_grows (Headers k) p [] is stage h = gap_grows k p (sym is) stage h
   inside_grows (Headers k) p (x ∷ c) is stage h = header_grows k p (header_of (x ∷ c)) (λ key value o. rw (← is) (header_is (x ∷ c) key value o)) stage h
@@ -243,7 +244,7 @@ pub record Upto (limit : ℕ) (ls : List Line) (r : Run) : Type 0 where
   pub open_ : List Line
   pub are : ls ≡ done ++ open_
   pub pieces : ArePieces limit done (built r.events).blocks
-  pub stage : Stage limit r.state.place r.state.pending (built r.events) open_
+  pub stage : Stage limit r.state.section r.state.pending (built r.events) open_
 
 pub upto_first : (limit : ℕ) → Upto limit [] first
 unfolding built
@@ -257,7 +258,7 @@ pub not_true : (a : Bool) → not a ≡ true → a ≡ false
 not_true true h = cc h
 not_true false h = refl
 
-passing : (limit : ℕ) (place : Place) (p : Pending) (b : Built) (l : Line) (ls : List Line) → passes_by place l ≡ true → Stage limit place p b ls
+passing : (limit : ℕ) (section : Section) (p : Pending) (b : Built) (l : Line) (ls : List Line) → passes_by section l ≡ true → Stage limit section p b ls
     → (ls ≡ []) × (starts_with nat_eq l begin_mark ≡ false)
 passing limit Outside p b l ls h stage = (stage.0, not_true _ h)
 passing limit (Headers k) p b l ls h stage = cc h
@@ -271,10 +272,10 @@ relist limit a a' bs bs' e f are = rw (← e, ← f) are
 pub step_upto : (limit : ℕ) (ls : List Line) (r : Run) (l : Line) (s : State) (more : List Event) → Upto limit ls r → step limit r.state l ≡ Ok (s, more)
     → Upto limit (ls ++ l ∷ []) (record { state = s; events = r.events ++ more })
 unfolding step
-step_upto limit ls r l s more upto h = elim (cases_Bool (passes_by r.state.place l)) [
+step_upto limit ls r l s more upto h = elim (cases_Bool (passes_by r.state.section l)) [
   | inl y ↦
       let e = ok_pair {E = Reason} r.state s [] more (rw y at h) in
-      let out = passing limit r.state.place r.state.pending (built r.events) l upto.open_ y upto.stage in
+      let out = passing limit r.state.section r.state.pending (built r.events) l upto.open_ y upto.stage in
       let same : built r.events ≡ built (r.events ++ more) = rw (← e.1, append-nil r.events) refl in
       let whole : upto.done ≡ ls = sym (upto.are ∙ ap (λ (v : List Line). upto.done ++ v) out.0 ∙ append-nil upto.done) in
       record {
@@ -290,7 +291,7 @@ step_upto limit ls r l s more upto h = elim (cases_Bool (passes_by r.state.place
     | inl y ↦ cc (rw (n, y) at h)
     | inr n2 ↦
         let within : length l ≤ limit = ltb-false limit (length l) n2 in
-        let grown = inside_grows limit (built r.events) upto.open_ l s more within r.state.place r.state.pending (content l) refl upto.stage (rw (n, n2) at h) in
+        let grown = inside_grows limit (built r.events) upto.open_ l s more within r.state.section r.state.pending (content l) refl upto.stage (rw (n, n2) at h) in
         let now : fold absorb (built r.events) more ≡ built (r.events ++ more) = sym (built_more r.events more) in
         let same : (upto.done ++ upto.open_) ++ l ∷ [] ≡ upto.done ++ (upto.open_ ++ l ∷ []) = append_assoc upto.done upto.open_ (l ∷ []) in
         elim grown [

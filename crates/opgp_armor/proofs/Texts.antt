@@ -4,7 +4,7 @@ use Rattle.std.proofs.lemmas.List.{append_assoc}
 use Rattle.std.proofs.lemmas.Bool.{cases_Bool, eqb-true}
 use Rattle.std.specs.List.{list_all, AllByRecursion}
 use Rattle.opgp_armor.proofs.Octets.{AreOctets}
-use Rattle.opgp_armor.specs.Splits.{is_plain}
+use Rattle.opgp_armor.specs.Cuts.{is_plain}
 use Rattle.opgp_armor.specs.Text.{Line, lines, onto}
 use Rattle.opgp_armor.specs.Written.{text_of}
 use Rattle.opgp_armor.proofs.DataLine.{octets-append}

@@ -1,6 +1,10 @@
 -- What is written is read again.
-use Rattle.std.proofs.Common.{◌≡◌, ℕ, zero, suc, ◌+◌, ◌-◌, ◌*◌, ◌/◌, ◌<◌, ◌≤◌, ◌==◌, true, false, List, [], ◌∷◌, ◌++◌, length, take, drop, map, refl, sym, ap, ◌∙◌, arith, inl, inr, subst}
-use Rattle.std.proofs.lemmas.List.{append_assoc, append-nil, length-take, length-drop, length-take-le, drop_all, take-append-drop}
+use Rattle.std.proofs.Common.{◌≡◌, ℕ, zero, suc, ◌+◌, ◌-◌, ◌*◌, ◌/◌, ◌<◌, ◌≤◌, ◌==◌, true, false, List, [], ◌∷◌, ◌++◌, ◌%◌, length, take, drop, replicate, map, refl, sym, ap, ◌∙◌, arith, inl, inr, subst}
+use Rattle.std.proofs.lemmas.List.{append_assoc, append-nil, length-append, length-replicate, length-take, length-drop, length-take-le, take_all, drop_all, take_at, take-append-drop}
+use Rattle.std.proofs.Math.Seq.{drop-append_seam}
+use Rattle.base64.specs.Engines.{standard}
+use Rattle.base64.specs.Rfc4648.{encode_symbols, padding_len, unpadded_len}
+use Rattle.base64.proofs.RoundTrip.{length-encode_symbols}
 use Rattle.std.proofs.lemmas.List.Concat.{flat_map-append}
 use Rattle.std.proofs.lemmas.Bool.{cases_Bool, cases_lt, eqb-true}
 use Rattle.std.specs.List.{flat_map, list_all, list_any, AllByRecursion}
@@ -8,17 +12,16 @@ use Rattle.opgp_octets.specs.Octets.{IsOctets}
 use Rattle.opgp_armor.specs.declared.label.Label.{Label}
 use Rattle.opgp_armor.specs.declared.label.Label.TheVariants.{Message, PublicKeyBlock, PrivateKeyBlock, Signature}
 use Rattle.opgp_armor.specs.Letters.{is_equals, may_stand, base64_of}
-use Rattle.opgp_armor.specs.Splits.{is_plain}
+use Rattle.opgp_armor.specs.Cuts.{is_plain}
 use Rattle.opgp_armor.specs.Text.{Line, content, strip, is_trailing, begin_line, end_line}
 use Rattle.opgp_armor.specs.Armored.{Block, Armored, Whole, IsBlock, IsHeader, AreHeaders, IsDataLine, begins_with, is_dash}
 use Rattle.opgp_armor.specs.Written.{text_of, is_feed, ends_trailing, IsWritable, AreWritable, header_line, rows, letter_lines, armor_lines, armor_text, IsWithin, AreWithin}
 use Rattle.opgp_armor.proofs.Octets.{AreOctets, all_octets}
 use Rattle.opgp_armor.proofs.Groups.{begins_with_equals}
-use Rattle.opgp_armor.proofs.Standard.{parts_at, base64_of-nil, base64_begins, base64_stands}
+use Rattle.opgp_armor.proofs.Standard.{parts_at, base64_of-nil, base64_of-append, base64_begins, base64_stands}
 use Rattle.opgp_armor.proofs.DataLine.{all_parts, all_both, octets_back, or_false}
 use Rattle.opgp_armor.proofs.Lists.{recursion-append}
 use Rattle.opgp_armor.proofs.Texts.{IsPlain, lines-text_plain}
-use Rattle.opgp_armor.proofs.Answer.{one_list}
 
 -- ---- lines of letters
 pub letter_lines-nil : letter_lines [] ≡ []
@@ -38,6 +41,50 @@ letters_more text before s some e =
     ap (λ (v : List Line). before ++ text_of v) (letter_lines-step s some)
     ∙ sym (append_assoc before (take 64 s ++ 10 ∷ []) (text_of (letter_lines (drop 64 s))))
     ∙ ap (λ (v : List ℕ). v ++ text_of (letter_lines (drop 64 s))) (sym e)
+
+-- ---- rows of 48 octets
+size_whole : (n : ℕ) → (4 * n + 2) / 3 + (3 - n % 3) % 3 ≡ 4 * ((n + 2) / 3)
+size_whole n = omega arith
+
+pub base64_length : (o : List ℕ) → length (base64_of o) ≡ 4 * ((length o + 2) / 3)
+unfolding base64_of
+base64_length o =
+    let pads : List ℕ = replicate (padding_len (length o)) 61 in
+    let padded : length pads ≡ padding_len (length o) = length-replicate (padding_len (length o)) 61 in
+    length-append (encode_symbols standard.encode_table o) pads
+    ∙ ap (λ (v : ℕ). v + length pads) (length-encode_symbols standard.encode_table o)
+    ∙ ap (λ (v : ℕ). unpadded_len (length o) + v) padded
+    ∙ size_whole (length o)
+
+record Row (o : List ℕ) : Type 0 where
+  front : take 64 (base64_of o) ≡ base64_of (take 48 o)
+  back : drop 64 (base64_of o) ≡ base64_of (drop 48 o)
+
+row : (o : List ℕ) → Row o
+row o = elim (cases_lt (length o) 48) [
+  | inl lt ↦
+      let few : length (base64_of o) ≤ 64 = omega (arith, base64_length o) in
+      record {
+        front = take_all 64 (base64_of o) few ∙ ap base64_of (sym (take_all 48 o (omega arith)));
+        back = drop_all 64 (base64_of o) few ∙ sym base64_of-nil ∙ ap base64_of (sym (drop_all 48 o (omega arith)));
+      }
+  | inr ge ↦
+      let n : length (take 48 o) ≡ 48 = length-take-le 48 o ge in
+      let size : length (base64_of (take 48 o)) ≡ 64 = base64_length (take 48 o) ∙ ap (λ (v : ℕ). 4 * ((v + 2) / 3)) n in
+      let parts : base64_of o ≡ base64_of (take 48 o) ++ base64_of (drop 48 o) =
+      ap base64_of (sym (take-append-drop 48 o)) ∙ base64_of-append (take 48 o) (drop 48 o) (ap (λ (v : ℕ). v % 3) n) in
+      record {
+        front = ap (take 64) parts ∙ take_at (base64_of (take 48 o)) (base64_of (drop 48 o)) 64 size;
+        back = ap (drop 64) parts ∙ ap (λ (v : ℕ). drop v (base64_of (take 48 o) ++ base64_of (drop 48 o))) (sym size) ∙ drop-append_seam (base64_of (take 48 o)) (base64_of (drop 48 o));
+      }
+]
+
+-- one row more
+pub row_more : (text before o : List ℕ) → 0 < length o → text ≡ before ++ (base64_of (take 48 o) ++ 10 ∷ [])
+    → before ++ text_of (letter_lines (base64_of o)) ≡ text ++ text_of (letter_lines (base64_of (drop 48 o)))
+row_more text before o some e =
+    letters_more text before (base64_of o) (omega (arith, base64_length o)) (e ∙ ap (λ (v : List ℕ). before ++ (v ++ 10 ∷ [])) (sym (row o).front))
+    ∙ ap (λ (v : List ℕ). text ++ text_of (letter_lines v)) (row o).back
 
 stands_kept : (c : ℕ) → may_stand c ≡ true → is_trailing c ≡ false
 stands_kept c h = elim (cases_Bool (c == 32)) [
@@ -69,9 +116,6 @@ stands_plain (c ∷ s) h = elim (cases_Bool (may_stand c)) [
 ]
 
 -- a line that doesn't end in a blank is its own content
-strip_some : (c d : ℕ) (ds : List ℕ) → strip c (d ∷ ds) ≡ c ∷ d ∷ ds
-strip_some c d ds = refl
-
 pub content_kept : (l : List ℕ) → ends_trailing l ≡ false → content l ≡ l
 unfolding content
 content_kept [] h = refl
@@ -269,8 +313,3 @@ module _ (limit : ℕ) (label : Label) (hs : List (List ℕ × List ℕ)) (o : L
     };
     some = omega arith;
   }
-
-pub written_again : (limit : ℕ) (label : Label) (hs : List (List ℕ × List ℕ)) (o : List ℕ) → 128 ≤ limit → IsOctets o → AreWritable hs → AreWithin limit hs
-    → (blocks : List Block) → Armored limit (armor_text label hs o) blocks → blocks ≡ record { label = label; headers = hs; octets = o } ∷ []
-written_again limit label hs o large octets writable within blocks a =
-    one_list limit (armor_text label hs o) blocks (record { label = label; headers = hs; octets = o } ∷ []) a (written_armored limit label hs o large octets writable within)

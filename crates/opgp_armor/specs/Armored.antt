@@ -1,13 +1,17 @@
--- What an armored text is (RFC 9580, 6.2): a text against a finished list of blocks. And which fault another text has.
-use Rattle.std.specs.Prelude.{◌≡◌, ℕ, ◌+◌, ◌==◌, ◌<◌, ◌≤◌, nat_eq, nat_lt, Bool, true, false, if◌then◌else◌, ◌⊎◌, List, [], ◌∷◌, ◌++◌, length}
+-- What an armored text is (RFC 9580, 6.2): a text against a finished list of blocks. And which
+-- fault another text has.
+use Rattle.std.specs.Prelude.{◌≡◌, ℕ, ◌+◌, ◌==◌, ◌<◌, ◌≤◌, nat_eq, nat_lt, Bool, true, false}
+use Rattle.std.specs.Prelude.{if◌then◌else◌, ◌⊎◌, List, [], ◌∷◌, ◌++◌, length}
 use Rattle.std.specs.List.{list_any, list_all, flat_map, fold, starts_with, AllByRecursion}
 use Rattle.std.specs.Str.{bytes_eq}
 use Rattle.std.specs.declared.option.Option.{Option}
 use Rattle.std.specs.declared.option.Option.TheVariants.{None, Some}
 use Rattle.opgp_armor.specs.declared.label.Label.{Label}
-use Rattle.opgp_armor.specs.declared.label.Label.TheVariants.{Message, PublicKeyBlock, PrivateKeyBlock, Signature}
-use Rattle.opgp_armor.specs.declared.place.Place.{Place}
-use Rattle.opgp_armor.specs.declared.place.Place.TheVariants.{Outside, Headers, Data, AfterChecksum}
+use Rattle.opgp_armor.specs.declared.label.Label.TheVariants.{Message, PublicKeyBlock}
+use Rattle.opgp_armor.specs.declared.label.Label.TheVariants.{PrivateKeyBlock, Signature}
+use Rattle.opgp_armor.specs.declared.section.Section.{Section}
+use Rattle.opgp_armor.specs.declared.section.Section.TheVariants.{Outside, Headers, Data}
+use Rattle.opgp_armor.specs.declared.section.Section.TheVariants.{AfterChecksum}
 use Rattle.opgp_octets.specs.Octets.{IsOctets}
 use Rattle.opgp_octets.specs.declared.fault.Fault.{Fault}
 use Rattle.opgp_octets.specs.declared.fault.Layer.TheVariants as layer
@@ -35,12 +39,13 @@ is_dash c = c == 45
 abbrev pub is_space : ℕ → Bool
 is_space c = c == 32
 
--- A key that isn't empty and has no colon, a colon, the value; one space may stand before the value,
--- and must where the value begins with a space.
+-- A key that isn't empty and has no colon, a colon, the value; one space may stand before the
+-- value, and must where the value begins with a space (6.2.2).
 pub record IsHeader (limit : ℕ) (line : Line) (header : List ℕ × List ℕ) : Type 0 where
   pub named : 0 < length header.0
   pub plain : list_any is_colon header.0 ≡ false
-  pub spelled : ((content line ≡ header.0 ++ 58 ∷ header.1) × (begins_with is_space header.1 ≡ false))
+  pub spelled :
+      ((content line ≡ header.0 ++ 58 ∷ header.1) × (begins_with is_space header.1 ≡ false))
       ⊎ (content line ≡ header.0 ++ 58 ∷ 32 ∷ header.1)
   pub within : length line ≤ limit
 
@@ -61,7 +66,8 @@ pub record IsDataLine (limit : ℕ) (line : Line) : Type 0 where
   pub within : length line ≤ limit
 
 -- The lines of a block up to its headers ..
-pub record IsHead (limit : ℕ) (label : Label) (headers : List (List ℕ × List ℕ)) (ls : List Line) : Type 0 where
+pub record IsHead (limit : ℕ) (label : Label) (headers : List (List ℕ × List ℕ))
+    (ls : List Line) : Type 0 where
   pub first : Line
   pub rest : List Line
   pub are : ls ≡ first ∷ rest
@@ -70,7 +76,8 @@ pub record IsHead (limit : ℕ) (label : Label) (headers : List (List ℕ × Lis
   pub headers_are : AreHeaders limit rest headers
 
 -- .. up to its data lines ..
-pub record IsBody (limit : ℕ) (label : Label) (headers : List (List ℕ × List ℕ)) (letters : List ℕ) (ls : List Line) : Type 0 where
+pub record IsBody (limit : ℕ) (label : Label) (headers : List (List ℕ × List ℕ))
+    (letters : List ℕ) (ls : List Line) : Type 0 where
   pub head : List Line
   pub gap : Line
   pub data_lines : List Line
@@ -81,7 +88,8 @@ pub record IsBody (limit : ℕ) (label : Label) (headers : List (List ℕ × Lis
   pub joined : letters ≡ flat_map content data_lines
 
 -- .. and with its checksum line, where it has one, and blank lines after that.
-pub record IsChecked (limit : ℕ) (label : Label) (headers : List (List ℕ × List ℕ)) (letters : List ℕ) (ls : List Line) : Type 0 where
+pub record IsChecked (limit : ℕ) (label : Label) (headers : List (List ℕ × List ℕ))
+    (letters : List ℕ) (ls : List Line) : Type 0 where
   pub body : List Line
   pub checksum : Line
   pub blanks : List Line
@@ -97,7 +105,8 @@ pub record IsBlock (limit : ℕ) (block : Block) (ls : List Line) : Type 0 where
   pub last : Line
   pub letters : List ℕ
   pub are : ls ≡ front ++ last ∷ []
-  pub is_front : IsBody limit block.label block.headers letters front ⊎ IsChecked limit block.label block.headers letters front
+  pub is_front : IsBody limit block.label block.headers letters front
+      ⊎ IsChecked limit block.label block.headers letters front
   pub spelled : IsBase64 letters block.octets
   pub ends : content last ≡ end_line block.label
   pub within : length last ≤ limit
@@ -151,47 +160,57 @@ label_at spelled c =
     else if bytes_eq c (spelled Signature) then Some Signature
     else None
 
--- Where the next line stands, and how many blocks are finished: what the lines of an armored text do.
+-- Where the next line stands, and how many blocks are finished: what lines of an armored text do.
 pub record Situation : Type 0 where
-  pub place : Place
+  pub section : Section
   pub finished : ℕ
 
-abbrev pub opened_by : Option Label → Place
+abbrev pub opened_by : Option Label → Section
 opened_by None = Outside
 opened_by (Some label) = Headers label
 
-abbrev pub after_content : Place → List ℕ → Place
+abbrev pub after_content : Section → List ℕ → Section
 after_content Outside c = opened_by (label_at begin_line c)
 after_content (Headers label) [] = Data label
 after_content (Headers label) (d ∷ c) = Headers label
-after_content (Data label) c = if begins_with is_equals c then AfterChecksum label else if begins_with is_dash c then Outside else Data label
-after_content (AfterChecksum label) c = if begins_with is_dash c then Outside else AfterChecksum label
+after_content (Data label) c =
+    if begins_with is_equals c then AfterChecksum label
+    else if begins_with is_dash c then Outside
+    else Data label
+after_content (AfterChecksum label) c =
+    if begins_with is_dash c then Outside else AfterChecksum label
 
 -- 1 where a block ends
-abbrev pub ended_by : Place → List ℕ → ℕ
+abbrev pub ended_by : Section → List ℕ → ℕ
 ended_by Outside c = 0
 ended_by (Headers label) c = 0
 ended_by (Data label) c = if begins_with is_dash c then 1 else 0
 ended_by (AfterChecksum label) c = if begins_with is_dash c then 1 else 0
 
 abbrev pub after_line : Situation → Line → Situation
-after_line s l = record { place = after_content s.place (content l); finished = s.finished + ended_by s.place (content l) }
+after_line s l = record {
+  section = after_content s.section (content l);
+  finished = s.finished + ended_by s.section (content l);
+}
 
 unfoldable pub situation : List Line → Situation
-situation ls = fold after_line (record { place = Outside; finished = 0 }) ls
+situation ls = fold after_line (record { section = Outside; finished = 0 }) ls
 
--- why a line is refused at its place
-abbrev pub short_reason : Place → List ℕ → Reason
+-- why a line is refused where it stands
+abbrev pub short_reason : Section → List ℕ → Reason
 short_reason Outside c = reason.Label
 short_reason (Headers label) c = reason.Header
 short_reason (Data label) c =
     if begins_with is_equals c then reason.Padding
-    else if begins_with is_dash c then (if bytes_eq c (end_line label) then reason.Padding else reason.EndLabel)
+    else if begins_with is_dash c
+    then (if bytes_eq c (end_line label) then reason.Padding else reason.EndLabel)
     else if list_all may_stand c then reason.Padding else reason.Letters
-short_reason (AfterChecksum label) c = if begins_with is_dash c then reason.EndLabel else reason.AfterChecksum
+short_reason (AfterChecksum label) c =
+    if begins_with is_dash c then reason.EndLabel else reason.AfterChecksum
 
-abbrev pub reason_of : ℕ → Place → Line → Reason
-reason_of limit place l = if nat_lt limit (length l) then reason.LineTooLong else short_reason place (content l)
+abbrev pub reason_of : ℕ → Section → Line → Reason
+reason_of limit section l =
+    if nat_lt limit (length l) then reason.LineTooLong else short_reason section (content l)
 
 -- The first line with which no armored text begins so.
 pub record LineFault (limit : ℕ) (text : List ℕ) (why : Reason) (block pos : ℕ) : Type 0 where
@@ -201,11 +220,11 @@ pub record LineFault (limit : ℕ) (text : List ℕ) (why : Reason) (block pos :
   pub are : lines text ≡ before ++ line ∷ after
   pub opens : Opens limit before
   pub refused : Opens limit (before ++ line ∷ []) → ⊥
-  pub why_is : why ≡ reason_of limit (situation before).place line
+  pub why_is : why ≡ reason_of limit (situation before).section line
   pub block_is : block ≡ (situation before).finished
   pub pos_is : pos ≡ offset before
 
-abbrev pub end_reason : Place → Reason
+abbrev pub end_reason : Section → Reason
 end_reason Outside = reason.NoBlock
 end_reason (Headers label) = reason.Unfinished
 end_reason (Data label) = reason.Unfinished
@@ -215,15 +234,16 @@ end_reason (AfterChecksum label) = reason.Unfinished
 pub record EndFault (limit : ℕ) (text : List ℕ) (why : Reason) (block pos : ℕ) : Type 0 where
   pub opens : Opens limit (lines text)
   pub refused : (blocks : List Block) → Armored limit text blocks → ⊥
-  pub why_is : why ≡ end_reason (situation (lines text)).place
+  pub why_is : why ≡ end_reason (situation (lines text)).section
   pub block_is : block ≡ (situation (lines text)).finished
   pub pos_is : pos ≡ length text
 
 abbrev pub ArmorFault : ℕ → List ℕ → Reason → ℕ → ℕ → Type 0
-ArmorFault limit text why block pos = LineFault limit text why block pos ⊎ EndFault limit text why block pos
+ArmorFault limit text why block pos =
+    LineFault limit text why block pos ⊎ EndFault limit text why block pos
 
 -- The fault of a text, as it is answered.
-pub record IsFault (limit : ℕ) (text : List ℕ) (f : Fault) : Type 0 where
+pub record IsArmorFault (limit : ℕ) (text : List ℕ) (f : Fault) : Type 0 where
   pub layer_is : f.layer ≡ layer.Armor
   pub inner_is : f.inner ≡ 0
   pub found : ArmorFault limit text f.reason f.block f.pos

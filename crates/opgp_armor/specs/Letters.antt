@@ -1,5 +1,6 @@
--- Letters, and the data lines of one block (RFC 9580, 6 and 6.2.2; RFC 4648, 4).
-use Rattle.std.specs.Prelude.{◌≡◌, ℕ, ◌*◌, ◌/◌, ◌%◌, ◌==◌, nat_le, nat_lt, Bool, false, not, if◌then◌else◌, ◌&&◌, ◌||◌, List, [], ◌++◌, length, take, drop}
+-- Letters, and the data lines of one block (RFC 9580, 6 and 6.2; RFC 4648, 4).
+use Rattle.std.specs.Prelude.{◌≡◌, ℕ, ◌*◌, ◌/◌, ◌%◌, ◌==◌, nat_le, nat_lt, Bool, false, not}
+use Rattle.std.specs.Prelude.{if◌then◌else◌, ◌&&◌, ◌||◌, List, [], ◌++◌, length, take, drop}
 use Rattle.std.specs.List.{list_any, list_all}
 use Rattle.std.specs.declared.option.Option.{Option}
 use Rattle.std.specs.declared.option.Option.TheVariants.{None, Some}
@@ -13,7 +14,9 @@ use Rattle.opgp_octets.specs.declared.fault.Reason.TheVariants as reason
 
 -- A to Z, a to z, 0 to 9, + and /
 abbrev pub is_letter : ℕ → Bool
-is_letter c = (nat_le 65 c && nat_le c 90) || ((nat_le 97 c && nat_le c 122) || ((nat_le 48 c && nat_le c 57) || ((c == 43) || (c == 47))))
+is_letter c = (nat_le 65 c && nat_le c 90)
+    || ((nat_le 97 c && nat_le c 122)
+    || ((nat_le 48 c && nat_le c 57) || ((c == 43) || (c == 47))))
 
 -- `=`
 abbrev pub is_equals : ℕ → Bool
@@ -45,11 +48,17 @@ groups_of letters = take (4 * (length letters / 4)) letters
 abbrev pub rest_of : List ℕ → List ℕ
 rest_of letters = drop (4 * (length letters / 4)) letters
 
+-- what stands behind whole groups can't: letters alone can, and nothing behind padding
+abbrev pub spoils : List ℕ → Bool → Bool
+spoils rest padded = not (list_all is_letter rest) || (padded && nat_lt 0 (length rest))
+
 -- what whole groups give, and then the letters that wait
 abbrev pub after_groups : List ℕ → Option (List ℕ) → Result (Pending × List ℕ) Reason
 after_groups rest None = Err reason.Padding
 after_groups rest (Some octets) =
-    if not (list_all is_octet octets) || list_any is_equals rest || (not (length octets % 3 == 0) && nat_lt 0 (length rest)) then Err reason.Padding
+    if not (list_all is_octet octets) || list_any is_equals rest
+    || (not (length octets % 3 == 0) && nat_lt 0 (length rest))
+    then Err reason.Padding
     else Ok (record { letters = rest; padded = not (length octets % 3 == 0) }, octets)
 
 -- a data line that isn't blank: the octets of the groups that it ends
@@ -57,7 +66,9 @@ unfoldable pub data_line : Pending → List ℕ → Result (Pending × List ℕ)
 data_line p content =
     if not (list_all may_stand content) then Err reason.Letters
     else if p.padded then Err reason.Padding
-    else after_groups (rest_of (p.letters ++ content)) (decoded_of standard (groups_of (p.letters ++ content)))
+    else
+    after_groups (rest_of (p.letters ++ content))
+    (decoded_of standard (groups_of (p.letters ++ content)))
 
 abbrev pub no_letters : Pending
 no_letters = record { letters = []; padded = false }

@@ -1,5 +1,6 @@
 -- Armor line by line: the plain definition that code follows.
-use Rattle.std.specs.Prelude.{ℕ, nat_eq, nat_lt, Bool, false, not, if◌then◌else◌, List, [], ◌∷◌, ◌++◌, length}
+use Rattle.std.specs.Prelude.{ℕ, nat_eq, nat_lt, Bool, false, not, if◌then◌else◌, List, [], ◌∷◌}
+use Rattle.std.specs.Prelude.{◌++◌, length}
 use Rattle.std.specs.List.{starts_with, fold}
 use Rattle.std.specs.Str.{bytes_eq}
 use Rattle.std.specs.declared.option.Option.{Option}
@@ -7,24 +8,18 @@ use Rattle.std.specs.declared.option.Option.TheVariants.{None, Some}
 use Rattle.std.specs.declared.result.Result.{Result}
 use Rattle.std.specs.declared.result.Result.TheVariants.{Ok, Err}
 use Rattle.opgp_armor.specs.declared.label.Label.{Label}
-use Rattle.opgp_armor.specs.declared.label.Label.TheVariants.{Message}
-use Rattle.opgp_armor.specs.declared.place.Place.{Place}
-use Rattle.opgp_armor.specs.declared.place.Place.TheVariants.{Outside, Headers, Data, AfterChecksum}
+use Rattle.opgp_armor.specs.declared.section.Section.{Section}
+use Rattle.opgp_armor.specs.declared.section.Section.TheVariants.{Outside, Headers, Data}
+use Rattle.opgp_armor.specs.declared.section.Section.TheVariants.{AfterChecksum}
 use Rattle.opgp_octets.specs.declared.fault.Reason.{Reason}
 use Rattle.opgp_octets.specs.declared.fault.Reason.TheVariants as reason
 use Rattle.opgp_armor.specs.Letters.{is_equals, Pending, no_letters, data_line}
 use Rattle.opgp_armor.specs.Text.{Line, content, begin_mark, begin_line, end_line}
-use Rattle.opgp_armor.specs.Armored.{Block, is_colon, is_dash, is_space, label_at}
-
--- what becomes ready
-pub data Event : Type 0 where
-  Begin : Label → Event
-  Header : List ℕ → List ℕ → Event
-  Octets : List ℕ → Event
-  End : Event
+use Rattle.opgp_armor.specs.Armored.{is_colon, is_dash, is_space, label_at}
+use Rattle.opgp_armor.specs.Events.{Event, Begin, Header, Octets, End}
 
 pub record State : Type 0 where
-  pub place : Place
+  pub section : Section
   pub pending : Pending
 
 abbrev pub put_key : ℕ → Option (List ℕ × List ℕ) → Option (List ℕ × List ℕ)
@@ -54,11 +49,12 @@ Answer = Result (State × List Event) Reason
 
 abbrev pub on_begin : Option Label → Answer
 on_begin None = Err reason.Label
-on_begin (Some l) = Ok (record { place = Headers l; pending = no_letters }, Begin l ∷ [])
+on_begin (Some l) = Ok (record { section = Headers l; pending = no_letters }, Begin l ∷ [])
 
 abbrev pub on_header : Label → Pending → Option (List ℕ × List ℕ) → Answer
 on_header l p None = Err reason.Header
-on_header l p (Some (key, value)) = Ok (record { place = Headers l; pending = p }, Header key value ∷ [])
+on_header l p (Some (key, value)) =
+    Ok (record { section = Headers l; pending = p }, Header key value ∷ [])
 
 abbrev pub some_octets : List ℕ → List Event
 some_octets [] = []
@@ -66,7 +62,7 @@ some_octets (o ∷ os) = Octets (o ∷ os) ∷ []
 
 abbrev pub on_letters : Label → Result (Pending × List ℕ) Reason → Answer
 on_letters l (Err e) = Err e
-on_letters l (Ok (p, octets)) = Ok (record { place = Data l; pending = p }, some_octets octets)
+on_letters l (Ok (p, octets)) = Ok (record { section = Data l; pending = p }, some_octets octets)
 
 abbrev pub waits : Pending → Bool
 waits p = nat_lt 0 (length p.letters)
@@ -76,23 +72,27 @@ unfoldable pub closing : Label → Pending → List ℕ → Answer
 closing l p c =
     if not (bytes_eq c (end_line l)) then Err reason.EndLabel
     else if waits p then Err reason.Padding
-    else Ok (record { place = Outside; pending = no_letters }, End ∷ [])
+    else Ok (record { section = Outside; pending = no_letters }, End ∷ [])
 
 -- a line of a block, by its content
-abbrev pub inside : Place → Pending → List ℕ → Answer
+abbrev pub inside : Section → Pending → List ℕ → Answer
 inside Outside p c = on_begin (label_at begin_line c)
-inside (Headers l) p [] = Ok (record { place = Data l; pending = p }, [])
+inside (Headers l) p [] = Ok (record { section = Data l; pending = p }, [])
 inside (Headers l) p (c ∷ cs) = on_header l p (header_of (c ∷ cs))
-inside (Data l) p [] = Ok (record { place = Data l; pending = p }, [])
+inside (Data l) p [] = Ok (record { section = Data l; pending = p }, [])
 inside (Data l) p (c ∷ cs) =
-    if is_equals c then (if waits p then Err reason.Padding else Ok (record { place = AfterChecksum l; pending = p }, []))
+    if is_equals c then (
+    if waits p then Err reason.Padding
+    else Ok (record { section = AfterChecksum l; pending = p }, [])
+    )
     else if is_dash c then closing l p (c ∷ cs)
     else on_letters l (data_line p (c ∷ cs))
-inside (AfterChecksum l) p [] = Ok (record { place = AfterChecksum l; pending = p }, [])
-inside (AfterChecksum l) p (c ∷ cs) = if is_dash c then closing l p (c ∷ cs) else Err reason.AfterChecksum
+inside (AfterChecksum l) p [] = Ok (record { section = AfterChecksum l; pending = p }, [])
+inside (AfterChecksum l) p (c ∷ cs) =
+    if is_dash c then closing l p (c ∷ cs) else Err reason.AfterChecksum
 
 -- the line lies outside of all blocks
-abbrev pub passes_by : Place → Line → Bool
+abbrev pub passes_by : Section → Line → Bool
 passes_by Outside l = not (starts_with nat_eq l begin_mark)
 passes_by (Headers label) l = false
 passes_by (Data label) l = false
@@ -101,12 +101,12 @@ passes_by (AfterChecksum label) l = false
 -- one line
 unfoldable pub step : ℕ → State → Line → Answer
 step limit s l =
-    if passes_by s.place l then Ok (s, [])
+    if passes_by s.section l then Ok (s, [])
     else if nat_lt limit (length l) then Err reason.LineTooLong
-    else inside s.place s.pending (content l)
+    else inside s.section s.pending (content l)
 
 abbrev pub start : State
-start = record { place = Outside; pending = no_letters }
+start = record { section = Outside; pending = no_letters }
 
 -- the state after lines, and the events that they made ready
 pub record Run : Type 0 where
@@ -129,23 +129,3 @@ first = record { state = start; events = [] }
 
 abbrev pub run : ℕ → List Line → Result Run Reason
 run limit ls = run_from limit (Ok first) ls
-
--- ---- the blocks of events
--- what events have built: the finished blocks, and the one that is open
-pub record Built : Type 0 where
-  pub blocks : List Block
-  pub label : Label
-  pub headers : List (List ℕ × List ℕ)
-  pub octets : List ℕ
-
-abbrev pub absorb : Built → Event → Built
-absorb b (Begin l) = record b { label = l; headers = []; octets = [] }
-absorb b (Header key value) = record b { headers = b.headers ++ (key, value) ∷ [] }
-absorb b (Octets o) = record b { octets = b.octets ++ o }
-absorb b End = record { blocks = b.blocks ++ record { label = b.label; headers = b.headers; octets = b.octets } ∷ []; label = b.label; headers = []; octets = [] }
-
-abbrev pub nothing_built : Built
-nothing_built = record { blocks = []; label = Message; headers = []; octets = [] }
-
-unfoldable pub built : List Event → Built
-built events = fold absorb nothing_built events

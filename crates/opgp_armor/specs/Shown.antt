@@ -3,26 +3,31 @@ use Rattle.std.specs.Prelude.{◌≡◌, ℕ, true, false, ◌⊎◌, if◌then�
 use Rattle.std.specs.declared.option.Option.{Option}
 use Rattle.std.specs.declared.option.Option.TheVariants.{None, Some}
 use Rattle.opgp_armor.specs.declared.label.Label.{Label}
-use Rattle.opgp_armor.specs.declared.place.Place.{Place}
-use Rattle.opgp_armor.specs.declared.place.Place.TheVariants.{Outside, Headers, Data, AfterChecksum}
+use Rattle.opgp_armor.specs.declared.section.Section.{Section}
+use Rattle.opgp_armor.specs.declared.section.Section.TheVariants.{Outside, Headers, Data}
+use Rattle.opgp_armor.specs.declared.section.Section.TheVariants.{AfterChecksum}
 use Rattle.opgp_armor.specs.Letters.{is_equals, IsBase64, groups_of}
 use Rattle.opgp_armor.specs.Text.{Line, content, begin_line}
 use Rattle.opgp_armor.specs.Armored.{IsHeader, begins_with, is_dash, label_at, after_content, Opens}
-use Rattle.opgp_armor.specs.Machine.{Event, Begin, Header, End, some_octets}
+use Rattle.opgp_armor.specs.Events.{Event, Begin, Header, End}
+use Rattle.opgp_armor.specs.Machine.{some_octets}
 
 -- where a line stands, and the letters of its block's data lines before it
 pub record Standing : Type 0 where
-  pub place : Place
+  pub section : Section
   pub letters : List ℕ
 
-abbrev pub letters_after : Place → List ℕ → List ℕ → List ℕ
+abbrev pub letters_after : Section → List ℕ → List ℕ → List ℕ
 letters_after Outside letters c = []
 letters_after (Headers label) letters c = []
 letters_after (Data label) letters c = letters ++ c
 letters_after (AfterChecksum label) letters c = []
 
 abbrev pub after_standing : Standing → Line → Standing
-after_standing s l = record { place = after_content s.place (content l); letters = letters_after s.place s.letters (content l) }
+after_standing s l = record {
+  section = after_content s.section (content l);
+  letters = letters_after s.section s.letters (content l);
+}
 
 abbrev pub begun : Option Label → List Event
 begun None = []
@@ -37,25 +42,29 @@ pub record EndsGroups (letters c : List ℕ) (events : List Event) : Type 0 wher
   pub made : events ≡ some_octets more
 
 -- One line of a text makes one event or none.
-abbrev pub LineMakes : ℕ → Place → List ℕ → Line → List Event → Type 0
+abbrev pub LineMakes : ℕ → Section → List ℕ → Line → List Event → Type 0
 LineMakes limit Outside letters l events = events ≡ begun (label_at begin_line (content l))
 LineMakes limit (Headers label) letters l events =
     ((content l ≡ []) × (events ≡ []))
-    ⊎ ((header : List ℕ × List ℕ) × IsHeader limit l header × (events ≡ Header header.0 header.1 ∷ []))
+    ⊎ ((header : List ℕ × List ℕ) × IsHeader limit l header
+    × (events ≡ Header header.0 header.1 ∷ []))
 LineMakes limit (Data label) letters l events =
     ((begins_with is_equals (content l) ≡ true) × (events ≡ []))
     ⊎ ((begins_with is_dash (content l) ≡ true) × (events ≡ End ∷ []))
-    ⊎ ((begins_with is_equals (content l) ≡ false) × (begins_with is_dash (content l) ≡ false) × EndsGroups letters (content l) events)
-LineMakes limit (AfterChecksum label) letters l events = events ≡ (if begins_with is_dash (content l) then End ∷ [] else [])
+    ⊎ ((begins_with is_equals (content l) ≡ false) × (begins_with is_dash (content l) ≡ false)
+    × EndsGroups letters (content l) events)
+LineMakes limit (AfterChecksum label) letters l events =
+    events ≡ (if begins_with is_dash (content l) then End ∷ [] else [])
 
 -- the lines make these events, in order
 abbrev pub Makes : ℕ → Standing → List Line → List Event → Type 0
 Makes limit s [] events = events ≡ []
 Makes limit s (l ∷ ls) events =
-    (here : List Event) × (rest : List Event) × (events ≡ here ++ rest) × LineMakes limit s.place s.letters l here × Makes limit (after_standing s l) ls rest
+    (here : List Event) × (rest : List Event) × (events ≡ here ++ rest)
+    × LineMakes limit s.section s.letters l here × Makes limit (after_standing s l) ls rest
 
 abbrev pub at_start : Standing
-at_start = record { place = Outside; letters = [] }
+at_start = record { section = Outside; letters = [] }
 
 -- The events of the longest list of first lines with which an armored text begins.
 pub record Shown (limit : ℕ) (ls : List Line) (events : List Event) : Type 0 where

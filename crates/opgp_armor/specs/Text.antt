@@ -1,7 +1,9 @@
--- The lines of a text, and what a line says.
-use Rattle.std.specs.Prelude.{ℕ, ◌+◌, ◌==◌, Bool, if◌then◌else◌, ◌||◌, List, [], ◌∷◌, ◌++◌, length, codes}
+-- The lines of a text, and what a line says (RFC 9580, 6.2 to 6.2.3).
+use Rattle.std.specs.Prelude.{ℕ, ◌+◌, ◌==◌, Bool, if◌then◌else◌, ◌||◌, List, [], ◌∷◌, ◌++◌, length}
+use Rattle.std.specs.Prelude.{codes}
 use Rattle.opgp_armor.specs.declared.label.Label.{Label}
-use Rattle.opgp_armor.specs.declared.label.Label.TheVariants.{Message, PublicKeyBlock, PrivateKeyBlock, Signature}
+use Rattle.opgp_armor.specs.declared.label.Label.TheVariants.{Message, PublicKeyBlock}
+use Rattle.opgp_armor.specs.declared.label.Label.TheVariants.{PrivateKeyBlock, Signature}
 
 -- a line, without its line feed
 abbrev pub Line : Type 0

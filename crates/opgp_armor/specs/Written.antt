@@ -1,5 +1,7 @@
--- Armor as it is written: 64 letters a line, lines that end in a line feed, no checksum.
-use Rattle.std.specs.Prelude.{◌≡◌, ℕ, ◌+◌, ◌/◌, ◌<◌, ◌≤◌, ◌==◌, zero, suc, Bool, false, List, [], ◌∷◌, ◌++◌, length, map, take, drop}
+-- Armor as it is written (RFC 9580, 6.2): 64 letters a line, lines that end in a line feed, no
+-- checksum.
+use Rattle.std.specs.Prelude.{◌≡◌, ℕ, ◌+◌, ◌/◌, ◌<◌, ◌≤◌, ◌==◌, zero, suc, Bool, false, List, []}
+use Rattle.std.specs.Prelude.{◌∷◌, ◌++◌, length, map, take, drop}
 use Rattle.std.specs.List.{list_any, flat_map, AllByRecursion}
 use Rattle.opgp_armor.specs.declared.label.Label.{Label}
 use Rattle.opgp_armor.specs.Letters.{base64_of}
@@ -43,7 +45,9 @@ unfoldable pub letter_lines : List ℕ → List Line
 letter_lines letters = rows ((length letters + 63) / 64) letters
 
 abbrev pub armor_lines : Label → List (List ℕ × List ℕ) → List ℕ → List Line
-armor_lines label headers octets = begin_line label ∷ (map header_line headers ++ [] ∷ (letter_lines (base64_of octets) ++ end_line label ∷ []))
+armor_lines label headers octets =
+    begin_line label ∷ (map header_line headers
+    ++ [] ∷ (letter_lines (base64_of octets) ++ end_line label ∷ []))
 
 abbrev pub armor_text : Label → List (List ℕ × List ℕ) → List ℕ → List ℕ
 armor_text label headers octets = text_of (armor_lines label headers octets)

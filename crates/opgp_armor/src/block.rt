@@ -7,8 +7,8 @@ use crate::label::Label;
 use opgp_octets::OutOfMemory;
 use std::alloc::Global;
 
-/// A block of an armored text.
-#[derive(Debug, Drop)]
+/// A block of an armored text (RFC 9580, 6.2).
+#[derive(Drop)]
 pub struct Block {
     /// The label of its begin line and its end line.
     pub label: Label,

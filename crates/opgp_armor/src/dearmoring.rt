@@ -3,10 +3,9 @@
 ghost use Rattle.std.specs.Prelude.{◌≡◌, ◌+◌, ◌<◌, ◌≤◌, length, take, IfOk, OnOk, MatchResult};
 ghost use Rattle.std.specs.List.{fold};
 ghost use Rattle.opgp_octets.specs.Limits.{line_limit};
-ghost use Rattle.opgp_armor.specs.Armored.{Armored, IsFault};
+ghost use Rattle.opgp_armor.specs.Armored.{Armored, IsArmorFault};
 ghost use Rattle.opgp_armor.specs.Blocks.{blocks_of_stored, built_of};
-ghost use Rattle.opgp_armor.specs.Events.{event_of, events_of};
-ghost use Rattle.opgp_armor.specs.Machine.{absorb, nothing_built};
+ghost use Rattle.opgp_armor.specs.Events.{event_of, events_of, absorb, nothing_built};
 
 use crate::block::Block;
 use crate::event::ArmorEvent;
@@ -18,7 +17,7 @@ use std::mem;
 
 /// What the events of a text have built: the finished blocks, and the one that is open.
 #[derive(Drop)]
-pub struct Building {
+pub(crate) struct Building {
     pub(crate) blocks: Vec<Block>,
     label: Label,
     headers: Vec<(Vec<u8>, Vec<u8>)>,
@@ -39,8 +38,9 @@ impl Building {
     }
 
     /// Ends the open block.
-    fn end_block(&mut self, alloc: Global) -> Result<(), AllocError>
-        ensures { OnOk result (built_of self.new ≡ absorb (built_of self.old) (event_of ArmorEvent.End)) }
+    fn end_block(&mut self, alloc: Global) -> Result<(), OutOfMemory>
+        ensures { OnOk result
+            (built_of self.new ≡ absorb (built_of self.old) (event_of ArmorEvent.End)) }
     {
         let headers = mem::replace(&mut self.headers, Vec::new(alloc));
         let octets = mem::replace(&mut self.octets, Vec::new(alloc));
@@ -53,7 +53,7 @@ impl Building {
     }
 
     /// One event more.
-    fn absorb(&mut self, alloc: Global, event: ArmorEvent) -> Result<(), AllocError>
+    fn absorb(&mut self, alloc: Global, event: ArmorEvent) -> Result<(), OutOfMemory>
         ensures { OnOk result (built_of self.new ≡ absorb (built_of self.old) (event_of event)) }
     {
         match event {
@@ -80,8 +80,9 @@ impl Building {
         &mut self,
         alloc: Global,
         event: Option<ArmorEvent>,
-    ) -> Result<(), AllocError>
-        ensures { OnOk result (built_of self.new ≡ fold absorb (built_of self.old) (events_of event)) }
+    ) -> Result<(), OutOfMemory>
+        ensures { OnOk result
+            (built_of self.new ≡ fold absorb (built_of self.old) (events_of event)) }
     {
         match event {
             Some(event) => self.absorb(alloc, event),
@@ -90,7 +91,7 @@ impl Building {
     }
 }
 
-/// The blocks of an armored text, in order, or its fault.
+/// The blocks of an armored text (RFC 9580, 6.2), in order, or its fault.
 ///
 /// An error is want of memory.
 pub fn dearmor(
@@ -98,7 +99,9 @@ pub fn dearmor(
     text: &[u8],
     limits: &Limits,
 ) -> Result<Result<Vec<Block>, Fault>, OutOfMemory>
-    ensures { IfOk result (λ answer. MatchResult answer (λ blocks. Armored (line_limit limits.now) text.now (blocks_of_stored blocks.items)) (IsFault (line_limit limits.now) text.now)) }
+    ensures { IfOk result (λ answer. MatchResult answer
+        (λ blocks. Armored (line_limit limits.now) text.now (blocks_of_stored blocks.items))
+        (IsArmorFault (line_limit limits.now) text.now)) }
 {
     let mut reader = Dearmor::new(alloc, *limits);
     let mut building = Building::new(alloc);

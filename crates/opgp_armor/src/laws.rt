@@ -1,58 +1,107 @@
 //! Laws of armor: what the definitions say of each other, and what holds of every reader.
 
-ghost use Rattle.std.specs.Prelude.{◌≡◌, ◌≤◌, ◌⊎◌, ◌++◌, ◌∷◌, [], ℕ, List, Some, false};
+ghost use Rattle.std.specs.Prelude.{◌≡◌, ◌+◌, ◌≤◌, ◌⊎◌, ◌++◌, ◌∷◌, [], ℕ, List, Some, false};
+ghost use Rattle.std.specs.Prelude.{length, sum_by};
+ghost use Rattle.std.specs.List.{AllByRecursion};
 ghost use Rattle.opgp_octets.specs.Octets.{IsOctets};
 ghost use Rattle.opgp_octets.specs.declared.fault.Fault.{Fault};
-ghost use Rattle.opgp_octets.specs.declared.fault.Reason.{Reason};
 ghost use Rattle.opgp_armor.specs.declared.label.Label.{Label};
 ghost use Rattle.opgp_armor.specs.declared.reader.Dearmor.{Dearmor};
-ghost use Rattle.opgp_armor.specs.Armored.{Armored, ArmorFault, Block, IsFault};
+ghost use Rattle.opgp_armor.specs.Armored.{Armored, Block, IsArmorFault};
 ghost use Rattle.opgp_armor.specs.Cuts.{lines_ended};
-ghost use Rattle.opgp_armor.specs.Machine.{Event};
-ghost use Rattle.opgp_armor.specs.Reader.{Fed, events_so_far, fault_of, has_ended, line_limit_of};
+ghost use Rattle.opgp_armor.specs.Events.{AreInOrder, Event, built, event_octets};
+ghost use Rattle.opgp_armor.specs.Fed.{Fed, events_so_far, fault_of, has_ended, line_limit_of};
 ghost use Rattle.opgp_armor.specs.Shown.{Shown};
 ghost use Rattle.opgp_armor.specs.Written.{AreWithin, AreWritable, armor_text};
 
 /// A text has at most one list of blocks.
 pub fn one_list()
-    ensures { (limit : ℕ) (text : List ℕ) (a b : List Block) → Armored limit text a → Armored limit text b → a ≡ b }
+    ensures { (limit : ℕ) (text : List ℕ) (a b : List Block) → Armored limit text a
+        → Armored limit text b → a ≡ b }
 {}
 
 /// A text has at most one fault.
 pub fn one_fault()
-    ensures { (limit : ℕ) (text : List ℕ) (why other : Reason) (block block_2 pos pos_2 : ℕ) → ArmorFault limit text why block pos → ArmorFault limit text other block_2 pos_2
-        → (why ≡ other) × (block ≡ block_2) × (pos ≡ pos_2) }
+    ensures { (limit : ℕ) (text : List ℕ) (f g : Fault) → IsArmorFault limit text f
+        → IsArmorFault limit text g → f ≡ g }
 {}
 
 /// An armored text has no fault.
 pub fn no_fault()
-    ensures { (limit : ℕ) (text : List ℕ) (blocks : List Block) (why : Reason) (block pos : ℕ) → IsOctets text → Armored limit text blocks → ¬ ArmorFault limit text why block pos }
+    ensures { (limit : ℕ) (text : List ℕ) (blocks : List Block) (f : Fault) → IsOctets text
+        → Armored limit text blocks → ¬ IsArmorFault limit text f }
 {}
 
 /// A text that isn't armored has a fault.
 pub fn some_answer()
     ensures { (limit : ℕ) (text : List ℕ) → 128 ≤ limit → IsOctets text
-        → ((blocks : List Block) × Armored limit text blocks) ⊎ ((why : Reason) × (block : ℕ) × (pos : ℕ) × ArmorFault limit text why block pos) }
+        → ((blocks : List Block) × Armored limit text blocks)
+        ⊎ ((f : Fault) × IsArmorFault limit text f) }
 {}
 
-/// However a text is cut into pieces, what was taken and what is ready are the events of the longest
-/// list of first ended lines with which an armored text begins.
+/// The octets of blocks are octets.
+pub fn blocks_hold_octets()
+    ensures { (limit : ℕ) (text : List ℕ) (blocks : List Block) → Armored limit text blocks
+        → AllByRecursion (λ b. IsOctets b.octets) blocks }
+{}
+
+/// However a text is cut into pieces, what was taken and what is ready are the events of the
+/// longest list of first ended lines with which an armored text begins.
 pub fn events_are_those_of_the_longest_opening()
-    ensures { (d : Dearmor) (given : List ℕ) (taken : List Event) → Fed d given taken → Shown (line_limit_of d) (lines_ended (has_ended d) given) (events_so_far d taken) }
+    ensures { (d : Dearmor) (given : List ℕ) (taken : List Event) → Fed d given taken
+        → Shown (line_limit_of d) (lines_ended (has_ended d) given) (events_so_far d taken) }
 {}
 
 /// Lines have at most one list of events.
 pub fn one_list_of_events()
-    ensures { (limit : ℕ) (ls : List (List ℕ)) (a b : List Event) → Shown limit ls a → Shown limit ls b → a ≡ b }
+    ensures { (limit : ℕ) (ls : List (List ℕ)) (a b : List Event) → Shown limit ls a
+        → Shown limit ls b → a ≡ b }
+{}
+
+/// What was taken and what is ready come in the order of blocks: a begin line, its headers, its
+/// octets, its end line.
+pub fn events_are_in_order()
+    ensures { (d : Dearmor) (given : List ℕ) (taken : List Event) → Fed d given taken
+        → AreInOrder false (events_so_far d taken) }
+{}
+
+/// What was taken and what is ready has no more octets than were given.
+pub fn events_have_no_more_octets_than_given()
+    ensures { (d : Dearmor) (given : List ℕ) (taken : List Event) → Fed d given taken
+        → event_octets (events_so_far d taken) ≤ length given }
+{}
+
+/// The octets of the open block, and of the events behind those that built it, are no more than the
+/// octets given.
+pub fn no_more_octets_than_given()
+    ensures { (d : Dearmor) (given : List ℕ) (taken more : List Event) → Fed d given (taken ++ more)
+        → length (built taken).octets + event_octets more ≤ length given }
+{}
+
+/// The octets of the blocks that events build, the open one among them, are no more than those of
+/// the events.
+pub fn blocks_have_no_more_octets_than_events()
+    ensures { (events : List Event) → sum_by (λ b. length b.octets) (built events).blocks
+        + length (built events).octets ≤ event_octets events }
+{}
+
+/// Each finished block takes an octet at least.
+pub fn no_more_blocks_than_octets()
+    ensures { (d : Dearmor) (given : List ℕ) (taken : List Event) → Fed d given taken
+        → length (built taken).blocks ≤ length given }
 {}
 
 /// The fault that a reader keeps is that of the octets given, whatever follows them.
 pub fn a_fault_stays()
-    ensures { (d : Dearmor) (given more : List ℕ) (taken : List Event) (f : Fault) → IsOctets more → has_ended d ≡ false → Fed d given taken → fault_of d ≡ Some f → IsFault (line_limit_of d) (given ++ more) f }
+    ensures { (d : Dearmor) (given more : List ℕ) (taken : List Event) (f : Fault) → IsOctets more
+        → has_ended d ≡ false → Fed d given taken → fault_of d ≡ Some f
+        → IsArmorFault (line_limit_of d) (given ++ more) f }
 {}
 
-/// Written armor is read again as the one block.
+/// Written armor is the armored text of the one block.
 pub fn written_armor_is_read_again()
-    ensures { (limit : ℕ) (label : Label) (headers : List (List ℕ × List ℕ)) (octets : List ℕ) → 128 ≤ limit → IsOctets octets → AreWritable headers → AreWithin limit headers
-        → (blocks : List Block) → Armored limit (armor_text label headers octets) blocks → blocks ≡ record { label = label; headers = headers; octets = octets } ∷ [] }
+    ensures { (limit : ℕ) (label : Label) (headers : List (List ℕ × List ℕ)) (octets : List ℕ)
+        → 128 ≤ limit → IsOctets octets → AreWritable headers → AreWithin limit headers
+        → Armored limit (armor_text label headers octets)
+        (record { label = label; headers = headers; octets = octets } ∷ []) }
 {}

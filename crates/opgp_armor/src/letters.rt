@@ -1,91 +1,101 @@
 //! The letters of a block's data lines.
 
-ghost use Rattle.std.specs.Prelude.{◌≡◌, ◌+◌, ◌^◌, ◌<◌, ◌≤◌, ℕ, List, [], ◌++◌, true, length, take, not, nat_lt, ◌&&◌, ◌||◌, ◌%◌, ◌==◌, Some, None, Ok, Err, IfOk, IfErr, OnOk, OnErr, IsOk, IsTrue};
-ghost use Rattle.std.specs.List.{list_all, list_any};
+ghost use Rattle.std.specs.Prelude.{◌≡◌, ◌++◌, ℕ, List, true, false, if◌then◌else◌, length, Ok};
+ghost use Rattle.std.specs.Prelude.{IfOk, IfErr};
+ghost use Rattle.std.specs.List.{list_all};
 ghost use Rattle.base64.specs.Engines.{standard};
-ghost use Rattle.base64.specs.GeneralPurpose.{decode_of, decoded_of, IsBytes, IsDecodeFailure};
-ghost use Rattle.opgp_armor.specs.Letters.{may_stand, is_equals, data_line, after_groups, groups_of, rest_of};
-ghost use Rattle.opgp_armor.specs.Lines.{AnswersLetters};
+ghost use Rattle.base64.specs.GeneralPurpose.{decode_of, IsBytes, IsDecodeFailure};
+ghost use Rattle.opgp_armor.specs.Letters.{is_letter, may_stand, spoils, base64_of, data_line};
+ghost use Rattle.opgp_armor.specs.LineAnswer.{AnswersLetters, pending_of};
 
+use crate::pending::Pending;
 use crate::refusal::Refusal;
 use base64::DecodeAllocError;
 use base64::engine::general_purpose::STANDARD;
-use opgp_octets::Reason;
-use std::alloc::{AllocError, Global};
+use opgp_octets::{OutOfMemory, Reason};
+use std::alloc::Global;
 
-/// A letter or `=`.
-fn stands(c: u8) -> bool
-    ensures { result ≡ may_stand c }
-{
-    c.is_ascii_uppercase()
-        || c.is_ascii_lowercase()
-        || c.is_ascii_digit()
-        || c == b'+'
-        || c == b'/'
-        || c == b'='
+/// What a data line gives: the octets of the groups that it ends, and the letters after them.
+#[derive(Drop)]
+pub(crate) struct Letters {
+    pub(crate) pending: Pending,
+    pub(crate) octets: Vec<u8>,
 }
 
-/// What a data line gives.
-#[derive(Drop)]
-pub struct Letters {
-    pub waiting: Vec<u8>,
-    pub padded: bool,
-    pub octets: Vec<u8>,
+/// A letter.
+fn is_a_letter(c: u8) -> bool
+    ensures { result ≡ is_letter c }
+{
+    c.is_ascii_uppercase() || c.is_ascii_lowercase() || c.is_ascii_digit() || c == b'+' || c == b'/'
+}
+
+/// Whether each octet is a letter.
+fn are_letters(rest: &[u8]) -> bool
+    ensures { result ≡ list_all is_letter rest.now }
+{
+    rest.iter().all(|c| is_a_letter(*c))
 }
 
 /// Whether each octet is a letter or `=`.
 fn all_stand(content: &[u8]) -> bool
     ensures { result ≡ list_all may_stand content.now }
 {
-    for c in content {
-        if !stands(*c) {
-            return false;
-        }
-    }
-    true
+    content.iter().all(|c| is_a_letter(*c) || *c == b'=')
 }
 
-/// Whether the rest after whole groups can't stand behind these octets.
-fn is_spoilt(octets: &[u8], rest: &[u8]) -> bool
-    ensures { result ≡ (list_any is_equals rest.now || (not (length octets.now % 3 == 0) && nat_lt 0 (length rest.now))) }
+/// Why a data line is refused: for an octet that is no letter, else for its padding.
+fn refused(content: &[u8]) -> Reason
+    ensures { result ≡
+        (if list_all may_stand content.now then Reason.Padding else Reason.Letters) }
 {
-    rest.contains(&b'=') || (octets.len() % 3 != 0 && rest.len() > 0)
+    if all_stand(content) {
+        Reason::Padding
+    } else {
+        Reason::Letters
+    }
+}
+
+/// Whether what stands behind whole groups can't: letters alone can, and nothing behind padding.
+fn is_spoilt(rest: &[u8], padded: bool) -> bool
+    ensures { result ≡ spoils rest.now padded }
+{
+    !are_letters(rest) || (padded && !rest.is_empty())
 }
 
 /// What whole groups stand for.
+#[tactic(auto, unfolding(crate::specs::Letters::base64_of))]
 fn decoded(alloc: Global, groups: &[u8]) -> Result<Vec<u8>, DecodeAllocError>
     ensures ok { IfOk result (λ v. decode_of standard groups.now ≡ Ok v.items) }
     ensures octets { IfOk result (λ v. IsBytes v.items) }
+    ensures exact { IfOk result (λ v. groups.now ≡ base64_of v.items) }
     ensures err { IfErr result (λ e. IsDecodeFailure standard groups.now e) }
 {
     STANDARD.decode(alloc, groups)
 }
 
-/// What all letters that wait give.
-fn groups_of_letters(alloc: Global, all: &[u8]) -> Result<Letters, Refusal>
-    ensures { AnswersLetters result (after_groups (rest_of all.now) (decoded_of standard (groups_of all.now))) }
+/// What a line gives, where these are the letters that waited and its own, and no group was padded.
+fn groups_of_letters(alloc: Global, all: &[u8], content: &[u8]) -> Result<Letters, Refusal>
+    ensures { (letters : List ℕ) → list_all is_letter letters ≡ true
+        → all.now ≡ letters ++ content.now → AnswersLetters result
+        (data_line (record { letters = letters; padded = false }) content.now) }
 {
     let (groups, rest) = all.split_at(4 * (all.len() / 4));
     match decoded(alloc, groups) {
         Ok(octets) => {
-            if is_spoilt(octets.as_slice(), rest) {
-                return Err(Refusal::Reason(Reason::Padding));
-            }
-            let waiting = rest.to_vec(alloc)?;
             let padded = octets.len() % 3 != 0;
-            Ok(Letters {
-                waiting,
-                padded,
-                octets,
-            })
+            if is_spoilt(rest, padded) {
+                return Err(Refusal::Reason(refused(content)));
+            }
+            let pending = Pending::of(rest, padded);
+            Ok(Letters { pending, octets })
         }
         Err(DecodeAllocError::OutOfMemory) => Err(Refusal::Memory),
-        Err(DecodeAllocError::DecodeError(_)) => Err(Refusal::Reason(Reason::Padding)),
+        Err(DecodeAllocError::DecodeError(_)) => Err(Refusal::Reason(refused(content))),
     }
 }
 
 /// One list behind another.
-fn joined(alloc: Global, front: &[u8], back: &[u8]) -> Result<Vec<u8>, AllocError>
+fn joined(alloc: Global, front: &[u8], back: &[u8]) -> Result<Vec<u8>, OutOfMemory>
     ensures { IfOk result (λ v. v.items ≡ front.now ++ back.now) }
 {
     let mut all = front.to_vec(alloc)?;
@@ -94,21 +104,22 @@ fn joined(alloc: Global, front: &[u8], back: &[u8]) -> Result<Vec<u8>, AllocErro
 }
 
 /// What a data line that isn't blank gives after these letters.
+///
+/// Letters are looked at one by one only where decoding refuses them, to say why.
 #[tactic(auto, unfolding(crate::specs::Letters::data_line))]
-pub fn letters_of(
+pub(crate) fn letters_of(
     alloc: Global,
-    waiting: &[u8],
-    padded: bool,
+    pending: &Pending,
     content: &[u8],
 ) -> Result<Letters, Refusal>
-    ensures { AnswersLetters result (data_line (record { letters = waiting.now; padded = padded }) content.now) }
+    ensures { AnswersLetters result (data_line (pending_of pending.now) content.now) }
 {
-    if !all_stand(content) {
-        return Err(Refusal::Reason(Reason::Letters));
+    if pending.is_padded() {
+        return Err(Refusal::Reason(refused(content)));
     }
-    if padded {
-        return Err(Refusal::Reason(Reason::Padding));
+    if !pending.waits() {
+        return groups_of_letters(alloc, content, content);
     }
-    let all = joined(alloc, waiting, content)?;
-    groups_of_letters(alloc, all.as_slice())
+    let all = joined(alloc, pending.letters(), content)?;
+    groups_of_letters(alloc, all.as_slice(), content)
 }

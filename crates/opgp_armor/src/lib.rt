@@ -1,4 +1,4 @@
-//! ASCII armor (RFC 9580, section 6): armored blocks among other text, read in any pieces, and written.
+//! ASCII armor (RFC 9580, 6): armored blocks among other text, read in any pieces, and written.
 #![tactic(auto)]
 
 mod block;
@@ -8,11 +8,10 @@ mod label;
 pub mod laws;
 mod letters;
 mod lines;
-mod place;
+mod pending;
 mod reader;
 mod refusal;
-#[cfg(test)]
-mod tests;
+mod section;
 mod writing;
 
 pub use block::Block;

@@ -1,34 +1,36 @@
 //! A reader of armor that takes a text in any pieces.
 
-ghost use Rattle.std.specs.Prelude.{◌≡◌, ◌≢◌, ◌+◌, ◌-◌, ◌^◌, ◌<◌, ◌≤◌, ◌↔◌, ◌&&◌, nat_lt, ℕ, List, [], ◌++◌, true, false, not, is_some, length, take, Some, None, Ok, Err, IfOk, OnOk, OnErr, IsOk, MatchOption, MatchResult};
-ghost use Rattle.std.specs.List.{list_all};
-ghost use Rattle.opgp_armor.specs.Letters.{is_letter};
-ghost use Rattle.opgp_armor.specs.Events.{events_of, state_of};
+ghost use Rattle.std.specs.Prelude.{◌≡◌, ◌+◌, ◌-◌, ◌^◌, ◌<◌, ◌≤◌, ◌↔◌, ℕ, List, [], ◌++◌, true};
+ghost use Rattle.std.specs.Prelude.{false, is_some, length, take, Some, None, Ok, Err, IfOk, OnOk};
+ghost use Rattle.std.specs.Prelude.{OnErr, MatchOption, MatchResult};
 ghost use Rattle.opgp_armor.specs.Armored.{end_reason};
+ghost use Rattle.opgp_armor.specs.Events.{events_of, ends_in, octets_held};
 ghost use Rattle.opgp_armor.specs.Machine.{step};
-ghost use Rattle.opgp_armor.specs.Ends.{ends_in};
-ghost use Rattle.opgp_armor.specs.Splits.{IsLineSplit};
-ghost use Rattle.opgp_armor.specs.Cuts.{kept, cut, lines_ended};
-ghost use Rattle.opgp_armor.specs.Held.{octets_held};
-ghost use Rattle.opgp_armor.specs.declared.place.Place.TheVariants.{Outside};
+ghost use Rattle.opgp_armor.specs.LineAnswer.{pending_of, state_of};
+ghost use Rattle.opgp_armor.specs.Cuts.{kept, IsLineSplit};
+ghost use Rattle.opgp_armor.specs.declared.section.Section.TheVariants.{Outside};
 
 use crate::event::ArmorEvent;
 use crate::lines::{Reaction, answer_line};
-use crate::place::Place;
+use crate::pending::Pending;
 use crate::refusal::Refusal;
+use crate::section::Section;
 use memchr::memchr;
-use opgp_octets::{Fault, Layer, Limits, PushFault, Reason};
+use opgp_octets::{Fault, Layer, Limits, OutOfMemory, PushFault, Reason};
 use std::alloc::{AllocError, Global};
+use std::mem;
 
-/// A reader of armored text, which takes it in any pieces and hands out one event at a time.
+/// A reader of armored text (RFC 9580, 6.2), which takes it in any pieces and hands out one event
+/// at a time.
+///
+/// It keeps an unfinished line, at most three letters, and the event that is ready.
 #[derive(Drop)]
 pub struct Dearmor {
     alloc: Global,
     limit: usize,
     buffer: Vec<u8>,
-    place: Place,
-    letters: Vec<u8>,
-    padded: bool,
+    section: Section,
+    pending: Pending,
     ready: Option<ArmorEvent>,
     fault: Option<Fault>,
     given: u64,
@@ -38,17 +40,17 @@ pub struct Dearmor {
     ended: bool,
     ghost low: { 128 ≤ limit },
     ghost high: { limit ≤ 1048576 },
-    ghost few: { length letters.items < 4 },
-    ghost written: { list_all is_letter letters.items ≡ true },
     ghost short: { length buffer.items ≤ limit + 1 },
-    ghost bounded: { octets_held buffer.items letters.items ready ≤ limit + 16 },
+    ghost bounded: { octets_held buffer.items (pending_of pending).letters ready ≤ limit + 16 },
     ghost counted: { finished + length buffer.items ≤ given },
 }
 
 /// Adds octets to the buffer, up to so many in all, and says how many were added.
-fn fill(buffer: &mut Vec<u8>, most: usize, part: &[u8]) -> Result<usize, AllocError>
-    ensures added { OnOk result (buffer.new.items ≡ buffer.old.items ++ take (most - length buffer.old.items) part.now) }
-    ensures count { IfOk result (λ n. (n ≤ length part.now) × (take n part.now ≡ take (most - length buffer.old.items) part.now)) }
+fn fill(buffer: &mut Vec<u8>, most: usize, part: &[u8]) -> Result<usize, OutOfMemory>
+    ensures added { OnOk result
+        (buffer.new.items ≡ buffer.old.items ++ take (most - length buffer.old.items) part.now) }
+    ensures count { IfOk result (λ n. (n ≤ length part.now)
+        × (take n part.now ≡ take (most - length buffer.old.items) part.now)) }
     ensures err { OnErr result (buffer.new.items ≡ buffer.old.items) }
 {
     let count = most.saturating_sub(buffer.len()).min(part.len());
@@ -57,10 +59,11 @@ fn fill(buffer: &mut Vec<u8>, most: usize, part: &[u8]) -> Result<usize, AllocEr
 }
 
 /// Keeps what is needed of an unfinished line outside of blocks, whose next octets are these.
-fn keep_outside(buffer: &mut Vec<u8>, limit: usize, part: &[u8]) -> Result<(), AllocError>
+fn keep_outside(buffer: &mut Vec<u8>, limit: usize, part: &[u8]) -> Result<(), OutOfMemory>
     requires low { 128 ≤ limit }
     requires high { limit ≤ 1048576 }
-    ensures kept { OnOk result ((tail : List ℕ) → buffer.old.items ≡ kept limit Outside tail → buffer.new.items ≡ kept limit Outside (tail ++ part.now)) }
+    ensures kept { OnOk result ((tail : List ℕ) → buffer.old.items ≡ kept limit Outside tail
+        → buffer.new.items ≡ kept limit Outside (tail ++ part.now)) }
     ensures short { length buffer.old.items ≤ limit + 1 → length buffer.new.items ≤ limit + 1 }
     ensures grown { length buffer.new.items ≤ length buffer.old.items + length part.now }
 {
@@ -72,16 +75,22 @@ fn keep_outside(buffer: &mut Vec<u8>, limit: usize, part: &[u8]) -> Result<(), A
 }
 
 /// Keeps what is needed of an unfinished line, whose next octets are these.
-fn keep(buffer: &mut Vec<u8>, limit: usize, place: Place, part: &[u8]) -> Result<(), AllocError>
+fn keep(
+    buffer: &mut Vec<u8>,
+    limit: usize,
+    section: Section,
+    part: &[u8],
+) -> Result<(), OutOfMemory>
     requires low { 128 ≤ limit }
     requires high { limit ≤ 1048576 }
-    ensures kept { OnOk result ((tail : List ℕ) → buffer.old.items ≡ kept limit place tail → buffer.new.items ≡ kept limit place (tail ++ part.now)) }
+    ensures kept { OnOk result ((tail : List ℕ) → buffer.old.items ≡ kept limit section tail
+        → buffer.new.items ≡ kept limit section (tail ++ part.now)) }
     ensures short { length buffer.old.items ≤ limit + 1 → length buffer.new.items ≤ limit + 1 }
     ensures grown { length buffer.new.items ≤ length buffer.old.items + length part.now }
 {
-    match place {
-        Place::Outside => keep_outside(buffer, limit, part),
-        Place::Headers(_) | Place::Data(_) | Place::AfterChecksum(_) => {
+    match section {
+        Section::Outside => keep_outside(buffer, limit, part),
+        Section::Headers(_) | Section::Data(_) | Section::AfterChecksum(_) => {
             fill(buffer, limit + 1, part)?;
             Ok(())
         }
@@ -99,7 +108,8 @@ fn ended_blocks(event: &Option<ArmorEvent>) -> u64
     }
 }
 
-/// The octets before the first line end, how many octets that is with the line end, and whether it is there.
+/// The octets before the first line end, how many that is with the line end, and whether there is
+/// one.
 fn split_line(rest: &[u8]) -> (&[u8], usize, bool)
     requires { 0 < length rest.now }
     ensures split { IsLineSplit rest.now result.0.now result.1 result.2 }
@@ -112,46 +122,52 @@ fn split_line(rest: &[u8]) -> (&[u8], usize, bool)
     }
 }
 
-/// Why a text is refused that ends at this place, after so many blocks; None where it may end.
-fn end_of_text(place: Place, finished: u64) -> Option<Reason>
-    ensures { MatchOption result ((place ≡ Outside) × (0 < finished)) (λ r. (r ≡ end_reason place) × (place ≡ Outside → finished ≡ 0)) }
+/// Why a text is refused that ends in this section, after so many blocks; None where it may end.
+fn end_of_text(section: Section, finished: u64) -> Option<Reason>
+    ensures { MatchOption result ((section ≡ Outside) × (0 < finished))
+        (λ r. (r ≡ end_reason section) × (section ≡ Outside → finished ≡ 0)) }
 {
-    match place {
-        Place::Outside => {
+    match section {
+        Section::Outside => {
             if finished == 0 {
                 Some(Reason::NoBlock)
             } else {
                 None
             }
         }
-        Place::Headers(_) | Place::Data(_) | Place::AfterChecksum(_) => Some(Reason::Unfinished),
+        Section::Headers(_) | Section::Data(_) | Section::AfterChecksum(_) => {
+            Some(Reason::Unfinished)
+        }
     }
 }
 
 impl Dearmor {
     ghost use Rattle.opgp_octets.specs.Limits.{line_limit};
     ghost use Rattle.opgp_octets.specs.declared.fault.Fault.{Fault};
-    ghost use Rattle.opgp_armor.specs.Armored.{Armored, IsFault};
-    ghost use Rattle.opgp_armor.specs.Machine.{Event, built};
-    ghost use Rattle.opgp_armor.specs.Shown.{Shown};
-    ghost use Rattle.opgp_armor.specs.Reader.{Fed, AfterLine, SameReader, line_limit_of, is_ready, count_of, is_spent, has_ended, fault_of, held_by, spent_fault};
+    ghost use Rattle.opgp_armor.specs.Armored.{Armored, IsArmorFault};
+    ghost use Rattle.opgp_armor.specs.Events.{Event, built};
+    ghost use Rattle.opgp_armor.specs.Fed.{Fed, KeepsFed, IsQuiet, AfterLine, SameReader};
+    ghost use Rattle.opgp_armor.specs.Fed.{line_limit_of, is_ready, count_of, is_spent, has_ended};
+    ghost use Rattle.opgp_armor.specs.Fed.{fault_of, held_of, spent_fault};
 
     /// A reader that was given nothing. Lines have at most as many octets as the limits say.
+    ///
+    /// Takes no memory; pushes do, from `alloc`.
     pub fn new(alloc: Global, limits: Limits) -> Dearmor
         ensures fed { Fed result [] [] }
-        ensures limit { line_limit_of result ≡ line_limit limits }
-        ensures ready { is_ready result ≡ false }
+        ensures free { is_ready result ≡ false }
+        ensures sound { is_spent result ≡ false }
+        ensures open { has_ended result ≡ false }
         ensures count { count_of result ≡ 0 }
-        ensures spent { is_spent result ≡ false }
-        ensures ended { has_ended result ≡ false }
+        ensures limits { line_limit_of result ≡ line_limit limits }
+        ensures held { held_of result ≡ 0 }
     {
         Dearmor {
             alloc,
             limit: limits.line() as usize,
             buffer: Vec::new(alloc),
-            place: Place::Outside,
-            letters: Vec::new(alloc),
-            padded: false,
+            section: Section::Outside,
+            pending: Pending::none(),
             ready: None,
             fault: None,
             given: 0,
@@ -171,8 +187,9 @@ impl Dearmor {
 
     /// How many octets pushes have answered as taken.
     pub fn given(&self) -> u64
-        ensures value { result ≡ count_of self.now }
-        ensures fed { (given : List ℕ) (taken : List Event) → Fed self.now given taken → result ≡ length given }
+        ensures count { result ≡ count_of self.now }
+        ensures fed { (given : List ℕ) (taken : List Event) → Fed self.now given taken
+            → result ≡ length given }
     {
         self.given
     }
@@ -184,49 +201,45 @@ impl Dearmor {
         self.ended
     }
 
-    /// Takes what is ready.
+    /// Takes the event that is ready.
     pub fn take(&mut self) -> Option<ArmorEvent>
-        ensures fed { (given : List ℕ) (taken : List Event) → Fed self.old given taken → Fed self.new given (taken ++ events_of result) }
+        ensures fed { KeepsFed self.old self.new [] (events_of result) }
         ensures some { is_some result ≡ is_ready self.old }
-        ensures empty { is_ready self.new ≡ false }
-        ensures same { SameReader self.old self.new }
-        ensures fault { fault_of self.new ≡ fault_of self.old }
-        ensures held { held_by self.new ≤ line_limit_of self.new + 16 }
+        ensures free { is_ready self.new ≡ false }
+        ensures spent { is_spent self.new ≡ is_spent self.old }
+        ensures faulty { fault_of self.new ≡ fault_of self.old }
+        ensures open { has_ended self.new ≡ has_ended self.old }
+        ensures count { count_of self.new ≡ count_of self.old }
+        ensures limits { line_limit_of self.new ≡ line_limit_of self.old }
+        ensures held { held_of self.new ≤ line_limit_of self.new + 16 }
+        ensures shrinks { held_of self.new ≤ held_of self.old }
     {
         self.ready.take()
     }
 
-    /// Ends the line in the buffer.
-    fn end_line(&mut self) -> Result<(), AllocError>
-        requires ready { self.old.ready ≡ None }
-        requires fault { self.old.fault ≡ None }
+    /// Ends this line, of which nothing stands in the buffer.
+    fn end_line(&mut self, line: &[u8]) -> Result<(), OutOfMemory>
+        requires free { self.old.ready ≡ None }
+        requires faultless { self.old.fault ≡ None }
+        requires empty { self.old.buffer.items ≡ [] }
         requires room { self.old.finished < self.old.given }
         ensures same { SameReader self.old self.new }
-        ensures line { OnOk result (AfterLine self.old self.new (step self.old.limit (state_of self.old.place self.old.letters.items self.old.padded) self.old.buffer.items)) }
-        ensures err { OnErr result (self.new.ready ≡ None) }
+        ensures line { OnOk result (AfterLine self.old self.new
+            (step self.old.limit (state_of self.old.section self.old.pending) line.now)) }
+        ensures free { OnErr result (self.new.ready ≡ None) }
     {
-        match answer_line(
-            self.alloc,
-            self.limit,
-            self.place,
-            self.letters.as_slice(),
-            self.padded,
-            self.buffer.as_slice(),
-        ) {
+        match answer_line(self.alloc, self.limit, self.section, self.pending, line) {
             Ok(
                 Reaction {
-                    place,
-                    letters,
-                    padded,
+                    section,
+                    pending,
                     event,
                 },
             ) => {
                 self.finished += ended_blocks(&event);
-                self.place = place;
-                self.letters = letters;
-                self.padded = padded;
+                self.section = section;
+                self.pending = pending;
                 self.ready = event;
-                self.buffer.clear();
                 self.start = self.given;
                 Ok(())
             }
@@ -244,21 +257,42 @@ impl Dearmor {
         }
     }
 
-    /// Takes the octets up to the first line end, or all, and ends that line; after a fault takes all.
-    fn part(&mut self, rest: &[u8]) -> Result<usize, AllocError>
+    /// Ends the line in the buffer.
+    fn end_buffered(&mut self) -> Result<(), OutOfMemory>
+        requires free { self.old.ready ≡ None }
+        requires faultless { self.old.fault ≡ None }
+        requires room { self.old.finished < self.old.given }
+        ensures same { SameReader self.old self.new }
+        ensures line { OnOk result (AfterLine self.old self.new
+            (step self.old.limit (state_of self.old.section self.old.pending)
+            self.old.buffer.items)) }
+        ensures free { OnErr result (self.new.ready ≡ None) }
+    {
+        let mut line = mem::replace(&mut self.buffer, Vec::new(self.alloc));
+        self.end_line(line.as_slice())?;
+        line.clear();
+        self.buffer = line;
+        Ok(())
+    }
+
+    /// Takes the octets up to the first line end, or all, and ends that line; after a fault takes
+    /// all.
+    fn part(&mut self, rest: &[u8]) -> Result<usize, OutOfMemory>
         requires some { 0 < length rest.now }
-        requires ready { self.old.ready ≡ None }
+        requires free { self.old.ready ≡ None }
         requires open { self.old.ended ≡ false }
-        requires count { self.old.given + length rest.now < 2 ^ 63 }
-        ensures taken { IfOk result (λ n. (0 < n) × (n ≤ length rest.now)) }
-        ensures fed { IfOk result (λ n. (given : List ℕ) (taken : List Event) → Fed self.old given taken → Fed self.new (given ++ take n rest.now) taken) }
-        ensures given { IfOk result (λ n. self.new.given ≡ self.old.given + n) }
+        requires room { self.old.given + length rest.now < 2 ^ 63 }
+        ensures moves { IfOk result (λ n. (0 < n) × (n ≤ length rest.now)) }
+        ensures fed { IfOk result (λ n. KeepsFed self.old self.new (take n rest.now) []) }
+        ensures count { IfOk result (λ n. self.new.given ≡ self.old.given + n) }
         ensures spent { self.new.spent ≡ self.old.spent }
-        ensures ended { self.new.ended ≡ false }
-        ensures limit { self.new.limit ≡ self.old.limit }
-        ensures err { OnErr result (self.new.ready ≡ None) }
-        ensures stopped { (f : Fault) → self.old.fault ≡ Some f → (result ≡ Ok (length rest.now)) × (self.new.fault ≡ Some f) × (self.new.ready ≡ None) }
-        ensures quiet { IfOk result (λ n. (k : ℕ) → k < n → (given : List ℕ) (taken : List Event) → Fed self.old given taken → Shown self.old.limit (cut (given ++ take k rest.now)).ended taken) }
+        ensures open { self.new.ended ≡ false }
+        ensures limits { self.new.limit ≡ self.old.limit }
+        ensures free { OnErr result (self.new.ready ≡ None) }
+        ensures faulty { (f : Fault) → self.old.fault ≡ Some f
+            → (result ≡ Ok (length rest.now)) × (self.new.fault ≡ Some f)
+            × (self.new.ready ≡ None) }
+        ensures quiet { IfOk result (IsQuiet self.old rest.now) }
     {
         if self.fault.is_some() {
             self.given += rest.len() as u64;
@@ -266,48 +300,60 @@ impl Dearmor {
         }
         let (line, n, ends) = split_line(rest);
         self.given += n as u64;
-        keep(&mut self.buffer, self.limit, self.place, line)?;
+        if ends && self.buffer.is_empty() {
+            self.end_line(line)?;
+            return Ok(n);
+        }
+        keep(&mut self.buffer, self.limit, self.section, line)?;
         if ends {
-            self.end_line()?;
+            self.end_buffered()?;
         }
         Ok(n)
     }
 
-    /// Lets go of what it holds, for want of memory.
+    /// Frees the buffer and is spent, for want of memory.
     fn give_up(&mut self, given: u64)
         requires { self.old.ready ≡ None }
         ensures spent { self.new.spent ≡ true }
-        ensures ready { self.new.ready ≡ None }
-        ensures given { self.new.given ≡ given }
-        ensures ended { self.new.ended ≡ self.old.ended }
-        ensures limit { self.new.limit ≡ self.old.limit }
+        ensures free { self.new.ready ≡ None }
+        ensures count { self.new.given ≡ given }
+        ensures open { self.new.ended ≡ self.old.ended }
+        ensures limits { self.new.limit ≡ self.old.limit }
     {
-        self.buffer.clear();
+        self.buffer = Vec::new(self.alloc);
         self.finished = 0;
         self.given = given;
         self.spent = true;
     }
 
-    /// Takes the first octets of a piece, up to the one that makes an event ready.
+    /// Takes the first octets of the piece, up to the one that makes an event ready, or all of it,
+    /// and answers how many. The conditions are that nothing is ready, that the text hasn't ended,
+    /// and that fewer than 2^63 octets are given in all.
+    ///
+    /// After a fault all octets are taken and nothing becomes ready. An error is want of memory;
+    /// the reader is spent from then on, and the piece doesn't count as given.
     pub fn push(&mut self, piece: &[u8]) -> Result<usize, PushFault>
-        requires ready { is_ready self.old ≡ false }
+        requires free { is_ready self.old ≡ false }
         requires open { has_ended self.old ≡ false }
-        requires count { count_of self.old + length piece.now < 2 ^ 63 }
-        ensures fed { IfOk result (λ n. (given : List ℕ) (taken : List Event) → Fed self.old given taken → Fed self.new (given ++ take n piece.now) taken) }
+        requires room { count_of self.old + length piece.now < 2 ^ 63 }
+        ensures fed { IfOk result (λ n. KeepsFed self.old self.new (take n piece.now) []) }
         ensures within { IfOk result (λ n. n ≤ length piece.now) }
-        ensures some { 0 < length piece.now → IfOk result (λ n. 0 < n) }
-        ensures all { IfOk result (λ n. n < length piece.now → is_ready self.new ≡ true) }
+        ensures moves { IfOk result (λ n. 0 < length piece.now → 0 < n) }
+        ensures stops { IfOk result (λ n. n < length piece.now → is_ready self.new ≡ true) }
         ensures count { IfOk result (λ n. count_of self.new ≡ count_of self.old + n) }
-        ensures count_err { OnErr result (count_of self.new ≡ count_of self.old) }
-        ensures open { has_ended self.new ≡ false }
-        ensures limit { line_limit_of self.new ≡ line_limit_of self.old }
-        ensures ready_err { OnErr result (is_ready self.new ≡ false) }
+        ensures faulty { (f : Fault) → is_spent self.old ≡ false → fault_of self.old ≡ Some f
+            → (result ≡ Ok (length piece.now)) × (fault_of self.new ≡ Some f)
+            × (is_ready self.new ≡ false) }
         ensures sound { OnOk result (is_spent self.new ≡ false) }
-        ensures spent { OnErr result (is_spent self.new ≡ true) }
-        ensures was_spent { result ≡ Err PushFault.Spent ↔ (is_spent self.old ≡ true) }
-        ensures stopped { (f : Fault) → is_spent self.old ≡ false → fault_of self.old ≡ Some f → (result ≡ Ok (length piece.now)) × (fault_of self.new ≡ Some f) × (is_ready self.new ≡ false) }
-        ensures quiet { IfOk result (λ n. (k : ℕ) → k < n → (given : List ℕ) (taken : List Event) → Fed self.old given taken → Shown (line_limit_of self.old) (lines_ended false (given ++ take k piece.now)) taken) }
-        ensures held { held_by self.new ≤ line_limit_of self.new + 16 }
+        ensures spent { OnErr result ((is_spent self.new ≡ true) × (is_ready self.new ≡ false)
+            × (count_of self.new ≡ count_of self.old)) }
+        ensures was_spent { (result ≡ Err PushFault.Spent) ↔ (is_spent self.old ≡ true) }
+        ensures limits { line_limit_of self.new ≡ line_limit_of self.old }
+        ensures held { held_of self.new ≤ line_limit_of self.new + 16 }
+        ensures open { has_ended self.new ≡ false }
+
+        // It stops no later than at the octet that makes an event ready.
+        ensures quiet { IfOk result (IsQuiet self.old piece.now) }
     {
         if self.spent {
             return Err(PushFault::Spent);
@@ -329,40 +375,45 @@ impl Dearmor {
     }
 
     /// Ends the last line, where it isn't empty and no line is at fault.
-    fn end_last(&mut self) -> Result<(), AllocError>
-        requires ready { self.old.ready ≡ None }
+    fn end_last(&mut self) -> Result<(), OutOfMemory>
+        requires free { self.old.ready ≡ None }
         requires open { self.old.ended ≡ false }
-        ensures fed { OnOk result ((given : List ℕ) (taken : List Event) → Fed self.old given taken → Fed self.new given taken) }
-        ensures given { self.new.given ≡ self.old.given }
+        ensures fed { OnOk result ((given : List ℕ) (taken : List Event)
+            → Fed self.old given taken → Fed self.new given taken) }
+        ensures count { self.new.given ≡ self.old.given }
         ensures spent { self.new.spent ≡ self.old.spent }
         ensures ended { self.new.ended ≡ true }
-        ensures limit { self.new.limit ≡ self.old.limit }
-        ensures err { OnErr result (self.new.ready ≡ None) }
-        ensures stopped { (f : Fault) → self.old.fault ≡ Some f → (result ≡ Ok tt) × (self.new.fault ≡ Some f) × (self.new.ready ≡ None) }
+        ensures limits { self.new.limit ≡ self.old.limit }
+        ensures free { OnErr result (self.new.ready ≡ None) }
+        ensures faulty { (f : Fault) → self.old.fault ≡ Some f
+            → (result ≡ Ok tt) × (self.new.fault ≡ Some f) × (self.new.ready ≡ None) }
     {
         self.ended = true;
         if self.fault.is_some() || self.buffer.is_empty() {
             return Ok(());
         }
-        self.end_line()?;
+        self.end_buffered()?;
         Ok(())
     }
 
-    /// Ends the text, and with it a last line that has no line end, and hands out the event that this
-    /// line makes. It is called once, after the last push, where nothing is ready.
+    /// Ends the text, and with it a last line that has no line end, and hands out the event that
+    /// this line makes. The conditions are that nothing is ready and that the text hasn't ended.
+    ///
+    /// An error is want of memory; the reader is spent from then on.
     pub fn last(&mut self) -> Result<Option<ArmorEvent>, PushFault>
-        requires ready { is_ready self.old ≡ false }
+        requires free { is_ready self.old ≡ false }
         requires open { has_ended self.old ≡ false }
-        ensures fed { IfOk result (λ event. (given : List ℕ) (taken : List Event) → Fed self.old given taken → Fed self.new given (taken ++ events_of event)) }
-        ensures ready { is_ready self.new ≡ false }
+        ensures fed { IfOk result (λ event. KeepsFed self.old self.new [] (events_of event)) }
+        ensures free { is_ready self.new ≡ false }
         ensures ended { has_ended self.new ≡ true }
         ensures count { count_of self.new ≡ count_of self.old }
-        ensures limit { line_limit_of self.new ≡ line_limit_of self.old }
+        ensures faulty { (f : Fault) → is_spent self.old ≡ false → fault_of self.old ≡ Some f
+            → (result ≡ Ok None) × (fault_of self.new ≡ Some f) }
         ensures sound { OnOk result (is_spent self.new ≡ false) }
         ensures spent { OnErr result (is_spent self.new ≡ true) }
-        ensures was_spent { result ≡ Err PushFault.Spent ↔ (is_spent self.old ≡ true) }
-        ensures stopped { (f : Fault) → is_spent self.old ≡ false → fault_of self.old ≡ Some f → (result ≡ Ok None) × (fault_of self.new ≡ Some f) }
-        ensures held { held_by self.new ≤ line_limit_of self.new + 16 }
+        ensures was_spent { (result ≡ Err PushFault.Spent) ↔ (is_spent self.old ≡ true) }
+        ensures limits { line_limit_of self.new ≡ line_limit_of self.old }
+        ensures held { held_of self.new ≤ line_limit_of self.new + 16 }
     {
         if self.spent {
             self.ended = true;
@@ -378,15 +429,22 @@ impl Dearmor {
         }
     }
 
-    /// Ends the reading: the events that were taken are those of an armored text, or this is its fault.
+    /// Ends the reading: the events that were taken are those of an armored text. The conditions
+    /// are that nothing is ready and that the text has ended.
     ///
-    /// The fault of a reader that has met want of memory has the reason `Spent`, and no place.
+    /// An error is the fault of the text; after want of memory its reason is `Spent` and its places
+    /// are 0.
+    ///
+    /// Takes no memory.
     pub fn finish(self) -> Result<(), Fault>
-        requires ready { is_ready self ≡ false }
+        requires free { is_ready self ≡ false }
         requires ended { has_ended self ≡ true }
-        ensures answer { (given : List ℕ) (taken : List Event) → Fed self given taken → MatchResult result (λ _. Armored (line_limit_of self) given (built taken).blocks) (IsFault (line_limit_of self) given) }
+        ensures ok { (given : List ℕ) (taken : List Event) → Fed self given taken
+            → MatchResult result (λ _. Armored (line_limit_of self) given (built taken).blocks)
+            (IsArmorFault (line_limit_of self) given) }
+        ensures faulty { (f : Fault) → is_spent self ≡ false → fault_of self ≡ Some f
+            → result ≡ Err f }
         ensures spent { is_spent self ≡ true → result ≡ Err spent_fault }
-        ensures stopped { (f : Fault) → is_spent self ≡ false → fault_of self ≡ Some f → result ≡ Err f }
     {
         if self.spent {
             return Err(Fault {
@@ -399,7 +457,7 @@ impl Dearmor {
         }
         match self.fault {
             Some(fault) => Err(fault),
-            None => match end_of_text(self.place, self.finished) {
+            None => match end_of_text(self.section, self.finished) {
                 None => Ok(()),
                 Some(reason) => Err(Fault {
                     layer: Layer::Armor,

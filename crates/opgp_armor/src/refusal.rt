@@ -2,22 +2,21 @@
 
 ghost use Rattle.std.specs.Prelude.{◌≡◌};
 
-use opgp_octets::Reason;
-use std::alloc::AllocError;
+use opgp_octets::{OutOfMemory, Reason};
 
 /// Why one line does nothing: it is at fault, or a growth was refused.
-#[derive(Clone, Copy, Debug, PartialEq, Eq)]
-pub enum Refusal {
+#[derive(Clone, Copy)]
+pub(crate) enum Refusal {
     Reason(Reason),
     Memory,
 }
 
-impl From<AllocError> for Refusal {
+impl From<OutOfMemory> for Refusal {
     ghost use Rattle.opgp_armor.specs.declared.refusal.Refusal.TheVariants.{Memory};
 
     ghost from_gives = { λ _ e. e ≡ Memory };
 
-    fn from(_error: AllocError) -> Refusal {
+    fn from(_error: OutOfMemory) -> Refusal {
         Refusal::Memory
     }
 }

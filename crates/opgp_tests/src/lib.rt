@@ -2,4 +2,6 @@
 #![tactic(auto)]
 
 #[cfg(test)]
+mod armor;
+#[cfg(test)]
 mod octets;

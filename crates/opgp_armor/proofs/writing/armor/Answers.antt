@@ -12,16 +12,16 @@ returns-clause-text c =
     let hs : List Line = map header_line (headers_of c.args.headers.now) in
     let b : Line = begin_line c.args.label in
     let e : Line = end_line c.args.label in
-    let letters : c.as_bytes.result.now ≡ base64_of c.args.octets.now = c.as_bytes.ensures.value ∙ c.in_ok-letters.ensures in
+    let empty : c.new-text.result.items ≡ [] = c.new-text.ensures.items in
+    let t0 : c.reserve_exact.new.self.items ≡ [] = c.in_ok-reserve_exact.ensures.items ∙ empty in
     let t1 : c.add_line.new.text.items ≡ [] ++ (b ++ 10 ∷ []) =
-    c.in_ok-add_line.ensures ∙ ap (λ (v : List ℕ). v ++ (c.begin_text.result.now ++ 10 ∷ [])) c.new-text.ensures.items ∙ ap (λ (v : List ℕ). [] ++ (v ++ 10 ∷ [])) c.begin_text.ensures in
+    c.in_ok-add_line.ensures ∙ ap (λ (v : List ℕ). v ++ (c.begin_line.result.now ++ 10 ∷ [])) t0 ∙ ap (λ (v : List ℕ). [] ++ (v ++ 10 ∷ [])) c.begin_line.ensures in
     let t2 : c.add_headers.new.text.items ≡ ([] ++ (b ++ 10 ∷ [])) ++ text_of hs = c.in_ok-add_headers.ensures ∙ ap (λ (v : List ℕ). v ++ text_of hs) t1 in
-    let t3 : c.add_line-2.new.text.items ≡ (([] ++ (b ++ 10 ∷ [])) ++ text_of hs) ++ ([] ++ 10 ∷ []) =
-    c.in_ok-add_line-2.ensures ∙ ap (λ (v : List ℕ). c.add_headers.new.text.items ++ (v ++ 10 ∷ [])) c.as_slice.ensures ∙ ap (λ (v : List ℕ). v ++ ([] ++ 10 ∷ [])) t2 in
+    let t3 : c.add_line-2.new.text.items ≡ (([] ++ (b ++ 10 ∷ [])) ++ text_of hs) ++ ([] ++ 10 ∷ []) = c.in_ok-add_line-2.ensures ∙ ap (λ (v : List ℕ). v ++ ([] ++ 10 ∷ [])) t2 in
     let t4 : c.add_letters.new.text.items ≡ ((([] ++ (b ++ 10 ∷ [])) ++ text_of hs) ++ ([] ++ 10 ∷ [])) ++ text_of (letter_lines (base64_of c.args.octets.now)) =
-    c.in_ok-add_letters.ensures ∙ ap (λ (v : List ℕ). c.add_line-2.new.text.items ++ text_of (letter_lines v)) letters ∙ ap (λ (v : List ℕ). v ++ text_of (letter_lines (base64_of c.args.octets.now))) t3 in
+    c.in_ok-add_letters.ensures ∙ ap (λ (v : List ℕ). v ++ text_of (letter_lines (base64_of c.args.octets.now))) t3 in
     let t5 : c.add_line-3.new.text.items ≡ (((([] ++ (b ++ 10 ∷ [])) ++ text_of hs) ++ ([] ++ 10 ∷ [])) ++ text_of (letter_lines (base64_of c.args.octets.now))) ++ (e ++ 10 ∷ []) =
-    c.in_ok-add_line-3.ensures ∙ ap (λ (v : List ℕ). c.add_letters.new.text.items ++ (v ++ 10 ∷ [])) c.end_text.ensures ∙ ap (λ (v : List ℕ). v ++ (e ++ 10 ∷ [])) t4 in
+    c.in_ok-add_line-3.ensures ∙ ap (λ (v : List ℕ). c.add_letters.new.text.items ++ (v ++ 10 ∷ [])) c.end_line.ensures ∙ ap (λ (v : List ℕ). v ++ (e ++ 10 ∷ [])) t4 in
     t5 ∙ assembled b e hs (letter_lines (base64_of c.args.octets.now))
 
 pub returns-clause-block : goal.returns-clause-block

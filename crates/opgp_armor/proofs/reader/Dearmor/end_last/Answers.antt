@@ -20,5 +20,5 @@ pub returns-clause-fed : goal.returns-clause-fed
 returns-clause-fed c = λ given taken fed.
     let none = none_of c.args.self.now.fault _ (sym c.is_some.ensures) c.if-is_some.false in
     let some : c.args.self.now.buffer.items ≡ [] → ⊥ = λ e. let z : length c.args.self.now.buffer.items ≡ 0 = ap length e in let n = eqb-false _ 0 (sym c.is_empty.ensures ∙ c.if-is_empty.false) in let ok = c.args.self.now.buffer.ok in absurd (omega arith) in
-    last_line c.args.self.now _ c.end_line.new.self given taken fed none c.requires.«open» c.requires.ready some refl refl refl refl refl refl refl refl
-    c.in_ok-end_line.ensures.same c.in_ok-end_line.ensures.line
+    last_line c.args.self.now _ c.end_buffered.new.self given taken fed none c.requires.«open» c.requires.free some refl refl refl refl refl refl refl refl
+    c.in_ok-end_buffered.ensures.same c.in_ok-end_buffered.ensures.line

@@ -1,0 +1,125 @@
+-- Which octets a reader has been given, and which events were taken from it.
+use Rattle.std.specs.Prelude.{◌≡◌, ℕ, ◌+◌, ◌<◌, Bool, false, List, [], ◌∷◌, ◌++◌, length, take}
+use Rattle.std.specs.Prelude.{is_some}
+use Rattle.std.specs.declared.option.Option.{Option}
+use Rattle.std.specs.declared.option.Option.TheVariants.{None, Some}
+use Rattle.std.specs.declared.result.Result.TheVariants.{Ok, Err}
+use Rattle.opgp_octets.specs.Octets.{IsOctets}
+use Rattle.opgp_octets.specs.declared.fault.Fault.{Fault}
+use Rattle.opgp_octets.specs.declared.fault.Layer.TheVariants as layer
+use Rattle.opgp_octets.specs.declared.fault.Reason.{Reason}
+use Rattle.opgp_octets.specs.declared.fault.Reason.TheVariants as reason
+use Rattle.opgp_armor.specs.declared.reader.Dearmor.{Dearmor}
+use Rattle.opgp_armor.specs.Text.{Line, offset}
+use Rattle.opgp_armor.specs.Events.{Event, built, events_of, ends_in, octets_held}
+use Rattle.opgp_armor.specs.Machine.{Answer, Run, run, step}
+use Rattle.opgp_armor.specs.LineAnswer.{pending_of, state_of}
+use Rattle.opgp_armor.specs.Cuts.{cut, lines_ended, kept}
+use Rattle.opgp_armor.specs.Shown.{Shown}
+
+-- the most octets of a line
+abbrev pub line_limit_of : Dearmor → ℕ
+line_limit_of d = d.limit
+
+-- an event waits to be taken
+abbrev pub is_ready : Dearmor → Bool
+is_ready d = is_some d.ready
+
+-- the octets that pushes have answered as taken
+abbrev pub count_of : Dearmor → ℕ
+count_of d = d.given
+
+-- a push, or the end of the text, has met want of memory
+abbrev pub is_spent : Dearmor → Bool
+is_spent d = d.spent
+
+-- the text has ended
+abbrev pub has_ended : Dearmor → Bool
+has_ended d = d.ended
+
+-- the fault that a line has
+abbrev pub fault_of : Dearmor → Option Fault
+fault_of d = d.fault
+
+-- the octets that the reader keeps
+abbrev pub held_of : Dearmor → ℕ
+held_of d = octets_held d.buffer.items (pending_of d.pending).letters d.ready
+
+-- what a reader that is spent answers in the end
+abbrev pub spent_fault : Fault
+spent_fault =
+    record { layer = layer.Armor; reason = reason.Spent; block = 0; pos = 0; inner = 0 }
+
+-- The reader goes on: it stands where the run over the ended lines does.
+pub record Going (d : Dearmor) (given : List ℕ) (taken : List Event) : Type 0 where
+  pub last : Run
+  pub ran : run d.limit (lines_ended d.ended given) ≡ Ok last
+  pub state : last.state ≡ state_of d.section d.pending
+  pub events : last.events ≡ taken ++ events_of d.ready
+  pub buffered : d.ended ≡ false → d.buffer.items ≡ kept d.limit d.section (cut given).tail
+  pub begins : d.ended ≡ false → d.start ≡ offset (cut given).ended
+  pub finished : d.finished ≡ length (built last.events).blocks
+
+-- The reader has met a line that the machine refuses.
+pub record Stopped (d : Dearmor) (fault : Fault) (given : List ℕ)
+    (taken : List Event) : Type 0 where
+  pub before : List Line
+  pub line : Line
+  pub after : List Line
+  pub last : Run
+  pub are : lines_ended d.ended given ≡ before ++ line ∷ after
+  pub ran : run d.limit before ≡ Ok last
+  pub stops : step d.limit last.state line ≡ Err fault.reason
+  pub events : last.events ≡ taken ++ events_of d.ready
+  pub pos : fault.pos ≡ offset before
+  pub block : fault.block ≡ length (built last.events).blocks
+  pub in_armor : fault.layer ≡ layer.Armor
+  pub inner : fault.inner ≡ 0
+
+abbrev pub Stands : Dearmor → Option Fault → List ℕ → List Event → Type 0
+Stands d None given taken = Going d given taken
+Stands d (Some fault) given taken = Stopped d fault given taken
+
+-- The reader was given these octets, and these events were taken from it.
+pub record Fed (d : Dearmor) (given : List ℕ) (taken : List Event) : Type 0 where
+  pub sound : d.spent ≡ false
+  pub octets : IsOctets given
+  pub count : d.given ≡ length given
+  pub stands : Stands d d.fault given taken
+
+-- whatever the old reader was given and had handed out, the new one was given these octets more and
+-- has handed out these events more
+abbrev pub KeepsFed : Dearmor → Dearmor → List ℕ → List Event → Type 0
+KeepsFed old new octets events =
+    (given : List ℕ) (taken : List Event) → Fed old given taken
+    → Fed new (given ++ octets) (taken ++ events)
+
+-- fewer than n octets of the piece show no event more than those that were taken
+abbrev pub IsQuiet : Dearmor → List ℕ → ℕ → Type 0
+IsQuiet d piece n = (k : ℕ) → k < n → (given : List ℕ) (taken : List Event) → Fed d given taken
+    → Shown (line_limit_of d) (lines_ended false (given ++ take k piece)) taken
+
+-- the events that were taken, and what is ready
+abbrev pub events_so_far : Dearmor → List Event → List Event
+events_so_far d taken = taken ++ events_of d.ready
+
+-- ---- the end of a line
+abbrev pub fault_at : Reason → ℕ → ℕ → Fault
+fault_at why block pos =
+    record { layer = layer.Armor; reason = why; block = block; pos = pos; inner = 0 }
+
+-- what stays as a line ends
+pub record SameReader (old new : Dearmor) : Type 0 where
+  pub limit : line_limit_of new ≡ line_limit_of old
+  pub given : count_of new ≡ count_of old
+  pub spent : is_spent new ≡ is_spent old
+  pub ended : has_ended new ≡ has_ended old
+
+-- a line was answered so
+abbrev pub AfterLine : Dearmor → Dearmor → Answer → Type 0
+AfterLine old new (Ok (s, more)) =
+    (s ≡ state_of new.section new.pending) × (more ≡ events_of new.ready) × (new.fault ≡ None)
+    × (new.finished ≡ old.finished + ends_in more) × (new.buffer.items ≡ [])
+    × (new.start ≡ old.given)
+AfterLine old new (Err e) =
+    (new.fault ≡ Some (fault_at e old.finished old.start)) × (new.ready ≡ None)

@@ -6,12 +6,12 @@ use Rattle.opgp_octets.specs.declared.limits.Limits.{Limits}
 use Rattle.opgp_octets.specs.Limits.{body_limit, pieces_limit}
 use Rattle.opgp_octets.specs.declared.fault.Reason.{Reason}
 use Rattle.opgp_frame.specs.declared.deframe.State.{State}
-use Rattle.opgp_frame.specs.declared.deframe.State.TheVariants.{Between, InLength, InPiece, Faulty, Spent}
+use Rattle.opgp_frame.specs.declared.deframe.State.TheVariants.{InLength, InPiece}
 use Rattle.opgp_frame.specs.declared.length.Length.{Length}
 use Rattle.opgp_frame.specs.declared.packet.Placed.{Placed}
-use Rattle.opgp_frame.specs.Header.{header_fault}
-use Rattle.opgp_frame.specs.Held.{within, state_fits, held_in, held_in_ready}
 use Rattle.opgp_frame.specs.Length.{is_partial}
+use Rattle.opgp_frame.specs.PacketFault.{header_fault}
+use Rattle.opgp_frame.specs.ReaderState.{within, state_fits, held_in, held_in_ready, held_in_state}
 
 pub record IsWithin (limits : Limits) (exponents body : ℕ) : Type 0 where
   pub exponents' : exponents ≤ pieces_limit limits
@@ -85,20 +85,7 @@ holds_length limits header seen count exponents body ready f e = omega (arith, h
 pub holds_piece : (limits : Limits) (header : ℕ) (l : Length) (from until exponents body : ℕ) (ready : Option Placed) → PieceFacts limits header l from until exponents body → is_some ready ≡ false → held_in (InPiece header l from until) exponents body ready ≤ body_limit limits + pieces_limit limits + 16
 holds_piece limits header l from until exponents body ready f e = omega (arith, held_free ready e, f.open', f.within'.exponents', f.within'.body')
 
-pub holds_faulty : (limits : Limits) (reason : Reason) (inner exponents body : ℕ) (ready : Option Placed) → IsWithin limits exponents body → is_some ready ≡ false → held_in (Faulty reason inner) exponents body ready ≤ body_limit limits + pieces_limit limits + 16
-holds_faulty limits reason inner exponents body ready w e = omega (arith, held_free ready e, w.exponents', w.body')
-
--- in each state what is held is within the limits
-pub any_within : (limits : Limits) (state : State) (exponents body : ℕ) → state_fits limits state exponents body ≡ true → IsWithin limits exponents body
-any_within limits Between exponents body e =
-    let p = and_parts (eqb exponents 0) (eqb body 0) e in
-    record { exponents' = omega (arith, eqb-true exponents 0 p.0); body' = omega (arith, eqb-true body 0 p.1) }
-any_within limits (InLength header seen count) exponents body e = (length_facts limits header seen count exponents body e).within'
-any_within limits (InPiece header l from until) exponents body e =
-    let f = piece_facts limits header l from until exponents body e in
-    record { exponents' = f.within'.exponents'; body' = omega (arith, f.open', f.within'.body') }
-any_within limits (Faulty reason inner) exponents body e = within_parts limits exponents body e
-any_within limits Spent exponents body e = within_parts limits exponents body e
-
-pub holds_spent : (limits : Limits) (exponents body : ℕ) (ready : Option Placed) → IsWithin limits exponents body → is_some ready ≡ false → held_in Spent exponents body ready ≤ body_limit limits + pieces_limit limits + 16
-holds_spent limits exponents body ready w e = omega (arith, held_free ready e, w.exponents', w.body')
+-- a state that keeps nothing
+pub holds_nothing : (limits : Limits) (state : State) (exponents body : ℕ) (ready : Option Placed) → held_in_state state ≡ 0 → exponents ≡ 0 → body ≡ 0 → is_some ready ≡ false
+    → held_in state exponents body ready ≤ body_limit limits + pieces_limit limits + 16
+holds_nothing limits state exponents body ready none no_exponents no_body e = omega (arith, held_free ready e, none, no_exponents, no_body)

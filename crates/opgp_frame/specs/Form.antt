@@ -2,7 +2,7 @@
 use Rattle.std.specs.Prelude.{ℕ, ◌+◌, ◌*◌, ◌-◌, ◌^◌, ◌<◌, ◌≤◌, Bool, true, List, [], nat_lt}
 use Rattle.opgp_octets.specs.declared.packet_len.PacketLen.TheVariants as new
 use Rattle.opgp_frame.specs.declared.length.Length.{Length}
-use Rattle.opgp_frame.specs.declared.length.Length.TheVariants.{LegacyOne, LegacyTwo, LegacyFour, Current}
+use Rattle.opgp_frame.specs.declared.length.Length.TheVariants as len
 use Rattle.opgp_frame.specs.declared.pieces.LastForm.{LastForm}
 use Rattle.opgp_frame.specs.declared.pieces.LastForm.TheVariants.{One, Two, Five}
 use Rattle.opgp_frame.specs.declared.form.Form.{Form}
@@ -13,9 +13,9 @@ use Rattle.opgp_frame.specs.PiecesValue.{ArePieces, pieces_sum}
 
 -- a length of the current format
 abbrev pub current_length : LastForm → ℕ → Length
-current_length One n = Current (new.One n)
-current_length Two n = Current (new.Two n)
-current_length Five n = Current (new.Five n)
+current_length One n = len.New (new.One n)
+current_length Two n = len.New (new.Two n)
+current_length Five n = len.New (new.Five n)
 
 -- the exponents of the pieces under partial lengths
 abbrev pub exponents_of : Form → List ℕ
@@ -29,9 +29,9 @@ exponents_of NewFive = []
 
 -- the last length, which is the only one without pieces, where so many octets are left of the body
 abbrev pub length_of_rest : Form → ℕ → Length
-length_of_rest OldOne n = LegacyOne n
-length_of_rest OldTwo n = LegacyTwo n
-length_of_rest OldFour n = LegacyFour n
+length_of_rest OldOne n = len.OldOne n
+length_of_rest OldTwo n = len.OldTwo n
+length_of_rest OldFour n = len.OldFour n
 length_of_rest NewOne n = current_length One n
 length_of_rest NewTwo n = current_length Two n
 length_of_rest NewFive n = current_length Five n

@@ -1,7 +1,5 @@
 -- The octet that begins a packet (RFC 9580, 4.2), and packet types (RFC 9580, 5).
-use Rattle.std.specs.Prelude.{ℕ, ◌-◌, ◌/◌, ◌%◌, Bool, ◌&&◌, ◌||◌, not, ◌==◌, nat_lt, nat_le, Option, Some, None, if◌then◌else◌}
-use Rattle.opgp_octets.specs.declared.fault.Reason.{Reason}
-use Rattle.opgp_octets.specs.declared.fault.Reason.TheVariants.{NotAPacket, TypeZero, Compressed, UnknownCritical, Indeterminate}
+use Rattle.std.specs.Prelude.{ℕ, ◌-◌, ◌/◌, Bool, ◌&&◌, ◌||◌, not, ◌==◌, nat_lt, nat_le, if◌then◌else◌}
 
 -- critical types that aren't known (RFC 9580, 4.3), and the reserved ones among them
 abbrev pub is_unknown_critical : ℕ → Bool
@@ -22,11 +20,3 @@ is_current header = nat_le 192 header
 -- the type: in bits 5 to 0 of the current format, in bits 5 to 2 of the legacy format
 abbrev pub kind_in : ℕ → ℕ
 kind_in header = if is_current header then header - 192 else (header - 128) / 4
-
--- why the octet begins no packet, whatever follows: the first that is true
-abbrev pub header_fault : ℕ → Option Reason
-header_fault header = if nat_lt header 128 then Some NotAPacket else
-    (if kind_in header == 0 then Some TypeZero else
-    (if kind_in header == 8 then Some Compressed else
-    (if is_unknown_critical (kind_in header) then Some UnknownCritical else
-    (if not (is_current header) && (header % 4 == 3) then Some Indeterminate else None))))

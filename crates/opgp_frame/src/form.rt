@@ -83,9 +83,9 @@ impl Form {
         }
         let left = left_behind(self.exponents(), n)?;
         match self {
-            Form::OldOne if left < 256 => Some(Length::LegacyOne(left as u8)),
-            Form::OldTwo if left < 65_536 => Some(Length::LegacyTwo(left as u16)),
-            Form::OldFour => Some(Length::LegacyFour(left as u32)),
+            Form::OldOne if left < 256 => Some(Length::OldOne(left as u8)),
+            Form::OldTwo if left < 65_536 => Some(Length::OldTwo(left as u16)),
+            Form::OldFour => Some(Length::OldFour(left as u32)),
             Form::NewOne => current(LastForm::One, left),
             Form::NewTwo => current(LastForm::Two, left),
             Form::NewFive => current(LastForm::Five, left),
@@ -114,9 +114,9 @@ fn current(form: LastForm, n: u64) -> Option<Length>
     ensures { SomeIff result (LengthFits (current_length form n)) (current_length form n) }
 {
     match form {
-        LastForm::One if n < 192 => Some(Length::Current(PacketLen::One(n as u8))),
-        LastForm::Two if 192 <= n && n < 8384 => Some(Length::Current(PacketLen::Two(n as u16))),
-        LastForm::Five if n <= 4_294_967_295 => Some(Length::Current(PacketLen::Five(n as u32))),
+        LastForm::One if n < 192 => Some(Length::New(PacketLen::One(n as u8))),
+        LastForm::Two if 192 <= n && n < 8384 => Some(Length::New(PacketLen::Two(n as u16))),
+        LastForm::Five if n <= 4_294_967_295 => Some(Length::New(PacketLen::Five(n as u32))),
         _ => None,
     }
 }

@@ -2,9 +2,8 @@
 
 ghost use Rattle.std.specs.Prelude.{◌≡◌, ◌≤◌, ◌++◌, None, false, length, IsSome, MatchOption, IfSome, OnOk, OnErr};
 ghost use Rattle.opgp_octets.specs.Limits.{body_limit, pieces_limit};
-ghost use Rattle.opgp_frame.specs.Frames.{length_fault};
-ghost use Rattle.opgp_frame.specs.Header.{header_fault};
 ghost use Rattle.opgp_frame.specs.Length.{LengthFits, LengthBegins, length_octets, length_amount, length_at, is_partial};
+ghost use Rattle.opgp_frame.specs.PacketFault.{length_fault, header_fault};
 
 use crate::header::is_data_kind;
 use opgp_octets::{Limits, OutOfMemory, PacketLen, Reason, read_len, u16_at, u32_at, write_len};
@@ -13,13 +12,13 @@ use opgp_octets::{Limits, OutOfMemory, PacketLen, Reason, read_len, u16_at, u32_
 #[derive(Clone, Copy)]
 pub(crate) enum Length {
     /// One octet, in the legacy format.
-    LegacyOne(u8),
+    OldOne(u8),
     /// Two octets, in the legacy format.
-    LegacyTwo(u16),
+    OldTwo(u16),
     /// Four octets, in the legacy format.
-    LegacyFour(u32),
+    OldFour(u32),
     /// In the current format.
-    Current(PacketLen),
+    New(PacketLen),
 }
 
 impl Length {
@@ -30,12 +29,12 @@ impl Length {
         ensures small { result ≤ 5 }
     {
         match self {
-            Length::LegacyOne(_) => 1,
-            Length::LegacyTwo(_) => 2,
-            Length::LegacyFour(_) => 4,
-            Length::Current(PacketLen::One(_) | PacketLen::Partial(_)) => 1,
-            Length::Current(PacketLen::Two(_)) => 2,
-            Length::Current(PacketLen::Five(_)) => 5,
+            Length::OldOne(_) => 1,
+            Length::OldTwo(_) => 2,
+            Length::OldFour(_) => 4,
+            Length::New(PacketLen::One(_) | PacketLen::Partial(_)) => 1,
+            Length::New(PacketLen::Two(_)) => 2,
+            Length::New(PacketLen::Five(_)) => 5,
         }
     }
 
@@ -46,13 +45,13 @@ impl Length {
         ensures small { result ≤ 4294967295 }
     {
         match self {
-            Length::LegacyOne(n) => u64::from(n),
-            Length::LegacyTwo(n) => u64::from(n),
-            Length::LegacyFour(n) => u64::from(n),
-            Length::Current(PacketLen::One(n)) => u64::from(n),
-            Length::Current(PacketLen::Two(n)) => u64::from(n),
-            Length::Current(PacketLen::Five(n)) => u64::from(n),
-            Length::Current(PacketLen::Partial(power)) => 1 << power,
+            Length::OldOne(n) => u64::from(n),
+            Length::OldTwo(n) => u64::from(n),
+            Length::OldFour(n) => u64::from(n),
+            Length::New(PacketLen::One(n)) => u64::from(n),
+            Length::New(PacketLen::Two(n)) => u64::from(n),
+            Length::New(PacketLen::Five(n)) => u64::from(n),
+            Length::New(PacketLen::Partial(power)) => 1 << power,
         }
     }
 
@@ -60,15 +59,15 @@ impl Length {
     pub(crate) fn is_partial(self) -> bool
         ensures { result ≡ is_partial self }
     {
-        matches!(self, Length::Current(PacketLen::Partial(_)))
+        matches!(self, Length::New(PacketLen::Partial(_)))
     }
 
     /// The exponent of the piece that follows, if it is a partial length.
     pub(crate) fn exponent(self) -> Option<u8>
-        ensures { MatchOption result (is_partial self ≡ false) (λ k. self ≡ Length.Current (PacketLen.Partial k)) }
+        ensures { MatchOption result (is_partial self ≡ false) (λ k. self ≡ Length.New (PacketLen.Partial k)) }
     {
         match self {
-            Length::Current(PacketLen::Partial(power)) => Some(power),
+            Length::New(PacketLen::Partial(power)) => Some(power),
             _ => None,
         }
     }
@@ -80,10 +79,10 @@ impl Length {
         ensures err { OnErr result (out.new.items ≡ out.old.items) }
     {
         match self {
-            Length::LegacyOne(n) => out.extend_from_slice(&[n]),
-            Length::LegacyTwo(n) => out.extend_from_slice(&n.to_be_bytes()),
-            Length::LegacyFour(n) => out.extend_from_slice(&n.to_be_bytes()),
-            Length::Current(len) => write_len(&len, out),
+            Length::OldOne(n) => out.extend_from_slice(&[n]),
+            Length::OldTwo(n) => out.extend_from_slice(&n.to_be_bytes()),
+            Length::OldFour(n) => out.extend_from_slice(&n.to_be_bytes()),
+            Length::New(len) => write_len(&len, out),
         }
     }
 }
@@ -94,20 +93,20 @@ fn length_of(header: u8, o: &[u8]) -> Option<(Length, usize)>
 {
     if header >= 192 {
         let (len, count) = read_len(o)?;
-        return Some((Length::Current(len), count));
+        return Some((Length::New(len), count));
     }
     match header % 4 {
         0 => match o {
             [] => None,
-            [n, ..] => Some((Length::LegacyOne(*n), 1)),
+            [n, ..] => Some((Length::OldOne(*n), 1)),
         },
         1 => {
             let (n, _) = u16_at(o)?;
-            Some((Length::LegacyTwo(n), 2))
+            Some((Length::OldTwo(n), 2))
         }
         2 => {
             let (n, _) = u32_at(o)?;
-            Some((Length::LegacyFour(n), 4))
+            Some((Length::OldFour(n), 4))
         }
         _ => None,
     }

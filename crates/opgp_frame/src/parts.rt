@@ -7,7 +7,7 @@ ghost use Rattle.opgp_frame.specs.Form.{exponents_of};
 ghost use Rattle.opgp_frame.specs.FormOf.{form_with};
 ghost use Rattle.opgp_frame.specs.Length.{is_partial};
 ghost use Rattle.opgp_frame.specs.PiecesValue.{ArePieces};
-ghost use Rattle.opgp_frame.specs.State.{IsInPiece, IsWhole};
+ghost use Rattle.opgp_frame.specs.Unfinished.{IsInPiece, IsWhole};
 
 use crate::form::Form;
 use crate::header::kind_in;
@@ -40,13 +40,13 @@ fn form_of(exponents: Vec<u8>, last: Length) -> Option<Form>
     ensures exact { (0 < length exponents.items → ArePieces exponents.items) → result ≡ form_with exponents.items last }
 {
     let (last, plain) = match last {
-        Length::LegacyOne(_) => return Some(Form::OldOne),
-        Length::LegacyTwo(_) => return Some(Form::OldTwo),
-        Length::LegacyFour(_) => return Some(Form::OldFour),
-        Length::Current(PacketLen::One(_)) => (LastForm::One, Form::NewOne),
-        Length::Current(PacketLen::Two(_)) => (LastForm::Two, Form::NewTwo),
-        Length::Current(PacketLen::Five(_)) => (LastForm::Five, Form::NewFive),
-        Length::Current(PacketLen::Partial(_)) => return None,
+        Length::OldOne(_) => return Some(Form::OldOne),
+        Length::OldTwo(_) => return Some(Form::OldTwo),
+        Length::OldFour(_) => return Some(Form::OldFour),
+        Length::New(PacketLen::One(_)) => (LastForm::One, Form::NewOne),
+        Length::New(PacketLen::Two(_)) => (LastForm::Two, Form::NewTwo),
+        Length::New(PacketLen::Five(_)) => (LastForm::Five, Form::NewFive),
+        Length::New(PacketLen::Partial(_)) => return None,
     };
     if exponents.is_empty() {
         return Some(plain);

@@ -1,8 +1,8 @@
 //! Writing packets.
 
 ghost use Rattle.std.specs.Prelude.{◌≡◌, ◌≤◌, ◌++◌, All, length, take, OnOk, OnErr, vec_len};
-ghost use Rattle.opgp_frame.specs.Packet.{PacketValue, IsPacket, spelling, cut_body};
 ghost use Rattle.opgp_frame.specs.Length.{LengthFits, length_octets};
+ghost use Rattle.opgp_frame.specs.Packet.{PacketValue, IsPacket, spelling, cut_body};
 ghost use Rattle.opgp_frame.specs.PiecesValue.{pieces_sum};
 ghost use Rattle.opgp_frame.specs.Reframed.{reframed, shortest_form, IsCurrent};
 

@@ -1,22 +1,13 @@
 -- What is known of a packet of which only a part has come.
-use Rattle.std.specs.Prelude.{◌≡◌, ℕ, ◌+◌, ◌<◌, ◌≤◌, true, List, ◌∷◌, length, slice_index, None, All}
+use Rattle.std.specs.Prelude.{◌≡◌, ℕ, ◌+◌, ◌<◌, ◌≤◌, List, ◌∷◌, ◌++◌, length, None}
 use Rattle.opgp_octets.specs.declared.limits.Limits.{Limits}
-use Rattle.opgp_octets.specs.Limits.{body_limit, pieces_limit}
 use Rattle.opgp_frame.specs.declared.length.Length.{Length}
-use Rattle.opgp_frame.specs.Frames.{IsAllowed, length_fault}
-use Rattle.opgp_frame.specs.Header.{header_fault, is_data_kind, kind_in}
+use Rattle.opgp_frame.specs.Frames.{IsAllowed}
+use Rattle.opgp_frame.specs.Header.{kind_in}
 use Rattle.opgp_frame.specs.Length.{LengthFits, IsLengthUnder, length_at, length_amount, length_octets}
 use Rattle.opgp_frame.specs.Packet.{PacketValue, spelling, cut_body}
-use Rattle.opgp_frame.specs.PiecesValue.{pieces_sum}
-
--- Under this first octet a packet may begin with pieces of these exponents.
-pub record GoodPieces (limits : Limits) (header : ℕ) (exponents : List ℕ) : Type 0 where
-  pub each : All (λ k. k ≤ 30) exponents
-  pub first : 0 < length exponents → 9 ≤ slice_index exponents 0
-  pub current : 0 < length exponents → 192 ≤ header
-  pub kind : 0 < length exponents → is_data_kind (kind_in header) ≡ true
-  pub count : length exponents ≤ pieces_limit limits
-  pub sum : pieces_sum exponents ≤ body_limit limits
+use Rattle.opgp_frame.specs.PacketFault.{header_fault, length_fault}
+use Rattle.opgp_frame.specs.PiecesValue.{GoodPieces, pieces_sum}
 
 -- a packet has begun: neither its first octet nor the pieces so far are at fault
 pub record HasBegun (limits : Limits) (header : ℕ) (exponents : List ℕ) : Type 0 where
@@ -48,3 +39,9 @@ pub record IsInPiece (limits : Limits) (header : ℕ) (l : Length) (from until :
 pub record IsWhole (limits : Limits) (rest : List ℕ) (p : PacketValue) : Type 0 where
   pub spelled : rest ≡ spelling p
   pub allowed : IsAllowed limits p
+
+-- After what was seen of a length header these octets make it whole: it is this length's.
+pub record EndsLength (header : ℕ) (seen octets : List ℕ) (l : Length) : Type 0 where
+  pub fits : LengthFits l
+  pub under : IsLengthUnder header l
+  pub whole : seen ++ octets ≡ length_octets l

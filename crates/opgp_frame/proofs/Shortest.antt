@@ -16,7 +16,7 @@ one_octet n lt = rw (lt-ltb n 192 lt) refl
 two_octets : (n : ℕ) → 192 ≤ n → n < 8384 → length (length_octets (last_length (shortest_form n) n)) ≡ 2
 two_octets n le lt = rw (le-ltb n 192 le, lt-ltb n 8384 lt) refl
 
-five_octets : (n : ℕ) → 8384 ≤ n → length (length_octets (last_length (shortest_form n) n)) ≡ 5
+pub five_octets : (n : ℕ) → 8384 ≤ n → length (length_octets (last_length (shortest_form n) n)) ≡ 5
 five_octets n le = let high : 192 ≤ n = omega arith in rw (le-ltb n 192 high, le-ltb n 8384 le) refl
 
 pub at_most_five : (n : ℕ) → length (length_octets (last_length (shortest_form n) n)) ≤ 5

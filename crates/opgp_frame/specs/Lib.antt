@@ -10,6 +10,7 @@ pub mod PacketFault
 pub mod PiecesValue
 pub mod ReaderState
 pub mod Reframed
+pub mod Spelling
 pub mod Unfinished
 pub use Rattle.opgp_octets.specs.Limits
 pub use Rattle.opgp_octets.specs.Octets

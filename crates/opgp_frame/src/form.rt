@@ -1,14 +1,15 @@
 //! The form in which a packet's header is written.
 
-ghost use Rattle.std.specs.Prelude.{◌≡◌, ◌<◌, ◌≤◌, All, IfOk, true};
+ghost use Rattle.std.specs.Prelude.{◌≡◌, ◌<◌, ◌≤◌, ℕ, All, IfOk, length, true};
 ghost use Rattle.std.specs.Option.{SomeIff};
 ghost use Rattle.opgp_frame.specs.Form.{HasPieces, FormSpells, form_takes, last_length, exponents_of, header_octet, current_length};
-ghost use Rattle.opgp_frame.specs.Length.{LengthFits};
+ghost use Rattle.opgp_frame.specs.Length.{LengthFits, length_octets};
+ghost use Rattle.opgp_frame.specs.Reframed.{IsCurrent, shortest_form};
 
 use crate::header::is_data_kind;
 use crate::length::Length;
 use crate::pieces::{LastForm, Pieces, left_behind};
-use opgp_octets::{OutOfMemory, PacketLen};
+use opgp_octets::{OutOfMemory, PacketLen, shortest};
 use std::alloc::Global;
 
 /// The format of a packet's header and the form of its length (RFC 9580, 4.2).
@@ -31,6 +32,29 @@ pub enum Form {
 }
 
 impl Form {
+    /// The form of the current format, not partial, that spells a body of `n` octets in the fewest octets (RFC 9580,
+    /// 4.2.1).
+    ///
+    /// Takes no memory.
+    pub fn shortest(n: u32) -> Form
+        ensures current { IsCurrent result }
+        ensures takes { (kind : ℕ) → form_takes result kind ≡ true }
+        ensures spells { FormSpells result n }
+        ensures least {
+            (other : Form) → IsCurrent other → FormSpells other n
+                → length (length_octets (last_length result n))
+                    ≤ length (length_octets (last_length other n))
+        }
+        ensures exact { result ≡ shortest_form n }
+    {
+        match shortest(n) {
+            PacketLen::One(_) => Form::NewOne,
+            PacketLen::Two(_) => Form::NewTwo,
+            PacketLen::Five(_) => Form::NewFive,
+            PacketLen::Partial(_) => unreachable!(),
+        }
+    }
+
     /// An equal form.
     ///
     /// An error is want of memory.

@@ -4,9 +4,11 @@ ghost use Rattle.std.specs.Prelude.{◌≡◌, ◌≤◌, ◌++◌, None, false,
 ghost use Rattle.opgp_octets.specs.Limits.{body_limit, pieces_limit};
 ghost use Rattle.opgp_frame.specs.Length.{LengthFits, LengthBegins, length_octets, length_amount, length_at, is_partial};
 ghost use Rattle.opgp_frame.specs.PacketFault.{length_fault, header_fault};
+ghost use Rattle.opgp_frame.specs.Spelling.{octets_of_header};
 
 use crate::header::is_data_kind;
-use opgp_octets::{Limits, OutOfMemory, PacketLen, Reason, read_len, u16_at, u32_at, write_len};
+use crate::spelling::HeaderOctets;
+use opgp_octets::{Limits, PacketLen, Reason, read_len, u16_at, u32_at};
 
 /// A length and the form that it is written in.
 #[derive(Clone, Copy)]
@@ -22,22 +24,6 @@ pub(crate) enum Length {
 }
 
 impl Length {
-    /// How many octets it takes.
-    pub(crate) fn size(self) -> u64
-        requires { LengthFits self }
-        ensures value { result ≡ length (length_octets self) }
-        ensures small { result ≤ 5 }
-    {
-        match self {
-            Length::OldOne(_) => 1,
-            Length::OldTwo(_) => 2,
-            Length::OldFour(_) => 4,
-            Length::New(PacketLen::One(_) | PacketLen::Partial(_)) => 1,
-            Length::New(PacketLen::Two(_)) => 2,
-            Length::New(PacketLen::Five(_)) => 5,
-        }
-    }
-
     /// How many octets of the body it announces.
     pub(crate) fn amount(self) -> u64
         requires { LengthFits self }
@@ -45,12 +31,9 @@ impl Length {
         ensures small { result ≤ 4294967295 }
     {
         match self {
-            Length::OldOne(n) => u64::from(n),
-            Length::OldTwo(n) => u64::from(n),
-            Length::OldFour(n) => u64::from(n),
-            Length::New(PacketLen::One(n)) => u64::from(n),
-            Length::New(PacketLen::Two(n)) => u64::from(n),
-            Length::New(PacketLen::Five(n)) => u64::from(n),
+            Length::OldOne(n) | Length::New(PacketLen::One(n)) => u64::from(n),
+            Length::OldTwo(n) | Length::New(PacketLen::Two(n)) => u64::from(n),
+            Length::OldFour(n) | Length::New(PacketLen::Five(n)) => u64::from(n),
             Length::New(PacketLen::Partial(power)) => 1 << power,
         }
     }
@@ -72,17 +55,33 @@ impl Length {
         }
     }
 
-    /// Writes it at the end of `out`; after an error `out` is as it was.
-    pub(crate) fn write(self, out: &mut Vec<u8>) -> Result<(), OutOfMemory>
+    /// Its octets, 1 to 5.
+    pub(crate) fn octets(self) -> HeaderOctets
         requires { LengthFits self }
-        ensures ok { OnOk result (out.new.items ≡ out.old.items ++ length_octets self) }
-        ensures err { OnErr result (out.new.items ≡ out.old.items) }
+        ensures value { octets_of_header result ≡ length_octets self }
+        ensures count { result.count ≡ length (length_octets self) }
+        ensures small { result.count ≤ 5 }
     {
         match self {
-            Length::OldOne(n) => out.extend_from_slice(&[n]),
-            Length::OldTwo(n) => out.extend_from_slice(&n.to_be_bytes()),
-            Length::OldFour(n) => out.extend_from_slice(&n.to_be_bytes()),
-            Length::New(len) => write_len(&len, out),
+            Length::OldOne(n) | Length::New(PacketLen::One(n)) => HeaderOctets::new([n, 0, 0, 0, 0], 1),
+            Length::OldTwo(n) => {
+                let [a, b] = n.to_be_bytes();
+                HeaderOctets::new([a, b, 0, 0, 0], 2)
+            }
+            Length::OldFour(n) => {
+                let [a, b, c, d] = n.to_be_bytes();
+                HeaderOctets::new([a, b, c, d, 0], 4)
+            }
+            Length::New(PacketLen::Two(n)) => {
+                let high = ((n - 192) / 256 + 192) as u8;
+                let low = ((n - 192) % 256) as u8;
+                HeaderOctets::new([high, low, 0, 0, 0], 2)
+            }
+            Length::New(PacketLen::Five(n)) => {
+                let [a, b, c, d] = n.to_be_bytes();
+                HeaderOctets::new([255, a, b, c, d], 5)
+            }
+            Length::New(PacketLen::Partial(power)) => HeaderOctets::new([224 + power, 0, 0, 0, 0], 1),
         }
     }
 }

@@ -5,6 +5,7 @@ ghost use Rattle.opgp_frame.specs.Packet.{PacketValue, IsPacket, spelling};
 
 use crate::form::Form;
 use crate::header::is_read_kind;
+use crate::writing::spelled_len_of;
 use opgp_octets::OutOfMemory;
 use std::alloc::Global;
 use std::marker::Model;
@@ -111,18 +112,13 @@ impl Packet {
         self.body.as_slice()
     }
 
-    /// How many octets it is spelled in.
+    /// How many octets it is spelled in (RFC 9580, 4.2).
     ///
     /// Takes no memory.
     pub fn spelled_len(&self) -> u64
         ensures { result ≡ length (spelling self.now) }
     {
-        let n = self.body.len() as u64;
-        let pieces = self.form.exponents().len() as u64;
-        match self.form.last_length(n) {
-            Some(length) => 1 + pieces + length.size() + n,
-            None => unreachable!(),
-        }
+        spelled_len_of(&self.form, self.body.len() as u64)
     }
 }
 

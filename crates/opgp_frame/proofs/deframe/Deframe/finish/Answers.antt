@@ -1,4 +1,4 @@
-use Rattle.std.proofs.Common.{◌≡◌, Option, Some, length, sym, ◌∙◌}
+use Rattle.std.proofs.Common.{length, sym}
 use Rattle.opgp_frame.proofs.FedLemmas.{Fed-fault, same_kept, state_fault-spent}
 use Rattle.opgp_frame.proofs.deframe.Deframe.finish.Goals as goal
 

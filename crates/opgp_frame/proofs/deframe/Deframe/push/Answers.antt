@@ -1,8 +1,7 @@
-use Rattle.std.proofs.Common.{length, arith, subst, ap, take, ◌∙◌, List, ℕ}
+use Rattle.std.proofs.Common.{arith}
 use Rattle.std.proofs.Math.Seq.{take-add}
 use Rattle.std.proofs.lemmas.Grind.{common_steps}
 use Rattle.std.proofs.lemmas.List.{take_rest}
-use Rattle.opgp_frame.specs.Fed.{KeepsFed}
 use Rattle.opgp_frame.proofs.FedLemmas.{KeepsFed-then}
 use Rattle.opgp_frame.proofs.deframe.Deframe.push.Goals as goal
 

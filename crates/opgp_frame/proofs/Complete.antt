@@ -1,5 +1,5 @@
 -- Octets that show no fault begin with an allowed packet.
-use Rattle.std.proofs.Common.{◌≡◌, ℕ, zero, suc, ◌+◌, ◌^◌, ◌<◌, ◌≤◌, true, false, cond, ltb, List, [], ◌∷◌, ◌++◌, length, take, drop, get_or, Option, Some, None, refl, sym, ap, subst, ◌∙◌, arith, inl, inr, ◌⊎◌, append_assoc, append-nil, length-append}
+use Rattle.std.proofs.Common.{◌≡◌, ℕ, zero, suc, ◌+◌, ◌^◌, ◌<◌, ◌≤◌, true, false, cond, ltb, List, [], ◌∷◌, ◌++◌, length, take, drop, Option, Some, None, refl, sym, ap, subst, ◌∙◌, arith, inl, inr, append_assoc, length-append}
 use Rattle.std.specs.List.{AllByRecursion}
 use Rattle.std.proofs.lemmas.Bool.{cases_lt, ltb-false}
 use Rattle.std.proofs.lemmas.List.{take_at, drop_at, take-append-drop, length-take-le, length-drop, drop-drop}
@@ -18,7 +18,7 @@ use Rattle.opgp_frame.specs.FaultReading.{lengths_fault, packet_fault, or_fault}
 use Rattle.opgp_frame.specs.Frames.{BeginsPacket}
 use Rattle.opgp_frame.specs.Header.{kind_in}
 use Rattle.opgp_frame.specs.Length.{LengthFits, IsLengthUnder, LengthBegins, length_octets, length_amount, length_at, is_partial}
-use Rattle.opgp_frame.specs.Packet.{spelling, cut_body}
+use Rattle.opgp_frame.specs.Packet.{cut_body}
 use Rattle.opgp_frame.specs.PacketFault.{length_fault, header_fault}
 use Rattle.opgp_frame.specs.PiecesValue.{pieces_sum, GoodPieces}
 use Rattle.opgp_frame.specs.Unfinished.{HasBegun, IsInPiece}

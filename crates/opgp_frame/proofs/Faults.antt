@@ -1,5 +1,5 @@
 -- The fault of a packet of which only a part has come, or which is at fault.
-use Rattle.std.proofs.Common.{◌≡◌, ◌≢◌, ℕ, ◌+◌, ◌<◌, ◌≤◌, List, [], ◌∷◌, ◌++◌, length, take, drop, Some, None, refl, sym, ap, subst, ◌∙◌, arith, inl, inr, length-append}
+use Rattle.std.proofs.Common.{◌≡◌, ◌≢◌, ℕ, ◌+◌, ◌<◌, ◌≤◌, List, [], ◌∷◌, ◌++◌, length, take, drop, Some, refl, sym, ap, subst, ◌∙◌, arith, inl, inr, length-append}
 use Rattle.std.proofs.lemmas.List.{take-append-drop, length-drop, length-take-le}
 use Rattle.opgp_octets.specs.declared.limits.Limits.{Limits}
 use Rattle.opgp_octets.specs.declared.fault.Reason.{Reason}
@@ -8,7 +8,7 @@ use Rattle.opgp_frame.specs.declared.length.Length.{Length}
 use Rattle.opgp_frame.specs.Header.{kind_in}
 use Rattle.opgp_frame.specs.Length.{LengthFits, IsLengthUnder, length_octets, length_amount}
 use Rattle.opgp_frame.specs.Packet.{cut_body}
-use Rattle.opgp_frame.specs.PacketFault.{NextFault, FaultBehind, PacketFault, header_fault, length_fault}
+use Rattle.opgp_frame.specs.PacketFault.{NextFault, FaultBehind, PacketFault, length_fault}
 use Rattle.opgp_frame.specs.PiecesValue.{pieces_sum}
 use Rattle.opgp_frame.specs.Unfinished.{HasBegun, IsAtLength, IsInPiece}
 use Rattle.opgp_frame.proofs.Cuts.{cut_body-append, cut_body-last}

@@ -1,16 +1,16 @@
 -- Octets have one fault of a packet at most, and what is at fault begins with no allowed packet.
-use Rattle.std.proofs.Common.{◌≡◌, ℕ, ◌+◌, ◌-◌, ◌^◌, ◌<◌, ◌≤◌, false, true, List, [], ◌∷◌, ◌++◌, length, take, drop, Some, None, refl, sym, ap, subst, ◌∙◌, arith, inl, inr, append-nil, length-append}
+use Rattle.std.proofs.Common.{◌≡◌, ℕ, ◌+◌, ◌-◌, ◌^◌, ◌≤◌, false, true, List, [], ◌∷◌, ◌++◌, length, take, drop, None, refl, sym, ap, subst, ◌∙◌, arith, inl, inr, append-nil, length-append}
 use Rattle.std.proofs.lemmas.List.{drop_at, nil_from_length, length-drop, length-take-le}
 use Rattle.opgp_octets.specs.declared.limits.Limits.{Limits}
 use Rattle.opgp_octets.specs.declared.fault.Reason.{Reason}
 use Rattle.opgp_octets.proofs.Bytes.{same_some}
 use Rattle.opgp_frame.specs.declared.length.Length.{Length}
 use Rattle.opgp_frame.specs.Form.{header_octet, exponents_of, last_length}
-use Rattle.opgp_frame.specs.Frames.{IsAllowed, BeginsPacket}
+use Rattle.opgp_frame.specs.Frames.{BeginsPacket}
 use Rattle.opgp_frame.specs.Header.{kind_in}
 use Rattle.opgp_frame.specs.Length.{LengthBegins, length_octets, length_amount, is_partial}
 use Rattle.opgp_frame.specs.Packet.{cut_body}
-use Rattle.opgp_frame.specs.PacketFault.{NextFault, PacketFault, header_fault, length_fault}
+use Rattle.opgp_frame.specs.PacketFault.{NextFault, PacketFault, length_fault}
 use Rattle.opgp_frame.specs.PiecesValue.{pieces_sum}
 use Rattle.opgp_frame.proofs.Chains.{GoodFrom, GoodFrom-from_pieces, piece_length}
 use Rattle.opgp_frame.proofs.Cuts.{cut_body-append}
@@ -104,8 +104,7 @@ one_packet_fault limits (header ∷ o) reason other inner place (inr (fine, p)) 
     let same = one_chain limits header 0 0 0 0 p.exponents q.exponents p.rest q.rest p.body q.body refl refl (GoodFrom-from_pieces limits header p.exponents p.good) (GoodFrom-from_pieces limits header q.exponents q.good)
     p.whole q.whole (sym p.octets ∙ q.octets) (rw (zero_count p.exponents, zero_sum p.exponents) none) (rw (zero_count q.exponents, zero_sum q.exponents) none') in
     let next = subst (λ (x : List ℕ). NextFault limits header (length q.exponents) (pieces_sum q.exponents) x reason) same.1
-    (subst (λ (ks : List ℕ). NextFault limits header (length ks) (pieces_sum ks) p.rest reason) same.0 p.next) in
-    (
+    (subst (λ (ks : List ℕ). NextFault limits header (length ks) (pieces_sum ks) p.rest reason) same.0 p.next) in (
       one_next limits header (length q.exponents) (pieces_sum q.exponents) q.rest reason other next q.next,
       p.place ∙ ap (λ (ks : List ℕ). 1 + (length ks + pieces_sum ks)) same.0 ∙ sym q.place,
     )

@@ -13,7 +13,7 @@ use Rattle.opgp_frame.specs.declared.length.Length.{Length}
 use Rattle.opgp_frame.specs.declared.length.Length.TheVariants.{New}
 use Rattle.opgp_frame.specs.FaultReading.{lengths_fault, packet_fault, or_fault}
 use Rattle.opgp_frame.specs.Header.{kind_in}
-use Rattle.opgp_frame.specs.Length.{LengthBegins, length_octets, length_amount, length_at, is_partial}
+use Rattle.opgp_frame.specs.Length.{LengthBegins, length_amount, length_at, is_partial}
 use Rattle.opgp_frame.specs.Packet.{cut_body}
 use Rattle.opgp_frame.specs.PacketFault.{NextFault, FaultBehind, PacketFault, header_fault, length_fault}
 use Rattle.opgp_frame.specs.PiecesValue.{pieces_sum}

@@ -1,19 +1,18 @@
 -- What is known of an allowed packet: its first octet, its pieces and its last length.
-use Rattle.std.proofs.Common.{◌≡◌, ℕ, ◌+◌, ◌-◌, ◌≤◌, true, false, List, [], ◌∷◌, ◌++◌, length, Some, None, refl, sym, ap, subst, ◌∙◌, arith, length-append}
+use Rattle.std.proofs.Common.{◌≡◌, ℕ, ◌+◌, ◌≤◌, true, false, [], length, None, refl, sym, subst, arith}
 use Rattle.std.proofs.lemmas.Bool.{le-ltb, ltb-true}
 use Rattle.std.proofs.lemmas.List.Elements.{All-nil}
 use Rattle.opgp_octets.specs.declared.limits.Limits.{Limits}
 use Rattle.opgp_octets.specs.Limits.{body_limit, pieces_limit}
-use Rattle.opgp_octets.specs.declared.fault.Reason.{Reason}
 use Rattle.opgp_frame.specs.declared.form.Form.{Form}
 use Rattle.opgp_frame.specs.declared.form.Form.TheVariants.{OldOne, OldTwo, OldFour, NewOne, NewTwo, NewFive, Partial}
 use Rattle.opgp_frame.specs.declared.pieces.LastForm.{LastForm}
 use Rattle.opgp_frame.specs.declared.pieces.LastForm.TheVariants.{One, Two, Five}
 use Rattle.opgp_frame.specs.declared.length.Length.{Length}
-use Rattle.opgp_frame.specs.Form.{HasPieces, form_takes, header_octet, exponents_of, last_length, length_of_rest, current_length}
+use Rattle.opgp_frame.specs.Form.{HasPieces, form_takes, header_octet, exponents_of, length_of_rest, current_length}
 use Rattle.opgp_frame.specs.Frames.{IsAllowed}
-use Rattle.opgp_frame.specs.Header.{kind_in, is_data_kind}
-use Rattle.opgp_frame.specs.Length.{IsLengthUnder, length_octets, length_amount, is_partial}
+use Rattle.opgp_frame.specs.Header.{is_data_kind}
+use Rattle.opgp_frame.specs.Length.{IsLengthUnder, length_amount, is_partial}
 use Rattle.opgp_frame.specs.Packet.{PacketValue}
 use Rattle.opgp_frame.specs.PacketFault.{length_fault}
 use Rattle.opgp_frame.specs.PiecesValue.{GoodPieces, pieces_sum}

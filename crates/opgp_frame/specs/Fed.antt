@@ -1,12 +1,14 @@
 -- What a reader of packets has been given, and what was taken from it.
-use Rattle.std.specs.Prelude.{◌≡◌, ℕ, ◌<◌, Bool, true, false, List, [], ◌++◌, length, take, Option, Some, None, is_some, option_to_list, IsSome}
+use Rattle.std.specs.Prelude.{◌≡◌, ℕ, ◌<◌, Bool, true, false, List, [], ◌++◌, length, take, Option}
+use Rattle.std.specs.Prelude.{Some, None, is_some, option_to_list, IsSome}
 use Rattle.opgp_octets.specs.declared.limits.Limits.{Limits}
 use Rattle.opgp_octets.specs.declared.fault.Fault.{Fault}
 use Rattle.opgp_octets.specs.declared.fault.Layer.TheVariants.{Framing}
 use Rattle.opgp_frame.specs.declared.packet.Placed.{Placed}
 use Rattle.opgp_frame.specs.declared.deframe.Deframe.{Deframe}
 use Rattle.opgp_frame.specs.declared.deframe.State.{State}
-use Rattle.opgp_frame.specs.declared.deframe.State.TheVariants.{Between, InLength, InPiece, Faulty, Spent}
+use Rattle.opgp_frame.specs.declared.deframe.State.TheVariants.{Between, InLength, InPiece, Faulty}
+use Rattle.opgp_frame.specs.declared.deframe.State.TheVariants.{Spent}
 use Rattle.opgp_frame.specs.Frames.{spelled, StandFrom}
 use Rattle.opgp_frame.specs.PacketFault.{PacketFault}
 use Rattle.opgp_frame.specs.ReaderState.{held_in}
@@ -44,8 +46,8 @@ is_ready d = is_some d.ready
 abbrev pub count_of : Deframe → ℕ
 count_of d = d.given
 
--- Of the packet that is unfinished or ready: its first octet, the octets of the length header that is being read, the
--- joined octets of the body, and one octet a piece.
+-- Of the packet that is unfinished or ready: its first octet, the octets of the length header that
+-- is being read, the joined octets of the body, and one octet a piece.
 abbrev pub held_of : Deframe → ℕ
 held_of d = held_in d.state (length d.exponents.items) (length d.body.items) d.ready
 
@@ -68,8 +70,10 @@ IsRest limits (Faulty reason inner) exponents body rest =
     (more : List ℕ) → PacketFault limits (rest ++ more) reason inner
 IsRest limits Spent exponents body rest = ⊥
 
--- Within these limits the reader was given these octets of the block, and these packets were taken from it.
-pub record Fed (limits : Limits) (block : ℕ) (d : Deframe) (given : List ℕ) (taken : List Placed) : Type 0 where
+-- Within these limits the reader was given these octets of the block, and these packets were taken
+-- from it.
+pub record Fed (limits : Limits) (block : ℕ) (d : Deframe) (given : List ℕ)
+    (taken : List Placed) : Type 0 where
   pub rest : List ℕ
   pub limits_kept : d.limits ≡ limits
   pub block_kept : d.block ≡ block
@@ -80,9 +84,9 @@ pub record Fed (limits : Limits) (block : ℕ) (d : Deframe) (given : List ℕ) 
   pub state : IsRest limits d.state d.exponents.items d.body.items rest
   pub waits : IsSome d.ready → rest ≡ []
 
--- Whatever the old reader was given and had handed out, the new one was given these octets more and has handed out these
--- packets more.
+-- Whatever the old reader was given and had handed out, the new one was given these octets more and
+-- has handed out these packets more.
 abbrev pub KeepsFed : Deframe → Deframe → List ℕ → List Placed → Type 0
 KeepsFed old new octets packets =
-    (limits : Limits) (block : ℕ) (given : List ℕ) (taken : List Placed) → Fed limits block old given taken
-    → Fed limits block new (given ++ octets) (taken ++ packets)
+    (limits : Limits) (block : ℕ) (given : List ℕ) (taken : List Placed)
+    → Fed limits block old given taken → Fed limits block new (given ++ octets) (taken ++ packets)

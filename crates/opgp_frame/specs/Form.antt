@@ -6,7 +6,8 @@ use Rattle.opgp_frame.specs.declared.length.Length.TheVariants as len
 use Rattle.opgp_frame.specs.declared.pieces.LastForm.{LastForm}
 use Rattle.opgp_frame.specs.declared.pieces.LastForm.TheVariants.{One, Two, Five}
 use Rattle.opgp_frame.specs.declared.form.Form.{Form}
-use Rattle.opgp_frame.specs.declared.form.Form.TheVariants.{OldOne, OldTwo, OldFour, NewOne, NewTwo, NewFive, Partial}
+use Rattle.opgp_frame.specs.declared.form.Form.TheVariants.{OldOne, OldTwo, OldFour, NewOne, NewTwo}
+use Rattle.opgp_frame.specs.declared.form.Form.TheVariants.{NewFive, Partial}
 use Rattle.opgp_frame.specs.Header.{is_data_kind}
 use Rattle.opgp_frame.specs.Length.{LengthFits}
 use Rattle.opgp_frame.specs.PiecesValue.{ArePieces, pieces_sum}
@@ -51,8 +52,8 @@ HasPieces NewOne = Unit {0}
 HasPieces NewTwo = Unit {0}
 HasPieces NewFive = Unit {0}
 
--- The form spells a body of n octets: it has the pieces, its last length holds what is left, and it is no longer than
--- a length of four octets says.
+-- The form spells a body of n octets: it has the pieces, its last length holds what is left, and it
+-- is no longer than a length of four octets says.
 pub record FormSpells (form : Form) (n : ℕ) : Type 0 where
   pub stand : HasPieces form
   pub pieces : pieces_sum (exponents_of form) ≤ n
@@ -69,8 +70,9 @@ form_takes NewTwo kind = true
 form_takes NewFive kind = true
 form_takes (Partial p) kind = is_data_kind kind
 
--- The octet that begins a packet: bit 7 is set. In the legacy format the type is in bits 5 to 2 and the kind of length
--- in bits 1 and 0. In the current format bit 6 is set, and the type is in bits 5 to 0.
+-- The octet that begins a packet: bit 7 is set. In the legacy format the type is in bits 5 to 2 and
+-- the kind of length in bits 1 and 0. In the current format bit 6 is set, and the type is in bits 5
+-- to 0.
 abbrev pub header_octet : Form → ℕ → ℕ
 header_octet OldOne kind = 128 + 4 * kind
 header_octet OldTwo kind = 129 + 4 * kind

@@ -3,7 +3,8 @@ use Rattle.std.specs.Prelude.{ℕ, List, [], ◌∷◌, Option, Some, None}
 use Rattle.opgp_octets.specs.declared.packet_len.PacketLen.{PacketLen}
 use Rattle.opgp_octets.specs.declared.packet_len.PacketLen.TheVariants as new
 use Rattle.opgp_frame.specs.declared.form.Form.{Form}
-use Rattle.opgp_frame.specs.declared.form.Form.TheVariants.{OldOne, OldTwo, OldFour, NewOne, NewTwo, NewFive, Partial}
+use Rattle.opgp_frame.specs.declared.form.Form.TheVariants.{OldOne, OldTwo, OldFour, NewOne, NewTwo}
+use Rattle.opgp_frame.specs.declared.form.Form.TheVariants.{NewFive, Partial}
 use Rattle.opgp_frame.specs.declared.length.Length.{Length}
 use Rattle.opgp_frame.specs.declared.length.Length.TheVariants as len
 use Rattle.opgp_frame.specs.declared.pieces.LastForm.{LastForm}

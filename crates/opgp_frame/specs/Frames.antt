@@ -20,14 +20,16 @@ pub record IsAllowed (limits : Limits) (p : PacketValue) : Type 0 where
 abbrev pub spelled : List Placed → List ℕ
 spelled packets = flat_map (λ p. spelling p.packet) packets
 
--- the packets are allowed, and each says in which block and where it begins, the first one at this offset
+-- the packets are allowed, and each says in which block and where it begins, the first one at this
+-- offset
 abbrev pub StandFrom : Limits → ℕ → ℕ → List Placed → Type 0
 StandFrom limits block at [] = Unit {0}
 StandFrom limits block at (p ∷ ps) = IsAllowed limits p.packet × (p.block ≡ block) × (p.pos ≡ at)
     × StandFrom limits block (at + length (spelling p.packet)) ps
 
 -- the octets are these packets, one after the other
-pub record Frames (limits : Limits) (block : ℕ) (octets : List ℕ) (packets : List Placed) : Type 0 where
+pub record Frames (limits : Limits) (block : ℕ) (octets : List ℕ) (packets : List Placed)
+    : Type 0 where
   pub whole : octets ≡ spelled packets
   pub stand : StandFrom limits block 0 packets
 
@@ -39,13 +41,16 @@ pub record BeginsPacket (limits : Limits) (octets : List ℕ) : Type 0 where
   pub allowed : IsAllowed limits packet
 
 -- the longest list of allowed packets whose spellings, joined, begin the octets, and what is left
-pub record Longest (limits : Limits) (block : ℕ) (octets : List ℕ) (packets : List Placed) (rest : List ℕ) : Type 0 where
+pub record Longest (limits : Limits) (block : ℕ) (octets : List ℕ) (packets : List Placed)
+    (rest : List ℕ) : Type 0 where
   pub whole : octets ≡ spelled packets ++ rest
   pub stand : StandFrom limits block 0 packets
   pub no_more : ¬ BeginsPacket limits rest
 
--- the octets are no list of packets: after the longest list that they begin with comes what is at fault
-pub record IsFramingFault (limits : Limits) (block : ℕ) (octets : List ℕ) (fault : Fault) : Type 0 where
+-- the octets are no list of packets: after the longest list that they begin with comes what is at
+-- fault
+pub record IsFramingFault (limits : Limits) (block : ℕ) (octets : List ℕ) (fault : Fault)
+    : Type 0 where
   pub packets : List Placed
   pub rest : List ℕ
   pub longest : Longest limits block octets packets rest

@@ -1,9 +1,10 @@
 -- One length header (RFC 9580, 4.2), as a table from forms to octets.
-use Rattle.std.specs.Prelude.{◌≡◌, ℕ, ◌^◌, ◌<◌, ◌≤◌, ◌%◌, Bool, true, false, ◌==◌, List, [], ◌∷◌, length, take, Option, Some, None, option_map, if◌then◌else◌}
+use Rattle.std.specs.Prelude.{◌≡◌, ℕ, ◌^◌, ◌<◌, ◌≤◌, ◌%◌, Bool, true, false, ◌==◌, List, [], ◌∷◌}
+use Rattle.std.specs.Prelude.{length, take, Option, Some, None, option_map, if◌then◌else◌}
 use Rattle.std.specs.Int.{w16, w32, to_be_bytes}
-use Rattle.opgp_octets.specs.declared.packet_len.PacketLen.{PacketLen}
 use Rattle.opgp_octets.specs.declared.packet_len.PacketLen.TheVariants as new
-use Rattle.opgp_octets.specs.PacketLen.{PacketLenFits, packet_len_octets, packet_len_amount, packet_len_at}
+use Rattle.opgp_octets.specs.PacketLen.{PacketLenFits, packet_len_octets, packet_len_amount}
+use Rattle.opgp_octets.specs.PacketLen.{packet_len_at}
 use Rattle.opgp_octets.specs.Reading.{number_at}
 use Rattle.opgp_frame.specs.declared.length.Length.{Length}
 use Rattle.opgp_frame.specs.declared.length.Length.TheVariants.{OldOne, OldTwo, OldFour, New}
@@ -40,15 +41,16 @@ is_partial (OldOne n) = false
 is_partial (OldTwo n) = false
 is_partial (OldFour n) = false
 
--- A packet that begins with this octet may have such a length header: in the legacy format bits 1 and 0 of the octet
--- say which, in the current format the length header itself does.
+-- A packet that begins with this octet may have such a length header: in the legacy format bits 1
+-- and 0 of the octet say which, in the current format the length header itself does.
 abbrev pub IsLengthUnder : ℕ → Length → Type 0
 IsLengthUnder header (OldOne n) = (header < 192) × (header % 4 ≡ 0)
 IsLengthUnder header (OldTwo n) = (header < 192) × (header % 4 ≡ 1)
 IsLengthUnder header (OldFour n) = (header < 192) × (header % 4 ≡ 2)
 IsLengthUnder header (New len) = 192 ≤ header
 
--- Under this first octet of a packet the octets begin with the spelling of the length, which takes so many.
+-- Under this first octet of a packet the octets begin with the spelling of the length, which takes
+-- so many.
 pub record LengthBegins (header : ℕ) (o : List ℕ) (length' : Length) (count : ℕ) : Type 0 where
   pub fits : LengthFits length'
   pub under : IsLengthUnder header length'
@@ -56,7 +58,8 @@ pub record LengthBegins (header : ℕ) (o : List ℕ) (length' : Length) (count 
   pub within : count ≤ length o
   pub spelled : take count o ≡ length_octets length'
 
--- the length header that begins the octets under this first octet of a packet, and how many octets it takes
+-- the length header that begins the octets under this first octet of a packet, and how many octets
+-- it takes
 abbrev pub legacy_one_at : List ℕ → Option (Length × ℕ)
 legacy_one_at [] = None
 legacy_one_at (n ∷ rest) = Some (OldOne n, 1)

@@ -22,7 +22,8 @@ pub record IsPacket (p : PacketValue) : Type 0 where
   pub spells : FormSpells p.form (length p.body)
   pub octets : IsOctets p.body
 
--- A body cut by the exponents: each piece behind its own partial length, then the last length, then the rest.
+-- A body cut by the exponents: each piece behind its own partial length, then the last length, then
+-- the rest.
 abbrev pub cut_body : List ℕ → List ℕ → List ℕ → List ℕ
 cut_body [] last body = last ++ body
 cut_body (k ∷ ks) last body =

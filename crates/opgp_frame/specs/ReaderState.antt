@@ -1,11 +1,14 @@
--- What the state of a reader of packets says: how much it holds, and what is at fault where the octets end.
-use Rattle.std.specs.Prelude.{ℕ, ◌+◌, Bool, ◌&&◌, ◌==◌, nat_lt, nat_le, length, Option, Some, None, is_none, if◌then◌else◌}
+-- What the state of a reader of packets says: how much it holds, and what is at fault where the
+-- octets end.
+use Rattle.std.specs.Prelude.{ℕ, ◌+◌, Bool, ◌&&◌, ◌==◌, nat_lt, nat_le, length, Option, Some, None}
+use Rattle.std.specs.Prelude.{is_none, if◌then◌else◌}
 use Rattle.opgp_octets.specs.declared.limits.Limits.{Limits}
 use Rattle.opgp_octets.specs.Limits.{body_limit, pieces_limit}
 use Rattle.opgp_octets.specs.declared.fault.Reason.{Reason}
 use Rattle.opgp_octets.specs.declared.fault.Reason.TheVariants.{Truncated}
 use Rattle.opgp_frame.specs.declared.deframe.State.{State}
-use Rattle.opgp_frame.specs.declared.deframe.State.TheVariants.{Between, InLength, InPiece, Faulty, Spent}
+use Rattle.opgp_frame.specs.declared.deframe.State.TheVariants.{Between, InLength, InPiece, Faulty}
+use Rattle.opgp_frame.specs.declared.deframe.State.TheVariants.{Spent}
 use Rattle.opgp_frame.specs.declared.packet.Placed.{Placed}
 use Rattle.opgp_frame.specs.Form.{exponents_of}
 use Rattle.opgp_frame.specs.Length.{is_partial}
@@ -13,15 +16,18 @@ use Rattle.opgp_frame.specs.PacketFault.{header_fault}
 
 -- so many exponents and octets of the body stay within the limits
 abbrev pub within : Limits → ℕ → ℕ → Bool
-within limits exponents body = nat_le exponents (pieces_limit limits) && nat_le body (body_limit limits)
+within limits exponents body =
+    nat_le exponents (pieces_limit limits) && nat_le body (body_limit limits)
 
--- With this state a reader has so many exponents and octets of the body: between packets, after a fault and after want of
--- memory it has none.
+-- With this state a reader has so many exponents and octets of the body: between packets, after a
+-- fault and after want of memory it has none.
 abbrev pub state_fits : Limits → State → ℕ → ℕ → Bool
 state_fits limits Between exponents body = (exponents == 0) && (body == 0)
-state_fits limits (InLength header seen count) exponents body = nat_lt count 5 && is_none (header_fault header) && within limits exponents body
+state_fits limits (InLength header seen count) exponents body =
+    nat_lt count 5 && is_none (header_fault header) && within limits exponents body
 state_fits limits (InPiece header l from until) exponents body =
-    is_none (header_fault header) && nat_le from until && nat_lt body until && within limits exponents until
+    is_none (header_fault header) && nat_le from until && nat_lt body until
+    && within limits exponents until
     && nat_le (if is_partial l then exponents + 1 else exponents) (pieces_limit limits)
 state_fits limits (Faulty reason inner) exponents body = (exponents == 0) && (body == 0)
 state_fits limits Spent exponents body = (exponents == 0) && (body == 0)

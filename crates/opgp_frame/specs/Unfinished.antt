@@ -4,7 +4,8 @@ use Rattle.opgp_octets.specs.declared.limits.Limits.{Limits}
 use Rattle.opgp_frame.specs.declared.length.Length.{Length}
 use Rattle.opgp_frame.specs.Frames.{IsAllowed}
 use Rattle.opgp_frame.specs.Header.{kind_in}
-use Rattle.opgp_frame.specs.Length.{LengthFits, IsLengthUnder, length_at, length_amount, length_octets}
+use Rattle.opgp_frame.specs.Length.{LengthFits, IsLengthUnder, length_at, length_amount}
+use Rattle.opgp_frame.specs.Length.{length_octets}
 use Rattle.opgp_frame.specs.Packet.{PacketValue, spelling, cut_body}
 use Rattle.opgp_frame.specs.PacketFault.{header_fault, length_fault}
 use Rattle.opgp_frame.specs.PiecesValue.{GoodPieces, pieces_sum}
@@ -16,15 +17,17 @@ pub record HasBegun (limits : Limits) (header : ℕ) (exponents : List ℕ) : Ty
   pub pieces : GoodPieces limits header exponents
 
 -- The octets are those of a packet up to some of a length header, which isn't all there.
-pub record IsAtLength (limits : Limits) (header : ℕ) (seen exponents body rest : List ℕ) : Type 0 where
+pub record IsAtLength (limits : Limits) (header : ℕ) (seen exponents body rest : List ℕ)
+    : Type 0 where
   pub begun : HasBegun limits header exponents
   pub octets : rest ≡ header ∷ cut_body exponents seen body
   pub whole : length body ≡ pieces_sum exponents
   pub unread : length_at header seen ≡ None
 
--- The octets are those of a packet up to some of what a length header announces, or all of it: with that the body has so
--- many octets, from so many on.
-pub record IsInPiece (limits : Limits) (header : ℕ) (l : Length) (from until : ℕ) (exponents body rest : List ℕ) : Type 0 where
+-- The octets are those of a packet up to some of what a length header announces, or all of it: with
+-- that the body has so many octets, from so many on.
+pub record IsInPiece (limits : Limits) (header : ℕ) (l : Length) (from until : ℕ)
+    (exponents body rest : List ℕ) : Type 0 where
   pub begun : HasBegun limits header exponents
   pub octets : rest ≡ header ∷ cut_body exponents (length_octets l) body
   pub fits : LengthFits l

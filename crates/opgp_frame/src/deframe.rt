@@ -1,6 +1,8 @@
 //! A reader of packets that octets are pushed into, in any pieces.
 
-ghost use Rattle.std.specs.Prelude.{◌≡◌, ◌<◌, ◌≤◌, ◌+◌, ◌^◌, ◌++◌, ◌∷◌, ◌↔◌, ℕ, List, [], true, false, length, take, is_some, option_to_list, Some, None, IfOk, OnOk, OnErr, MatchResult, Ok, Err};
+ghost use Rattle.std.specs.Prelude.{◌≡◌, ◌<◌, ◌≤◌, ◌+◌, ◌^◌, ◌++◌, ◌∷◌, ◌↔◌, ℕ, List, [], true};
+ghost use Rattle.std.specs.Prelude.{false, length, take, is_some, option_to_list, Some, None, IfOk};
+ghost use Rattle.std.specs.Prelude.{OnOk, OnErr, MatchResult, Ok, Err};
 ghost use Rattle.std.specs.Option.{IsSomeAnd};
 ghost use Rattle.opgp_octets.specs.declared.limits.Limits.{Limits};
 ghost use Rattle.opgp_octets.specs.declared.fault.Fault.{Fault};
@@ -46,7 +48,8 @@ enum State {
 
 /// A reader of the packets of a block (RFC 9580, 4.2), which octets are pushed into, in any pieces.
 ///
-/// It keeps no more than the packet that is unfinished or ready, and after a fault or want of memory nothing.
+/// It keeps no more than the packet that is unfinished or ready, and after a fault or want of
+/// memory nothing.
 #[derive(Drop)]
 pub struct Deframe {
     alloc: Global,
@@ -59,14 +62,13 @@ pub struct Deframe {
     start: u64,
     given: u64,
     ghost fits: { state_fits limits state (length exponents.items) (length body.items) ≡ true },
-    ghost held: {
-        held_in state (length exponents.items) (length body.items) ready
-            ≤ body_limit limits + pieces_limit limits + 16
-    },
+    ghost held: { held_in state (length exponents.items) (length body.items) ready
+        ≤ body_limit limits + pieces_limit limits + 16 },
 }
 
 impl Deframe {
-    ghost use Rattle.opgp_frame.specs.Fed.{Fed, KeepsFed, is_spent, fault_of, is_ready, count_of, limits_of, held_of};
+    ghost use Rattle.opgp_frame.specs.Fed.{Fed, KeepsFed, is_spent, fault_of, is_ready, count_of};
+    ghost use Rattle.opgp_frame.specs.Fed.{limits_of, held_of};
     ghost use Rattle.opgp_frame.specs.Frames.{Frames, IsFramingFault};
     ghost use Rattle.opgp_frame.specs.Length.{LengthFits, is_partial};
     ghost use Rattle.opgp_frame.specs.ReaderState.{IsInLength};
@@ -127,28 +129,25 @@ impl Deframe {
 
     /// Ends the octets. The condition is that nothing is ready.
     ///
-    /// An error is the framing fault; after want of memory its reason is `Spent` and its places are 0.
+    /// An error is the framing fault; after want of memory its reason is `Spent` and its places are
+    /// 0.
     ///
     /// Takes no memory.
     pub fn finish(self) -> Result<(), Fault>
         requires { is_ready self ≡ false }
-        ensures ok {
-            (limits : Limits) (block : ℕ) (given : List ℕ) (taken : List Placed)
-                → Fed limits block self given taken
-                → MatchResult result (λ _. Frames limits block given taken)
-                    (IsFramingFault limits block given)
-        }
+        ensures ok { (limits : Limits) (block : ℕ) (given : List ℕ) (taken : List Placed)
+            → Fed limits block self given taken
+            → MatchResult result (λ _. Frames limits block given taken)
+            (IsFramingFault limits block given) }
         // A fault that it has is answered.
         ensures faulty { (fault : Fault) → fault_of self ≡ Some fault → result ≡ Err fault }
-        ensures spent {
-            is_spent self ≡ true → result ≡ Err (record {
-                layer = layer.Framing;
-                reason = reason.Spent;
-                block = 0;
-                pos = 0;
-                inner = 0;
-            })
-        }
+        ensures spent { is_spent self ≡ true → result ≡ Err (record {
+          layer = layer.Framing;
+          reason = reason.Spent;
+          block = 0;
+          pos = 0;
+          inner = 0;
+        }) }
     {
         if let State::Spent = self.state {
             return Err(Fault {
@@ -173,10 +172,8 @@ impl Deframe {
 
     /// The fault of the unfinished packet, if the octets end here, and its offset in the packet.
     fn fault(&self) -> Option<(Reason, u64)>
-        ensures {
-            result ≡ state_fault self.now.state (length self.now.exponents.items)
-                (length self.now.body.items)
-        }
+        ensures { result ≡ state_fault self.now.state (length self.now.exponents.items)
+            (length self.now.body.items) }
     {
         let pieces = self.exponents.len() as u64;
         match self.state {
@@ -190,11 +187,12 @@ impl Deframe {
         }
     }
 
-    /// Takes the first octets of the piece, up to the one that makes a packet ready, or all of it, and answers how
-    /// many. The conditions are that nothing is ready, and that fewer than 2^63 octets are given in all.
+    /// Takes the first octets of the piece, up to the one that makes a packet ready, or all of it,
+    /// and answers how many. The conditions are that nothing is ready, and that fewer than 2^63
+    /// octets are given in all.
     ///
-    /// After a fault all octets are taken and nothing becomes ready. An error is want of memory; the reader is spent
-    /// from then on, and the piece doesn't count as given.
+    /// After a fault all octets are taken and nothing becomes ready. An error is want of memory;
+    /// the reader is spent from then on, and the piece doesn't count as given.
     pub fn push(&mut self, piece: &[u8]) -> Result<usize, PushFault>
         requires free { is_ready self.old ≡ false }
         requires room { count_of self.old + length piece.now < 2 ^ 63 }
@@ -204,21 +202,16 @@ impl Deframe {
         ensures stops { IfOk result (λ n. n < length piece.now → is_ready self.new ≡ true) }
         ensures count { IfOk result (λ n. count_of self.new ≡ count_of self.old + n) }
         // A fault stays, all is taken, and nothing becomes ready.
-        ensures faulty {
-            (fault : Fault) → fault_of self.old ≡ Some fault
-                → (result ≡ Ok (length piece.now)) × (fault_of self.new ≡ Some fault)
-                    × (is_ready self.new ≡ false)
-        }
+        ensures faulty { (fault : Fault) → fault_of self.old ≡ Some fault
+            → (result ≡ Ok (length piece.now)) × (fault_of self.new ≡ Some fault)
+            × (is_ready self.new ≡ false) }
         ensures sound { OnOk result (is_spent self.new ≡ false) }
-        ensures spent {
-            OnErr result ((is_spent self.new ≡ true) × (is_ready self.new ≡ false)
-                × (count_of self.new ≡ count_of self.old))
-        }
+        ensures spent { OnErr result ((is_spent self.new ≡ true) × (is_ready self.new ≡ false)
+            × (count_of self.new ≡ count_of self.old)) }
         ensures was_spent { (result ≡ Err PushFault.Spent) ↔ (is_spent self.old ≡ true) }
         ensures limits { limits_of self.new ≡ limits_of self.old }
-        ensures held {
-            held_of self.new ≤ body_limit (limits_of self.new) + pieces_limit (limits_of self.new) + 16
-        }
+        ensures held { held_of self.new
+            ≤ body_limit (limits_of self.new) + pieces_limit (limits_of self.new) + 16 }
     {
         if let State::Spent = self.state {
             return Err(PushFault::Spent);
@@ -238,8 +231,8 @@ impl Deframe {
         Ok(at)
     }
 
-    /// One step of a push: a packet's first octet, a length header or an octet of it, what there is of a piece, or
-    /// all after a fault.
+    /// One step of a push: a packet's first octet, a length header or an octet of it, what there is
+    /// of a piece, or all after a fault.
     fn step(&mut self, piece: &[u8]) -> Result<usize, OutOfMemory>
         requires some { 0 < length piece.now }
         requires free { is_ready self.old ≡ false }
@@ -248,11 +241,9 @@ impl Deframe {
         ensures fed { IfOk result (λ n. KeepsFed self.old self.new (take n piece.now) []) }
         ensures moves { IfOk result (λ n. (0 < n) × (n ≤ length piece.now)) }
         ensures count { IfOk result (λ n. count_of self.new ≡ count_of self.old + n) }
-        ensures faulty {
-            (fault : Fault) → fault_of self.old ≡ Some fault
-                → (result ≡ Ok (length piece.now)) × (fault_of self.new ≡ Some fault)
-                    × (is_ready self.new ≡ false)
-        }
+        ensures faulty { (fault : Fault) → fault_of self.old ≡ Some fault
+            → (result ≡ Ok (length piece.now)) × (fault_of self.new ≡ Some fault)
+            × (is_ready self.new ≡ false) }
         ensures sound { OnOk result (is_spent self.new ≡ false) }
         ensures free { OnErr result (is_ready self.new ≡ false) }
         ensures limits { limits_of self.new ≡ limits_of self.old }
@@ -368,24 +359,16 @@ impl Deframe {
     }
 
     /// Takes so many octets, with which a length header is whole.
-    fn end_length(
-        &mut self,
-        header: u8,
-        seen: [u8; 5],
-        count: usize,
-        announced: Length,
-        size: u64,
-    )
+    fn end_length(&mut self, header: u8, seen: [u8; 5], count: usize, announced: Length, size: u64)
         requires in_length { self.old.state ≡ State.InLength header seen count }
         requires fits { LengthFits announced }
         requires free { is_ready self.old ≡ false }
         requires room { count_of self.old + size < 2 ^ 63 }
-        ensures fed {
-            (limits : Limits) (block : ℕ) (given : List ℕ) (taken : List Placed) (octets : List ℕ)
-                → length octets ≡ size → EndsLength header (take count seen) octets announced
-                → Fed limits block self.old given taken
-                → Fed limits block self.new (given ++ octets) (taken ++ [])
-        }
+        ensures fed { (limits : Limits) (block : ℕ) (given : List ℕ) (taken : List Placed)
+            (octets : List ℕ) → length octets ≡ size
+            → EndsLength header (take count seen) octets announced
+            → Fed limits block self.old given taken
+            → Fed limits block self.new (given ++ octets) (taken ++ []) }
         ensures count { count_of self.new ≡ count_of self.old + size }
         ensures sound { is_spent self.new ≡ false }
         ensures limits { limits_of self.new ≡ limits_of self.old }
@@ -455,14 +438,12 @@ impl Deframe {
     fn end_packet(&mut self, header: u8, last: Length)
         requires in_length { IsInLength self.old.state }
         requires free { is_ready self.old ≡ false }
-        ensures whole {
-            (limits : Limits) (from until : ℕ) (rest : List ℕ)
-                → IsInPiece limits header last from until self.old.exponents.items
-                    self.old.body.items rest
-                → length self.old.body.items ≡ until → is_partial last ≡ false
-                → IsSomeAnd self.new.ready (λ p. (p.block ≡ self.old.block)
-                    × (p.pos ≡ self.old.start) × IsWhole limits rest p.packet)
-        }
+        ensures whole { (limits : Limits) (from until : ℕ) (rest : List ℕ)
+            → IsInPiece limits header last from until self.old.exponents.items
+            self.old.body.items rest
+            → length self.old.body.items ≡ until → is_partial last ≡ false
+            → IsSomeAnd self.new.ready (λ p. (p.block ≡ self.old.block)
+            × (p.pos ≡ self.old.start) × IsWhole limits rest p.packet) }
         ensures state { self.new.state ≡ State.Between }
         ensures empty { (self.new.exponents.items ≡ []) × (self.new.body.items ≡ []) }
         ensures start { self.new.start ≡ self.old.given }
@@ -478,10 +459,12 @@ impl Deframe {
     }
 }
 
-/// Makes room in a body for octets of a piece, of which so many are there and so many are to come in all.
+/// Makes room in a body for octets of a piece, of which so many are there and so many are to come
+/// in all.
 ///
-/// A last piece is given no more room than it wants, and none before it comes more than 4,096 octets or as much again
-/// as the body has. More pieces may follow others, so these grow as a vector does.
+/// A last piece is given no more room than it wants, and none before it comes more than 4,096
+/// octets or as much again as the body has. More pieces may follow others, so these grow as a
+/// vector does.
 fn make_room(
     body: &mut Vec<u8>,
     partial: bool,

@@ -2,7 +2,8 @@
 
 ghost use Rattle.std.specs.Prelude.{◌≡◌, ◌<◌, ◌≤◌, ℕ, All, IfOk, length, true};
 ghost use Rattle.std.specs.Option.{SomeIff};
-ghost use Rattle.opgp_frame.specs.Form.{HasPieces, FormSpells, form_takes, last_length, exponents_of, header_octet, current_length};
+ghost use Rattle.opgp_frame.specs.Form.{HasPieces, FormSpells, form_takes, last_length};
+ghost use Rattle.opgp_frame.specs.Form.{exponents_of, header_octet, current_length};
 ghost use Rattle.opgp_frame.specs.Length.{LengthFits, length_octets};
 ghost use Rattle.opgp_frame.specs.Reframed.{IsCurrent, shortest_form};
 
@@ -32,19 +33,17 @@ pub enum Form {
 }
 
 impl Form {
-    /// The form of the current format, not partial, that spells a body of `n` octets in the fewest octets (RFC 9580,
-    /// 4.2.1).
+    /// The form of the current format, not partial, that spells a body of `n` octets in the fewest
+    /// octets (RFC 9580, 4.2.1).
     ///
     /// Takes no memory.
     pub fn shortest(n: u32) -> Form
         ensures current { IsCurrent result }
         ensures takes { (kind : ℕ) → form_takes result kind ≡ true }
         ensures spells { FormSpells result n }
-        ensures least {
-            (other : Form) → IsCurrent other → FormSpells other n
-                → length (length_octets (last_length result n))
-                    ≤ length (length_octets (last_length other n))
-        }
+        ensures least { (other : Form) → IsCurrent other → FormSpells other n
+            → length (length_octets (last_length result n))
+            ≤ length (length_octets (last_length other n)) }
         ensures exact { result ≡ shortest_form n }
     {
         match shortest(n) {

@@ -1,8 +1,10 @@
 //! One length header (RFC 9580, 4.2).
 
-ghost use Rattle.std.specs.Prelude.{◌≡◌, ◌≤◌, ◌++◌, None, false, length, IsSome, MatchOption, IfSome, OnOk, OnErr};
+ghost use Rattle.std.specs.Prelude.{◌≡◌, ◌≤◌, ◌++◌, None, false, length, IsSome, MatchOption};
+ghost use Rattle.std.specs.Prelude.{IfSome, OnOk, OnErr};
 ghost use Rattle.opgp_octets.specs.Limits.{body_limit, pieces_limit};
-ghost use Rattle.opgp_frame.specs.Length.{LengthFits, LengthBegins, length_octets, length_amount, length_at, is_partial};
+ghost use Rattle.opgp_frame.specs.Length.{LengthFits, LengthBegins, length_octets, length_amount};
+ghost use Rattle.opgp_frame.specs.Length.{length_at, is_partial};
 ghost use Rattle.opgp_frame.specs.PacketFault.{length_fault, header_fault};
 ghost use Rattle.opgp_frame.specs.Spelling.{octets_of_header};
 
@@ -47,7 +49,8 @@ impl Length {
 
     /// The exponent of the piece that follows, if it is a partial length.
     pub(crate) fn exponent(self) -> Option<u8>
-        ensures { MatchOption result (is_partial self ≡ false) (λ k. self ≡ Length.New (PacketLen.Partial k)) }
+        ensures { MatchOption result (is_partial self ≡ false)
+            (λ k. self ≡ Length.New (PacketLen.Partial k)) }
     {
         match self {
             Length::New(PacketLen::Partial(power)) => Some(power),
@@ -63,7 +66,10 @@ impl Length {
         ensures small { result.count ≤ 5 }
     {
         match self {
-            Length::OldOne(n) | Length::New(PacketLen::One(n)) => HeaderOctets::new([n, 0, 0, 0, 0], 1),
+            Length::OldOne(n) | Length::New(PacketLen::One(n)) => HeaderOctets::new(
+                [n, 0, 0, 0, 0],
+                1,
+            ),
             Length::OldTwo(n) => {
                 let [a, b] = n.to_be_bytes();
                 HeaderOctets::new([a, b, 0, 0, 0], 2)
@@ -81,7 +87,10 @@ impl Length {
                 let [a, b, c, d] = n.to_be_bytes();
                 HeaderOctets::new([255, a, b, c, d], 5)
             }
-            Length::New(PacketLen::Partial(power)) => HeaderOctets::new([224 + power, 0, 0, 0, 0], 1),
+            Length::New(PacketLen::Partial(power)) => HeaderOctets::new(
+                [224 + power, 0, 0, 0, 0],
+                1,
+            ),
         }
     }
 }
@@ -111,8 +120,8 @@ fn length_of(header: u8, o: &[u8]) -> Option<(Length, usize)>
     }
 }
 
-/// The length header that begins the octets, in a packet with this first octet, and how many octets it takes; None
-/// where its octets aren't all there.
+/// The length header that begins the octets, in a packet with this first octet, and how many octets
+/// it takes; None where its octets aren't all there.
 pub(crate) fn read_length(header: u8, o: &[u8]) -> Option<(Length, usize)>
     ensures found { IfSome result (λ x. LengthBegins header o.now x.0 x.1) }
     ensures exact { result ≡ length_at header o.now }
@@ -121,7 +130,8 @@ pub(crate) fn read_length(header: u8, o: &[u8]) -> Option<(Length, usize)>
     length_of(header, o)
 }
 
-/// Why the length may not stand behind so many partial ones, whose pieces have so many octets, in a packet of this type.
+/// Why the length may not stand behind so many partial ones, whose pieces have so many octets, in a
+/// packet of this type.
 pub(crate) fn length_fault(
     limits: Limits,
     kind: u8,

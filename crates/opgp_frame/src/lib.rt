@@ -10,8 +10,6 @@ mod packet;
 mod parts;
 mod pieces;
 mod spelling;
-#[cfg(test)]
-mod tests;
 mod writing;
 
 pub use deframe::Deframe;

@@ -25,7 +25,8 @@ impl Model for Packet {
 
     ghost view = { λ p. record { form = p.form; kind = p.kind; body = p.body.items } };
 
-    ghost invariant = { λ p. IsPacket (record { form = p.form; kind = p.kind; body = p.body.items }) };
+    ghost invariant = { λ p.
+        IsPacket (record { form = p.form; kind = p.kind; body = p.body.items }) };
 }
 
 /// A packet and where it stands.
@@ -48,8 +49,10 @@ impl Packet {
     ///
     /// Takes no memory.
     pub fn new(form: Form, kind: u8, body: Vec<u8>) -> Option<Packet>
-        ensures some { IsSome result ↔ IsPacket (record { form = form; kind = kind; body = body.items }) }
-        ensures value { IfSome result (λ p. p ≡ record { form = form; kind = kind; body = body.items }) }
+        ensures some { IsSome result
+            ↔ IsPacket (record { form = form; kind = kind; body = body.items }) }
+        ensures value { IfSome result
+            (λ p. p ≡ record { form = form; kind = kind; body = body.items }) }
     {
         if !is_read_kind(kind) || !form.takes(kind) {
             return None;

@@ -25,9 +25,13 @@ pub(crate) fn placed(
     block: u64,
     pos: u64,
 ) -> Option<Placed>
-    ensures kept { IfSome result (λ p. (length p.packet.body ≡ length body.items) × (length (exponents_of p.packet.form) ≤ length exponents.items)) }
-    ensures whole { (limits : Limits) (from until : ℕ) (rest : List ℕ) → IsInPiece limits header last from until exponents.items body.items rest
-        → length body.items ≡ until → is_partial last ≡ false → IsSomeAnd result (λ p. (p.block ≡ block) × (p.pos ≡ pos) × IsWhole limits rest p.packet) }
+    ensures kept { IfSome result (λ p. (length p.packet.body ≡ length body.items)
+        × (length (exponents_of p.packet.form) ≤ length exponents.items)) }
+    ensures whole { (limits : Limits) (from until : ℕ) (rest : List ℕ)
+        → IsInPiece limits header last from until exponents.items body.items rest
+        → length body.items ≡ until → is_partial last ≡ false
+        → IsSomeAnd result
+        (λ p. (p.block ≡ block) × (p.pos ≡ pos) × IsWhole limits rest p.packet) }
 {
     let form = form_of(exponents, last)?;
     let packet = Packet::new(form, kind_in(header), body)?;
@@ -37,7 +41,8 @@ pub(crate) fn placed(
 /// The form of a packet with these pieces and this last length.
 fn form_of(exponents: Vec<u8>, last: Length) -> Option<Form>
     ensures kept { IfSome result (λ f. length (exponents_of f) ≤ length exponents.items) }
-    ensures exact { (0 < length exponents.items → ArePieces exponents.items) → result ≡ form_with exponents.items last }
+    ensures exact { (0 < length exponents.items → ArePieces exponents.items)
+        → result ≡ form_with exponents.items last }
 {
     let (last, plain) = match last {
         Length::OldOne(_) => return Some(Form::OldOne),

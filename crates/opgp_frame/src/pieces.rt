@@ -19,8 +19,8 @@ pub enum LastForm {
     Five,
 }
 
-/// How a body is cut into pieces: the piece of each partial length has two to its exponent octets, and a last
-/// length has the rest.
+/// How a body is cut into pieces: the piece of each partial length has two to its exponent octets,
+/// and a last length has the rest.
 #[derive(Debug, Drop)]
 pub struct Pieces {
     exponents: Vec<u8>,
@@ -38,13 +38,14 @@ impl Model for Pieces {
 }
 
 impl Pieces {
-    /// These pieces, or None unless there is an exponent, the first is at least 9 (a first piece has at least 512
-    /// octets) and each is at most 30.
+    /// These pieces, or None unless there is an exponent, the first is at least 9 (a first piece
+    /// has at least 512 octets) and each is at most 30.
     ///
     /// Takes no memory.
     pub fn new(exponents: Vec<u8>, last: LastForm) -> Option<Pieces>
         ensures some { IsSome result ↔ ArePieces exponents.items }
-        ensures value { IfSome result (λ p. p ≡ record { exponents = exponents.items; last = last }) }
+        ensures value { IfSome result
+            (λ p. p ≡ record { exponents = exponents.items; last = last }) }
     {
         if are_pieces(&exponents) {
             Some(Pieces { exponents, last })

@@ -1,6 +1,7 @@
 //! A packet's octets in slices, which takes no memory.
 
-ghost use Rattle.std.specs.Prelude.{◌≡◌, ◌<◌, ◌≤◌, ◌++◌, [], All, length, take, option_to_list, IfSome, MatchOption};
+ghost use Rattle.std.specs.Prelude.{◌≡◌, ◌<◌, ◌≤◌, ◌++◌, [], All, length, take, option_to_list};
+ghost use Rattle.std.specs.Prelude.{IfSome, MatchOption};
 ghost use Rattle.opgp_frame.specs.Packet.{IsPacket, spelling};
 ghost use Rattle.opgp_frame.specs.PiecesValue.{pieces_sum};
 
@@ -56,8 +57,8 @@ impl HeaderOctets {
     }
 }
 
-/// The octets of a packet that are left to be written (RFC 9580, 4.2): for each piece, and for what comes after the
-/// pieces, its header and its part of the body, which is borrowed.
+/// The octets of a packet that are left to be written (RFC 9580, 4.2): for each piece, and for what
+/// comes after the pieces, its header and its part of the body, which is borrowed.
 #[derive(Drop)]
 pub struct Spelling<'a> {
     first: Option<u8>,
@@ -78,9 +79,8 @@ impl<'a> Spelling<'a> {
     /// Takes no memory.
     pub fn new(form: &'a Form, kind: u8, body: &'a [u8]) -> Spelling<'a>
         requires { IsPacket (record { form = form.now; kind = kind; body = body.now }) }
-        ensures {
-            octets_left result ≡ spelling (record { form = form.now; kind = kind; body = body.now })
-        }
+        ensures { octets_left result
+            ≡ spelling (record { form = form.now; kind = kind; body = body.now }) }
     {
         match form.last_length(body.len() as u64) {
             Some(length) => Spelling {
@@ -98,14 +98,11 @@ impl<'a> Spelling<'a> {
     ///
     /// Takes no memory.
     pub fn next(&mut self) -> Option<(HeaderOctets, &'a [u8])>
-        ensures next {
-            MatchOption result (octets_left self.old ≡ [])
-                (λ part. octets_left self.old
-                    ≡ octets_of_header part.0 ++ (part.1.now ++ octets_left self.new))
-        }
-        ensures fewer {
-            IfSome result (λ part. length (octets_left self.new) < length (octets_left self.old))
-        }
+        ensures next { MatchOption result (octets_left self.old ≡ [])
+            (λ part. octets_left self.old
+            ≡ octets_of_header part.0 ++ (part.1.now ++ octets_left self.new)) }
+        ensures fewer { IfSome result
+            (λ part. length (octets_left self.new) < length (octets_left self.old)) }
     {
         if self.ended {
             return None;

@@ -1,6 +1,7 @@
 //! Writing packets.
 
-ghost use Rattle.std.specs.Prelude.{◌≡◌, ◌<◌, ◌≤◌, ◌+◌, ◌++◌, ℕ, List, length, OnOk, OnErr, vec_len, vec_capacity};
+ghost use Rattle.std.specs.Prelude.{◌≡◌, ◌<◌, ◌≤◌, ◌+◌, ◌++◌, ℕ, List, length, OnOk, OnErr};
+ghost use Rattle.std.specs.Prelude.{vec_len, vec_capacity};
 ghost use Rattle.opgp_frame.specs.Form.{FormSpells};
 ghost use Rattle.opgp_frame.specs.Packet.{PacketValue, IsPacket, spelling};
 ghost use Rattle.opgp_frame.specs.Reframed.{reframed, IsCurrent};
@@ -18,50 +19,38 @@ pub fn write_packet(packet: &Packet, out: &mut Vec<u8>) -> Result<(), OutOfMemor
     ensures ok { OnOk result (out.new.items ≡ out.old.items ++ spelling packet.now) }
     ensures err { OnErr result (out.new.items ≡ out.old.items) }
     // It fails only where room was missing.
-    ensures full {
-        OnErr result (vec_capacity out.old < vec_len out.old + length (spelling packet.now))
-    }
+    ensures full { OnErr result
+        (vec_capacity out.old < vec_len out.old + length (spelling packet.now)) }
 {
     write_parts(packet.form(), packet.kind(), packet.body(), out)
 }
 
-/// Writes the octets (RFC 9580, 4.2) of the packet with this form, type and body at the end of `out`. The condition is
-/// that there is such a packet.
+/// Writes the octets (RFC 9580, 4.2) of the packet with this form, type and body at the end of
+/// `out`. The condition is that there is such a packet.
 ///
 /// An error is want of memory; `out` is then as it was.
-pub fn write_parts(
-    form: &Form,
-    kind: u8,
-    body: &[u8],
-    out: &mut Vec<u8>,
-) -> Result<(), OutOfMemory>
+pub fn write_parts(form: &Form, kind: u8, body: &[u8], out: &mut Vec<u8>) -> Result<(), OutOfMemory>
     requires { IsPacket (record { form = form.now; kind = kind; body = body.now }) }
-    ensures ok {
-        OnOk result (out.new.items ≡ out.old.items
-            ++ spelling (record { form = form.now; kind = kind; body = body.now }))
-    }
+    ensures ok { OnOk result (out.new.items ≡ out.old.items
+        ++ spelling (record { form = form.now; kind = kind; body = body.now })) }
     ensures err { OnErr result (out.new.items ≡ out.old.items) }
     // It fails only where room was missing.
-    ensures full {
-        OnErr result (vec_capacity out.old < vec_len out.old
-            + length (spelling (record { form = form.now; kind = kind; body = body.now })))
-    }
+    ensures full { OnErr result (vec_capacity out.old < vec_len out.old
+        + length (spelling (record { form = form.now; kind = kind; body = body.now }))) }
 {
     out.reserve(spelled_len_of(form, body.len() as u64) as usize)?;
     append(Spelling::new(form, kind, body), out);
     Ok(())
 }
 
-/// How many octets a packet with this form and a body of `n` octets is spelled in (RFC 9580, 4.2). The condition is that
-/// the form spells such a body.
+/// How many octets a packet with this form and a body of `n` octets is spelled in (RFC 9580, 4.2).
+/// The condition is that the form spells such a body.
 ///
 /// Takes no memory.
 pub fn spelled_len_of(form: &Form, n: u64) -> u64
     requires { FormSpells form.now n }
-    ensures {
-        (kind : ℕ) (body : List ℕ) → length body ≡ n
-            → result ≡ length (spelling (record { form = form.now; kind = kind; body = body }))
-    }
+    ensures { (kind : ℕ) (body : List ℕ) → length body ≡ n
+        → result ≡ length (spelling (record { form = form.now; kind = kind; body = body })) }
 {
     let pieces = form.exponents().len() as u64;
     match form.last_length(n) {
@@ -100,11 +89,9 @@ fn put(octets: &[u8], out: &mut Vec<u8>)
 pub fn reframe(packet: Packet) -> Packet
     ensures same { (result.kind ≡ packet.kind) × (result.body ≡ packet.body) }
     ensures current { IsCurrent result.form }
-    ensures least {
-        (other : PacketValue) → IsPacket other → IsCurrent other.form
-            → other.kind ≡ packet.kind → other.body ≡ packet.body
-            → length (spelling result) ≤ length (spelling other)
-    }
+    ensures least { (other : PacketValue) → IsPacket other → IsCurrent other.form
+        → other.kind ≡ packet.kind → other.body ≡ packet.body
+        → length (spelling result) ≤ length (spelling other) }
     ensures exact { result ≡ reframed packet }
 {
     let (_, kind, body) = packet.into_parts();

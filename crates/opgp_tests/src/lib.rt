@@ -1,0 +1,5 @@
+//! Tests of the lower crates.
+#![tactic(auto)]
+
+#[cfg(test)]
+mod frame;

@@ -110,7 +110,8 @@ impl Deframe {
     pub fn given(&self) -> u64
         ensures { result ≡ count_of self.now }
     {
-        self.given
+        let Deframe { given, .. } = self;
+        *given
     }
 
     /// Takes the packet that is ready.

@@ -14,7 +14,7 @@ use opgp_octets::{OutOfMemory, PacketLen, shortest};
 use std::alloc::Global;
 
 /// The format of a packet's header and the form of its length (RFC 9580, 4.2).
-#[derive(Debug, Drop)]
+#[derive(Drop)]
 pub enum Form {
     /// The legacy format with a length of one octet.
     OldOne,

@@ -11,7 +11,7 @@ use std::alloc::Global;
 use std::marker::Model;
 
 /// A packet: the form of its header, its type and its body. It doesn't contain its place.
-#[derive(Debug, Drop)]
+#[derive(Drop)]
 pub struct Packet {
     form: Form,
     kind: u8,
@@ -30,7 +30,7 @@ impl Model for Packet {
 }
 
 /// A packet and where it stands.
-#[derive(Debug, Drop)]
+#[derive(Drop)]
 pub struct Placed {
     /// The packet.
     pub packet: Packet,

@@ -9,7 +9,7 @@ use std::alloc::Global;
 use std::marker::Model;
 
 /// The form of the length that ends a chain of pieces.
-#[derive(Clone, Copy, Debug, PartialEq, Eq)]
+#[derive(Clone, Copy, PartialEq, Eq)]
 pub enum LastForm {
     /// One octet: 0 to 191.
     One,
@@ -21,7 +21,7 @@ pub enum LastForm {
 
 /// How a body is cut into pieces: the piece of each partial length has two to its exponent octets,
 /// and a last length has the rest.
-#[derive(Debug, Drop)]
+#[derive(Drop)]
 pub struct Pieces {
     exponents: Vec<u8>,
     last: LastForm,

@@ -494,6 +494,7 @@ fn a_fault_stays(rt: HostRuntime) -> Result<(), Fail> {
         assert!(rt; deframe.take().is_none());
     }
     assert_eq!(rt; deframe.given(), 5);
+    assert!(rt; !deframe.ready());
     let wanted = Fault {
         layer: Layer::Framing,
         reason: Reason::PartialKind,

@@ -1,14 +1,16 @@
 -- What the state of a reader says of what it holds.
-use Rattle.std.proofs.Common.{◌≡◌, ℕ, ◌+◌, ◌<◌, ◌≤◌, Bool, true, false, ◌&&◌, cond, leb, ltb, List, Option, Some, None, is_some, refl, ap, subst, arith}
+use Rattle.std.proofs.Common.{◌≡◌, ℕ, ◌+◌, ◌<◌, ◌≤◌, Bool, true, false, ◌&&◌, cond, leb, ltb, eqb, List, Option, Some, None, is_some, refl, ap, subst, arith}
 use Rattle.std.specs.Prelude.{is_none}
-use Rattle.std.proofs.lemmas.Bool.{and_parts, and_from, ltb-true, lt-ltb, leb-true, le-leb}
+use Rattle.std.proofs.lemmas.Bool.{and_parts, and_from, ltb-true, lt-ltb, leb-true, le-leb, eqb-true}
 use Rattle.opgp_octets.specs.declared.limits.Limits.{Limits}
 use Rattle.opgp_octets.specs.Limits.{body_limit, pieces_limit}
+use Rattle.opgp_octets.specs.declared.fault.Fault.{Fault}
 use Rattle.opgp_octets.specs.declared.fault.Reason.{Reason}
 use Rattle.opgp_frame.specs.declared.deframe.State.{State}
-use Rattle.opgp_frame.specs.declared.deframe.State.TheVariants.{InLength, InPiece}
+use Rattle.opgp_frame.specs.declared.deframe.State.TheVariants.{Between, InLength, InPiece, Faulty, Spent}
 use Rattle.opgp_frame.specs.declared.length.Length.{Length}
 use Rattle.opgp_frame.specs.declared.packet.Placed.{Placed}
+use Rattle.opgp_frame.specs.Fed.{fault_of_state, is_spent_state}
 use Rattle.opgp_frame.specs.Length.{is_partial}
 use Rattle.opgp_frame.specs.PacketFault.{header_fault}
 use Rattle.opgp_frame.specs.ReaderState.{within, state_fits, held_in, held_in_ready, held_in_state}
@@ -85,7 +87,23 @@ holds_length limits header seen count exponents body ready f e = omega (arith, h
 pub holds_piece : (limits : Limits) (header : ℕ) (l : Length) (from until exponents body : ℕ) (ready : Option Placed) → PieceFacts limits header l from until exponents body → is_some ready ≡ false → held_in (InPiece header l from until) exponents body ready ≤ body_limit limits + pieces_limit limits + 16
 holds_piece limits header l from until exponents body ready f e = omega (arith, held_free ready e, f.open', f.within'.exponents', f.within'.body')
 
--- a state that keeps nothing
-pub holds_nothing : (limits : Limits) (state : State) (exponents body : ℕ) (ready : Option Placed) → held_in_state state ≡ 0 → exponents ≡ 0 → body ≡ 0 → is_some ready ≡ false
-    → held_in state exponents body ready ≤ body_limit limits + pieces_limit limits + 16
-holds_nothing limits state exponents body ready none no_exponents no_body e = omega (arith, held_free ready e, none, no_exponents, no_body)
+-- ---- behind a fault or want of memory
+
+empty_held : (state : State) (exponents body : ℕ) (ready : Option Placed) → (eqb exponents 0 && eqb body 0) ≡ true → held_in_state state ≡ 0 → is_some ready ≡ false → held_in state exponents body ready ≡ 0
+empty_held state exponents body ready e none free =
+    let p = and_parts (eqb exponents 0) (eqb body 0) e in
+    omega (arith, held_free ready free, none, eqb-true exponents 0 p.0, eqb-true body 0 p.1)
+
+pub faulty_held : (limits : Limits) (state : State) (exponents body block pos : ℕ) (ready : Option Placed) (fault : Fault) → state_fits limits state exponents body ≡ true → fault_of_state state block pos ≡ Some fault → is_some ready ≡ false → held_in state exponents body ready ≡ 0
+faulty_held limits Between exponents body block pos ready fault fits e free = absurd cc
+faulty_held limits (InLength header seen count) exponents body block pos ready fault fits e free = absurd cc
+faulty_held limits (InPiece header l from until) exponents body block pos ready fault fits e free = absurd cc
+faulty_held limits (Faulty reason inner) exponents body block pos ready fault fits e free = empty_held (Faulty reason inner) exponents body ready fits refl free
+faulty_held limits Spent exponents body block pos ready fault fits e free = absurd cc
+
+pub spent_held : (limits : Limits) (state : State) (exponents body : ℕ) (ready : Option Placed) → state_fits limits state exponents body ≡ true → is_spent_state state ≡ true → is_some ready ≡ false → held_in state exponents body ready ≡ 0
+spent_held limits Between exponents body ready fits e free = absurd cc
+spent_held limits (InLength header seen count) exponents body ready fits e free = absurd cc
+spent_held limits (InPiece header l from until) exponents body ready fits e free = absurd cc
+spent_held limits (Faulty reason inner) exponents body ready fits e free = absurd cc
+spent_held limits Spent exponents body ready fits e free = empty_held Spent exponents body ready fits refl free

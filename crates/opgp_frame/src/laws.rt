@@ -1,5 +1,6 @@
 //! What the definitions and the contracts of a reader imply, whatever the pieces were.
 
+ghost use Rattle.std.specs.Prelude.{true, false};
 ghost use Rattle.std.specs.Prelude.{◌≡◌, ◌≢◌, ◌↔◌, ℕ, List, [], ◌∷◌, ◌++◌, ◌⊎◌, Option, Some, None};
 ghost use Rattle.std.specs.Prelude.{map};
 ghost use Rattle.opgp_octets.specs.declared.fault.Fault.{Fault};
@@ -9,7 +10,7 @@ ghost use Rattle.opgp_octets.specs.Octets.{IsOctets};
 ghost use Rattle.opgp_frame.specs.declared.deframe.Deframe.{Deframe};
 ghost use Rattle.opgp_frame.specs.declared.packet.Placed.{Placed};
 ghost use Rattle.opgp_frame.specs.FaultReading.{packet_fault};
-ghost use Rattle.opgp_frame.specs.Fed.{Fed, packets_of};
+ghost use Rattle.opgp_frame.specs.Fed.{Fed, fault_of, held_of, is_ready, is_spent, packets_of};
 ghost use Rattle.opgp_frame.specs.Frames.{BeginsPacket, Frames, IsFramingFault, Longest, StandFrom};
 ghost use Rattle.opgp_frame.specs.Frames.{spelled};
 ghost use Rattle.opgp_frame.specs.Packet.{PacketValue, IsPacket, spelling, packets_octets};
@@ -90,6 +91,13 @@ pub fn a_fault_stays()
     ensures { (limits : Limits) (block : ℕ) (octets more : List ℕ) (fault : Fault)
         → fault.reason ≢ Reason.Truncated → IsFramingFault limits block octets fault
         → IsFramingFault limits block (octets ++ more) fault }
+{}
+
+/// Behind a fault or want of memory nothing is held, once nothing is ready.
+pub fn nothing_is_held_at_the_end()
+    ensures fault { (d : Deframe) (fault : Fault) → fault_of d ≡ Some fault
+        → is_ready d ≡ false → held_of d ≡ 0 }
+    ensures spent { (d : Deframe) → is_spent d ≡ true → is_ready d ≡ false → held_of d ≡ 0 }
 {}
 
 /// Octets, of which there are some, begin with an allowed packet where they have no fault of a

@@ -10,7 +10,8 @@ use opgp_octets::OutOfMemory;
 use std::alloc::Global;
 use std::marker::Model;
 
-/// A packet: the form of its header, its type and its body. It doesn't contain its place.
+/// A packet (RFC 9580, 4): the form of its header, its type and its body. It doesn't contain its
+/// place.
 #[derive(Drop)]
 pub struct Packet {
     form: Form,
@@ -29,7 +30,7 @@ impl Model for Packet {
         IsPacket (record { form = p.form; kind = p.kind; body = p.body.items }) };
 }
 
-/// A packet and where it stands.
+/// A packet (RFC 9580, 4) and where it stands.
 #[derive(Drop)]
 pub struct Placed {
     /// The packet.

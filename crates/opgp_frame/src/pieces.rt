@@ -8,7 +8,7 @@ use opgp_octets::OutOfMemory;
 use std::alloc::Global;
 use std::marker::Model;
 
-/// The form of the length that ends a chain of pieces.
+/// The form of the length that ends a chain of pieces (RFC 9580, 4.2.1).
 #[derive(Clone, Copy, PartialEq, Eq)]
 pub enum LastForm {
     /// One octet: 0 to 191.
@@ -19,8 +19,8 @@ pub enum LastForm {
     Five,
 }
 
-/// How a body is cut into pieces: the piece of each partial length has two to its exponent octets,
-/// and a last length has the rest.
+/// How a body is cut into pieces (RFC 9580, 4.2.1.4): the piece of each partial length has two to
+/// its exponent octets, and a last length has the rest.
 #[derive(Drop)]
 pub struct Pieces {
     exponents: Vec<u8>,

@@ -19,7 +19,7 @@ use Rattle.opgp_frame.specs.Packet.{cut_body}
 use Rattle.opgp_frame.specs.PacketFault.{header_fault, length_fault}
 use Rattle.opgp_frame.specs.PiecesValue.{GoodPieces, pieces_sum}
 use Rattle.opgp_frame.specs.Unfinished.{HasBegun}
-use Rattle.opgp_frame.proofs.Cuts.{length-cut_body}
+use Rattle.opgp_frame.proofs.Cuts.{cut_body_size}
 use Rattle.opgp_frame.proofs.Faults.{place_behind}
 use Rattle.opgp_frame.proofs.Lengths.{length_again}
 
@@ -133,7 +133,7 @@ unfolding packet_fault
 packet_fault-begun limits header ks last body begun le =
     let o : List ℕ = cut_body ks last body in
     let n : ℕ = length o - length ks in
-    let fuel : suc (length o) ≡ fuel_for ks (suc n) = omega (arith, fuel_for-is ks (suc n), length-cut_body ks last body) in
+    let fuel : suc (length o) ≡ fuel_for ks (suc n) = omega (arith, fuel_for-is ks (suc n), cut_body_size ks last body) in
     let run = lengths_fault-pieces limits header 0 0 1 ks last body (suc n) (GoodFrom-from_pieces limits header ks begun.pieces) le in
     let count : 0 + length ks ≡ length ks = omega arith in
     let sum : 0 + pieces_sum ks ≡ pieces_sum ks = omega arith in

@@ -5,12 +5,12 @@ use Rattle.opgp_frame.specs.Packet.{cut_body}
 use Rattle.opgp_frame.specs.PiecesValue.{pieces_sum}
 
 -- each piece has an octet of its own, its length
-pub length-cut_body : (ks last body : List ℕ) → length (cut_body ks last body) ≡ length ks + length last + length body
-length-cut_body [] last body = omega (arith, length-append last body)
-length-cut_body (k ∷ ks) last body =
+pub cut_body_size : (ks last body : List ℕ) → length (cut_body ks last body) ≡ length ks + length last + length body
+cut_body_size [] last body = omega (arith, length-append last body)
+cut_body_size (k ∷ ks) last body =
     let piece = take (2 ^ k) body in
     let rest = drop (2 ^ k) body in
-    omega (arith, length-append piece (cut_body ks last rest), length-cut_body ks last rest, ap length (take-append-drop (2 ^ k) body), length-append piece rest)
+    omega (arith, length-append piece (cut_body ks last rest), cut_body_size ks last rest, ap length (take-append-drop (2 ^ k) body), length-append piece rest)
 
 -- what follows is more of the body
 pub cut_body-append : (ks last body more : List ℕ) → pieces_sum ks ≤ length body → cut_body ks last body ++ more ≡ cut_body ks last (body ++ more)

@@ -93,8 +93,8 @@ pub fn a_fault_stays()
         → IsFramingFault limits block (octets ++ more) fault }
 {}
 
-/// Behind a fault or want of memory nothing is held, once nothing is ready.
-pub fn nothing_is_held_at_the_end()
+/// After a fault or want of memory nothing is held, once nothing is ready.
+pub fn nothing_is_held_after_a_fault()
     ensures fault { (d : Deframe) (fault : Fault) → fault_of d ≡ Some fault
         → is_ready d ≡ false → held_of d ≡ 0 }
     ensures spent { (d : Deframe) → is_spent d ≡ true → is_ready d ≡ false → held_of d ≡ 0 }

@@ -5,7 +5,7 @@ ghost use Rattle.opgp_frame.specs.Packet.{PacketValue, IsPacket, spelling};
 
 use crate::form::Form;
 use crate::header::is_read_kind;
-use crate::writing::spelled_len_of;
+use crate::writing::size_in;
 use opgp_octets::OutOfMemory;
 use std::alloc::Global;
 use std::marker::Model;
@@ -119,10 +119,11 @@ impl Packet {
     /// How many octets it is spelled in (RFC 9580, 4.2).
     ///
     /// Takes no memory.
+    #[tactic(auto, using(crate::proofs::Cuts::cut_body_size))]
     pub fn spelled_len(&self) -> u64
         ensures { result ≡ length (spelling self.now) }
     {
-        spelled_len_of(&self.form, self.body.len() as u64)
+        size_in(&self.form, self.body.len() as u64)
     }
 }
 

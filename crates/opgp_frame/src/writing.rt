@@ -2,7 +2,8 @@
 
 ghost use Rattle.std.specs.Prelude.{◌≡◌, ◌<◌, ◌≤◌, ◌+◌, ◌++◌, ℕ, List, length, OnOk, OnErr};
 ghost use Rattle.std.specs.Prelude.{vec_len, vec_capacity};
-ghost use Rattle.opgp_frame.specs.Form.{FormSpells};
+ghost use Rattle.opgp_frame.specs.Form.{FormSpells, exponents_of, last_length};
+ghost use Rattle.opgp_frame.specs.Length.{length_octets};
 ghost use Rattle.opgp_frame.specs.Packet.{PacketValue, IsPacket, spelling};
 ghost use Rattle.opgp_frame.specs.Reframed.{reframed, IsCurrent};
 ghost use Rattle.opgp_frame.specs.Spelling.{octets_left};
@@ -47,10 +48,20 @@ pub fn write_parts(form: &Form, kind: u8, body: &[u8], out: &mut Vec<u8>) -> Res
 /// The condition is that the form spells such a body.
 ///
 /// Takes no memory.
+#[tactic(auto, using(crate::proofs::Cuts::cut_body_size))]
 pub fn spelled_len_of(form: &Form, n: u64) -> u64
     requires { FormSpells form.now n }
     ensures { (kind : ℕ) (body : List ℕ) → length body ≡ n
         → result ≡ length (spelling (record { form = form.now; kind = kind; body = body })) }
+{
+    size_in(form, n)
+}
+
+/// How many octets its first octet, its length headers and a body of `n` octets are.
+pub(crate) fn size_in(form: &Form, n: u64) -> u64
+    requires { FormSpells form.now n }
+    ensures { result ≡ 1 + length (exponents_of form.now)
+        + length (length_octets (last_length form.now n)) + n }
 {
     let pieces = form.exponents().len() as u64;
     match form.last_length(n) {

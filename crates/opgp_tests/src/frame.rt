@@ -507,6 +507,24 @@ fn a_fault_stays(rt: HostRuntime) -> Result<(), Fail> {
 }
 
 #[test]
+fn bodies_take_no_more_room_than_they_have(rt: HostRuntime) -> Result<(), Fail> {
+    let alloc = rt.alloc();
+    let letters = vec![in alloc; 0x61u8; 10_000]?;
+    let octets = joined(
+        alloc,
+        [b"\xCD\xFF\x00\x00\x27\x10".as_slice(), &letters].as_slice(),
+    )?;
+    for size in [48, 4_096, 65_536] {
+        let (mut packets, end) = read(alloc, Limits::usual(), octets.as_slice(), size)?;
+        assert!(rt; end.is_ok());
+        let (_, _, body) = packets.pop().ok_or("a packet")?.packet.into_parts();
+        assert_eq!(rt; body.len(), 10_000);
+        assert_eq!(rt; body.capacity(), 10_000);
+    }
+    Ok(())
+}
+
+#[test]
 fn refused_growth(rt: HostRuntime) -> Result<(), Fail> {
     let alloc = rt.alloc();
     let spent = Fault {

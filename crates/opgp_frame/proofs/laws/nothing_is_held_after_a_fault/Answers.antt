@@ -1,6 +1,6 @@
 use Rattle.std.proofs.Common.{length}
 use Rattle.opgp_frame.proofs.Holding.{faulty_held, spent_held}
-use Rattle.opgp_frame.proofs.laws.nothing_is_held_at_the_end.Goals as goal
+use Rattle.opgp_frame.proofs.laws.nothing_is_held_after_a_fault.Goals as goal
 
 pub returns-clause-fault : goal.returns-clause-fault
 returns-clause-fault c d fault e free =

@@ -1,5 +1,5 @@
 -- The fault of a packet behind length headers that are good.
-use Rattle.std.proofs.Common.{◌≡◌, ℕ, suc, ◌+◌, ◌^◌, ◌<◌, ◌≤◌, true, false, ◌&&◌, cond, leb, eqb, ltb, List, [], ◌∷◌, ◌++◌, length, take, drop, get_or, Option, Some, None, refl, ◌∙◌, arith, inl, inr, length-append}
+use Rattle.std.proofs.Common.{◌≡◌, ℕ, suc, ◌+◌, ◌-◌, ◌^◌, ◌<◌, ◌≤◌, true, false, ◌&&◌, cond, leb, eqb, ltb, List, [], ◌∷◌, ◌++◌, length, take, drop, get_or, Option, Some, None, refl, ap, ◌∙◌, arith, inl, inr, length-append}
 use Rattle.std.specs.List.{AllByRecursion}
 use Rattle.std.proofs.Math.Pow.{pow_mono}
 use Rattle.std.proofs.lemmas.Bool.{and_left, and_right, cases_eq, lt-leb, ne_eqb, le-ltb}
@@ -11,18 +11,21 @@ use Rattle.opgp_octets.specs.declared.fault.Reason.{Reason}
 use Rattle.opgp_octets.specs.declared.fault.Reason.TheVariants.{Truncated}
 use Rattle.opgp_octets.specs.declared.packet_len.PacketLen.TheVariants as new
 use Rattle.opgp_frame.specs.declared.length.Length.{Length}
-use Rattle.opgp_frame.specs.declared.length.Length.TheVariants.{Current}
-use Rattle.opgp_frame.specs.Frames.{length_fault, lengths_fault, or_fault}
+use Rattle.opgp_frame.specs.declared.length.Length.TheVariants.{New}
+use Rattle.opgp_frame.specs.FaultReading.{lengths_fault, packet_fault, or_fault}
 use Rattle.opgp_frame.specs.Header.{is_data_kind, kind_in}
 use Rattle.opgp_frame.specs.Length.{length_amount, length_at, is_partial}
 use Rattle.opgp_frame.specs.Packet.{cut_body}
-use Rattle.opgp_frame.specs.PiecesValue.{pieces_sum}
-use Rattle.opgp_frame.specs.State.{GoodPieces}
+use Rattle.opgp_frame.specs.PacketFault.{header_fault, length_fault}
+use Rattle.opgp_frame.specs.PiecesValue.{GoodPieces, pieces_sum}
+use Rattle.opgp_frame.specs.Unfinished.{HasBegun}
+use Rattle.opgp_frame.proofs.Cuts.{cut_body_size}
+use Rattle.opgp_frame.proofs.Faults.{place_behind}
 use Rattle.opgp_frame.proofs.Lengths.{length_again}
 
 -- the length of a piece
 abbrev pub piece_length : ℕ → Length
-piece_length k = Current (new.Partial k)
+piece_length k = New (new.Partial k)
 
 -- the answer behind a length header that may stand there
 abbrev pub behind : ℕ → Limits → ℕ → ℕ → ℕ → ℕ → List ℕ → Length → ℕ → Option (Reason × ℕ)
@@ -115,3 +118,23 @@ lengths_fault-pieces limits header before sum at (k ∷ ks) last body n good le 
     let total : (sum + 2 ^ k) + pieces_sum ks ≡ sum + (2 ^ k + pieces_sum ks) = omega arith in
     let place : (at + (1 + 2 ^ k)) + (length ks + pieces_sum ks) ≡ at + (length (k ∷ ks) + (2 ^ k + pieces_sum ks)) = omega arith in
     step ∙ again ∙ rw (count, total, place, left) refl
+
+-- ---- a packet
+
+-- the first octet shows it
+pub packet_fault-header : (limits : Limits) (header : ℕ) (more : List ℕ) (reason : Reason) → header_fault header ≡ Some reason → packet_fault limits (header ∷ more) ≡ Some (reason, 0)
+unfolding packet_fault
+packet_fault-header limits header more reason e = rw e refl
+
+-- a packet that has begun is at fault as its next length header is
+pub packet_fault-begun : (limits : Limits) (header : ℕ) (ks last body : List ℕ) → HasBegun limits header ks → pieces_sum ks ≤ length body
+    → (n : ℕ) × (packet_fault limits (header ∷ cut_body ks last body) ≡ lengths_fault (suc n) limits header (length ks) (pieces_sum ks) (place_behind ks) (last ++ drop (pieces_sum ks) body))
+unfolding packet_fault
+packet_fault-begun limits header ks last body begun le =
+    let o : List ℕ = cut_body ks last body in
+    let n : ℕ = length o - length ks in
+    let fuel : suc (length o) ≡ fuel_for ks (suc n) = omega (arith, fuel_for-is ks (suc n), cut_body_size ks last body) in
+    let run = lengths_fault-pieces limits header 0 0 1 ks last body (suc n) (GoodFrom-from_pieces limits header ks begun.pieces) le in
+    let count : 0 + length ks ≡ length ks = omega arith in
+    let sum : 0 + pieces_sum ks ≡ pieces_sum ks = omega arith in
+    (n, rw begun.read (ap (λ (f : ℕ). lengths_fault f limits header 0 0 1 o) fuel ∙ run ∙ rw (count, sum) refl))

@@ -1,5 +1,5 @@
--- Octets that show no fault begin with an allowed packet, so all octets are a list of packets or have a fault.
-use Rattle.std.proofs.Common.{◌≡◌, ℕ, zero, suc, ◌+◌, ◌^◌, ◌<◌, ◌≤◌, true, false, cond, ltb, List, [], ◌∷◌, ◌++◌, length, take, drop, get_or, Option, Some, None, refl, sym, ap, subst, ◌∙◌, arith, inl, inr, ◌⊎◌, append_assoc, append-nil, length-append}
+-- Octets that show no fault begin with an allowed packet.
+use Rattle.std.proofs.Common.{◌≡◌, ℕ, zero, suc, ◌+◌, ◌^◌, ◌<◌, ◌≤◌, true, false, cond, ltb, List, [], ◌∷◌, ◌++◌, length, take, drop, Option, Some, None, refl, sym, ap, subst, ◌∙◌, arith, inl, inr, append_assoc, length-append}
 use Rattle.std.specs.List.{AllByRecursion}
 use Rattle.std.proofs.lemmas.Bool.{cases_lt, ltb-false}
 use Rattle.std.proofs.lemmas.List.{take_at, drop_at, take-append-drop, length-take-le, length-drop, drop-drop}
@@ -8,25 +8,24 @@ use Rattle.std.proofs.lemmas.Nat.{pow_below}
 use Rattle.opgp_octets.specs.declared.limits.Limits.{Limits}
 use Rattle.opgp_octets.specs.Limits.{body_limit, pieces_limit}
 use Rattle.opgp_octets.specs.Octets.{IsOctets}
-use Rattle.opgp_octets.specs.declared.fault.Fault.{Fault}
-use Rattle.opgp_octets.specs.declared.fault.Layer.TheVariants.{Framing}
 use Rattle.opgp_octets.specs.declared.fault.Reason.{Reason}
 use Rattle.opgp_octets.specs.declared.fault.Reason.TheVariants.{Truncated}
 use Rattle.opgp_octets.specs.declared.packet_len.PacketLen.TheVariants as new
 use Rattle.opgp_octets.proofs.Bytes.{chosen, IsOctets-drop, IsOctets-take}
 use Rattle.opgp_frame.specs.declared.length.Length.{Length}
-use Rattle.opgp_frame.specs.declared.length.Length.TheVariants.{LegacyOne, LegacyTwo, LegacyFour, Current}
-use Rattle.opgp_frame.specs.declared.packet.Placed.{Placed}
-use Rattle.opgp_frame.specs.Frames.{StandFrom, Frames, BeginsPacket, IsFault, spelled, length_fault, lengths_fault, packet_fault, or_fault}
-use Rattle.opgp_frame.specs.Header.{kind_in, header_fault}
+use Rattle.opgp_frame.specs.declared.length.Length.TheVariants.{OldOne, OldTwo, OldFour, New}
+use Rattle.opgp_frame.specs.FaultReading.{lengths_fault, packet_fault, or_fault}
+use Rattle.opgp_frame.specs.Frames.{BeginsPacket}
+use Rattle.opgp_frame.specs.Header.{kind_in}
 use Rattle.opgp_frame.specs.Length.{LengthFits, IsLengthUnder, LengthBegins, length_octets, length_amount, length_at, is_partial}
-use Rattle.opgp_frame.specs.Packet.{spelling, cut_body}
-use Rattle.opgp_frame.specs.PiecesValue.{pieces_sum}
-use Rattle.opgp_frame.specs.State.{GoodPieces, HasBegun, IsInPiece}
+use Rattle.opgp_frame.specs.Packet.{cut_body}
+use Rattle.opgp_frame.specs.PacketFault.{length_fault, header_fault}
+use Rattle.opgp_frame.specs.PiecesValue.{pieces_sum, GoodPieces}
+use Rattle.opgp_frame.specs.Unfinished.{HasBegun, IsInPiece}
 use Rattle.opgp_frame.proofs.Chains.{GoodFrom, piece_length, behind, lengths_fault-read, lengths_fault-unread}
 use Rattle.opgp_frame.proofs.Lengths.{length_takes}
 use Rattle.opgp_frame.proofs.Made.{form_found, packet_whole}
-use Rattle.opgp_frame.proofs.Packets.{no_packet, no_pieces}
+use Rattle.opgp_frame.proofs.Packets.{no_pieces}
 use Rattle.opgp_frame.proofs.Steps.{within_limit, partial_good, none_first}
 
 -- what octets without a fault hold behind so many pieces of so many octets
@@ -73,7 +72,7 @@ octets_append (x ∷ a) b fa fb zero = fa 0
 octets_append (x ∷ a) b fa fb (suc i) = octets_append a b (λ j. fa (suc j)) fb i
 
 -- a piece before what follows
-piece_before : (limits : Limits) (header before sum k : ℕ) (o : List ℕ) (count : ℕ) → IsOctets o → LengthBegins header o (Current (new.Partial k)) count → length_fault limits (kind_in header) before sum (piece_length k) ≡ None → count + 2 ^ k ≤ length o
+piece_before : (limits : Limits) (header before sum k : ℕ) (o : List ℕ) (count : ℕ) → IsOctets o → LengthBegins header o (New (new.Partial k)) count → length_fault limits (kind_in header) before sum (piece_length k) ≡ None → count + 2 ^ k ≤ length o
     → HasBody limits header (before + 1) (sum + 2 ^ k) (drop (count + 2 ^ k) o) → HasBody limits header before sum o
 piece_before limits header before sum k o count octets begins fine room b =
     let left : List ℕ = drop count o in
@@ -100,14 +99,14 @@ piece_before limits header before sum k o count octets begins fine room b =
     }
 
 -- a length that is partial
-pub partial_is : (l : Length) → is_partial l ≡ true → (k : ℕ) × (l ≡ Current (new.Partial k))
-partial_is (Current (new.Partial k)) e = (k, refl)
-partial_is (Current (new.One n)) e = absurd cc
-partial_is (Current (new.Two n)) e = absurd cc
-partial_is (Current (new.Five n)) e = absurd cc
-partial_is (LegacyOne n) e = absurd cc
-partial_is (LegacyTwo n) e = absurd cc
-partial_is (LegacyFour n) e = absurd cc
+pub partial_is : (l : Length) → is_partial l ≡ true → (k : ℕ) × (l ≡ New (new.Partial k))
+partial_is (New (new.Partial k)) e = (k, refl)
+partial_is (New (new.One n)) e = absurd cc
+partial_is (New (new.Two n)) e = absurd cc
+partial_is (New (new.Five n)) e = absurd cc
+partial_is (OldOne n) e = absurd cc
+partial_is (OldTwo n) e = absurd cc
+partial_is (OldFour n) e = absurd cc
 
 fault_none : (why : Option Reason) (at : ℕ) (next : Option (Reason × ℕ)) → or_fault why at next ≡ None → (why ≡ None) × (next ≡ None)
 fault_none None at next e = (refl, e)
@@ -196,52 +195,3 @@ begins_packet limits header o octets e =
     let found = form_found limits header b.exponents b.last begun b.under b.ends in
     let whole = packet_whole limits header b.last (pieces_sum b.exponents) (length b.body) b.exponents b.body spelled_so found.0 piece refl b.octets found.2 in
     record { packet = record { form = found.0; kind = kind_in header; body = b.body }; more = b.more; begins = ap (λ (x : List ℕ). header ∷ x) b.parts ∙ ap (λ (x : List ℕ). x ++ b.more) whole.spelled; allowed = whole.allowed }
-
--- ---- all octets have an answer
-
-pub record HasLongest (limits : Limits) (block at : ℕ) (octets : List ℕ) : Type 0 where
-  pub packets : List Placed
-  pub rest : List ℕ
-  pub whole : octets ≡ spelled packets ++ rest
-  pub stand : StandFrom limits block at packets
-  pub why : (rest ≡ []) ⊎ ((why : Reason × ℕ) × (packet_fault limits rest ≡ Some why))
-
-pub longest : (n : ℕ) (limits : Limits) (block at : ℕ) (octets : List ℕ) → IsOctets octets → length octets < n → HasLongest limits block at octets
-longest zero limits block at octets fits enough = absurd (omega arith)
-longest (suc n) limits block at [] fits enough = record { packets = []; rest = []; whole = refl; stand = tt; why = inl refl }
-longest (suc n) limits block at (h ∷ o) fits enough =
-    elim (packet_fault limits (h ∷ o)) as (λ (r : Option (Reason × ℕ)). packet_fault limits (h ∷ o) ≡ r → HasLongest limits block at (h ∷ o)) [
-      | Some why ↦ λ e. record { packets = []; rest = h ∷ o; whole = refl; stand = tt; why = inr (why, e) }
-      | None ↦ λ e.
-          let b = begins_packet limits h o fits e in
-          let size : length (h ∷ o) ≡ length (spelling b.packet) + length b.more = ap (length {A = ℕ}) b.begins ∙ length-append (spelling b.packet) b.more in
-          let more_fits : IsOctets b.more = λ i. subst (λ (x : List ℕ). get_or x i 0 < 256) (ap (drop (length (spelling b.packet))) b.begins ∙ drop_at (spelling b.packet) b.more (length (spelling b.packet)) refl) (IsOctets-drop (length (spelling b.packet)) (h ∷ o) fits i) in
-          let again = longest n limits block (at + length (spelling b.packet)) b.more more_fits (omega (arith, enough, size)) in
-          let q : Placed = record { packet = b.packet; block = block; pos = at } in
-          record {
-            packets = q ∷ again.packets;
-            rest = again.rest;
-            whole = b.begins ∙ ap (λ (x : List ℕ). spelling b.packet ++ x) again.whole ∙ sym (append_assoc (spelling b.packet) (spelled again.packets) again.rest);
-            stand = (b.allowed, refl, refl, again.stand);
-            why = again.why;
-          }
-    ] refl
-
-pub every_answer : (limits : Limits) (block : ℕ) (octets : List ℕ) → IsOctets octets → ((packets : List Placed) × Frames limits block octets packets) ⊎ ((fault : Fault) × IsFault limits block octets fault)
-every_answer limits block octets fits =
-    let l = longest (suc (length octets)) limits block 0 octets fits (omega arith) in
-    elim l.why [
-      | inl none ↦ inl (l.packets, record { whole = l.whole ∙ ap (λ (x : List ℕ). spelled l.packets ++ x) none ∙ append-nil (spelled l.packets); stand = l.stand })
-      | inr (why, e) ↦ inr (
-        record { layer = Framing; reason = why.0; block = block; pos = length (spelled l.packets); inner = why.1 },
-        record {
-          packets = l.packets;
-          rest = l.rest;
-          longest = record { whole = l.whole; stand = l.stand; no_more = no_packet limits l.rest why e };
-          why = e;
-          layer = refl;
-          in_block = refl;
-          pos = refl;
-        },
-      )
-    ]

@@ -6,7 +6,8 @@ use Rattle.opgp_octets.specs.declared.fault.Reason.TheVariants.{NotAPacket, Type
 use Rattle.opgp_frame.specs.declared.form.Form.{Form}
 use Rattle.opgp_frame.specs.declared.form.Form.TheVariants.{OldOne, OldTwo, OldFour, NewOne, NewTwo, NewFive, Partial}
 use Rattle.opgp_frame.specs.Form.{form_takes, header_octet}
-use Rattle.opgp_frame.specs.Header.{is_read_kind, is_unknown_critical, kind_in, header_fault}
+use Rattle.opgp_frame.specs.Header.{is_read_kind, is_unknown_critical, kind_in}
+use Rattle.opgp_frame.specs.PacketFault.{header_fault}
 
 pub current_kind : (header : ℕ) → 192 ≤ header → kind_in header ≡ header - 192
 current_kind header high = rw (le-leb 192 header high) refl

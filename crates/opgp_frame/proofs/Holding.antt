@@ -4,14 +4,16 @@ use Rattle.std.specs.Prelude.{is_none}
 use Rattle.std.proofs.lemmas.Bool.{and_parts, and_from, ltb-true, lt-ltb, leb-true, le-leb, eqb-true}
 use Rattle.opgp_octets.specs.declared.limits.Limits.{Limits}
 use Rattle.opgp_octets.specs.Limits.{body_limit, pieces_limit}
+use Rattle.opgp_octets.specs.declared.fault.Fault.{Fault}
 use Rattle.opgp_octets.specs.declared.fault.Reason.{Reason}
 use Rattle.opgp_frame.specs.declared.deframe.State.{State}
 use Rattle.opgp_frame.specs.declared.deframe.State.TheVariants.{Between, InLength, InPiece, Faulty, Spent}
 use Rattle.opgp_frame.specs.declared.length.Length.{Length}
 use Rattle.opgp_frame.specs.declared.packet.Placed.{Placed}
-use Rattle.opgp_frame.specs.Header.{header_fault}
-use Rattle.opgp_frame.specs.Held.{within, state_fits, held_in, held_in_ready}
+use Rattle.opgp_frame.specs.Fed.{fault_of_state, is_spent_state}
 use Rattle.opgp_frame.specs.Length.{is_partial}
+use Rattle.opgp_frame.specs.PacketFault.{header_fault}
+use Rattle.opgp_frame.specs.ReaderState.{within, state_fits, held_in, held_in_ready, held_in_state}
 
 pub record IsWithin (limits : Limits) (exponents body : ℕ) : Type 0 where
   pub exponents' : exponents ≤ pieces_limit limits
@@ -85,20 +87,23 @@ holds_length limits header seen count exponents body ready f e = omega (arith, h
 pub holds_piece : (limits : Limits) (header : ℕ) (l : Length) (from until exponents body : ℕ) (ready : Option Placed) → PieceFacts limits header l from until exponents body → is_some ready ≡ false → held_in (InPiece header l from until) exponents body ready ≤ body_limit limits + pieces_limit limits + 16
 holds_piece limits header l from until exponents body ready f e = omega (arith, held_free ready e, f.open', f.within'.exponents', f.within'.body')
 
-pub holds_faulty : (limits : Limits) (reason : Reason) (inner exponents body : ℕ) (ready : Option Placed) → IsWithin limits exponents body → is_some ready ≡ false → held_in (Faulty reason inner) exponents body ready ≤ body_limit limits + pieces_limit limits + 16
-holds_faulty limits reason inner exponents body ready w e = omega (arith, held_free ready e, w.exponents', w.body')
+-- ---- behind a fault or want of memory
 
--- in each state what is held is within the limits
-pub any_within : (limits : Limits) (state : State) (exponents body : ℕ) → state_fits limits state exponents body ≡ true → IsWithin limits exponents body
-any_within limits Between exponents body e =
+empty_held : (state : State) (exponents body : ℕ) (ready : Option Placed) → (eqb exponents 0 && eqb body 0) ≡ true → held_in_state state ≡ 0 → is_some ready ≡ false → held_in state exponents body ready ≡ 0
+empty_held state exponents body ready e none free =
     let p = and_parts (eqb exponents 0) (eqb body 0) e in
-    record { exponents' = omega (arith, eqb-true exponents 0 p.0); body' = omega (arith, eqb-true body 0 p.1) }
-any_within limits (InLength header seen count) exponents body e = (length_facts limits header seen count exponents body e).within'
-any_within limits (InPiece header l from until) exponents body e =
-    let f = piece_facts limits header l from until exponents body e in
-    record { exponents' = f.within'.exponents'; body' = omega (arith, f.open', f.within'.body') }
-any_within limits (Faulty reason inner) exponents body e = within_parts limits exponents body e
-any_within limits Spent exponents body e = within_parts limits exponents body e
+    omega (arith, held_free ready free, none, eqb-true exponents 0 p.0, eqb-true body 0 p.1)
 
-pub holds_spent : (limits : Limits) (exponents body : ℕ) (ready : Option Placed) → IsWithin limits exponents body → is_some ready ≡ false → held_in Spent exponents body ready ≤ body_limit limits + pieces_limit limits + 16
-holds_spent limits exponents body ready w e = omega (arith, held_free ready e, w.exponents', w.body')
+pub faulty_held : (limits : Limits) (state : State) (exponents body block pos : ℕ) (ready : Option Placed) (fault : Fault) → state_fits limits state exponents body ≡ true → fault_of_state state block pos ≡ Some fault → is_some ready ≡ false → held_in state exponents body ready ≡ 0
+faulty_held limits Between exponents body block pos ready fault fits e free = absurd cc
+faulty_held limits (InLength header seen count) exponents body block pos ready fault fits e free = absurd cc
+faulty_held limits (InPiece header l from until) exponents body block pos ready fault fits e free = absurd cc
+faulty_held limits (Faulty reason inner) exponents body block pos ready fault fits e free = empty_held (Faulty reason inner) exponents body ready fits refl free
+faulty_held limits Spent exponents body block pos ready fault fits e free = absurd cc
+
+pub spent_held : (limits : Limits) (state : State) (exponents body : ℕ) (ready : Option Placed) → state_fits limits state exponents body ≡ true → is_spent_state state ≡ true → is_some ready ≡ false → held_in state exponents body ready ≡ 0
+spent_held limits Between exponents body ready fits e free = absurd cc
+spent_held limits (InLength header seen count) exponents body ready fits e free = absurd cc
+spent_held limits (InPiece header l from until) exponents body ready fits e free = absurd cc
+spent_held limits (Faulty reason inner) exponents body ready fits e free = absurd cc
+spent_held limits Spent exponents body ready fits e free = empty_held Spent exponents body ready fits refl free

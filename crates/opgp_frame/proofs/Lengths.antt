@@ -4,6 +4,7 @@ use Rattle.std.specs.Int.{Width, w16, w32, byte_len, to_be_bytes, from_be_bytes}
 use Rattle.std.specs.Prelude.{option_map, IfSome, IsSome}
 use Rattle.std.proofs.lemmas.Bool.{cases_lt, leb-true, leb-false, eqb-true, eqb-false, eq-eqb, cases_Bool, le-ltb}
 use Rattle.std.proofs.lemmas.List.{take_at, take-append-drop, take-append-le, take_all}
+use Rattle.std.proofs.lemmas.Option.{some_pair_parts}
 use Rattle.opgp_octets.specs.declared.packet_len.PacketLen.{PacketLen}
 use Rattle.opgp_octets.specs.declared.packet_len.PacketLen.TheVariants as new
 use Rattle.opgp_octets.specs.Octets.{IsOctets}
@@ -12,24 +13,24 @@ use Rattle.opgp_octets.specs.Reading.{number_at}
 use Rattle.opgp_octets.proofs.Bytes.{chosen, same_some, wide16, wide32, IsWide, number_takes, number_again}
 use Rattle.opgp_octets.proofs.PacketLens.{packet_len_takes, packet_len_again}
 use Rattle.opgp_frame.specs.declared.length.Length.{Length}
-use Rattle.opgp_frame.specs.declared.length.Length.TheVariants.{LegacyOne, LegacyTwo, LegacyFour, Current}
-use Rattle.opgp_frame.specs.Header.{header_fault}
+use Rattle.opgp_frame.specs.declared.length.Length.TheVariants.{OldOne, OldTwo, OldFour, New}
 use Rattle.opgp_frame.specs.Length.{LengthFits, IsLengthUnder, LengthBegins, length_octets, length_at, current_at, legacy_at, legacy_one_at}
+use Rattle.opgp_frame.specs.PacketFault.{header_fault}
 use Rattle.opgp_frame.proofs.Headers.{read_header}
 
 -- ---- what is written is read again
 
 legacy_again : (bits : ℕ) (l : Length) (rest : List ℕ) → LengthFits l → (header : ℕ) → header % 4 ≡ bits → IsLengthUnder header l → header < 192 → legacy_at bits (length_octets l ++ rest) ≡ Some (l, length (length_octets l))
-legacy_again bits (LegacyOne n) rest fits header e under low = rw (sym e ∙ under.1) refl
-legacy_again bits (LegacyTwo n) rest fits header e under low = rw (sym e ∙ under.1, number_again w16 (2 ^ 16) wide16 n rest fits) refl
-legacy_again bits (LegacyFour n) rest fits header e under low = rw (sym e ∙ under.1, number_again w32 (2 ^ 32) wide32 n rest fits) refl
-legacy_again bits (Current len) rest fits header e under low = absurd (omega arith)
+legacy_again bits (OldOne n) rest fits header e under low = rw (sym e ∙ under.1) refl
+legacy_again bits (OldTwo n) rest fits header e under low = rw (sym e ∙ under.1, number_again w16 (2 ^ 16) wide16 n rest fits) refl
+legacy_again bits (OldFour n) rest fits header e under low = rw (sym e ∙ under.1, number_again w32 (2 ^ 32) wide32 n rest fits) refl
+legacy_again bits (New len) rest fits header e under low = absurd (omega arith)
 
 current_again : (header : ℕ) (l : Length) (rest : List ℕ) → LengthFits l → IsLengthUnder header l → 192 ≤ header → current_at (length_octets l ++ rest) ≡ Some (l, length (length_octets l))
-current_again header (Current len) rest fits under high = rw (packet_len_again len rest fits) refl
-current_again header (LegacyOne n) rest fits under high = absurd (omega (arith, under.0))
-current_again header (LegacyTwo n) rest fits under high = absurd (omega (arith, under.0))
-current_again header (LegacyFour n) rest fits under high = absurd (omega (arith, under.0))
+current_again header (New len) rest fits under high = rw (packet_len_again len rest fits) refl
+current_again header (OldOne n) rest fits under high = absurd (omega (arith, under.0))
+current_again header (OldTwo n) rest fits under high = absurd (omega (arith, under.0))
+current_again header (OldFour n) rest fits under high = absurd (omega (arith, under.0))
 
 pub length_again : (header : ℕ) (l : Length) (rest : List ℕ) → LengthFits l → IsLengthUnder header l → length_at header (length_octets l ++ rest) ≡ Some (l, length (length_octets l))
 unfolding length_at
@@ -51,7 +52,7 @@ begins_at header o a b e begins = subst (λ (x : Length × ℕ). LengthBegins he
 one_takes : (header : ℕ) (o : List ℕ) (x : Length × ℕ) → IsOctets o → header < 192 → header % 4 ≡ 0 → legacy_one_at o ≡ Some x → LengthBegins header o x.0 x.1
 one_takes header [] x octets low bits e = absurd cc
 one_takes header (n ∷ o) x octets low bits e =
-    begins_at header (n ∷ o) (LegacyOne n, 1) x (same_some (LegacyOne n, 1) x e) (record { fits = omega (arith, octets 0); under = (low, bits); size = refl; within = omega arith; spelled = refl })
+    begins_at header (n ∷ o) (OldOne n, 1) x (same_some (OldOne n, 1) x e) (record { fits = omega (arith, octets 0); under = (low, bits); size = refl; within = omega arith; spelled = refl })
 
 number_begins : (w : Width) (limit : ℕ) (wide : IsWide w limit) (o : List ℕ) (x : ℕ × List ℕ) → IsOctets o → number_at w o ≡ Some x → (x.0 < limit) × (byte_len w ≤ length o) × (take (byte_len w) o ≡ to_be_bytes w x.0)
 number_begins w limit wide o x octets e =
@@ -65,28 +66,62 @@ unfolding length_at
 length_takes header o x octets e =
     elim (chosen (leb 192 header) (current_at o) (legacy_at (header % 4) o) (Some x) e) [
       | inl p ↦
-          let m = mapped {X = PacketLen × ℕ} (λ y. (Current y.0, y.1)) (packet_len_at o) x p.1 in
+          let m = mapped {X = PacketLen × ℕ} (λ y. (New y.0, y.1)) (packet_len_at o) x p.1 in
           let t = packet_len_takes o m.0 octets m.1 in
-          begins_at header o (Current m.0.0, m.0.1) x m.2 (record { fits = t.fits; under = leb-true 192 header p.0; size = t.size; within = t.within; spelled = t.spelled })
+          begins_at header o (New m.0.0, m.0.1) x m.2 (record { fits = t.fits; under = leb-true 192 header p.0; size = t.size; within = t.within; spelled = t.spelled })
       | inr p ↦
           let low : header < 192 = leb-false 192 header p.0 in
-          elim (chosen (eqb (header % 4) 0) (legacy_one_at o) (cond (eqb (header % 4) 1) (option_map (λ y. (LegacyTwo y.0, 2)) (number_at w16 o)) (cond (eqb (header % 4) 2) (option_map (λ y. (LegacyFour y.0, 4)) (number_at w32 o)) None)) (Some x) p.1) [
+          elim (chosen (eqb (header % 4) 0) (legacy_one_at o) (cond (eqb (header % 4) 1) (option_map (λ y. (OldTwo y.0, 2)) (number_at w16 o)) (cond (eqb (header % 4) 2) (option_map (λ y. (OldFour y.0, 4)) (number_at w32 o)) None)) (Some x) p.1) [
             | inl q ↦ one_takes header o x octets low (eqb-true (header % 4) 0 q.0) q.1
-            | inr q ↦ elim (chosen (eqb (header % 4) 1) (option_map (λ y. (LegacyTwo y.0, 2)) (number_at w16 o)) (cond (eqb (header % 4) 2) (option_map (λ y. (LegacyFour y.0, 4)) (number_at w32 o)) None) (Some x) q.1) [
+            | inr q ↦ elim (chosen (eqb (header % 4) 1) (option_map (λ y. (OldTwo y.0, 2)) (number_at w16 o)) (cond (eqb (header % 4) 2) (option_map (λ y. (OldFour y.0, 4)) (number_at w32 o)) None) (Some x) q.1) [
               | inl r ↦
-                  let m = mapped {X = ℕ × List ℕ} (λ y. (LegacyTwo y.0, 2)) (number_at w16 o) x r.1 in
+                  let m = mapped {X = ℕ × List ℕ} (λ y. (OldTwo y.0, 2)) (number_at w16 o) x r.1 in
                   let t = number_begins w16 (2 ^ 16) wide16 o m.0 octets m.1 in
-                  begins_at header o (LegacyTwo m.0.0, 2) x m.2 (record { fits = t.0; under = (low, eqb-true (header % 4) 1 r.0); size = refl; within = t.1; spelled = t.2 })
-              | inr r ↦ elim (chosen (eqb (header % 4) 2) (option_map (λ y. (LegacyFour y.0, 4)) (number_at w32 o)) None (Some x) r.1) [
+                  begins_at header o (OldTwo m.0.0, 2) x m.2 (record { fits = t.0; under = (low, eqb-true (header % 4) 1 r.0); size = refl; within = t.1; spelled = t.2 })
+              | inr r ↦ elim (chosen (eqb (header % 4) 2) (option_map (λ y. (OldFour y.0, 4)) (number_at w32 o)) None (Some x) r.1) [
                 | inl s ↦
-                    let m = mapped {X = ℕ × List ℕ} (λ y. (LegacyFour y.0, 4)) (number_at w32 o) x s.1 in
+                    let m = mapped {X = ℕ × List ℕ} (λ y. (OldFour y.0, 4)) (number_at w32 o) x s.1 in
                     let t = number_begins w32 (2 ^ 32) wide32 o m.0 octets m.1 in
-                    begins_at header o (LegacyFour m.0.0, 4) x m.2 (record { fits = t.0; under = (low, eqb-true (header % 4) 2 s.0); size = refl; within = t.1; spelled = t.2 })
+                    begins_at header o (OldFour m.0.0, 4) x m.2 (record { fits = t.0; under = (low, eqb-true (header % 4) 2 s.0); size = refl; within = t.1; spelled = t.2 })
                 | inr s ↦ absurd (let k = s.1 in cc)
               ]
             ]
           ]
     ]
+
+-- ---- a length header is read where one begins the octets, and nowhere else
+
+pub reads_there : (header : ℕ) (o : List ℕ) (l : Length) (count : ℕ) → LengthBegins header o l count → length_at header o ≡ Some (l, count)
+reads_there header o l count b =
+    let parts : o ≡ length_octets l ++ drop count o = sym (take-append-drop count o) ∙ ap (λ (x : List ℕ). x ++ drop count o) b.spelled in
+    ap (length_at header) parts ∙ length_again header l (drop count o) b.fits b.under ∙ rw b.size refl
+
+pub none_there : (header : ℕ) (o : List ℕ) → length_at header o ≡ None → (l : Length) (count : ℕ) → LengthBegins header o l count → ⊥
+none_there header o e l count b = let there = reads_there header o l count b in cc
+
+-- no two lengths begin the same octets
+pub one_length : (header : ℕ) (o : List ℕ) (l m : Length) (count n : ℕ) → LengthBegins header o l count → LengthBegins header o m n → (l ≡ m) × (count ≡ n)
+one_length header o l m count n a b = some_pair_parts l m count n (sym (reads_there header o l count a) ∙ reads_there header o m n b)
+
+-- a spelling begins what it stands before
+pub length_begins : (header : ℕ) (l : Length) (more : List ℕ) → LengthFits l → IsLengthUnder header l → LengthBegins header (length_octets l ++ more) l (length (length_octets l))
+length_begins header l more fits under = record {
+  fits = fits;
+  under = under;
+  size = refl;
+  within = omega (arith, length-append (length_octets l) more);
+  spelled = take_at (length_octets l) more (length (length_octets l)) refl;
+}
+
+-- what follows changes nothing
+pub LengthBegins-more : (header : ℕ) (o more : List ℕ) (l : Length) (count : ℕ) → LengthBegins header o l count → LengthBegins header (o ++ more) l count
+LengthBegins-more header o more l count b = record {
+  fits = b.fits;
+  under = b.under;
+  size = b.size;
+  within = omega (arith, b.within, length-append o more);
+  spelled = take-append-le count o more b.within ∙ b.spelled;
+}
 
 -- the last octet makes a length header whole: it is the length's spelling and no more
 pub length_completes : (header : ℕ) (o : List ℕ) (n : ℕ) (x : Length × ℕ) → LengthBegins header (o ++ n ∷ []) x.0 x.1 → length_at header o ≡ None → o ++ n ∷ [] ≡ length_octets x.0
@@ -130,12 +165,12 @@ legacy_enough : (bits : ℕ) (o : List ℕ) → bits < 3 → 5 ≤ length o → 
 legacy_enough bits [] low le = absurd (omega arith)
 legacy_enough bits (a ∷ o) low le =
     elim (cases_Bool (eqb bits 0)) [
-      | inl y ↦ ((LegacyOne a, 1), rw y refl)
+      | inl y ↦ ((OldOne a, 1), rw y refl)
       | inr n ↦ elim (cases_Bool (eqb bits 1)) [
-        | inl y ↦ let two = number_enough w16 (a ∷ o) (omega (arith, le)) in ((LegacyTwo two.0.0, 2), rw (n, y, two.1) refl)
+        | inl y ↦ let two = number_enough w16 (a ∷ o) (omega (arith, le)) in ((OldTwo two.0.0, 2), rw (n, y, two.1) refl)
         | inr m ↦
             let y : eqb bits 2 ≡ true = eq-eqb bits 2 (omega (arith, eqb-false bits 0 n, eqb-false bits 1 m)) in
-            let four = number_enough w32 (a ∷ o) (omega (arith, le)) in ((LegacyFour four.0.0, 4), rw (n, m, y, four.1) refl)
+            let four = number_enough w32 (a ∷ o) (omega (arith, le)) in ((OldFour four.0.0, 4), rw (n, m, y, four.1) refl)
       ]
     ]
 
@@ -144,7 +179,7 @@ pub length_enough : (header : ℕ) (o : List ℕ) → header_fault header ≡ No
 unfolding length_at
 length_enough header o read le =
     elim (cases_Bool (leb 192 header)) [
-      | inl y ↦ let x = packet_len_enough o le in ((Current x.0.0, x.0.1), rw (y, x.1) refl)
+      | inl y ↦ let x = packet_len_enough o le in ((New x.0.0, x.0.1), rw (y, x.1) refl)
       | inr n ↦
           let low : header < 192 = leb-false 192 header n in
           let three : header % 4 ≡ 3 → ⊥ = (read_header header read).definite low in

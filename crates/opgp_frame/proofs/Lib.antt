@@ -1,3 +1,4 @@
+pub mod Answered
 pub mod Chains
 pub mod Complete
 pub mod Cuts
@@ -9,6 +10,7 @@ pub mod Lengths
 pub mod Lists
 pub mod Made
 pub mod PacketFaults
+pub mod OneFault
 pub mod Packets
 pub mod Shortest
 pub mod Steps

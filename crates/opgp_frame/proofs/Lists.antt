@@ -1,21 +1,23 @@
 -- Octets are one list of packets, or have one fault.
-use Rattle.std.proofs.Common.{◌≡◌, ℕ, ◌+◌, List, [], ◌∷◌, ◌++◌, length, Some, None, refl, sym, ap, subst, ◌∙◌, append_assoc, append-nil}
+use Rattle.std.proofs.Common.{◌≡◌, ◌≢◌, ℕ, ◌+◌, List, map, [], ◌∷◌, ◌++◌, length, refl, sym, ap, subst, ◌∙◌, append_assoc, append-nil}
 use Rattle.std.proofs.lemmas.List.{append_cancel_left}
 use Rattle.std.proofs.lemmas.List.Concat.{flat_map-append}
-use Rattle.std.proofs.lemmas.Option.{some_pair_parts}
 use Rattle.opgp_octets.specs.declared.limits.Limits.{Limits}
 use Rattle.opgp_octets.specs.declared.fault.Fault.{Fault}
 use Rattle.opgp_octets.specs.declared.fault.Layer.{Layer}
 use Rattle.opgp_octets.specs.declared.fault.Reason.{Reason}
+use Rattle.opgp_octets.specs.declared.fault.Reason.TheVariants.{Truncated}
 use Rattle.opgp_frame.specs.declared.packet.Placed.{Placed}
 use Rattle.opgp_frame.specs.declared.deframe.Deframe.{Deframe}
 use Rattle.opgp_frame.specs.declared.deframe.State.{State}
 use Rattle.opgp_frame.specs.declared.deframe.State.TheVariants.{Between, InLength, InPiece, Faulty, Spent}
+use Rattle.opgp_frame.specs.PacketFault.{PacketFault}
 use Rattle.opgp_frame.specs.Fed.{Fed, IsRest, packets_of}
-use Rattle.opgp_frame.specs.Frames.{StandFrom, Frames, BeginsPacket, Longest, IsFault, spelled, packet_fault}
-use Rattle.opgp_frame.specs.Packet.{PacketValue, spelling}
+use Rattle.opgp_frame.specs.Frames.{StandFrom, Frames, BeginsPacket, Longest, IsFramingFault, spelled}
+use Rattle.opgp_frame.specs.Packet.{PacketValue, spelling, packets_octets}
 use Rattle.opgp_frame.proofs.FedLemmas.{IsRest-fault}
-use Rattle.opgp_frame.proofs.Packets.{no_packet}
+use Rattle.opgp_frame.proofs.Faults.{PacketFault-stays}
+use Rattle.opgp_frame.proofs.OneFault.{fault_no_packet, one_packet_fault}
 use Rattle.opgp_frame.proofs.Unique.{one_packet}
 
 -- a packet and its place
@@ -68,19 +70,19 @@ Frames-longest limits block octets ps f = record { whole = f.whole ∙ sym (appe
 -- what is left of a reader's octets begins with no packet
 pub IsRest-no_packet : (limits : Limits) (state : State) (ks body rest : List ℕ) → IsRest limits state ks body rest → ¬ BeginsPacket limits rest
 IsRest-no_packet limits Between ks body rest r b = empty_begins limits (subst (BeginsPacket limits) r.0 b)
-IsRest-no_packet limits (InLength header seen count) ks body rest r b = no_packet limits rest _ (IsRest-fault limits (InLength header seen count) ks body rest _ _ r refl) b
-IsRest-no_packet limits (InPiece header l from until) ks body rest r b = no_packet limits rest _ (IsRest-fault limits (InPiece header l from until) ks body rest _ _ r refl) b
-IsRest-no_packet limits (Faulty reason inner) ks body rest r b = no_packet limits rest _ (IsRest-fault limits (Faulty reason inner) ks body rest _ _ r refl) b
+IsRest-no_packet limits (InLength header seen count) ks body rest r b = fault_no_packet limits rest _ _ (IsRest-fault limits (InLength header seen count) ks body rest _ _ r refl) b
+IsRest-no_packet limits (InPiece header l from until) ks body rest r b = fault_no_packet limits rest _ _ (IsRest-fault limits (InPiece header l from until) ks body rest _ _ r refl) b
+IsRest-no_packet limits (Faulty reason inner) ks body rest r b = fault_no_packet limits rest _ _ (IsRest-fault limits (Faulty reason inner) ks body rest _ _ r refl) b
 IsRest-no_packet limits Spent ks body rest r b = r
 
 pub Fed-longest : (limits : Limits) (block : ℕ) (d : Deframe) (given : List ℕ) (taken : List Placed) (f : Fed limits block d given taken) → Longest limits block given (packets_of d taken) f.rest
 Fed-longest limits block d given taken f = record { whole = f.whole; stand = f.stand; no_more = IsRest-no_packet limits d.state d.exponents.items d.body.items f.rest f.state }
 
 -- one fault
-pub one_fault : (limits : Limits) (block : ℕ) (octets : List ℕ) (f g : Fault) → IsFault limits block octets f → IsFault limits block octets g → f ≡ g
+pub one_fault : (limits : Limits) (block : ℕ) (octets : List ℕ) (f g : Fault) → IsFramingFault limits block octets f → IsFramingFault limits block octets g → f ≡ g
 one_fault limits block octets f g p q =
     let same = one_longest limits block octets p.packets q.packets p.rest q.rest p.longest q.longest in
-    let why = some_pair_parts f.reason g.reason f.inner g.inner (sym p.why ∙ ap (packet_fault limits) same.1 ∙ q.why) in
+    let why = one_packet_fault limits q.rest f.reason g.reason f.inner g.inner (subst (λ (o : List ℕ). PacketFault limits o f.reason f.inner) same.1 p.why) q.why in
     let layer : f.layer ≡ g.layer = p.layer ∙ sym q.layer in
     let in_block : f.block ≡ g.block = p.in_block ∙ sym q.in_block in
     let pos : f.pos ≡ g.pos = p.pos ∙ ap (λ (l : List Placed). length (spelled l)) same.0 ∙ sym q.pos in
@@ -92,8 +94,30 @@ one_fault limits block octets f g p q =
     ap by_layer layer ∙ ap by_reason why.0 ∙ ap by_block in_block ∙ ap by_pos pos ∙ ap by_inner why.1
 
 -- a list of packets has no fault
-pub no_fault : (limits : Limits) (block : ℕ) (octets : List ℕ) (ps : List Placed) (f : Fault) → Frames limits block octets ps → IsFault limits block octets f → ⊥
-unfolding packet_fault
+pub no_fault : (limits : Limits) (block : ℕ) (octets : List ℕ) (ps : List Placed) (f : Fault) → Frames limits block octets ps → IsFramingFault limits block octets f → ⊥
 no_fault limits block octets ps f frames fault =
     let same = one_longest limits block octets ps fault.packets [] fault.rest (Frames-longest limits block octets ps frames) fault.longest in
-    let k : None ≡ Some (f.reason, f.inner) = ap (packet_fault limits) same.1 ∙ fault.why in cc
+    subst (λ (o : List ℕ). PacketFault limits o f.reason f.inner) (sym same.1) fault.why
+
+-- a fault but that of the end stays
+pub fault_stays : (limits : Limits) (block : ℕ) (octets more : List ℕ) (f : Fault) → f.reason ≢ Truncated → IsFramingFault limits block octets f → IsFramingFault limits block (octets ++ more) f
+fault_stays limits block octets more f other p =
+    let why = PacketFault-stays limits p.rest more f.reason f.inner other p.why in
+    record {
+      packets = p.packets;
+      rest = p.rest ++ more;
+      longest = record {
+        whole = ap (λ (o : List ℕ). o ++ more) p.longest.whole ∙ append_assoc (spelled p.packets) p.rest more;
+        stand = p.longest.stand;
+        no_more = fault_no_packet limits (p.rest ++ more) f.reason f.inner why;
+      };
+      why = why;
+      layer = p.layer;
+      in_block = p.in_block;
+      pos = p.pos;
+    }
+
+-- places aren't spelled
+pub spelled-packets : (packets : List Placed) → spelled packets ≡ packets_octets (map (λ (p : Placed). p.packet) packets)
+spelled-packets [] = refl
+spelled-packets (p ∷ ps) = ap (λ (o : List ℕ). spelling p.packet ++ o) (spelled-packets ps)

@@ -9,15 +9,15 @@ use Rattle.opgp_octets.proofs.Bytes.{same_some}
 use Rattle.opgp_frame.specs.declared.form.Form.{Form}
 use Rattle.opgp_frame.specs.declared.form.Form.TheVariants.{OldOne, OldTwo, OldFour, NewOne, NewTwo, NewFive}
 use Rattle.opgp_frame.specs.declared.length.Length.{Length}
-use Rattle.opgp_frame.specs.declared.length.Length.TheVariants.{LegacyOne, LegacyTwo, LegacyFour, Current}
+use Rattle.opgp_frame.specs.declared.length.Length.TheVariants as len
 use Rattle.opgp_frame.specs.declared.pieces.LastForm.{LastForm}
 use Rattle.opgp_frame.specs.declared.pieces.LastForm.TheVariants.{One, Two, Five}
 use Rattle.opgp_frame.specs.Form.{HasPieces, form_takes, header_octet, exponents_of, last_length, length_of_rest, current_length}
+use Rattle.opgp_frame.specs.FormOf.{with_pieces, form_with}
 use Rattle.opgp_frame.specs.Header.{kind_in}
 use Rattle.opgp_frame.specs.Length.{LengthFits, IsLengthUnder, length_amount, is_partial}
-use Rattle.opgp_frame.specs.PiecesValue.{ArePieces, pieces_sum}
-use Rattle.opgp_frame.specs.State.{GoodPieces, HasBegun, IsInPiece, IsWhole}
-use Rattle.opgp_frame.specs.FormOf.{with_pieces, form_with}
+use Rattle.opgp_frame.specs.PiecesValue.{ArePieces, pieces_sum, GoodPieces}
+use Rattle.opgp_frame.specs.Unfinished.{HasBegun, IsInPiece, IsWhole}
 use Rattle.opgp_frame.proofs.Headers.{read_header, header_read_kind, current_kind, legacy_kind}
 use Rattle.opgp_frame.proofs.Steps.{within_limit}
 
@@ -55,19 +55,19 @@ legacy_small : (header : ℕ) → header < 192 → kind_in header < 16
 legacy_small header low = omega (arith, legacy_kind header low)
 
 pub form_found : (limits : Limits) (header : ℕ) (ks : List ℕ) (l : Length) → HasBegun limits header ks → IsLengthUnder header l → is_partial l ≡ false → (form : Form) × (form_with ks l ≡ Some form) × IsFormOf header ks l form
-form_found limits header ks (LegacyOne n) begun under last =
+form_found limits header ks (len.OldOne n) begun under last =
     let high = (read_header header begun.read).high in
     (OldOne, refl, record { exponents = sym (no_legacy_pieces limits header ks begun.pieces under.0); rest = refl; takes = lt-ltb _ 16 (legacy_small header under.0); octet = legacy_octet header 0 high under.0 under.1; stand = tt })
-form_found limits header ks (LegacyTwo n) begun under last =
+form_found limits header ks (len.OldTwo n) begun under last =
     let high = (read_header header begun.read).high in
     (OldTwo, refl, record { exponents = sym (no_legacy_pieces limits header ks begun.pieces under.0); rest = refl; takes = lt-ltb _ 16 (legacy_small header under.0); octet = legacy_octet header 1 high under.0 under.1; stand = tt })
-form_found limits header ks (LegacyFour n) begun under last =
+form_found limits header ks (len.OldFour n) begun under last =
     let high = (read_header header begun.read).high in
     (OldFour, refl, record { exponents = sym (no_legacy_pieces limits header ks begun.pieces under.0); rest = refl; takes = lt-ltb _ 16 (legacy_small header under.0); octet = legacy_octet header 2 high under.0 under.1; stand = tt })
-form_found limits header ks (Current (new.One n)) begun under last = (with_pieces ks One NewOne, refl, with_pieces-is limits header ks One NewOne n begun.pieces under refl (λ m. refl) (λ k. refl) (λ k. refl) tt refl)
-form_found limits header ks (Current (new.Two n)) begun under last = (with_pieces ks Two NewTwo, refl, with_pieces-is limits header ks Two NewTwo n begun.pieces under refl (λ m. refl) (λ k. refl) (λ k. refl) tt refl)
-form_found limits header ks (Current (new.Five n)) begun under last = (with_pieces ks Five NewFive, refl, with_pieces-is limits header ks Five NewFive n begun.pieces under refl (λ m. refl) (λ k. refl) (λ k. refl) tt refl)
-form_found limits header ks (Current (new.Partial k)) begun under last = absurd cc
+form_found limits header ks (len.New (new.One n)) begun under last = (with_pieces ks One NewOne, refl, with_pieces-is limits header ks One NewOne n begun.pieces under refl (λ m. refl) (λ k. refl) (λ k. refl) tt refl)
+form_found limits header ks (len.New (new.Two n)) begun under last = (with_pieces ks Two NewTwo, refl, with_pieces-is limits header ks Two NewTwo n begun.pieces under refl (λ m. refl) (λ k. refl) (λ k. refl) tt refl)
+form_found limits header ks (len.New (new.Five n)) begun under last = (with_pieces ks Five NewFive, refl, with_pieces-is limits header ks Five NewFive n begun.pieces under refl (λ m. refl) (λ k. refl) (λ k. refl) tt refl)
+form_found limits header ks (len.New (new.Partial k)) begun under last = absurd cc
 
 -- the packet of a last piece that is whole
 pub packet_whole : (limits : Limits) (header : ℕ) (l : Length) (from until : ℕ) (ks body rest : List ℕ) (form : Form) → IsInPiece limits header l from until ks body rest → length body ≡ until → IsOctets body

@@ -10,38 +10,30 @@ use Rattle.opgp_octets.specs.declared.packet_len.PacketLen.TheVariants as new
 use Rattle.opgp_octets.specs.Octets.{IsOctets}
 use Rattle.opgp_octets.proofs.Bytes.{chosen, IsOctets-drop}
 use Rattle.opgp_frame.specs.declared.length.Length.{Length}
-use Rattle.opgp_frame.specs.declared.length.Length.TheVariants.{Current}
-use Rattle.opgp_frame.specs.Frames.{length_fault, lengths_fault, packet_fault, or_fault}
-use Rattle.opgp_frame.specs.Header.{kind_in, header_fault}
-use Rattle.opgp_frame.specs.Length.{LengthBegins, length_octets, length_amount, length_at, is_partial}
+use Rattle.opgp_frame.specs.declared.length.Length.TheVariants.{New}
+use Rattle.opgp_frame.specs.FaultReading.{lengths_fault, packet_fault, or_fault}
+use Rattle.opgp_frame.specs.Header.{kind_in}
+use Rattle.opgp_frame.specs.Length.{LengthBegins, length_amount, length_at, is_partial}
 use Rattle.opgp_frame.specs.Packet.{cut_body}
-use Rattle.opgp_frame.specs.PacketFault.{NextFault, FaultBehind, PacketFault}
+use Rattle.opgp_frame.specs.PacketFault.{NextFault, FaultBehind, PacketFault, header_fault, length_fault}
 use Rattle.opgp_frame.specs.PiecesValue.{pieces_sum}
-use Rattle.opgp_frame.specs.State.{HasBegun}
+use Rattle.opgp_frame.specs.Unfinished.{HasBegun}
 use Rattle.opgp_frame.proofs.Chains.{GoodFrom, piece_length, behind, lengths_fault-read, lengths_fault-unread}
 use Rattle.opgp_frame.proofs.Complete.{partial_is, GoodFrom-pieces}
 use Rattle.opgp_frame.proofs.Cuts.{cut_body-last}
-use Rattle.opgp_frame.proofs.Faults.{place_behind, packet_fault-header, packet_fault-begun}
-use Rattle.opgp_frame.proofs.Lengths.{length_again, length_takes}
+use Rattle.opgp_frame.proofs.Chains.{packet_fault-begun, packet_fault-header}
+use Rattle.opgp_frame.proofs.Faults.{place_behind}
+use Rattle.opgp_frame.proofs.Lengths.{length_takes, reads_there, none_there}
 
--- ---- a length header is read where one begins the octets, and nowhere else
+-- ---- what is read is so
 
-reads_there : (header : ℕ) (o : List ℕ) (l : Length) (count : ℕ) → LengthBegins header o l count → length_at header o ≡ Some (l, count)
-reads_there header o l count b =
-    let parts : o ≡ length_octets l ++ drop count o = sym (take-append-drop count o) ∙ ap (λ (x : List ℕ). x ++ drop count o) b.spelled in
-    ap (length_at header) parts ∙ length_again header l (drop count o) b.fits b.under ∙ rw b.size refl
-
-none_there : (header : ℕ) (o : List ℕ) → length_at header o ≡ None → (l : Length) (count : ℕ) → LengthBegins header o l count → ⊥
-none_there header o e l count b = let there = reads_there header o l count b in cc
-
+-- where no length begins the octets none is read
 nothing_read : (header : ℕ) (o : List ℕ) → IsOctets o → ((l : Length) (count : ℕ) → LengthBegins header o l count → ⊥) → length_at header o ≡ None
 nothing_read header o octets none =
     elim (length_at header o) as (λ (r : Option (Length × ℕ)). length_at header o ≡ r → r ≡ None) [
       | None ↦ λ e. refl
       | Some x ↦ λ e. absurd (none x.0 x.1 (length_takes header o x octets e))
     ] refl
-
--- ---- what is read is so
 
 -- behind length headers that are good, those so far counted
 record ChainFault (limits : Limits) (header before sum at : ℕ) (o : List ℕ) (reason : Reason) (inner : ℕ) : Type 0 where
@@ -69,7 +61,7 @@ here limits header before sum at o reason inner place next =
       next = subst (λ (n : ℕ). NextFault limits header (before + 0) n o reason) s (subst (λ (n : ℕ). NextFault limits header n sum o reason) b next);
     }
 
-before_it : (limits : Limits) (header before sum at k : ℕ) (o : List ℕ) (count : ℕ) (reason : Reason) (inner : ℕ) → LengthBegins header o (Current (new.Partial k)) count → length_fault limits (kind_in header) before sum (piece_length k) ≡ None
+before_it : (limits : Limits) (header before sum at k : ℕ) (o : List ℕ) (count : ℕ) (reason : Reason) (inner : ℕ) → LengthBegins header o (New (new.Partial k)) count → length_fault limits (kind_in header) before sum (piece_length k) ≡ None
     → count + 2 ^ k ≤ length o → ChainFault limits header (before + 1) (sum + 2 ^ k) (at + (count + 2 ^ k)) (drop (count + 2 ^ k) o) reason inner → ChainFault limits header before sum at o reason inner
 before_it limits header before sum at k o count reason inner begins fine room c =
     let left : List ℕ = drop count o in

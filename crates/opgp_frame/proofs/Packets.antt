@@ -1,24 +1,22 @@
--- An allowed packet is not at fault, whatever follows, and no packet's spelling begins another's.
-use Rattle.std.proofs.Common.{◌≡◌, ℕ, ◌+◌, ◌-◌, ◌≤◌, true, false, List, [], ◌∷◌, ◌++◌, length, Some, None, refl, sym, ap, subst, ◌∙◌, arith, length-append}
+-- What is known of an allowed packet: its first octet, its pieces and its last length.
+use Rattle.std.proofs.Common.{◌≡◌, ℕ, ◌+◌, ◌≤◌, true, false, [], length, None, refl, sym, subst, arith}
 use Rattle.std.proofs.lemmas.Bool.{le-ltb, ltb-true}
 use Rattle.std.proofs.lemmas.List.Elements.{All-nil}
 use Rattle.opgp_octets.specs.declared.limits.Limits.{Limits}
 use Rattle.opgp_octets.specs.Limits.{body_limit, pieces_limit}
-use Rattle.opgp_octets.specs.declared.fault.Reason.{Reason}
 use Rattle.opgp_frame.specs.declared.form.Form.{Form}
 use Rattle.opgp_frame.specs.declared.form.Form.TheVariants.{OldOne, OldTwo, OldFour, NewOne, NewTwo, NewFive, Partial}
 use Rattle.opgp_frame.specs.declared.pieces.LastForm.{LastForm}
 use Rattle.opgp_frame.specs.declared.pieces.LastForm.TheVariants.{One, Two, Five}
 use Rattle.opgp_frame.specs.declared.length.Length.{Length}
-use Rattle.opgp_frame.specs.PiecesValue.{pieces_sum}
-use Rattle.opgp_frame.specs.Form.{HasPieces, form_takes, header_octet, exponents_of, last_length, length_of_rest, current_length}
-use Rattle.opgp_frame.specs.Frames.{IsAllowed, BeginsPacket, length_fault, packet_fault}
-use Rattle.opgp_frame.specs.Header.{kind_in, is_data_kind}
-use Rattle.opgp_frame.specs.Length.{IsLengthUnder, length_octets, length_amount, is_partial}
-use Rattle.opgp_frame.specs.Packet.{PacketValue, spelling, cut_body}
-use Rattle.opgp_frame.specs.State.{GoodPieces, HasBegun}
-use Rattle.opgp_frame.proofs.Cuts.{cut_body-append}
-use Rattle.opgp_frame.proofs.Faults.{packet_fault-none}
+use Rattle.opgp_frame.specs.Form.{HasPieces, form_takes, header_octet, exponents_of, length_of_rest, current_length}
+use Rattle.opgp_frame.specs.Frames.{IsAllowed}
+use Rattle.opgp_frame.specs.Header.{is_data_kind}
+use Rattle.opgp_frame.specs.Length.{IsLengthUnder, length_amount, is_partial}
+use Rattle.opgp_frame.specs.Packet.{PacketValue}
+use Rattle.opgp_frame.specs.PacketFault.{length_fault}
+use Rattle.opgp_frame.specs.PiecesValue.{GoodPieces, pieces_sum}
+use Rattle.opgp_frame.specs.Unfinished.{HasBegun}
 use Rattle.opgp_frame.proofs.Headers.{read_kind, kind_in-header_octet, header_octet-fits, header_octet-read}
 
 -- what is known of the last length of a form, with n octets left
@@ -72,22 +70,3 @@ IsAllowed-begun limits p allowed =
 -- a last length within the limit may stand there
 pub last_good : (limits : Limits) (kind before sum : ℕ) (l : Length) → is_partial l ≡ false → sum + length_amount l ≤ body_limit limits → length_fault limits kind before sum l ≡ None
 last_good limits kind before sum l last within = rw (last, le-ltb (body_limit limits) (sum + length_amount l) within) refl
-
--- an allowed packet is not at fault
-pub packet_fault-spelling : (limits : Limits) (p : PacketValue) (more : List ℕ) → IsAllowed limits p → packet_fault limits (spelling p ++ more) ≡ None
-packet_fault-spelling limits p more allowed =
-    let header : ℕ = header_octet p.form p.kind in
-    let ks : List ℕ = exponents_of p.form in
-    let left : ℕ = length p.body - pieces_sum ks in
-    let l : Length = last_length p.form (length p.body) in
-    let last = form_last p.form p.kind left allowed.packet.takes in
-    let pieces : pieces_sum ks ≤ length p.body = allowed.packet.spells.pieces in
-    let whole : pieces_sum ks + length_amount l ≡ length p.body = omega (arith, last.amount, pieces) in
-    let joined : spelling p ++ more ≡ header ∷ cut_body ks (length_octets l) (p.body ++ more) = ap (λ (o : List ℕ). header ∷ o) (cut_body-append ks (length_octets l) p.body more pieces) in
-    ap (packet_fault limits) joined
-    ∙ packet_fault-none limits header l ks (p.body ++ more) (IsAllowed-begun limits p allowed) (omega (arith, whole, length-append p.body more)) allowed.packet.spells.rest last.under last.last
-    (last_good limits (kind_in header) (length ks) (pieces_sum ks) l last.last (omega (arith, whole, allowed.body)))
-
--- what is at fault begins with no allowed packet
-pub no_packet : (limits : Limits) (rest : List ℕ) (why : Reason × ℕ) → packet_fault limits rest ≡ Some why → ¬ BeginsPacket limits rest
-no_packet limits rest why e b = let k = sym e ∙ ap (packet_fault limits) b.begins ∙ packet_fault-spelling limits b.packet b.more b.allowed in cc

@@ -7,7 +7,7 @@ use Rattle.opgp_frame.specs.Form.{last_length, exponents_of}
 use Rattle.opgp_frame.specs.Length.{LengthFits, length_octets}
 use Rattle.opgp_frame.specs.Packet.{PacketValue, IsPacket, spelling}
 use Rattle.opgp_frame.specs.Reframed.{IsCurrent, shortest_form, reframed}
-use Rattle.opgp_frame.proofs.Cuts.{length-cut_body}
+use Rattle.opgp_frame.proofs.Cuts.{cut_body_size}
 
 -- the length octets of each form
 one_octet : (n : ℕ) → n < 192 → length (length_octets (last_length (shortest_form n) n)) ≡ 1
@@ -16,7 +16,7 @@ one_octet n lt = rw (lt-ltb n 192 lt) refl
 two_octets : (n : ℕ) → 192 ≤ n → n < 8384 → length (length_octets (last_length (shortest_form n) n)) ≡ 2
 two_octets n le lt = rw (le-ltb n 192 le, lt-ltb n 8384 lt) refl
 
-five_octets : (n : ℕ) → 8384 ≤ n → length (length_octets (last_length (shortest_form n) n)) ≡ 5
+pub five_octets : (n : ℕ) → 8384 ≤ n → length (length_octets (last_length (shortest_form n) n)) ≡ 5
 five_octets n le = let high : 192 ≤ n = omega arith in rw (le-ltb n 192 high, le-ltb n 8384 le) refl
 
 pub at_most_five : (n : ℕ) → length (length_octets (last_length (shortest_form n) n)) ≤ 5
@@ -51,8 +51,8 @@ pub reframed-least : (p other : PacketValue) → IsPacket other → IsCurrent ot
 reframed-least p other stands current same =
     let n : ℕ = length other.body in
     let least = shortest_form-least other.form n current stands.spells.rest in
-    let mine = length-cut_body (exponents_of (shortest_form n)) (length_octets (last_length (shortest_form n) n)) other.body in
-    let its = length-cut_body (exponents_of other.form) (length_octets (last_length other.form n)) other.body in
+    let mine = cut_body_size (exponents_of (shortest_form n)) (length_octets (last_length (shortest_form n) n)) other.body in
+    let its = cut_body_size (exponents_of other.form) (length_octets (last_length other.form n)) other.body in
     let none : length (exponents_of (shortest_form n)) ≡ 0 = ap length (no_pieces n) in
     let in_place : List ℕ → PacketValue = λ b. record { form = shortest_form (length b); kind = p.kind; body = b } in
     let short : length (spelling (in_place other.body)) ≤ length (spelling other) = omega (arith, least.1, mine, its, none, ap (length {A = ℕ}) least.0) in

@@ -1,5 +1,5 @@
 -- What each step of a reader does to the octets that its state stands for.
-use Rattle.std.proofs.Common.{◌≡◌, ℕ, ◌+◌, ◌%◌, ◌^◌, ◌<◌, ◌≤◌, true, false, not, ◌&&◌, cond, leb, eqb, ltb, List, [], ◌∷◌, ◌++◌, length, get_or, Option, Some, None, refl, sym, ap, subst, ◌∙◌, arith, inl, inr, length-append}
+use Rattle.std.proofs.Common.{◌≡◌, ℕ, ◌+◌, ◌%◌, ◌^◌, ◌<◌, ◌≤◌, true, false, not, ◌&&◌, cond, leb, eqb, ltb, List, [], ◌∷◌, ◌++◌, length, take, get_or, Option, Some, None, refl, sym, ap, subst, ◌∙◌, arith, inl, inr, length-append}
 use Rattle.std.proofs.lemmas.Bool.{cases_lt, cases_eq, cases_Bool, leb-false, ltb-false, lt-ltb, and_from, eq-eqb, not-false}
 use Rattle.std.proofs.lemmas.List.{nil_from_length, get_or_append_left, length_push}
 use Rattle.std.proofs.lemmas.List.Elements.{All-push}
@@ -13,16 +13,16 @@ use Rattle.opgp_octets.specs.declared.packet_len.PacketLen.TheVariants as new
 use Rattle.opgp_octets.proofs.Bytes.{chosen}
 use Rattle.opgp_frame.specs.declared.deframe.State.TheVariants.{Between, InLength, Faulty}
 use Rattle.opgp_frame.specs.declared.length.Length.{Length}
-use Rattle.opgp_frame.specs.declared.length.Length.TheVariants.{LegacyOne, LegacyTwo, LegacyFour, Current}
+use Rattle.opgp_frame.specs.declared.length.Length.TheVariants.{OldOne, OldTwo, OldFour, New}
 use Rattle.opgp_frame.specs.Fed.{IsRest}
-use Rattle.opgp_frame.specs.Frames.{or_else, partial_fault, length_fault, packet_fault}
-use Rattle.opgp_frame.specs.Header.{is_data_kind, kind_in, header_fault}
+use Rattle.opgp_frame.specs.Header.{is_data_kind, kind_in}
 use Rattle.opgp_frame.specs.Length.{LengthBegins, length_octets, length_amount, length_at, is_partial}
 use Rattle.opgp_frame.specs.Packet.{cut_body}
-use Rattle.opgp_frame.specs.PiecesValue.{pieces_sum}
-use Rattle.opgp_frame.specs.State.{GoodPieces, IsAtLength, IsInPiece}
+use Rattle.opgp_frame.specs.PacketFault.{PacketFault, or_else, partial_fault, length_fault, header_fault}
+use Rattle.opgp_frame.specs.PiecesValue.{pieces_sum, GoodPieces}
+use Rattle.opgp_frame.specs.Unfinished.{EndsLength, IsAtLength, IsInPiece}
 use Rattle.opgp_frame.proofs.Cuts.{cut_body-append, cut_body-push, cut_body-last, pieces_sum-push}
-use Rattle.opgp_frame.proofs.Faults.{packet_fault-header, packet_fault-length, place_behind}
+use Rattle.opgp_frame.proofs.Faults.{bad_length-fault, place_behind}
 use Rattle.opgp_frame.proofs.Lengths.{length_completes}
 use Rattle.opgp_frame.proofs.Packets.{no_pieces}
 
@@ -44,7 +44,7 @@ length_at-nil header =
 
 pub begins_fault : (limits : Limits) (octet : ℕ) (ks body rest : List ℕ) (reason : Reason) → IsRest limits Between ks body rest → header_fault octet ≡ Some reason → IsRest limits (Faulty reason 0) ks body (rest ++ octet ∷ [])
 begins_fault limits octet ks body rest reason r e more =
-    ap (λ (o : List ℕ). packet_fault limits ((o ++ octet ∷ []) ++ more)) r.0 ∙ packet_fault-header limits octet more reason e
+    subst (λ (o : List ℕ). PacketFault limits ((o ++ octet ∷ []) ++ more) reason 0) (sym r.0) (inl (e, refl))
 
 pub begins_packet : (limits : Limits) (octet : ℕ) (seen ks body rest : List ℕ) → IsRest limits Between ks body rest → octet < 256 → header_fault octet ≡ None → IsRest limits (InLength octet seen 0) ks body (rest ++ octet ∷ [])
 begins_packet limits octet seen ks body rest r below e =
@@ -66,29 +66,42 @@ more_of_length limits header octet seen ks body rest at e =
       unread = e;
     }
 
+-- ---- a whole length header
+
+-- its last octet makes it whole
+pub ends_with_octet : (limits : Limits) (header octet : ℕ) (seen ks body rest : List ℕ) (l : Length) (count : ℕ) → IsAtLength limits header seen ks body rest → LengthBegins header (seen ++ octet ∷ []) l count → EndsLength header seen (octet ∷ []) l
+ends_with_octet limits header octet seen ks body rest l count at begins =
+    record { fits = begins.fits; under = begins.under; whole = length_completes header seen octet (l, count) begins at.unread }
+
+-- it begins the piece
+pub ends_at_once : (header : ℕ) (piece : List ℕ) (l : Length) (count : ℕ) → LengthBegins header piece l count → EndsLength header [] (take count piece) l
+ends_at_once header piece l count begins = record { fits = begins.fits; under = begins.under; whole = begins.spelled }
+
 -- the octets up to a whole length header
-whole_length : (limits : Limits) (header octet : ℕ) (seen ks body rest : List ℕ) (l : Length) (count : ℕ) → IsAtLength limits header seen ks body rest → LengthBegins header (seen ++ octet ∷ []) l count → rest ++ octet ∷ [] ≡ header ∷ cut_body ks (length_octets l) body
-whole_length limits header octet seen ks body rest l count at begins =
-    ap (λ (o : List ℕ). o ++ octet ∷ []) at.octets ∙ ap (λ (o : List ℕ). header ∷ o) (cut_body-last ks seen body (octet ∷ []) at.whole)
-    ∙ ap (λ (o : List ℕ). header ∷ cut_body ks o body) (length_completes header seen octet (l, count) begins at.unread)
+whole_length : (limits : Limits) (header : ℕ) (seen octets ks body rest : List ℕ) (l : Length) → IsAtLength limits header seen ks body rest → EndsLength header seen octets l → rest ++ octets ≡ header ∷ cut_body ks (length_octets l) body
+whole_length limits header seen octets ks body rest l at ends =
+    ap (λ (o : List ℕ). o ++ octets) at.octets ∙ ap (λ (o : List ℕ). header ∷ o) (cut_body-last ks seen body octets at.whole)
+    ∙ ap (λ (o : List ℕ). header ∷ cut_body ks o body) ends.whole
 
 -- the length may not stand there
-pub length_faulty : (limits : Limits) (header octet : ℕ) (seen ks body rest : List ℕ) (l : Length) (count : ℕ) (reason : Reason) → IsAtLength limits header seen ks body rest → LengthBegins header (seen ++ octet ∷ []) l count
-    → length_fault limits (kind_in header) (length ks) (length body) l ≡ Some reason → IsRest limits (Faulty reason (1 + (length ks + length body))) ks body (rest ++ octet ∷ [])
-length_faulty limits header octet seen ks body rest l count reason at begins e more =
-    let whole = whole_length limits header octet seen ks body rest l count at begins in
+pub length_faulty : (limits : Limits) (header : ℕ) (seen octets ks body rest : List ℕ) (l : Length) (reason : Reason) → IsAtLength limits header seen ks body rest → EndsLength header seen octets l
+    → length_fault limits (kind_in header) (length ks) (length body) l ≡ Some reason → (more : List ℕ) → PacketFault limits ((rest ++ octets) ++ more) reason (1 + (length ks + length body))
+length_faulty limits header seen octets ks body rest l reason at ends e more =
+    let whole = whole_length limits header seen octets ks body rest l at ends in
     let place : place_behind ks ≡ 1 + (length ks + length body) = omega (arith, at.whole) in
     let same : length_fault limits (kind_in header) (length ks) (pieces_sum ks) l ≡ Some reason = rw (← at.whole) e in
-    ap (λ (o : List ℕ). packet_fault limits (o ++ more)) whole ∙ packet_fault-length limits header l ks body more reason at.begun at.whole begins.fits begins.under same ∙ rw place refl
+    subst (λ (o : List ℕ). PacketFault limits (o ++ more) reason (1 + (length ks + length body))) (sym whole)
+    (subst (λ (n : ℕ). PacketFault limits ((header ∷ cut_body ks (length_octets l) body) ++ more) reason n) place
+    (bad_length-fault limits header l ks body more reason at.begun at.whole ends.fits ends.under same))
 
 -- the length may stand there
-pub length_good : (limits : Limits) (header octet : ℕ) (seen ks body rest : List ℕ) (l : Length) (count : ℕ) → IsAtLength limits header seen ks body rest → LengthBegins header (seen ++ octet ∷ []) l count
-    → length_fault limits (kind_in header) (length ks) (length body) l ≡ None → IsInPiece limits header l (length body) (length body + length_amount l) ks body (rest ++ octet ∷ [])
-length_good limits header octet seen ks body rest l count at begins e = record {
+pub length_good : (limits : Limits) (header : ℕ) (seen octets ks body rest : List ℕ) (l : Length) → IsAtLength limits header seen ks body rest → EndsLength header seen octets l
+    → length_fault limits (kind_in header) (length ks) (length body) l ≡ None → IsInPiece limits header l (length body) (length body + length_amount l) ks body (rest ++ octets)
+length_good limits header seen octets ks body rest l at ends e = record {
   begun = at.begun;
-  octets = whole_length limits header octet seen ks body rest l count at begins;
-  fits = begins.fits;
-  under = begins.under;
+  octets = whole_length limits header seen octets ks body rest l at ends;
+  fits = ends.fits;
+  under = ends.under;
   good = rw (← at.whole) e;
   begins = at.whole;
   ends = refl;
@@ -153,10 +166,10 @@ none_first None rest e = refl
 none_first (Some reason) rest e = absurd cc
 
 -- one more piece that is good
-pieces_push : (limits : Limits) (header k : ℕ) (ks : List ℕ) → GoodPieces limits header ks → k ≤ 30 → 192 ≤ header → length_fault limits (kind_in header) (length ks) (pieces_sum ks) (Current (new.Partial k)) ≡ None → GoodPieces limits header (ks ++ k ∷ [])
+pieces_push : (limits : Limits) (header k : ℕ) (ks : List ℕ) → GoodPieces limits header ks → k ≤ 30 → 192 ≤ header → length_fault limits (kind_in header) (length ks) (pieces_sum ks) (New (new.Partial k)) ≡ None → GoodPieces limits header (ks ++ k ∷ [])
 pieces_push limits header k ks good small current fine =
     let part = partial_good limits (kind_in header) (length ks) (2 ^ k) (none_first _ _ fine) in
-    let sum = within_limit limits (kind_in header) (length ks) (pieces_sum ks) (Current (new.Partial k)) fine in
+    let sum = within_limit limits (kind_in header) (length ks) (pieces_sum ks) (New (new.Partial k)) fine in
     let large : length ks ≡ 0 → 9 ≤ k = λ z. elim (cases_lt k 9) [ inl lt ↦ absurd (omega (arith, part.first z, pow_below k 9 lt)) | inr le ↦ le ] in
     record {
       each = All-push (λ j. j ≤ 30) ks k good.each small;
@@ -171,7 +184,7 @@ pieces_push limits header k ks good small current fine =
     }
 
 -- a piece is whole, and another length header follows
-pub ends_piece : (limits : Limits) (header k from until : ℕ) (seen ks body rest : List ℕ) → IsInPiece limits header (Current (new.Partial k)) from until ks body rest → length body ≡ until → IsRest limits (InLength header seen 0) (ks ++ k ∷ []) body rest
+pub ends_piece : (limits : Limits) (header k from until : ℕ) (seen ks body rest : List ℕ) → IsInPiece limits header (New (new.Partial k)) from until ks body rest → length body ≡ until → IsRest limits (InLength header seen 0) (ks ++ k ∷ []) body rest
 ends_piece limits header k from until seen ks body rest at full =
     record {
       begun = record { octet = at.begun.octet; read = at.begun.read; pieces = pieces_push limits header k ks at.begun.pieces at.fits at.under at.good };
@@ -182,23 +195,23 @@ ends_piece limits header k from until seen ks body rest at full =
 
 -- only a last length announces nothing
 pub partial_some : (l : Length) → length_amount l ≡ 0 → is_partial l ≡ false
-partial_some (LegacyOne n) e = refl
-partial_some (LegacyTwo n) e = refl
-partial_some (LegacyFour n) e = refl
-partial_some (Current (new.One n)) e = refl
-partial_some (Current (new.Two n)) e = refl
-partial_some (Current (new.Five n)) e = refl
-partial_some (Current (new.Partial k)) e = absurd (omega (arith, e, pow_pos k))
+partial_some (OldOne n) e = refl
+partial_some (OldTwo n) e = refl
+partial_some (OldFour n) e = refl
+partial_some (New (new.One n)) e = refl
+partial_some (New (new.Two n)) e = refl
+partial_some (New (new.Five n)) e = refl
+partial_some (New (new.Partial k)) e = absurd (omega (arith, e, pow_pos k))
 
 -- a partial length that is good leaves room for its piece's form
 pub room_for_piece : (limits : Limits) (kind before sum : ℕ) (l : Length) → length_fault limits kind before sum l ≡ None → is_partial l ≡ true → before + 1 ≤ pieces_limit limits
-room_for_piece limits kind before sum (LegacyOne n) e some = absurd cc
-room_for_piece limits kind before sum (LegacyTwo n) e some = absurd cc
-room_for_piece limits kind before sum (LegacyFour n) e some = absurd cc
-room_for_piece limits kind before sum (Current (new.One n)) e some = absurd cc
-room_for_piece limits kind before sum (Current (new.Two n)) e some = absurd cc
-room_for_piece limits kind before sum (Current (new.Five n)) e some = absurd cc
-room_for_piece limits kind before sum (Current (new.Partial k)) e some = omega (arith, (partial_good limits kind before (2 ^ k) (none_first _ _ e)).room)
+room_for_piece limits kind before sum (OldOne n) e some = absurd cc
+room_for_piece limits kind before sum (OldTwo n) e some = absurd cc
+room_for_piece limits kind before sum (OldFour n) e some = absurd cc
+room_for_piece limits kind before sum (New (new.One n)) e some = absurd cc
+room_for_piece limits kind before sum (New (new.Two n)) e some = absurd cc
+room_for_piece limits kind before sum (New (new.Five n)) e some = absurd cc
+room_for_piece limits kind before sum (New (new.Partial k)) e some = omega (arith, (partial_good limits kind before (2 ^ k) (none_first _ _ e)).room)
 
 -- the same length behind the same pieces
 pub length_fault-same : (limits others : Limits) (kind kind' before before' sum sum' : ℕ) (l : Length) → limits ≡ others → kind ≡ kind' → before ≡ before' → sum ≡ sum' → length_fault limits kind before sum l ≡ length_fault others kind' before' sum' l

@@ -9,7 +9,7 @@ use Rattle.opgp_octets.proofs.Bytes.{same_some}
 use Rattle.opgp_frame.specs.declared.form.Form.{Form}
 use Rattle.opgp_frame.specs.declared.form.Form.TheVariants.{OldOne, OldTwo, OldFour, NewOne, NewTwo, NewFive, Partial}
 use Rattle.opgp_frame.specs.declared.length.Length.{Length}
-use Rattle.opgp_frame.specs.declared.length.Length.TheVariants.{Current}
+use Rattle.opgp_frame.specs.declared.length.Length.TheVariants as len
 use Rattle.opgp_frame.specs.declared.pieces.LastForm.{LastForm}
 use Rattle.opgp_frame.specs.declared.pieces.LastForm.TheVariants.{One, Two, Five}
 use Rattle.opgp_frame.specs.Form.{HasPieces, header_octet, exponents_of, last_length, length_of_rest, current_length}
@@ -43,7 +43,7 @@ first_length header l m x y fits under others beneath e =
     let same : l ≡ m = (some_pair_parts l m (length (length_octets l)) (length (length_octets m)) (sym first ∙ ap (length_at header) e ∙ second)).0 in
     (same, append_cancel_left (length_octets l) x y (e ∙ ap (λ (n : Length). length_octets n ++ y) (sym same)))
 
-not_partial : (k : ℕ) (l : Length) → is_partial l ≡ false → l ≡ Current (new.Partial k) → ⊥
+not_partial : (k : ℕ) (l : Length) → is_partial l ≡ false → l ≡ len.New (new.Partial k) → ⊥
 not_partial k l last e = let t : is_partial l ≡ true = ap is_partial e in let f = sym last ∙ t in cc
 
 pub record SameCut (ks es : List ℕ) (l m : Length) (b c x y : List ℕ) : Type 0 where
@@ -60,11 +60,11 @@ same_cut header [] [] l m b c x y p q e =
     record { exponents = refl; last = first.0; body = rest.0; more = rest.1 }
 same_cut header [] (j ∷ es) l m b c x y p q e =
     let tail : List ℕ = (take (2 ^ j) c ++ cut_body es (length_octets m) (drop (2 ^ j) c)) ++ y in
-    let first = first_length header l (Current (new.Partial j)) (b ++ x) tail p.fits p.under q.small.0 (q.current (omega arith)) (sym (append_assoc (length_octets l) b x) ∙ e) in
+    let first = first_length header l (len.New (new.Partial j)) (b ++ x) tail p.fits p.under q.small.0 (q.current (omega arith)) (sym (append_assoc (length_octets l) b x) ∙ e) in
     absurd (not_partial j l p.last first.0)
 same_cut header (k ∷ ks) [] l m b c x y p q e =
     let tail : List ℕ = (take (2 ^ k) b ++ cut_body ks (length_octets l) (drop (2 ^ k) b)) ++ x in
-    let first = first_length header m (Current (new.Partial k)) (c ++ y) tail q.fits q.under p.small.0 (p.current (omega arith)) (sym (append_assoc (length_octets m) c y) ∙ sym e) in
+    let first = first_length header m (len.New (new.Partial k)) (c ++ y) tail q.fits q.under p.small.0 (p.current (omega arith)) (sym (append_assoc (length_octets m) c y) ∙ sym e) in
     absurd (not_partial k m q.last first.0)
 same_cut header (k ∷ ks) (j ∷ es) l m b c x y p q e =
     let pb : List ℕ = take (2 ^ k) b in

@@ -1,13 +1,18 @@
 -- What a reader of packets has been given, and what was taken from it.
-use Rattle.std.specs.Prelude.{◌≡◌, ℕ, ◌<◌, Bool, true, false, List, [], ◌++◌, length, take, Some, is_some, option_to_list, IsSome}
+use Rattle.std.specs.Prelude.{◌≡◌, ℕ, ◌<◌, Bool, true, false, List, [], ◌++◌, length, take, Option}
+use Rattle.std.specs.Prelude.{Some, None, is_some, option_to_list, IsSome}
 use Rattle.opgp_octets.specs.declared.limits.Limits.{Limits}
+use Rattle.opgp_octets.specs.declared.fault.Fault.{Fault}
+use Rattle.opgp_octets.specs.declared.fault.Layer.TheVariants.{Framing}
 use Rattle.opgp_frame.specs.declared.packet.Placed.{Placed}
 use Rattle.opgp_frame.specs.declared.deframe.Deframe.{Deframe}
 use Rattle.opgp_frame.specs.declared.deframe.State.{State}
-use Rattle.opgp_frame.specs.declared.deframe.State.TheVariants.{Between, InLength, InPiece, Faulty, Spent}
-use Rattle.opgp_frame.specs.Frames.{spelled, StandFrom, packet_fault}
-use Rattle.opgp_frame.specs.Held.{held_in}
-use Rattle.opgp_frame.specs.State.{IsAtLength, IsInPiece}
+use Rattle.opgp_frame.specs.declared.deframe.State.TheVariants.{Between, InLength, InPiece, Faulty}
+use Rattle.opgp_frame.specs.declared.deframe.State.TheVariants.{Spent}
+use Rattle.opgp_frame.specs.Frames.{spelled, StandFrom}
+use Rattle.opgp_frame.specs.PacketFault.{PacketFault}
+use Rattle.opgp_frame.specs.ReaderState.{held_in}
+use Rattle.opgp_frame.specs.Unfinished.{IsAtLength, IsInPiece}
 
 abbrev pub is_spent_state : State → Bool
 is_spent_state Between = false
@@ -16,20 +21,22 @@ is_spent_state (InPiece header l from until) = false
 is_spent_state (Faulty reason inner) = false
 is_spent_state Spent = true
 
-abbrev pub is_faulty_state : State → Bool
-is_faulty_state Between = false
-is_faulty_state (InLength header seen count) = false
-is_faulty_state (InPiece header l from until) = false
-is_faulty_state (Faulty reason inner) = true
-is_faulty_state Spent = false
+-- the fault that a state keeps, of a packet that begins at this offset in this block
+abbrev pub fault_of_state : State → ℕ → ℕ → Option Fault
+fault_of_state Between block pos = None
+fault_of_state (InLength header seen count) block pos = None
+fault_of_state (InPiece header l from until) block pos = None
+fault_of_state (Faulty reason inner) block pos =
+    Some (record { layer = Framing; reason = reason; block = block; pos = pos; inner = inner })
+fault_of_state Spent block pos = None
 
 -- a push has met want of memory
 abbrev pub is_spent : Deframe → Bool
 is_spent d = is_spent_state d.state
 
--- the octets given are at fault, whatever follows
-abbrev pub is_faulty : Deframe → Bool
-is_faulty d = is_faulty_state d.state
+-- the fault that the octets given have, whatever follows
+abbrev pub fault_of : Deframe → Option Fault
+fault_of d = fault_of_state d.state d.block d.start
 
 -- a packet waits to be taken
 abbrev pub is_ready : Deframe → Bool
@@ -39,8 +46,8 @@ is_ready d = is_some d.ready
 abbrev pub count_of : Deframe → ℕ
 count_of d = d.given
 
--- Of the packet that is unfinished or ready: its first octet, the octets of the length header that is being read, the
--- joined octets of the body, and one octet a piece.
+-- Of the packet that is unfinished or ready: its first octet, the octets of the length header that
+-- is being read, the joined octets of the body, and one octet a piece.
 abbrev pub held_of : Deframe → ℕ
 held_of d = held_in d.state (length d.exponents.items) (length d.body.items) d.ready
 
@@ -55,13 +62,18 @@ packets_of d taken = taken ++ option_to_list d.ready
 -- the octets after the last whole packet, as the state keeps them
 abbrev pub IsRest : Limits → State → List ℕ → List ℕ → List ℕ → Type 0
 IsRest limits Between exponents body rest = (rest ≡ []) × (exponents ≡ []) × (body ≡ [])
-IsRest limits (InLength header seen count) exponents body rest = IsAtLength limits header (take count seen) exponents body rest
-IsRest limits (InPiece header l from until) exponents body rest = IsInPiece limits header l from until exponents body rest × (length body < until)
-IsRest limits (Faulty reason inner) exponents body rest = (more : List ℕ) → packet_fault limits (rest ++ more) ≡ Some (reason, inner)
+IsRest limits (InLength header seen count) exponents body rest =
+    IsAtLength limits header (take count seen) exponents body rest
+IsRest limits (InPiece header l from until) exponents body rest =
+    IsInPiece limits header l from until exponents body rest × (length body < until)
+IsRest limits (Faulty reason inner) exponents body rest =
+    (more : List ℕ) → PacketFault limits (rest ++ more) reason inner
 IsRest limits Spent exponents body rest = ⊥
 
--- Within these limits the reader was given these octets of the block, and these packets were taken from it.
-pub record Fed (limits : Limits) (block : ℕ) (d : Deframe) (given : List ℕ) (taken : List Placed) : Type 0 where
+-- Within these limits the reader was given these octets of the block, and these packets were taken
+-- from it.
+pub record Fed (limits : Limits) (block : ℕ) (d : Deframe) (given : List ℕ)
+    (taken : List Placed) : Type 0 where
   pub rest : List ℕ
   pub limits_kept : d.limits ≡ limits
   pub block_kept : d.block ≡ block
@@ -71,3 +83,10 @@ pub record Fed (limits : Limits) (block : ℕ) (d : Deframe) (given : List ℕ) 
   pub count : d.given ≡ length given
   pub state : IsRest limits d.state d.exponents.items d.body.items rest
   pub waits : IsSome d.ready → rest ≡ []
+
+-- Whatever the old reader was given and had handed out, the new one was given these octets more and
+-- has handed out these packets more.
+abbrev pub KeepsFed : Deframe → Deframe → List ℕ → List Placed → Type 0
+KeepsFed old new octets packets =
+    (limits : Limits) (block : ℕ) (given : List ℕ) (taken : List Placed)
+    → Fed limits block old given taken → Fed limits block new (given ++ octets) (taken ++ packets)

@@ -2,20 +2,21 @@
 use Rattle.std.specs.Prelude.{ℕ, ◌+◌, ◌*◌, ◌-◌, ◌^◌, ◌<◌, ◌≤◌, Bool, true, List, [], nat_lt}
 use Rattle.opgp_octets.specs.declared.packet_len.PacketLen.TheVariants as new
 use Rattle.opgp_frame.specs.declared.length.Length.{Length}
-use Rattle.opgp_frame.specs.declared.length.Length.TheVariants.{LegacyOne, LegacyTwo, LegacyFour, Current}
+use Rattle.opgp_frame.specs.declared.length.Length.TheVariants as len
 use Rattle.opgp_frame.specs.declared.pieces.LastForm.{LastForm}
 use Rattle.opgp_frame.specs.declared.pieces.LastForm.TheVariants.{One, Two, Five}
 use Rattle.opgp_frame.specs.declared.form.Form.{Form}
-use Rattle.opgp_frame.specs.declared.form.Form.TheVariants.{OldOne, OldTwo, OldFour, NewOne, NewTwo, NewFive, Partial}
+use Rattle.opgp_frame.specs.declared.form.Form.TheVariants.{OldOne, OldTwo, OldFour, NewOne, NewTwo}
+use Rattle.opgp_frame.specs.declared.form.Form.TheVariants.{NewFive, Partial}
 use Rattle.opgp_frame.specs.Header.{is_data_kind}
 use Rattle.opgp_frame.specs.Length.{LengthFits}
 use Rattle.opgp_frame.specs.PiecesValue.{ArePieces, pieces_sum}
 
 -- a length of the current format
 abbrev pub current_length : LastForm → ℕ → Length
-current_length One n = Current (new.One n)
-current_length Two n = Current (new.Two n)
-current_length Five n = Current (new.Five n)
+current_length One n = len.New (new.One n)
+current_length Two n = len.New (new.Two n)
+current_length Five n = len.New (new.Five n)
 
 -- the exponents of the pieces under partial lengths
 abbrev pub exponents_of : Form → List ℕ
@@ -29,9 +30,9 @@ exponents_of NewFive = []
 
 -- the last length, which is the only one without pieces, where so many octets are left of the body
 abbrev pub length_of_rest : Form → ℕ → Length
-length_of_rest OldOne n = LegacyOne n
-length_of_rest OldTwo n = LegacyTwo n
-length_of_rest OldFour n = LegacyFour n
+length_of_rest OldOne n = len.OldOne n
+length_of_rest OldTwo n = len.OldTwo n
+length_of_rest OldFour n = len.OldFour n
 length_of_rest NewOne n = current_length One n
 length_of_rest NewTwo n = current_length Two n
 length_of_rest NewFive n = current_length Five n
@@ -51,8 +52,8 @@ HasPieces NewOne = Unit {0}
 HasPieces NewTwo = Unit {0}
 HasPieces NewFive = Unit {0}
 
--- The form spells a body of n octets: it has the pieces, its last length holds what is left, and it is no longer than
--- a length of four octets says.
+-- The form spells a body of n octets: it has the pieces, its last length holds what is left, and it
+-- is no longer than a length of four octets says.
 pub record FormSpells (form : Form) (n : ℕ) : Type 0 where
   pub stand : HasPieces form
   pub pieces : pieces_sum (exponents_of form) ≤ n
@@ -69,8 +70,9 @@ form_takes NewTwo kind = true
 form_takes NewFive kind = true
 form_takes (Partial p) kind = is_data_kind kind
 
--- The octet that begins a packet: bit 7 is set. In the legacy format the type is in bits 5 to 2 and the kind of length
--- in bits 1 and 0. In the current format bit 6 is set, and the type is in bits 5 to 0.
+-- The octet that begins a packet: bit 7 is set. In the legacy format the type is in bits 5 to 2 and
+-- the kind of length in bits 1 and 0. In the current format bit 6 is set, and the type is in bits 5
+-- to 0.
 abbrev pub header_octet : Form → ℕ → ℕ
 header_octet OldOne kind = 128 + 4 * kind
 header_octet OldTwo kind = 129 + 4 * kind

@@ -3,9 +3,10 @@ use Rattle.std.specs.Prelude.{ℕ, List, [], ◌∷◌, Option, Some, None}
 use Rattle.opgp_octets.specs.declared.packet_len.PacketLen.{PacketLen}
 use Rattle.opgp_octets.specs.declared.packet_len.PacketLen.TheVariants as new
 use Rattle.opgp_frame.specs.declared.form.Form.{Form}
-use Rattle.opgp_frame.specs.declared.form.Form.TheVariants.{OldOne, OldTwo, OldFour, NewOne, NewTwo, NewFive, Partial}
+use Rattle.opgp_frame.specs.declared.form.Form.TheVariants.{OldOne, OldTwo, OldFour, NewOne, NewTwo}
+use Rattle.opgp_frame.specs.declared.form.Form.TheVariants.{NewFive, Partial}
 use Rattle.opgp_frame.specs.declared.length.Length.{Length}
-use Rattle.opgp_frame.specs.declared.length.Length.TheVariants.{LegacyOne, LegacyTwo, LegacyFour, Current}
+use Rattle.opgp_frame.specs.declared.length.Length.TheVariants as len
 use Rattle.opgp_frame.specs.declared.pieces.LastForm.{LastForm}
 use Rattle.opgp_frame.specs.declared.pieces.LastForm.TheVariants.{One, Two, Five}
 
@@ -21,7 +22,7 @@ current_form ks (new.Five n) = Some (with_pieces ks Five NewFive)
 current_form ks (new.Partial k) = None
 
 abbrev pub form_with : List ℕ → Length → Option Form
-form_with ks (LegacyOne n) = Some OldOne
-form_with ks (LegacyTwo n) = Some OldTwo
-form_with ks (LegacyFour n) = Some OldFour
-form_with ks (Current len) = current_form ks len
+form_with ks (len.OldOne n) = Some OldOne
+form_with ks (len.OldTwo n) = Some OldTwo
+form_with ks (len.OldFour n) = Some OldFour
+form_with ks (len.New l) = current_form ks l

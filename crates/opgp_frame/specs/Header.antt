@@ -1,17 +1,20 @@
 -- The octet that begins a packet (RFC 9580, 4.2), and packet types (RFC 9580, 5).
-use Rattle.std.specs.Prelude.{ℕ, ◌-◌, ◌/◌, ◌%◌, Bool, ◌&&◌, ◌||◌, not, ◌==◌, nat_lt, nat_le, Option, Some, None, if◌then◌else◌}
-use Rattle.opgp_octets.specs.declared.fault.Reason.{Reason}
-use Rattle.opgp_octets.specs.declared.fault.Reason.TheVariants.{NotAPacket, TypeZero, Compressed, UnknownCritical, Indeterminate}
+use Rattle.std.specs.Prelude.{ℕ, ◌-◌, ◌/◌, Bool, ◌&&◌, ◌||◌, not, ◌==◌, nat_lt, nat_le}
+use Rattle.std.specs.Prelude.{if◌then◌else◌}
 
 -- critical types that aren't known (RFC 9580, 4.3), and the reserved ones among them
 abbrev pub is_unknown_critical : ℕ → Bool
-is_unknown_critical kind = (kind == 15) || (kind == 16) || (kind == 19) || (kind == 20) || (nat_le 22 kind && nat_le kind 39)
+is_unknown_critical kind = (kind == 15) || (kind == 16) || (kind == 19) || (kind == 20)
+    || (nat_le 22 kind && nat_le kind 39)
 
--- packets of the type are read: not the reserved type 0, not compressed data, no critical type that isn't known
+-- packets of the type are read: not the reserved type 0, not compressed data, no critical type that
+-- isn't known
 abbrev pub is_read_kind : ℕ → Bool
-is_read_kind kind = not (kind == 0) && not (kind == 8) && nat_lt kind 64 && not (is_unknown_critical kind)
+is_read_kind kind = not (kind == 0) && not (kind == 8) && nat_lt kind 64
+    && not (is_unknown_critical kind)
 
--- data packets, whose bodies may come in pieces (RFC 9580, 4.2.1.4): encrypted data, literals, encrypted and protected data
+-- data packets, whose bodies may come in pieces (RFC 9580, 4.2.1.4): encrypted data, literals,
+-- encrypted and protected data
 abbrev pub is_data_kind : ℕ → Bool
 is_data_kind kind = (kind == 9) || (kind == 11) || (kind == 18)
 
@@ -22,11 +25,3 @@ is_current header = nat_le 192 header
 -- the type: in bits 5 to 0 of the current format, in bits 5 to 2 of the legacy format
 abbrev pub kind_in : ℕ → ℕ
 kind_in header = if is_current header then header - 192 else (header - 128) / 4
-
--- why the octet begins no packet, whatever follows: the first that is true
-abbrev pub header_fault : ℕ → Option Reason
-header_fault header = if nat_lt header 128 then Some NotAPacket else
-    (if kind_in header == 0 then Some TypeZero else
-    (if kind_in header == 8 then Some Compressed else
-    (if is_unknown_critical (kind_in header) then Some UnknownCritical else
-    (if not (is_current header) && (header % 4 == 3) then Some Indeterminate else None))))

@@ -1,28 +1,60 @@
--- Why octets begin with no allowed packet, and where in it: the first octet is at fault, or a length header behind whole
--- pieces that may stand (RFC 9580, 4.2).
-use Rattle.std.specs.Prelude.{◌≡◌, ℕ, ◌+◌, ◌<◌, ◌⊎◌, List, [], ◌∷◌, length, Some, None}
+-- Why octets begin with no allowed packet, and where in it (RFC 9580, 4.2): the first octet is at
+-- fault, or a length header behind whole pieces that may stand.
+use Rattle.std.specs.Prelude.{◌≡◌, ℕ, ◌+◌, ◌<◌, ◌⊎◌, ◌%◌, ◌&&◌, not, ◌==◌, nat_lt, nat_le, List, []}
+use Rattle.std.specs.Prelude.{◌∷◌, length, Option, Some, None, if◌then◌else◌}
 use Rattle.opgp_octets.specs.declared.limits.Limits.{Limits}
+use Rattle.opgp_octets.specs.Limits.{body_limit, pieces_limit}
 use Rattle.opgp_octets.specs.declared.fault.Reason.{Reason}
-use Rattle.opgp_octets.specs.declared.fault.Reason.TheVariants.{Truncated}
+use Rattle.opgp_octets.specs.declared.fault.Reason.TheVariants.{NotAPacket, TypeZero, Compressed}
+use Rattle.opgp_octets.specs.declared.fault.Reason.TheVariants.{UnknownCritical, Indeterminate}
+use Rattle.opgp_octets.specs.declared.fault.Reason.TheVariants.{Truncated, PartialKind}
+use Rattle.opgp_octets.specs.declared.fault.Reason.TheVariants.{FirstPartial, TooManyPieces}
+use Rattle.opgp_octets.specs.declared.fault.Reason.TheVariants.{BodyTooLong}
 use Rattle.opgp_frame.specs.declared.length.Length.{Length}
-use Rattle.opgp_frame.specs.Frames.{length_fault}
-use Rattle.opgp_frame.specs.Header.{kind_in, header_fault}
-use Rattle.opgp_frame.specs.Length.{LengthBegins, length_amount}
+use Rattle.opgp_frame.specs.Header.{is_current, is_unknown_critical, is_data_kind, kind_in}
+use Rattle.opgp_frame.specs.Length.{LengthBegins, length_amount, is_partial}
 use Rattle.opgp_frame.specs.Packet.{cut_body}
-use Rattle.opgp_frame.specs.PiecesValue.{pieces_sum}
-use Rattle.opgp_frame.specs.State.{GoodPieces}
+use Rattle.opgp_frame.specs.PiecesValue.{GoodPieces, pieces_sum}
 
--- The next length header is at fault, behind so many partial ones, whose pieces have so many octets: none is there, or one
--- that may not stand there, or one whose piece isn't all there.
+-- why the octet begins no packet, whatever follows: the first that is true
+abbrev pub header_fault : ℕ → Option Reason
+header_fault header = if nat_lt header 128 then Some NotAPacket else
+    (if kind_in header == 0 then Some TypeZero else
+    (if kind_in header == 8 then Some Compressed else
+    (if is_unknown_critical (kind_in header) then Some UnknownCritical else
+    (if not (is_current header) && (header % 4 == 3) then Some Indeterminate else None))))
+
+-- why a partial length may not stand behind so many others, in a packet of this type: the first
+-- that is true
+abbrev pub partial_fault : Limits → ℕ → ℕ → ℕ → Option Reason
+partial_fault limits kind before amount = if not (is_data_kind kind) then Some PartialKind else
+    (if (before == 0) && nat_lt amount 512 then Some FirstPartial else
+    (if nat_le (pieces_limit limits) before then Some TooManyPieces else None))
+
+abbrev pub or_else : Option Reason → Option Reason → Option Reason
+or_else None other = other
+or_else (Some reason) other = Some reason
+
+-- Why a length may not stand behind so many partial ones, whose pieces have so many octets, in a
+-- packet of this type: the first that is true.
+abbrev pub length_fault : Limits → ℕ → ℕ → ℕ → Length → Option Reason
+length_fault limits kind before sum l =
+    or_else (if is_partial l then partial_fault limits kind before (length_amount l) else None)
+    (if nat_lt (body_limit limits) (sum + length_amount l) then Some BodyTooLong else None)
+
+-- The next length header is at fault, behind so many partial ones, whose pieces have so many
+-- octets: none is there, or one that may not stand there, or one whose piece isn't all there.
 abbrev pub NextFault : Limits → ℕ → ℕ → ℕ → List ℕ → Reason → Type 0
 NextFault limits header before sum o reason =
     (((l : Length) (count : ℕ) → LengthBegins header o l count → ⊥) × (reason ≡ Truncated))
     ⊎ ((l : Length) × (count : ℕ) × LengthBegins header o l count
     × ((length_fault limits (kind_in header) before sum l ≡ Some reason)
-    ⊎ ((length_fault limits (kind_in header) before sum l ≡ None) × (length o < count + length_amount l) × (reason ≡ Truncated))))
+    ⊎ ((length_fault limits (kind_in header) before sum l ≡ None)
+    × (length o < count + length_amount l) × (reason ≡ Truncated))))
 
 -- pieces that may stand, each behind its partial length and whole, and then what is at fault
-pub record FaultBehind (limits : Limits) (header : ℕ) (o : List ℕ) (reason : Reason) (inner : ℕ) : Type 0 where
+pub record FaultBehind (limits : Limits) (header : ℕ) (o : List ℕ) (reason : Reason) (inner : ℕ)
+    : Type 0 where
   pub exponents : List ℕ
   pub body : List ℕ
   pub rest : List ℕ
@@ -32,6 +64,8 @@ pub record FaultBehind (limits : Limits) (header : ℕ) (o : List ℕ) (reason :
   pub place : inner ≡ 1 + (length exponents + pieces_sum exponents)
   pub next : NextFault limits header (length exponents) (pieces_sum exponents) rest reason
 
+-- The fault of the packet that begins the octets: its reason, and the offset in the packet of what
+-- is at fault.
 abbrev pub PacketFault : Limits → List ℕ → Reason → ℕ → Type 0
 PacketFault limits [] reason inner = ⊥
 PacketFault limits (header ∷ o) reason inner =

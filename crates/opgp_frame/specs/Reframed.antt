@@ -1,7 +1,8 @@
 -- Packets in the current format with their shortest lengths.
 use Rattle.std.specs.Prelude.{ℕ, length, nat_lt, if◌then◌else◌}
 use Rattle.opgp_frame.specs.declared.form.Form.{Form}
-use Rattle.opgp_frame.specs.declared.form.Form.TheVariants.{OldOne, OldTwo, OldFour, NewOne, NewTwo, NewFive, Partial}
+use Rattle.opgp_frame.specs.declared.form.Form.TheVariants.{OldOne, OldTwo, OldFour, NewOne, NewTwo}
+use Rattle.opgp_frame.specs.declared.form.Form.TheVariants.{NewFive, Partial}
 use Rattle.opgp_frame.specs.Packet.{PacketValue}
 
 -- the current format, not partial

@@ -1,19 +1,22 @@
 //! A reader of packets that octets are pushed into, in any pieces.
 
-ghost use Rattle.std.specs.Prelude.{◌≡◌, ◌<◌, ◌≤◌, ◌+◌, ◌^◌, ◌++◌, ◌∷◌, ◌↔◌, ℕ, List, [], true, false, length, take, is_some, option_to_list, IfOk, OnOk, OnErr, MatchResult, Ok, Err};
+ghost use Rattle.std.specs.Prelude.{◌≡◌, ◌<◌, ◌≤◌, ◌+◌, ◌^◌, ◌++◌, ◌∷◌, ◌↔◌, ℕ, List, [], true};
+ghost use Rattle.std.specs.Prelude.{false, length, take, is_some, option_to_list, Some, None, IfOk};
+ghost use Rattle.std.specs.Prelude.{OnOk, OnErr, MatchResult, Ok, Err};
 ghost use Rattle.std.specs.Option.{IsSomeAnd};
 ghost use Rattle.opgp_octets.specs.declared.limits.Limits.{Limits};
+ghost use Rattle.opgp_octets.specs.declared.fault.Fault.{Fault};
 ghost use Rattle.opgp_octets.specs.declared.fault.Layer.TheVariants as layer;
 ghost use Rattle.opgp_octets.specs.declared.fault.Reason.TheVariants as reason;
 ghost use Rattle.opgp_octets.specs.Limits.{body_limit, pieces_limit};
-ghost use Rattle.opgp_frame.specs.Held.{state_fits, state_fault, held_in};
+ghost use Rattle.opgp_frame.specs.ReaderState.{state_fits, state_fault, held_in};
 
 use crate::header::{header_fault, kind_in};
 use crate::length::{Length, length_fault, read_length};
 use crate::packet::Placed;
 use crate::parts::placed;
-use opgp_octets::{Fault, Layer, Limits, PushFault, Reason};
-use std::alloc::{AllocError, Global};
+use opgp_octets::{Fault, Layer, Limits, OutOfMemory, PushFault, Reason};
+use std::alloc::Global;
 use std::mem;
 
 /// Where a reader stands.
@@ -43,9 +46,10 @@ enum State {
     Spent,
 }
 
-/// A reader of packets that octets are pushed into, in any pieces.
+/// A reader of the packets of a block (RFC 9580, 4.2), which octets are pushed into, in any pieces.
 ///
-/// It keeps no more than the packet that is unfinished or ready.
+/// It keeps no more than the packet that is unfinished or ready, and after a fault or want of
+/// memory nothing.
 #[derive(Drop)]
 pub struct Deframe {
     alloc: Global,
@@ -58,15 +62,17 @@ pub struct Deframe {
     start: u64,
     given: u64,
     ghost fits: { state_fits limits state (length exponents.items) (length body.items) ≡ true },
-    ghost held: { held_in state (length exponents.items) (length body.items) ready ≤ body_limit limits + pieces_limit limits + 16 },
+    ghost held: { held_in state (length exponents.items) (length body.items) ready
+        ≤ body_limit limits + pieces_limit limits + 16 },
 }
 
 impl Deframe {
-    ghost use Rattle.opgp_frame.specs.Fed.{Fed, is_spent, is_faulty, is_ready, count_of, limits_of, held_of};
-    ghost use Rattle.opgp_frame.specs.Held.{IsInLength};
-    ghost use Rattle.opgp_frame.specs.Length.{is_partial};
-    ghost use Rattle.opgp_frame.specs.State.{IsInPiece, IsWhole};
-    ghost use Rattle.opgp_frame.specs.Frames.{Frames, IsFault};
+    ghost use Rattle.opgp_frame.specs.Fed.{Fed, KeepsFed, is_spent, fault_of, is_ready, count_of};
+    ghost use Rattle.opgp_frame.specs.Fed.{limits_of, held_of};
+    ghost use Rattle.opgp_frame.specs.Frames.{Frames, IsFramingFault};
+    ghost use Rattle.opgp_frame.specs.Length.{LengthFits, is_partial};
+    ghost use Rattle.opgp_frame.specs.ReaderState.{IsInLength};
+    ghost use Rattle.opgp_frame.specs.Unfinished.{EndsLength, IsInPiece, IsWhole};
     ghost use Rattle.opgp_frame.specs.declared.packet.Placed.{Placed};
 
     /// A reader of a block's packets that was given nothing.
@@ -104,17 +110,17 @@ impl Deframe {
     pub fn given(&self) -> u64
         ensures { result ≡ count_of self.now }
     {
-        self.given
+        let Deframe { given, .. } = self;
+        *given
     }
 
     /// Takes the packet that is ready.
     pub fn take(&mut self) -> Option<Placed>
-        ensures fed { (limits : Limits) (block : ℕ) (given : List ℕ) (taken : List Placed) → Fed limits block self.old given taken
-            → Fed limits block self.new given (taken ++ option_to_list result) }
+        ensures fed { KeepsFed self.old self.new [] (option_to_list result) }
         ensures some { is_some result ≡ is_ready self.old }
         ensures free { is_ready self.new ≡ false }
         ensures spent { is_spent self.new ≡ is_spent self.old }
-        ensures faulty { is_faulty self.new ≡ is_faulty self.old }
+        ensures faulty { fault_of self.new ≡ fault_of self.old }
         ensures count { count_of self.new ≡ count_of self.old }
         ensures limits { limits_of self.new ≡ limits_of self.old }
         ensures held { held_of self.new ≤ held_of self.old }
@@ -124,14 +130,25 @@ impl Deframe {
 
     /// Ends the octets. The condition is that nothing is ready.
     ///
-    /// An error is the framing fault; after want of memory its reason is `Spent` and its places are 0.
+    /// An error is the framing fault; after want of memory its reason is `Spent` and its places are
+    /// 0.
     ///
     /// Takes no memory.
     pub fn finish(self) -> Result<(), Fault>
         requires { is_ready self ≡ false }
-        ensures ok { (limits : Limits) (block : ℕ) (given : List ℕ) (taken : List Placed) → Fed limits block self given taken
-            → MatchResult result (λ _. Frames limits block given taken) (IsFault limits block given) }
-        ensures spent { is_spent self ≡ true → result ≡ Err (record { layer = layer.Framing; reason = reason.Spent; block = 0; pos = 0; inner = 0 }) }
+        ensures ok { (limits : Limits) (block : ℕ) (given : List ℕ) (taken : List Placed)
+            → Fed limits block self given taken
+            → MatchResult result (λ _. Frames limits block given taken)
+            (IsFramingFault limits block given) }
+        // A fault that it has is answered.
+        ensures faulty { (fault : Fault) → fault_of self ≡ Some fault → result ≡ Err fault }
+        ensures spent { is_spent self ≡ true → result ≡ Err (record {
+          layer = layer.Framing;
+          reason = reason.Spent;
+          block = 0;
+          pos = 0;
+          inner = 0;
+        }) }
     {
         if let State::Spent = self.state {
             return Err(Fault {
@@ -156,7 +173,8 @@ impl Deframe {
 
     /// The fault of the unfinished packet, if the octets end here, and its offset in the packet.
     fn fault(&self) -> Option<(Reason, u64)>
-        ensures { result ≡ state_fault self.now.state (length self.now.exponents.items) (length self.now.body.items) }
+        ensures { result ≡ state_fault self.now.state (length self.now.exponents.items)
+            (length self.now.body.items) }
     {
         let pieces = self.exponents.len() as u64;
         match self.state {
@@ -170,26 +188,31 @@ impl Deframe {
         }
     }
 
-    /// Takes the first octets of the piece, up to the one that makes a packet ready, or all of it, and answers how many.
-    /// The conditions are that nothing is ready, and that fewer than 2^63 octets are given in all.
+    /// Takes the first octets of the piece, up to the one that makes a packet ready, or all of it,
+    /// and answers how many. The conditions are that nothing is ready, and that fewer than 2^63
+    /// octets are given in all.
     ///
-    /// After a fault all octets are taken and nothing becomes ready. An error is want of memory; the reader is spent
-    /// from then on, and the piece doesn't count as given.
+    /// After a fault all octets are taken and nothing becomes ready. An error is want of memory;
+    /// the reader is spent from then on, and the piece doesn't count as given.
     pub fn push(&mut self, piece: &[u8]) -> Result<usize, PushFault>
         requires free { is_ready self.old ≡ false }
         requires room { count_of self.old + length piece.now < 2 ^ 63 }
-        ensures fed { IfOk result (λ n. (limits : Limits) (block : ℕ) (given : List ℕ) (taken : List Placed) → Fed limits block self.old given taken
-            → Fed limits block self.new (given ++ take n piece.now) taken) }
+        ensures fed { IfOk result (λ n. KeepsFed self.old self.new (take n piece.now) []) }
         ensures within { IfOk result (λ n. n ≤ length piece.now) }
         ensures moves { IfOk result (λ n. 0 < length piece.now → 0 < n) }
         ensures stops { IfOk result (λ n. n < length piece.now → is_ready self.new ≡ true) }
         ensures count { IfOk result (λ n. count_of self.new ≡ count_of self.old + n) }
-        ensures faulty { is_faulty self.old ≡ true → (result ≡ Ok (length piece.now)) × (is_faulty self.new ≡ true) × (is_ready self.new ≡ false) }
+        // A fault stays, all is taken, and nothing becomes ready.
+        ensures faulty { (fault : Fault) → fault_of self.old ≡ Some fault
+            → (result ≡ Ok (length piece.now)) × (fault_of self.new ≡ Some fault)
+            × (is_ready self.new ≡ false) }
         ensures sound { OnOk result (is_spent self.new ≡ false) }
-        ensures spent { OnErr result ((is_spent self.new ≡ true) × (is_ready self.new ≡ false) × (count_of self.new ≡ count_of self.old)) }
+        ensures spent { OnErr result ((is_spent self.new ≡ true) × (is_ready self.new ≡ false)
+            × (count_of self.new ≡ count_of self.old)) }
         ensures was_spent { (result ≡ Err PushFault.Spent) ↔ (is_spent self.old ≡ true) }
         ensures limits { limits_of self.new ≡ limits_of self.old }
-        ensures held { held_of self.new ≤ body_limit (limits_of self.new) + pieces_limit (limits_of self.new) + 16 }
+        ensures held { held_of self.new
+            ≤ body_limit (limits_of self.new) + pieces_limit (limits_of self.new) + 16 }
     {
         if let State::Spent = self.state {
             return Err(PushFault::Spent);
@@ -200,7 +223,7 @@ impl Deframe {
             match self.step(&piece[at..]) {
                 Ok(n) => at += n,
                 Err(_) => {
-                    self.state = State::Spent;
+                    self.stop(State::Spent);
                     self.given = before;
                     return Err(PushFault::Memory);
                 }
@@ -209,17 +232,19 @@ impl Deframe {
         Ok(at)
     }
 
-    /// One step of a push: an octet of a header, what there is of a piece, or all after a fault.
-    fn step(&mut self, piece: &[u8]) -> Result<usize, AllocError>
+    /// One step of a push: a packet's first octet, a length header or an octet of it, what there is
+    /// of a piece, or all after a fault.
+    fn step(&mut self, piece: &[u8]) -> Result<usize, OutOfMemory>
         requires some { 0 < length piece.now }
         requires free { is_ready self.old ≡ false }
         requires sound { is_spent self.old ≡ false }
         requires room { count_of self.old + length piece.now < 2 ^ 63 }
-        ensures fed { IfOk result (λ n. (limits : Limits) (block : ℕ) (given : List ℕ) (taken : List Placed) → Fed limits block self.old given taken
-            → Fed limits block self.new (given ++ take n piece.now) taken) }
+        ensures fed { IfOk result (λ n. KeepsFed self.old self.new (take n piece.now) []) }
         ensures moves { IfOk result (λ n. (0 < n) × (n ≤ length piece.now)) }
         ensures count { IfOk result (λ n. count_of self.new ≡ count_of self.old + n) }
-        ensures faulty { is_faulty self.old ≡ true → (result ≡ Ok (length piece.now)) × (is_faulty self.new ≡ true) × (is_ready self.new ≡ false) }
+        ensures faulty { (fault : Fault) → fault_of self.old ≡ Some fault
+            → (result ≡ Ok (length piece.now)) × (fault_of self.new ≡ Some fault)
+            × (is_ready self.new ≡ false) }
         ensures sound { OnOk result (is_spent self.new ≡ false) }
         ensures free { OnErr result (is_ready self.new ≡ false) }
         ensures limits { limits_of self.new ≡ limits_of self.old }
@@ -233,10 +258,7 @@ impl Deframe {
                 header,
                 seen,
                 count,
-            } => {
-                self.step_length(header, seen, count, piece[0]);
-                Ok(1)
-            }
+            } => Ok(self.step_length(header, seen, count, piece)),
             State::InPiece {
                 header,
                 length,
@@ -250,13 +272,29 @@ impl Deframe {
         }
     }
 
+    /// Lets go of the unfinished packet, and stands in a state that keeps nothing.
+    fn stop(&mut self, state: State)
+        requires empty { state_fits self.old.limits state 0 0 ≡ true }
+        requires free { is_ready self.old ≡ false }
+        ensures state { self.new.state ≡ state }
+        ensures empty { (self.new.exponents.items ≡ []) × (self.new.body.items ≡ []) }
+        ensures ready { self.new.ready ≡ self.old.ready }
+        ensures start { self.new.start ≡ self.old.start }
+        ensures count { self.new.given ≡ self.old.given }
+        ensures block { self.new.block ≡ self.old.block }
+        ensures limits { self.new.limits ≡ self.old.limits }
+    {
+        self.exponents = Vec::new(self.alloc);
+        self.body = Vec::new(self.alloc);
+        self.state = state;
+    }
+
     /// Takes the octet that begins a packet.
     fn begin(&mut self, octet: u8)
         requires between { self.old.state ≡ State.Between }
         requires free { is_ready self.old ≡ false }
         requires room { count_of self.old + 1 < 2 ^ 63 }
-        ensures fed { (limits : Limits) (block : ℕ) (given : List ℕ) (taken : List Placed) → Fed limits block self.old given taken
-            → Fed limits block self.new (given ++ octet ∷ []) taken }
+        ensures fed { KeepsFed self.old self.new (octet ∷ []) [] }
         ensures count { count_of self.new ≡ count_of self.old + 1 }
         ensures sound { is_spent self.new ≡ false }
         ensures limits { limits_of self.new ≡ limits_of self.old }
@@ -274,46 +312,84 @@ impl Deframe {
         }
     }
 
+    /// Takes a length header, where it is whole in the piece, or else an octet of it.
+    fn step_length(&mut self, header: u8, seen: [u8; 5], count: usize, piece: &[u8]) -> usize
+        requires in_length { self.old.state ≡ State.InLength header seen count }
+        requires some { 0 < length piece.now }
+        requires free { is_ready self.old ≡ false }
+        requires room { count_of self.old + length piece.now < 2 ^ 63 }
+        ensures fed { KeepsFed self.old self.new (take result piece.now) [] }
+        ensures moves { (0 < result) × (result ≤ length piece.now) }
+        ensures count { count_of self.new ≡ count_of self.old + result }
+        ensures sound { is_spent self.new ≡ false }
+        ensures limits { limits_of self.new ≡ limits_of self.old }
+    {
+        if count == 0 {
+            if let Some((length, size)) = read_length(header, piece) {
+                self.end_length(header, seen, count, length, size as u64);
+                return size;
+            }
+        }
+        self.step_octet(header, seen, count, piece[0]);
+        1
+    }
+
     /// Takes an octet of a length header.
-    fn step_length(&mut self, header: u8, mut seen: [u8; 5], count: usize, octet: u8)
+    fn step_octet(&mut self, header: u8, mut seen: [u8; 5], count: usize, octet: u8)
         requires in_length { self.old.state ≡ State.InLength header seen count }
         requires free { is_ready self.old ≡ false }
         requires room { count_of self.old + 1 < 2 ^ 63 }
-        ensures fed { (limits : Limits) (block : ℕ) (given : List ℕ) (taken : List Placed) → Fed limits block self.old given taken
-            → Fed limits block self.new (given ++ octet ∷ []) taken }
+        ensures fed { KeepsFed self.old self.new (octet ∷ []) [] }
         ensures count { count_of self.new ≡ count_of self.old + 1 }
         ensures sound { is_spent self.new ≡ false }
         ensures limits { limits_of self.new ≡ limits_of self.old }
     {
-        self.given += 1;
+        let before = seen;
         seen[count] = octet;
-        let length = match read_length(header, &seen[..count + 1]) {
-            Some((length, _)) => length,
+        match read_length(header, &seen[..count + 1]) {
+            Some((length, _)) => self.end_length(header, before, count, length, 1),
             None => {
+                self.given += 1;
                 self.state = State::InLength {
                     header,
                     seen,
                     count: count + 1,
                 };
-                return;
             }
-        };
+        }
+    }
+
+    /// Takes so many octets, with which a length header is whole.
+    fn end_length(&mut self, header: u8, seen: [u8; 5], count: usize, announced: Length, size: u64)
+        requires in_length { self.old.state ≡ State.InLength header seen count }
+        requires fits { LengthFits announced }
+        requires free { is_ready self.old ≡ false }
+        requires room { count_of self.old + size < 2 ^ 63 }
+        ensures fed { (limits : Limits) (block : ℕ) (given : List ℕ) (taken : List Placed)
+            (octets : List ℕ) → length octets ≡ size
+            → EndsLength header (take count seen) octets announced
+            → Fed limits block self.old given taken
+            → Fed limits block self.new (given ++ octets) (taken ++ []) }
+        ensures count { count_of self.new ≡ count_of self.old + size }
+        ensures sound { is_spent self.new ≡ false }
+        ensures limits { limits_of self.new ≡ limits_of self.old }
+    {
+        self.given += size;
         let pieces = self.exponents.len() as u64;
         let from = self.body.len() as u64;
-        match length_fault(self.limits, kind_in(header), pieces, from, length) {
-            Some(reason) => {
-                self.state = State::Faulty {
-                    reason,
-                    inner: 1 + (pieces + from),
-                };
-            }
-            None if length.amount() == 0 => self.end_packet(header, length),
+        let amount = announced.amount();
+        match length_fault(self.limits, kind_in(header), pieces, from, announced) {
+            Some(reason) => self.stop(State::Faulty {
+                reason,
+                inner: 1 + (pieces + from),
+            }),
+            None if amount == 0 => self.end_packet(header, announced),
             None => {
                 self.state = State::InPiece {
                     header,
-                    length,
+                    length: announced,
                     from,
-                    until: from + length.amount(),
+                    until: from + amount,
                 };
             }
         }
@@ -327,13 +403,12 @@ impl Deframe {
         from: u64,
         until: u64,
         piece: &[u8],
-    ) -> Result<usize, AllocError>
+    ) -> Result<usize, OutOfMemory>
         requires in_piece { self.old.state ≡ State.InPiece header announced from until }
         requires some { 0 < length piece.now }
         requires free { is_ready self.old ≡ false }
         requires room { count_of self.old + length piece.now < 2 ^ 63 }
-        ensures fed { IfOk result (λ n. (limits : Limits) (block : ℕ) (given : List ℕ) (taken : List Placed) → Fed limits block self.old given taken
-            → Fed limits block self.new (given ++ take n piece.now) taken) }
+        ensures fed { IfOk result (λ n. KeepsFed self.old self.new (take n piece.now) []) }
         ensures moves { IfOk result (λ n. (0 < n) × (n ≤ length piece.now)) }
         ensures count { IfOk result (λ n. count_of self.new ≡ count_of self.old + n) }
         ensures sound { OnOk result (is_spent self.new ≡ false) }
@@ -342,6 +417,7 @@ impl Deframe {
     {
         let want = (until - self.body.len() as u64) as usize;
         let count = want.min(piece.len());
+        make_room(&mut self.body, announced.is_partial(), want, count)?;
         self.body.extend_from_slice(&piece[..count])?;
         self.given += count as u64;
         if count < want {
@@ -363,8 +439,12 @@ impl Deframe {
     fn end_packet(&mut self, header: u8, last: Length)
         requires in_length { IsInLength self.old.state }
         requires free { is_ready self.old ≡ false }
-        ensures whole { (limits : Limits) (from until : ℕ) (rest : List ℕ) → IsInPiece limits header last from until self.old.exponents.items self.old.body.items rest
-            → length self.old.body.items ≡ until → is_partial last ≡ false → IsSomeAnd self.new.ready (λ p. (p.block ≡ self.old.block) × (p.pos ≡ self.old.start) × IsWhole limits rest p.packet) }
+        ensures whole { (limits : Limits) (from until : ℕ) (rest : List ℕ)
+            → IsInPiece limits header last from until self.old.exponents.items
+            self.old.body.items rest
+            → length self.old.body.items ≡ until → is_partial last ≡ false
+            → IsSomeAnd self.new.ready (λ p. (p.block ≡ self.old.block)
+            × (p.pos ≡ self.old.start) × IsWhole limits rest p.packet) }
         ensures state { self.new.state ≡ State.Between }
         ensures empty { (self.new.exponents.items ≡ []) × (self.new.body.items ≡ []) }
         ensures start { self.new.start ≡ self.old.given }
@@ -378,4 +458,25 @@ impl Deframe {
         self.start = self.given;
         self.state = State::Between;
     }
+}
+
+/// Makes room in a body for octets of a piece, of which so many are there and so many are to come
+/// in all.
+///
+/// A last piece is given no more room than it wants, and none before it comes more than 4,096
+/// octets or as much again as the body has. More pieces may follow others, so these grow as a
+/// vector does.
+fn make_room(
+    body: &mut Vec<u8>,
+    partial: bool,
+    want: usize,
+    there: usize,
+) -> Result<(), OutOfMemory>
+    ensures { body.new.items ≡ body.old.items }
+{
+    if partial {
+        return Ok(());
+    }
+    let more = there.max(body.len()).max(4_096);
+    body.reserve_exact(more.min(want))
 }

@@ -1,18 +1,20 @@
 //! The form in which a packet's header is written.
 
-ghost use Rattle.std.specs.Prelude.{◌≡◌, ◌<◌, ◌≤◌, All, IfOk, true};
+ghost use Rattle.std.specs.Prelude.{◌≡◌, ◌<◌, ◌≤◌, ℕ, All, IfOk, length, true};
 ghost use Rattle.std.specs.Option.{SomeIff};
-ghost use Rattle.opgp_frame.specs.Form.{HasPieces, FormSpells, form_takes, last_length, exponents_of, header_octet, current_length};
-ghost use Rattle.opgp_frame.specs.Length.{LengthFits};
+ghost use Rattle.opgp_frame.specs.Form.{HasPieces, FormSpells, form_takes, last_length};
+ghost use Rattle.opgp_frame.specs.Form.{exponents_of, header_octet, current_length};
+ghost use Rattle.opgp_frame.specs.Length.{LengthFits, length_octets};
+ghost use Rattle.opgp_frame.specs.Reframed.{IsCurrent, shortest_form};
 
 use crate::header::is_data_kind;
 use crate::length::Length;
 use crate::pieces::{LastForm, Pieces, left_behind};
-use opgp_octets::{OutOfMemory, PacketLen};
+use opgp_octets::{OutOfMemory, PacketLen, shortest};
 use std::alloc::Global;
 
 /// The format of a packet's header and the form of its length (RFC 9580, 4.2).
-#[derive(Debug, Drop)]
+#[derive(Drop)]
 pub enum Form {
     /// The legacy format with a length of one octet.
     OldOne,
@@ -31,6 +33,27 @@ pub enum Form {
 }
 
 impl Form {
+    /// The form of the current format, not partial, that spells a body of `n` octets in the fewest
+    /// octets (RFC 9580, 4.2.1).
+    ///
+    /// Takes no memory.
+    pub fn shortest(n: u32) -> Form
+        ensures current { IsCurrent result }
+        ensures takes { (kind : ℕ) → form_takes result kind ≡ true }
+        ensures spells { FormSpells result n }
+        ensures least { (other : Form) → IsCurrent other → FormSpells other n
+            → length (length_octets (last_length result n))
+            ≤ length (length_octets (last_length other n)) }
+        ensures exact { result ≡ shortest_form n }
+    {
+        match shortest(n) {
+            PacketLen::One(_) => Form::NewOne,
+            PacketLen::Two(_) => Form::NewTwo,
+            PacketLen::Five(_) => Form::NewFive,
+            PacketLen::Partial(_) => unreachable!(),
+        }
+    }
+
     /// An equal form.
     ///
     /// An error is want of memory.
@@ -83,9 +106,9 @@ impl Form {
         }
         let left = left_behind(self.exponents(), n)?;
         match self {
-            Form::OldOne if left < 256 => Some(Length::LegacyOne(left as u8)),
-            Form::OldTwo if left < 65_536 => Some(Length::LegacyTwo(left as u16)),
-            Form::OldFour => Some(Length::LegacyFour(left as u32)),
+            Form::OldOne if left < 256 => Some(Length::OldOne(left as u8)),
+            Form::OldTwo if left < 65_536 => Some(Length::OldTwo(left as u16)),
+            Form::OldFour => Some(Length::OldFour(left as u32)),
             Form::NewOne => current(LastForm::One, left),
             Form::NewTwo => current(LastForm::Two, left),
             Form::NewFive => current(LastForm::Five, left),
@@ -114,9 +137,9 @@ fn current(form: LastForm, n: u64) -> Option<Length>
     ensures { SomeIff result (LengthFits (current_length form n)) (current_length form n) }
 {
     match form {
-        LastForm::One if n < 192 => Some(Length::Current(PacketLen::One(n as u8))),
-        LastForm::Two if 192 <= n && n < 8384 => Some(Length::Current(PacketLen::Two(n as u16))),
-        LastForm::Five if n <= 4_294_967_295 => Some(Length::Current(PacketLen::Five(n as u32))),
+        LastForm::One if n < 192 => Some(Length::New(PacketLen::One(n as u8))),
+        LastForm::Two if 192 <= n && n < 8384 => Some(Length::New(PacketLen::Two(n as u16))),
+        LastForm::Five if n <= 4_294_967_295 => Some(Length::New(PacketLen::Five(n as u32))),
         _ => None,
     }
 }

@@ -1,7 +1,8 @@
 //! The octet that begins a packet (RFC 9580, 4.2), and the packet types (RFC 9580, 5).
 
 ghost use Rattle.std.specs.Prelude.{◌≡◌};
-ghost use Rattle.opgp_frame.specs.Header.{is_read_kind, is_data_kind, is_unknown_critical, kind_in, header_fault};
+ghost use Rattle.opgp_frame.specs.Header.{is_read_kind, is_data_kind, is_unknown_critical, kind_in};
+ghost use Rattle.opgp_frame.specs.PacketFault.{header_fault};
 
 use opgp_octets::Reason;
 

@@ -1,84 +1,123 @@
 //! What the definitions and the contracts of a reader imply, whatever the pieces were.
 
-ghost use Rattle.std.specs.Prelude.{◌≡◌, ◌↔◌, ℕ, List, [], ◌∷◌, ◌++◌, ◌⊎◌, Option, Some, None};
+ghost use Rattle.std.specs.Prelude.{true, false};
+ghost use Rattle.std.specs.Prelude.{◌≡◌, ◌≢◌, ◌↔◌, ℕ, List, [], ◌∷◌, ◌++◌, ◌⊎◌, Option, Some, None};
+ghost use Rattle.std.specs.Prelude.{map};
 ghost use Rattle.opgp_octets.specs.declared.fault.Fault.{Fault};
 ghost use Rattle.opgp_octets.specs.declared.fault.Reason.{Reason};
 ghost use Rattle.opgp_octets.specs.declared.limits.Limits.{Limits};
 ghost use Rattle.opgp_octets.specs.Octets.{IsOctets};
 ghost use Rattle.opgp_frame.specs.declared.deframe.Deframe.{Deframe};
 ghost use Rattle.opgp_frame.specs.declared.packet.Placed.{Placed};
-ghost use Rattle.opgp_frame.specs.Fed.{Fed, packets_of};
-ghost use Rattle.opgp_frame.specs.Frames.{BeginsPacket, Frames, IsFault, Longest, StandFrom, packet_fault, spelled};
-ghost use Rattle.opgp_frame.specs.Packet.{PacketValue, IsPacket, spelling};
+ghost use Rattle.opgp_frame.specs.FaultReading.{packet_fault};
+ghost use Rattle.opgp_frame.specs.Fed.{Fed, fault_of, held_of, is_ready, is_spent, packets_of};
+ghost use Rattle.opgp_frame.specs.Frames.{BeginsPacket, Frames, IsFramingFault, Longest, StandFrom};
+ghost use Rattle.opgp_frame.specs.Frames.{spelled};
+ghost use Rattle.opgp_frame.specs.Packet.{PacketValue, IsPacket, spelling, packets_octets};
 ghost use Rattle.opgp_frame.specs.PacketFault.{PacketFault};
 
 /// No spelling of a packet begins another.
 pub fn one_packet()
-    ensures { (p q : PacketValue) (x y : List ℕ) → IsPacket p → IsPacket q → spelling p ++ x ≡ spelling q ++ y → (p ≡ q) × (x ≡ y) }
+    ensures { (p q : PacketValue) (x y : List ℕ) → IsPacket p → IsPacket q
+        → spelling p ++ x ≡ spelling q ++ y → (p ≡ q) × (x ≡ y) }
 {}
 
-/// What was taken from a reader and what is ready is the longest list of allowed packets with which the octets given
-/// begin, in their places.
+/// The octets of packets in their places are those of the packets.
+pub fn spelled_without_places()
+    ensures { (packets : List Placed)
+        → spelled packets ≡ packets_octets (map (λ p. p.packet) packets) }
+{}
+
+/// What was taken from a reader and what is ready is the longest list of allowed packets with which
+/// the octets given begin, in their places.
 pub fn taken_and_ready_are_longest()
-    ensures { (limits : Limits) (block : ℕ) (d : Deframe) (given : List ℕ) (taken : List Placed) → Fed limits block d given taken
+    ensures { (limits : Limits) (block : ℕ) (d : Deframe) (given : List ℕ) (taken : List Placed)
+        → Fed limits block d given taken
         → (rest : List ℕ) × Longest limits block given (packets_of d taken) rest }
 {}
 
 /// Every other list of allowed packets with which the octets begin is a prefix of the longest one.
 pub fn others_are_prefixes()
-    ensures { (limits : Limits) (block : ℕ) (octets rest : List ℕ) (packets : List Placed) → Longest limits block octets packets rest
-        → (others : List Placed) (more : List ℕ) → StandFrom limits block 0 others → octets ≡ spelled others ++ more
+    ensures { (limits : Limits) (block : ℕ) (octets rest : List ℕ) (packets : List Placed)
+        → Longest limits block octets packets rest → (others : List Placed) (more : List ℕ)
+        → StandFrom limits block 0 others → octets ≡ spelled others ++ more
         → (later : List Placed) × (packets ≡ others ++ later) }
 {}
 
 /// The same octets in any pieces give the same packets.
 pub fn same_in_any_pieces()
-    ensures { (limits : Limits) (block : ℕ) (d e : Deframe) (given : List ℕ) (taken others : List Placed) → Fed limits block d given taken
-        → Fed limits block e given others → packets_of d taken ≡ packets_of e others }
+    ensures { (limits : Limits) (block : ℕ) (d e : Deframe) (given : List ℕ)
+        (taken others : List Placed) → Fed limits block d given taken
+        → Fed limits block e given others
+        → packets_of d taken ≡ packets_of e others }
 {}
 
-/// What was written is read again: of the spellings of allowed packets, joined, a reader has these packets.
+/// What was written is read again: of the spellings of allowed packets, joined, a reader has these
+/// packets.
 pub fn written_is_read()
-    ensures { (limits : Limits) (block : ℕ) (d : Deframe) (packets taken : List Placed) → StandFrom limits block 0 packets
-        → Fed limits block d (spelled packets) taken → packets_of d taken ≡ packets }
+    ensures { (limits : Limits) (block : ℕ) (d : Deframe) (packets taken : List Placed)
+        → StandFrom limits block 0 packets → Fed limits block d (spelled packets) taken
+        → packets_of d taken ≡ packets }
 {}
 
 /// Octets are one list of packets at most.
 pub fn one_list()
-    ensures { (limits : Limits) (block : ℕ) (octets : List ℕ) (packets others : List Placed) → Frames limits block octets packets
-        → Frames limits block octets others → packets ≡ others }
+    ensures { (limits : Limits) (block : ℕ) (octets : List ℕ) (packets others : List Placed)
+        → Frames limits block octets packets → Frames limits block octets others
+        → packets ≡ others }
 {}
 
 /// Octets have one fault at most.
 pub fn one_fault()
-    ensures { (limits : Limits) (block : ℕ) (octets : List ℕ) (f g : Fault) → IsFault limits block octets f → IsFault limits block octets g → f ≡ g }
+    ensures { (limits : Limits) (block : ℕ) (octets : List ℕ) (f g : Fault)
+        → IsFramingFault limits block octets f → IsFramingFault limits block octets g → f ≡ g }
 {}
 
 /// A list of packets has no fault.
 pub fn no_fault()
-    ensures { (limits : Limits) (block : ℕ) (octets : List ℕ) (packets : List Placed) (f : Fault) → Frames limits block octets packets
-        → IsFault limits block octets f → ⊥ }
-{}
-
-/// Octets that show no fault begin with an allowed packet.
-pub fn no_fault_begins_a_packet()
-    ensures { (limits : Limits) (header : ℕ) (o : List ℕ) → IsOctets (header ∷ o) → packet_fault limits (header ∷ o) ≡ None → BeginsPacket limits (header ∷ o) }
-{}
-
-/// Octets that show a fault begin with no allowed packet.
-pub fn a_fault_begins_no_packet()
-    ensures { (limits : Limits) (octets : List ℕ) (why : Reason × ℕ) → packet_fault limits octets ≡ Some why → ¬ BeginsPacket limits octets }
-{}
-
-/// Reading a packet shows this fault exactly where it has it: its first octet is at fault, or the length
-/// header behind whole pieces that may stand.
-pub fn the_fault_of_a_packet()
-    ensures { (limits : Limits) (octets : List ℕ) (reason : Reason) (inner : ℕ) → IsOctets octets
-        → (packet_fault limits octets ≡ Some (reason, inner)) ↔ PacketFault limits octets reason inner }
+    ensures { (limits : Limits) (block : ℕ) (octets : List ℕ) (packets : List Placed) (f : Fault)
+        → Frames limits block octets packets → IsFramingFault limits block octets f → ⊥ }
 {}
 
 /// All octets are a list of packets or have a fault.
 pub fn every_answer()
     ensures { (limits : Limits) (block : ℕ) (octets : List ℕ) → IsOctets octets
-        → ((packets : List Placed) × Frames limits block octets packets) ⊎ ((fault : Fault) × IsFault limits block octets fault) }
+        → ((packets : List Placed) × Frames limits block octets packets)
+        ⊎ ((fault : Fault) × IsFramingFault limits block octets fault) }
+{}
+
+/// A fault stays, whatever follows, unless it is that the octets aren't all there.
+pub fn a_fault_stays()
+    ensures { (limits : Limits) (block : ℕ) (octets more : List ℕ) (fault : Fault)
+        → fault.reason ≢ Reason.Truncated → IsFramingFault limits block octets fault
+        → IsFramingFault limits block (octets ++ more) fault }
+{}
+
+/// After a fault or want of memory nothing is held, once nothing is ready.
+pub fn nothing_is_held_after_a_fault()
+    ensures fault { (d : Deframe) (fault : Fault) → fault_of d ≡ Some fault
+        → is_ready d ≡ false → held_of d ≡ 0 }
+    ensures spent { (d : Deframe) → is_spent d ≡ true → is_ready d ≡ false → held_of d ≡ 0 }
+{}
+
+/// Octets, of which there are some, begin with an allowed packet where they have no fault of a
+/// packet.
+pub fn no_fault_begins_a_packet()
+    ensures { (limits : Limits) (header : ℕ) (o : List ℕ) → IsOctets (header ∷ o)
+        → ((reason : Reason) (inner : ℕ) → ¬ PacketFault limits (header ∷ o) reason inner)
+        → BeginsPacket limits (header ∷ o) }
+{}
+
+/// Octets with a fault of a packet begin with no allowed packet.
+pub fn a_fault_begins_no_packet()
+    ensures { (limits : Limits) (octets : List ℕ) (reason : Reason) (inner : ℕ)
+        → PacketFault limits octets reason inner → ¬ BeginsPacket limits octets }
+{}
+
+/// Reading a packet shows this fault exactly where it has it: its first octet is at fault, or the
+/// length header behind whole pieces that may stand.
+pub fn the_fault_of_a_packet()
+    ensures { (limits : Limits) (octets : List ℕ) (reason : Reason) (inner : ℕ) → IsOctets octets
+        → (packet_fault limits octets ≡ Some (reason, inner))
+        ↔ PacketFault limits octets reason inner }
 {}

@@ -1,44 +1,31 @@
 //! One length header (RFC 9580, 4.2).
 
-ghost use Rattle.std.specs.Prelude.{◌≡◌, ◌≤◌, ◌++◌, None, false, length, IsSome, MatchOption, IfSome, OnOk, OnErr};
+ghost use Rattle.std.specs.Prelude.{◌≡◌, ◌≤◌, ◌++◌, None, false, length, IsSome, MatchOption};
+ghost use Rattle.std.specs.Prelude.{IfSome, OnOk, OnErr};
 ghost use Rattle.opgp_octets.specs.Limits.{body_limit, pieces_limit};
-ghost use Rattle.opgp_frame.specs.Frames.{length_fault};
-ghost use Rattle.opgp_frame.specs.Header.{header_fault};
-ghost use Rattle.opgp_frame.specs.Length.{LengthFits, LengthBegins, length_octets, length_amount, length_at, is_partial};
+ghost use Rattle.opgp_frame.specs.Length.{LengthFits, LengthBegins, length_octets, length_amount};
+ghost use Rattle.opgp_frame.specs.Length.{length_at, is_partial};
+ghost use Rattle.opgp_frame.specs.PacketFault.{length_fault, header_fault};
+ghost use Rattle.opgp_frame.specs.Spelling.{octets_of_header};
 
 use crate::header::is_data_kind;
-use opgp_octets::{Limits, OutOfMemory, PacketLen, Reason, read_len, u16_at, u32_at, write_len};
+use crate::spelling::HeaderOctets;
+use opgp_octets::{Limits, PacketLen, Reason, read_len, u16_at, u32_at};
 
 /// A length and the form that it is written in.
 #[derive(Clone, Copy)]
 pub(crate) enum Length {
     /// One octet, in the legacy format.
-    LegacyOne(u8),
+    OldOne(u8),
     /// Two octets, in the legacy format.
-    LegacyTwo(u16),
+    OldTwo(u16),
     /// Four octets, in the legacy format.
-    LegacyFour(u32),
+    OldFour(u32),
     /// In the current format.
-    Current(PacketLen),
+    New(PacketLen),
 }
 
 impl Length {
-    /// How many octets it takes.
-    pub(crate) fn size(self) -> u64
-        requires { LengthFits self }
-        ensures value { result ≡ length (length_octets self) }
-        ensures small { result ≤ 5 }
-    {
-        match self {
-            Length::LegacyOne(_) => 1,
-            Length::LegacyTwo(_) => 2,
-            Length::LegacyFour(_) => 4,
-            Length::Current(PacketLen::One(_) | PacketLen::Partial(_)) => 1,
-            Length::Current(PacketLen::Two(_)) => 2,
-            Length::Current(PacketLen::Five(_)) => 5,
-        }
-    }
-
     /// How many octets of the body it announces.
     pub(crate) fn amount(self) -> u64
         requires { LengthFits self }
@@ -46,13 +33,10 @@ impl Length {
         ensures small { result ≤ 4294967295 }
     {
         match self {
-            Length::LegacyOne(n) => u64::from(n),
-            Length::LegacyTwo(n) => u64::from(n),
-            Length::LegacyFour(n) => u64::from(n),
-            Length::Current(PacketLen::One(n)) => u64::from(n),
-            Length::Current(PacketLen::Two(n)) => u64::from(n),
-            Length::Current(PacketLen::Five(n)) => u64::from(n),
-            Length::Current(PacketLen::Partial(power)) => 1 << power,
+            Length::OldOne(n) | Length::New(PacketLen::One(n)) => u64::from(n),
+            Length::OldTwo(n) | Length::New(PacketLen::Two(n)) => u64::from(n),
+            Length::OldFour(n) | Length::New(PacketLen::Five(n)) => u64::from(n),
+            Length::New(PacketLen::Partial(power)) => 1 << power,
         }
     }
 
@@ -60,30 +44,53 @@ impl Length {
     pub(crate) fn is_partial(self) -> bool
         ensures { result ≡ is_partial self }
     {
-        matches!(self, Length::Current(PacketLen::Partial(_)))
+        matches!(self, Length::New(PacketLen::Partial(_)))
     }
 
     /// The exponent of the piece that follows, if it is a partial length.
     pub(crate) fn exponent(self) -> Option<u8>
-        ensures { MatchOption result (is_partial self ≡ false) (λ k. self ≡ Length.Current (PacketLen.Partial k)) }
+        ensures { MatchOption result (is_partial self ≡ false)
+            (λ k. self ≡ Length.New (PacketLen.Partial k)) }
     {
         match self {
-            Length::Current(PacketLen::Partial(power)) => Some(power),
+            Length::New(PacketLen::Partial(power)) => Some(power),
             _ => None,
         }
     }
 
-    /// Writes it at the end of `out`; after an error `out` is as it was.
-    pub(crate) fn write(self, out: &mut Vec<u8>) -> Result<(), OutOfMemory>
+    /// Its octets, 1 to 5.
+    pub(crate) fn octets(self) -> HeaderOctets
         requires { LengthFits self }
-        ensures ok { OnOk result (out.new.items ≡ out.old.items ++ length_octets self) }
-        ensures err { OnErr result (out.new.items ≡ out.old.items) }
+        ensures value { octets_of_header result ≡ length_octets self }
+        ensures count { result.count ≡ length (length_octets self) }
+        ensures small { result.count ≤ 5 }
     {
         match self {
-            Length::LegacyOne(n) => out.extend_from_slice(&[n]),
-            Length::LegacyTwo(n) => out.extend_from_slice(&n.to_be_bytes()),
-            Length::LegacyFour(n) => out.extend_from_slice(&n.to_be_bytes()),
-            Length::Current(len) => write_len(&len, out),
+            Length::OldOne(n) | Length::New(PacketLen::One(n)) => HeaderOctets::new(
+                [n, 0, 0, 0, 0],
+                1,
+            ),
+            Length::OldTwo(n) => {
+                let [a, b] = n.to_be_bytes();
+                HeaderOctets::new([a, b, 0, 0, 0], 2)
+            }
+            Length::OldFour(n) => {
+                let [a, b, c, d] = n.to_be_bytes();
+                HeaderOctets::new([a, b, c, d, 0], 4)
+            }
+            Length::New(PacketLen::Two(n)) => {
+                let high = ((n - 192) / 256 + 192) as u8;
+                let low = ((n - 192) % 256) as u8;
+                HeaderOctets::new([high, low, 0, 0, 0], 2)
+            }
+            Length::New(PacketLen::Five(n)) => {
+                let [a, b, c, d] = n.to_be_bytes();
+                HeaderOctets::new([255, a, b, c, d], 5)
+            }
+            Length::New(PacketLen::Partial(power)) => HeaderOctets::new(
+                [224 + power, 0, 0, 0, 0],
+                1,
+            ),
         }
     }
 }
@@ -94,27 +101,27 @@ fn length_of(header: u8, o: &[u8]) -> Option<(Length, usize)>
 {
     if header >= 192 {
         let (len, count) = read_len(o)?;
-        return Some((Length::Current(len), count));
+        return Some((Length::New(len), count));
     }
     match header % 4 {
         0 => match o {
             [] => None,
-            [n, ..] => Some((Length::LegacyOne(*n), 1)),
+            [n, ..] => Some((Length::OldOne(*n), 1)),
         },
         1 => {
             let (n, _) = u16_at(o)?;
-            Some((Length::LegacyTwo(n), 2))
+            Some((Length::OldTwo(n), 2))
         }
         2 => {
             let (n, _) = u32_at(o)?;
-            Some((Length::LegacyFour(n), 4))
+            Some((Length::OldFour(n), 4))
         }
         _ => None,
     }
 }
 
-/// The length header that begins the octets, in a packet with this first octet, and how many octets it takes; None
-/// where its octets aren't all there.
+/// The length header that begins the octets, in a packet with this first octet, and how many octets
+/// it takes; None where its octets aren't all there.
 pub(crate) fn read_length(header: u8, o: &[u8]) -> Option<(Length, usize)>
     ensures found { IfSome result (λ x. LengthBegins header o.now x.0 x.1) }
     ensures exact { result ≡ length_at header o.now }
@@ -123,7 +130,8 @@ pub(crate) fn read_length(header: u8, o: &[u8]) -> Option<(Length, usize)>
     length_of(header, o)
 }
 
-/// Why the length may not stand behind so many partial ones, whose pieces have so many octets, in a packet of this type.
+/// Why the length may not stand behind so many partial ones, whose pieces have so many octets, in a
+/// packet of this type.
 pub(crate) fn length_fault(
     limits: Limits,
     kind: u8,

@@ -9,12 +9,12 @@ mod length;
 mod packet;
 mod parts;
 mod pieces;
-#[cfg(test)]
-mod tests;
+mod spelling;
 mod writing;
 
 pub use deframe::Deframe;
 pub use form::Form;
 pub use packet::{Packet, Placed};
 pub use pieces::{LastForm, Pieces};
-pub use writing::{reframe, write_packet};
+pub use spelling::{HeaderOctets, Spelling};
+pub use writing::{reframe, spelled_len_of, write_packet, write_parts};

@@ -5,12 +5,14 @@ ghost use Rattle.opgp_frame.specs.Packet.{PacketValue, IsPacket, spelling};
 
 use crate::form::Form;
 use crate::header::is_read_kind;
+use crate::writing::size_in;
 use opgp_octets::OutOfMemory;
 use std::alloc::Global;
 use std::marker::Model;
 
-/// A packet: the form of its header, its type and its body. It doesn't contain its place.
-#[derive(Debug, Drop)]
+/// A packet (RFC 9580, 4): the form of its header, its type and its body. It doesn't contain its
+/// place.
+#[derive(Drop)]
 pub struct Packet {
     form: Form,
     kind: u8,
@@ -24,11 +26,12 @@ impl Model for Packet {
 
     ghost view = { λ p. record { form = p.form; kind = p.kind; body = p.body.items } };
 
-    ghost invariant = { λ p. IsPacket (record { form = p.form; kind = p.kind; body = p.body.items }) };
+    ghost invariant = { λ p.
+        IsPacket (record { form = p.form; kind = p.kind; body = p.body.items }) };
 }
 
-/// A packet and where it stands.
-#[derive(Debug, Drop)]
+/// A packet (RFC 9580, 4) and where it stands.
+#[derive(Drop)]
 pub struct Placed {
     /// The packet.
     pub packet: Packet,
@@ -47,8 +50,10 @@ impl Packet {
     ///
     /// Takes no memory.
     pub fn new(form: Form, kind: u8, body: Vec<u8>) -> Option<Packet>
-        ensures some { IsSome result ↔ IsPacket (record { form = form; kind = kind; body = body.items }) }
-        ensures value { IfSome result (λ p. p ≡ record { form = form; kind = kind; body = body.items }) }
+        ensures some { IsSome result
+            ↔ IsPacket (record { form = form; kind = kind; body = body.items }) }
+        ensures value { IfSome result
+            (λ p. p ≡ record { form = form; kind = kind; body = body.items }) }
     {
         if !is_read_kind(kind) || !form.takes(kind) {
             return None;
@@ -111,18 +116,14 @@ impl Packet {
         self.body.as_slice()
     }
 
-    /// How many octets it is spelled in.
+    /// How many octets it is spelled in (RFC 9580, 4.2).
     ///
     /// Takes no memory.
+    #[tactic(auto, using(crate::proofs::Cuts::cut_body_size))]
     pub fn spelled_len(&self) -> u64
         ensures { result ≡ length (spelling self.now) }
     {
-        let n = self.body.len() as u64;
-        let pieces = self.form.exponents().len() as u64;
-        match self.form.last_length(n) {
-            Some(length) => 1 + pieces + length.size() + n,
-            None => unreachable!(),
-        }
+        size_in(&self.form, self.body.len() as u64)
     }
 }
 

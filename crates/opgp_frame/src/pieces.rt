@@ -8,8 +8,8 @@ use opgp_octets::OutOfMemory;
 use std::alloc::Global;
 use std::marker::Model;
 
-/// The form of the length that ends a chain of pieces.
-#[derive(Clone, Copy, Debug, PartialEq, Eq)]
+/// The form of the length that ends a chain of pieces (RFC 9580, 4.2.1).
+#[derive(Clone, Copy, PartialEq, Eq)]
 pub enum LastForm {
     /// One octet: 0 to 191.
     One,
@@ -19,9 +19,9 @@ pub enum LastForm {
     Five,
 }
 
-/// How a body is cut into pieces: the piece of each partial length has two to its exponent octets, and a last
-/// length has the rest.
-#[derive(Debug, Drop)]
+/// How a body is cut into pieces (RFC 9580, 4.2.1.4): the piece of each partial length has two to
+/// its exponent octets, and a last length has the rest.
+#[derive(Drop)]
 pub struct Pieces {
     exponents: Vec<u8>,
     last: LastForm,
@@ -38,13 +38,14 @@ impl Model for Pieces {
 }
 
 impl Pieces {
-    /// These pieces, or None unless there is an exponent, the first is at least 9 (a first piece has at least 512
-    /// octets) and each is at most 30.
+    /// These pieces, or None unless there is an exponent, the first is at least 9 (a first piece
+    /// has at least 512 octets) and each is at most 30.
     ///
     /// Takes no memory.
     pub fn new(exponents: Vec<u8>, last: LastForm) -> Option<Pieces>
         ensures some { IsSome result ↔ ArePieces exponents.items }
-        ensures value { IfSome result (λ p. p ≡ record { exponents = exponents.items; last = last }) }
+        ensures value { IfSome result
+            (λ p. p ≡ record { exponents = exponents.items; last = last }) }
     {
         if are_pieces(&exponents) {
             Some(Pieces { exponents, last })

@@ -1,100 +1,114 @@
 //! Writing packets.
 
-ghost use Rattle.std.specs.Prelude.{◌≡◌, ◌≤◌, ◌++◌, All, length, take, OnOk, OnErr, vec_len};
-ghost use Rattle.opgp_frame.specs.Packet.{PacketValue, IsPacket, spelling, cut_body};
-ghost use Rattle.opgp_frame.specs.Length.{LengthFits, length_octets};
-ghost use Rattle.opgp_frame.specs.PiecesValue.{pieces_sum};
-ghost use Rattle.opgp_frame.specs.Reframed.{reframed, shortest_form, IsCurrent};
+ghost use Rattle.std.specs.Prelude.{◌≡◌, ◌<◌, ◌≤◌, ◌+◌, ◌++◌, ℕ, List, length, OnOk, OnErr};
+ghost use Rattle.std.specs.Prelude.{vec_len, vec_capacity};
+ghost use Rattle.opgp_frame.specs.Form.{FormSpells, exponents_of, last_length};
+ghost use Rattle.opgp_frame.specs.Length.{length_octets};
+ghost use Rattle.opgp_frame.specs.Packet.{PacketValue, IsPacket, spelling};
+ghost use Rattle.opgp_frame.specs.Reframed.{reframed, IsCurrent};
+ghost use Rattle.opgp_frame.specs.Spelling.{octets_left};
 
 use crate::form::Form;
-use crate::length::Length;
 use crate::packet::Packet;
-use opgp_octets::{OutOfMemory, PacketLen, shortest, write_len};
+use crate::spelling::Spelling;
+use opgp_octets::OutOfMemory;
 
-/// Writes the packet's octets at the end of `out`, in the packet's form.
+/// Writes the packet's octets (RFC 9580, 4.2) at the end of `out`, in the packet's form.
 ///
 /// An error is want of memory; `out` is then as it was.
 pub fn write_packet(packet: &Packet, out: &mut Vec<u8>) -> Result<(), OutOfMemory>
     ensures ok { OnOk result (out.new.items ≡ out.old.items ++ spelling packet.now) }
     ensures err { OnErr result (out.new.items ≡ out.old.items) }
+    // It fails only where room was missing.
+    ensures full { OnErr result
+        (vec_capacity out.old < vec_len out.old + length (spelling packet.now)) }
 {
-    out.reserve(packet.spelled_len() as usize)?;
-    let before = out.len();
-    match append(packet, out) {
-        Ok(()) => Ok(()),
-        Err(e) => {
-            out.truncate(before);
-            Err(e)
-        }
-    }
+    write_parts(packet.form(), packet.kind(), packet.body(), out)
 }
 
-/// Writes the packet's octets at the end of `out`; after an error some of them stand there.
-fn append(packet: &Packet, out: &mut Vec<u8>) -> Result<(), OutOfMemory>
-    ensures ok { OnOk result (out.new.items ≡ out.old.items ++ spelling packet.now) }
-    ensures err { OnErr result (take (vec_len out.old) out.new.items ≡ out.old.items) }
+/// Writes the octets (RFC 9580, 4.2) of the packet with this form, type and body at the end of
+/// `out`. The condition is that there is such a packet.
+///
+/// An error is want of memory; `out` is then as it was.
+pub fn write_parts(form: &Form, kind: u8, body: &[u8], out: &mut Vec<u8>) -> Result<(), OutOfMemory>
+    requires { IsPacket (record { form = form.now; kind = kind; body = body.now }) }
+    ensures ok { OnOk result (out.new.items ≡ out.old.items
+        ++ spelling (record { form = form.now; kind = kind; body = body.now })) }
+    ensures err { OnErr result (out.new.items ≡ out.old.items) }
+    // It fails only where room was missing.
+    ensures full { OnErr result (vec_capacity out.old < vec_len out.old
+        + length (spelling (record { form = form.now; kind = kind; body = body.now }))) }
 {
-    let form = packet.form();
-    let body = packet.body();
-    let length = match form.last_length(body.len() as u64) {
-        Some(length) => length,
+    out.reserve(spelled_len_of(form, body.len() as u64) as usize)?;
+    append(Spelling::new(form, kind, body), out);
+    Ok(())
+}
+
+/// How many octets a packet with this form and a body of `n` octets is spelled in (RFC 9580, 4.2).
+/// The condition is that the form spells such a body.
+///
+/// Takes no memory.
+#[tactic(auto, using(crate::proofs::Cuts::cut_body_size))]
+pub fn spelled_len_of(form: &Form, n: u64) -> u64
+    requires { FormSpells form.now n }
+    ensures { (kind : ℕ) (body : List ℕ) → length body ≡ n
+        → result ≡ length (spelling (record { form = form.now; kind = kind; body = body })) }
+{
+    size_in(form, n)
+}
+
+/// How many octets its first octet, its length headers and a body of `n` octets are.
+pub(crate) fn size_in(form: &Form, n: u64) -> u64
+    requires { FormSpells form.now n }
+    ensures { result ≡ 1 + length (exponents_of form.now)
+        + length (length_octets (last_length form.now n)) + n }
+{
+    let pieces = form.exponents().len() as u64;
+    match form.last_length(n) {
+        Some(length) => 1 + pieces + length.octets().as_slice().len() as u64 + n,
         None => unreachable!(),
-    };
-    out.extend_from_slice(&[form.header_octet(packet.kind())])?;
-    append_body(form.exponents(), length, body, out)
-}
-
-/// Writes a body at the end of `out`, each piece behind its length and the rest behind the last one; after an error
-/// some of it stands there.
-fn append_body(
-    exponents: &[u8],
-    last: Length,
-    body: &[u8],
-    out: &mut Vec<u8>,
-) -> Result<(), OutOfMemory>
-    requires each { All (λ k. k ≤ 30) exponents.now }
-    requires pieces { pieces_sum exponents.now ≤ length body.now }
-    requires fits { LengthFits last }
-    ensures ok { OnOk result (out.new.items ≡ out.old.items ++ cut_body exponents.now (length_octets last) body.now) }
-    ensures err { OnErr result (take (vec_len out.old) out.new.items ≡ out.old.items) }
-{
-    let mut rest = body;
-    for exponent in exponents {
-        let (piece, behind) = rest.split_at(1usize << *exponent);
-        write_len(&PacketLen::Partial(*exponent), out)?;
-        out.extend_from_slice(piece)?;
-        rest = behind;
     }
-    last.write(out)?;
-    out.extend_from_slice(rest)
 }
 
-/// The same packet in the current format with its shortest length, never partial.
+/// Writes the octets that are left at the end of `out`, which has room for them.
+fn append(mut spelling: Spelling, out: &mut Vec<u8>)
+    requires room { vec_len out.old + length (octets_left spelling) ≤ vec_capacity out.old }
+    ensures { out.new.items ≡ out.old.items ++ octets_left spelling.entry }
+{
+    while let Some((header, piece)) = spelling.next() {
+        put(header.as_slice(), out);
+        put(piece, out);
+    }
+}
+
+/// Writes the octets at the end of `out`, which has room for them.
+fn put(octets: &[u8], out: &mut Vec<u8>)
+    requires room { vec_len out.old + length octets.now ≤ vec_capacity out.old }
+    ensures items { out.new.items ≡ out.old.items ++ octets.now }
+    ensures len { vec_len out.new ≡ vec_len out.old + length octets.now }
+    ensures capacity { vec_capacity out.old ≤ vec_capacity out.new }
+{
+    match out.extend_from_slice(octets) {
+        Ok(()) => {}
+        Err(_) => unreachable!(),
+    }
+}
+
+/// The same packet in the current format with its shortest length (RFC 9580, 4.2.1), never partial.
 ///
 /// Takes no memory.
 pub fn reframe(packet: Packet) -> Packet
     ensures same { (result.kind ≡ packet.kind) × (result.body ≡ packet.body) }
     ensures current { IsCurrent result.form }
-    ensures least { (other : PacketValue) → IsPacket other → IsCurrent other.form → other.kind ≡ packet.kind → other.body ≡ packet.body
+    ensures least { (other : PacketValue) → IsPacket other → IsCurrent other.form
+        → other.kind ≡ packet.kind → other.body ≡ packet.body
         → length (spelling result) ≤ length (spelling other) }
     ensures exact { result ≡ reframed packet }
 {
     let (_, kind, body) = packet.into_parts();
-    let form = shortest_form(body.len() as u32);
+    let form = Form::shortest(body.len() as u32);
     match Packet::new(form, kind, body) {
         Some(packet) => packet,
         None => unreachable!(),
-    }
-}
-
-/// The form of the current format, not partial, that spells the length in the fewest octets.
-fn shortest_form(n: u32) -> Form
-    ensures { result ≡ shortest_form n }
-{
-    match shortest(n) {
-        PacketLen::One(_) => Form::NewOne,
-        PacketLen::Two(_) => Form::NewTwo,
-        PacketLen::Five(_) => Form::NewFive,
-        PacketLen::Partial(_) => unreachable!(),
     }
 }

@@ -4,4 +4,6 @@
 #[cfg(test)]
 mod armor;
 #[cfg(test)]
+mod frame;
+#[cfg(test)]
 mod octets;

@@ -1,4 +1,4 @@
-use Rattle.opgp_frame.proofs.Complete.{every_answer as answered}
+use Rattle.opgp_frame.proofs.Answered.{every_answer as answered}
 use Rattle.opgp_frame.proofs.laws.every_answer.Goals as goal
 
 pub returns : goal.returns

@@ -3,7 +3,7 @@ use Rattle.std.proofs.lemmas.Bool.{cases_lt, false≢true}
 use Rattle.std.proofs.lemmas.List.{get_or_past}
 use Rattle.opgp_octets.specs.Octets.{IsOctets}
 use Rattle.opgp_frame.specs.Packet.{PacketValue, IsPacket}
-use Rattle.opgp_frame.specs.State.{IsWhole}
+use Rattle.opgp_frame.specs.Unfinished.{IsWhole}
 use Rattle.opgp_frame.proofs.Made.{packet_whole, form_fits, begun_pieces}
 use Rattle.opgp_frame.proofs.parts.placed.Goals as goal
 

@@ -4,9 +4,9 @@ use Rattle.opgp_frame.specs.declared.deframe.State.{State}
 use Rattle.opgp_frame.specs.declared.deframe.State.TheVariants.{InPiece}
 use Rattle.opgp_frame.specs.declared.length.Length.{Length}
 use Rattle.opgp_frame.specs.Fed.{IsRest}
-use Rattle.opgp_frame.specs.Held.{state_fits}
 use Rattle.opgp_frame.specs.Length.{is_partial}
-use Rattle.opgp_frame.specs.State.{IsInPiece}
+use Rattle.opgp_frame.specs.ReaderState.{state_fits}
+use Rattle.opgp_frame.specs.Unfinished.{IsInPiece}
 use Rattle.opgp_frame.proofs.FedLemmas.{Fed-grows, Fed-ends}
 use Rattle.opgp_frame.proofs.Holding.{LengthFacts, piece_facts, length_fits, holds_length}
 use Rattle.opgp_frame.proofs.Steps.{more_of_piece, ends_piece}

@@ -51,6 +51,10 @@ OnePacket = (p q : PacketValue) (x y : List ℕ) → IsPacket p → IsPacket q �
 pub whole_of : (l : Limits) (o body : List ℕ) (n : ℕ) → length o ≤ n → Frames l 0 o (at_front (key_packet body) ∷ []) → Frames l 0 (take n o) (at_front (key_packet body) ∷ [])
 whole_of l o body n le f = subst (λ (x : List ℕ). Frames l 0 x (at_front (key_packet body) ∷ [])) (sym (take_all n o le)) f
 
+-- what was given is given with nothing after it
+pub settled : (l : Limits) (d : Deframe) (given : List ℕ) (taken : List Placed) → Fed l 0 d (given ++ []) taken → Fed l 0 d given taken
+settled l d given taken f = subst (λ (x : List ℕ). Fed l 0 d x taken) (append-nil given) f
+
 -- a packet that ends before the octets do is no other packet's spelling
 pub early : (l : Limits) (o body : List ℕ) (n : ℕ) → 191 ≤ body_limit l → IsKeyPacket o body → n < length o → OnePacket → (d : Deframe) → Fed l 0 d (take n o) [] → is_ready d ≡ true → ⊥
 early l o body n room k lt one d f ready = from d.ready ready f.whole f.stand where

@@ -1,6 +1,11 @@
 //! Walks an armored text of standard input: blocks, packets, keys, signatures and their hashed subpackets.
 #![tactic(auto)]
 
+ghost use Rattle.std.specs.Prelude.{◌≡◌, option_map};
+ghost use Rattle.opgp_octets.specs.declared.fault.Layer.TheVariants as layer;
+ghost use Rattle.opgp_sig.specs.Subs.{subs_to_come};
+ghost use Rattle.opgp_walk.specs.Hashed.{hashed_subs};
+
 use anyhow::{Error, Result, anyhow};
 use opgp_armor::dearmor;
 use opgp_frame::{Deframe, Placed};
@@ -78,22 +83,26 @@ fn walk_packet(rt: &(impl Print + AllocGlobal), placed: Placed) -> Result<()> {
         },
         _ => return Ok(()),
     };
-    Err(body_error(rt.alloc(), fault, block, pos))
+    Err(error_of(rt.alloc(), placed_fault(fault, block, pos)))
 }
 
 /// The fault of a packet's body, with the packet's place.
-fn body_error(alloc: Global, fault: BodyFault, block: u64, pos: u64) -> Error {
-    let (layer, reason, inner) = (Layer::Body, fault.reason, fault.inner);
-    error_of(
-        alloc,
-        Fault {
-            layer,
-            reason,
-            block,
-            pos,
-            inner,
-        },
-    )
+fn placed_fault(fault: BodyFault, block: u64, pos: u64) -> Fault
+    ensures { result ≡ record {
+      layer = layer.Body;
+      reason = fault.reason;
+      block = block;
+      pos = pos;
+      inner = fault.inner;
+    } }
+{
+    Fault {
+        layer: Layer::Body,
+        reason: fault.reason,
+        block,
+        pos,
+        inner: fault.inner,
+    }
 }
 
 /// A key: its version, algorithm, fingerprint and key ID.
@@ -130,7 +139,9 @@ fn walk_signature(rt: &(impl Print + AllocGlobal), view: SigView<'_>) -> Result<
 }
 
 /// The hashed subpackets, in the versions that have some.
-fn hashed(view: SigView<'_>) -> Option<Subs<'_>> {
+fn hashed(view: SigView<'_>) -> Option<Subs<'_>>
+    ensures { option_map subs_to_come result ≡ hashed_subs view.entry }
+{
     match view {
         SigView::Four(four) => Some(four.hashed()),
         SigView::Six(six) => Some(six.hashed()),

@@ -362,3 +362,44 @@ fn refused_growth(rt: HostRuntime) {
         user_id_grows(&rt, rt.alloc(), &mut out);
     }
 }
+
+/// Whether a value has given back these octets.
+fn given_back(body: Result<Vec<u8>, BodyFault>, octets: &[u8]) -> bool {
+    match body {
+        Ok(body) => body.as_slice() == octets,
+        Err(_) => false,
+    }
+}
+
+// A growth makes each body; none copies it on its way into a value and out again.
+#[test]
+fn bodies_are_moved_in_4_growths(rt: HostRuntime) {
+    let area = b"\x02\x01\x61".as_slice();
+    let empty = b"\x62\x00\x00\x00\x00\x00".as_slice();
+    if let Ok(body) = OLDER.to_vec(rt.alloc()) {
+        assert!(rt; body.len() <= 100);
+        assert!(rt; given_back(Key::from_body(body).map(|key| key.into_body()), OLDER));
+    }
+    if let Ok(body) = b"a".to_vec(rt.alloc()) {
+        assert!(rt; body.len() <= 100);
+        assert!(rt; given_back(Ok(UserId::from_body(body).into_body()), b"a"));
+    }
+    if let Ok(body) = area.to_vec(rt.alloc()) {
+        assert!(rt; body.len() <= 100);
+        assert!(rt;
+            given_back(
+                Attribute::from_body(body).map(|attribute| attribute.into_body()),
+                area
+            )
+        );
+    }
+    if let Ok(body) = empty.to_vec(rt.alloc()) {
+        assert!(rt; body.len() <= 100);
+        assert!(rt;
+            given_back(
+                Literal::from_body(body).map(|literal| literal.into_body()),
+                empty
+            )
+        );
+    }
+}

@@ -1,8 +1,10 @@
 //! Signatures, by the certificate of RFC 9580, A.3 and by bodies at fault.
 
+use opgp_key::{Key, KeyView};
 use opgp_octets::{BodyFault, ParseFault, Reason, SubLen};
 use opgp_sig::{SigView, Signature, SignatureMaterial, SignatureMaterialView, SubMeaning, SubView};
 use std::alloc::Global;
+use std::mem::size_of;
 use std::process::Abort;
 use std::test::Fail;
 
@@ -500,4 +502,26 @@ fn refused_growth(rt: HostRuntime) {
             }
         }
     }
+}
+
+// A growth makes each body; none copies it on its way into a signature and out again.
+#[test]
+fn bodies_are_moved_in_4_growths(rt: HostRuntime) {
+    for body in [OLD, ODD, DIRECT, b"\x05"] {
+        if let Ok(owned) = body.to_vec(rt.alloc()) {
+            assert!(rt; owned.len() <= 1000);
+            match Signature::from_body(owned) {
+                Ok(signature) => assert!(rt; signature.into_body().as_slice() == body),
+                Err(_) => panic!(rt; "refused"),
+            }
+        }
+    }
+}
+
+// A value is its body's vector or slice, and where its fields lie.
+#[test]
+fn values_are_small(rt: HostRuntime) {
+    let signatures = (size_of::<Signature>(), size_of::<SigView>());
+    let keys = (size_of::<Key>(), size_of::<KeyView>());
+    assert_eq!(rt; (signatures, keys), ((88, 80), (72, 64)));
 }

@@ -153,21 +153,22 @@ fn hashed(view: SigView<'_>) -> Option<Subs<'_>>
 fn walk_sub(rt: &(impl Print + AllocGlobal), sub: SubView<'_>) -> Result<()> {
     let (number, kind) = (sub.kind(), SubpacketKind::from(sub.kind()).name());
     let critical = if sub.critical() { ", critical" } else { "" };
+    print!(rt; "    {number} {kind}{critical}")?;
     match sub.meaning() {
-        SubMeaning::Created(time) => println!(rt; "    {number} {kind}{critical}: {time}")?,
+        SubMeaning::Created(time) => println!(rt; ": {time}")?,
         SubMeaning::IssuerFingerprint {
             version,
             fingerprint,
         } => {
             let print = hex::encode_upper(rt.alloc(), fingerprint)?;
-            println!(rt; "    {number} {kind}{critical}: version {version}, {print}")?;
+            println!(rt; ": version {version}, {print}")?;
         }
         SubMeaning::KeyFlags(flags) | SubMeaning::Features(flags) => {
             let flags = hex::encode_upper(rt.alloc(), flags)?;
-            println!(rt; "    {number} {kind}{critical}: {flags}")?;
+            println!(rt; ": {flags}")?;
         }
-        SubMeaning::Unfit => println!(rt; "    {number} {kind}{critical}: not of its form")?,
-        _ => println!(rt; "    {number} {kind}{critical}")?,
+        SubMeaning::Unfit => println!(rt; ": not of its form")?,
+        _ => println!(rt)?,
     }
     Ok(())
 }

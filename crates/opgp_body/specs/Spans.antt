@@ -1,5 +1,5 @@
 -- Where the fields of a body lie in it.
-use Rattle.std.specs.Prelude.{◌≡◌, ℕ, ◌+◌, ◌≤◌, List, slice_range}
+use Rattle.std.specs.Prelude.{ℕ, ◌+◌, ◌≤◌, List, slice_range}
 use Rattle.opgp_octets.specs.Mpi.{MpiValue, octets_of}
 use Rattle.opgp_body.specs.declared.spans.Span.{Span}
 use Rattle.opgp_body.specs.declared.spans.MpiSpan.{MpiSpan}

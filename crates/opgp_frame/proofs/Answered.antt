@@ -52,8 +52,8 @@ longest (suc n) limits block at (h ∷ o) fits enough =
           }
     ] refl
 
-pub every_answer : (limits : Limits) (block : ℕ) (octets : List ℕ) → IsOctets octets → ((packets : List Placed) × Frames limits block octets packets) ⊎ ((fault : Fault) × IsFramingFault limits block octets fault)
-every_answer limits block octets fits =
+pub some_answer : (limits : Limits) (block : ℕ) (octets : List ℕ) → IsOctets octets → ((packets : List Placed) × Frames limits block octets packets) ⊎ ((fault : Fault) × IsFramingFault limits block octets fault)
+some_answer limits block octets fits =
     let l = longest (suc (length octets)) limits block 0 octets fits (omega arith) in
     elim l.why [
       | inl none ↦ inl (l.packets, record { whole = l.whole ∙ ap (λ (x : List ℕ). spelled l.packets ++ x) none ∙ append-nil (spelled l.packets); stand = l.stand })

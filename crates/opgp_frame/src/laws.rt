@@ -80,7 +80,7 @@ pub fn no_fault()
 {}
 
 /// All octets are a list of packets or have a fault.
-pub fn every_answer()
+pub fn some_answer()
     ensures { (limits : Limits) (block : ℕ) (octets : List ℕ) → IsOctets octets
         → ((packets : List Placed) × Frames limits block octets packets)
         ⊎ ((fault : Fault) × IsFramingFault limits block octets fault) }

@@ -1,11 +1,10 @@
 -- What every key's body keeps.
-use Rattle.std.proofs.Common.{◌≡◌, ◌≤◌, ◌-◌, ◌∷◌, ◌⊎◌, ℕ, Bool, true, false, eqb, cond, inl, inr, List, length, refl, sym, ap, ◌∙◌, arith, Result, Ok, Err}
-use Rattle.std.proofs.lemmas.List.{length-append}
+use Rattle.std.proofs.Common.{◌≡◌, ◌≤◌, ◌-◌, ◌∷◌, ◌⊎◌, ℕ, Bool, true, false, eqb, cond, inl, inr, List, length, refl, ap, ◌∙◌, arith, Result, Ok, Err}
 use Rattle.opgp_octets.specs.declared.fault.BodyFault.{BodyFault}
 use Rattle.opgp_octets.specs.Octets.{IsOctets}
 use Rattle.opgp_octets.specs.Reading.{Reads}
 use Rattle.opgp_body.specs.FieldReading.{body_at}
-use Rattle.opgp_body.specs.Fields.{Field, small, wide, octets_of, Body}
+use Rattle.opgp_body.specs.Fields.{Field, small, wide, octets_of}
 use Rattle.opgp_body.proofs.GrammarLaws.{body_found}
 use Rattle.opgp_key.specs.KeyPlaces.{fields_of_size}
 use Rattle.opgp_key.specs.KeyBody.{key, KeyValue, key_fields, SpellsKey}

@@ -1,6 +1,6 @@
 -- Each kind that is listed has a form.
-use Rattle.std.proofs.Common.{◌≡◌, ℕ, zero, suc, ◌<◌, List, [], ◌∷◌, refl, inl, lit<, arith}
-use Rattle.std.specs.Prelude.{replicate, slice_index}
+use Rattle.std.proofs.Common.{ℕ, zero, suc, ◌<◌, List, [], ◌∷◌, refl, inl, lit<}
+use Rattle.std.specs.Prelude.{replicate}
 use Rattle.std.specs.Int.{w32, to_be_bytes}
 use Rattle.opgp_octets.specs.declared.subpacket_kind.SubpacketKind.{SubpacketKind}
 use Rattle.opgp_octets.specs.declared.subpacket_kind.SubpacketKind.TheVariants.{Created, Expires}

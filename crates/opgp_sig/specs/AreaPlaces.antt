@@ -1,5 +1,5 @@
 -- The signature of version 4 or 6 whose fields lie at places in a body.
-use Rattle.std.specs.Prelude.{◌≡◌, ℕ, ◌+◌, List, length, ◌==◌, if◌then◌else◌}
+use Rattle.std.specs.Prelude.{◌≡◌, ℕ, List, length, ◌==◌, if◌then◌else◌}
 use Rattle.std.proofs.Props.{props}
 use Rattle.opgp_body.specs.Spans.{octets_in, IsIn}
 use Rattle.opgp_sig.specs.declared.area_places.AreaPlaces.{AreaPlaces}

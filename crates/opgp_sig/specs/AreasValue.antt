@@ -1,5 +1,5 @@
 -- What signatures of versions 4 and 6 show, and the fields that spell them (RFC 9580, 5.2.3).
-use Rattle.std.specs.Prelude.{◌≡◌, ℕ, List, ◌∷◌, ◌++◌, length, None, ◌==◌, if◌then◌else◌}
+use Rattle.std.specs.Prelude.{◌≡◌, ℕ, List, ◌∷◌, length, None, ◌==◌, if◌then◌else◌}
 use Rattle.opgp_body.specs.AreaReading.{fault_in, subs_in}
 use Rattle.opgp_body.specs.Fields.{Field, small, named, bare, subpackets, framed}
 use Rattle.opgp_sig.specs.SignatureBody.{extent}

@@ -1,5 +1,5 @@
 -- The typed form that octets have, read from left to right.
-use Rattle.std.specs.Prelude.{ℕ, ◌+◌, ◌-◌, ◌%◌, ◌&&◌, ◌||◌, not, List, [], ◌∷◌, length, take, drop}
+use Rattle.std.specs.Prelude.{ℕ, ◌+◌, ◌-◌, ◌%◌, ◌&&◌, ◌||◌, List, [], ◌∷◌, length, take, drop}
 use Rattle.std.specs.Prelude.{slice_index, is_ok, nat_lt, ◌==◌, if◌then◌else◌}
 use Rattle.std.specs.Prelude.{Option, Some, None}
 use Rattle.std.specs.Int.{w16, w32, from_be_bytes}

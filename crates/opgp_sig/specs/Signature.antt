@@ -1,5 +1,5 @@
 -- What a signature that owns its body shows.
-use Rattle.std.specs.Prelude.{ℕ, List, Option, Some, None}
+use Rattle.std.specs.Prelude.{ℕ, List}
 use Rattle.opgp_sig.specs.declared.signature.Signature.{Signature}
 use Rattle.opgp_sig.specs.declared.signature.Signature.TheVariants.{Three, Four, Six, Other}
 use Rattle.opgp_sig.specs.AreasSignature.{areas_signature_value, areas_signature_octets}

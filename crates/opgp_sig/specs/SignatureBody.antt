@@ -1,14 +1,13 @@
 -- The body of a signature (RFC 9580, 5.2.2, 5.2.3), as the tables of its fields in each version.
-use Rattle.std.specs.Prelude.{◌≡◌, ℕ, Bool, true, false, ◌==◌, ◌⊎◌, if◌then◌else◌, List, [], ◌∷◌}
+use Rattle.std.specs.Prelude.{◌≡◌, ℕ, Bool, false, ◌==◌, ◌⊎◌, if◌then◌else◌, List, [], ◌∷◌}
 use Rattle.std.specs.Prelude.{length, Option, Some, None, Result, Ok, Err}
 use Rattle.opgp_octets.specs.declared.fault.Reason.TheVariants.{Short, SaltSize}
 use Rattle.opgp_octets.specs.declared.fault.BodyFault.{BodyFault}
 use Rattle.opgp_octets.specs.declared.hash_algorithm.HashAlgorithm.{HashAlgorithm}
-use Rattle.opgp_octets.specs.declared.hash_algorithm.HashAlgorithm.TheVariants.{Md5, Sha1}
-use Rattle.opgp_octets.specs.declared.hash_algorithm.HashAlgorithm.TheVariants.{Ripemd160, Sha256}
+use Rattle.opgp_octets.specs.declared.hash_algorithm.HashAlgorithm.TheVariants.{Sha256}
 use Rattle.opgp_octets.specs.declared.hash_algorithm.HashAlgorithm.TheVariants.{Sha384, Sha512}
 use Rattle.opgp_octets.specs.declared.hash_algorithm.HashAlgorithm.TheVariants.{Sha224, Sha3_256}
-use Rattle.opgp_octets.specs.declared.hash_algorithm.HashAlgorithm.TheVariants.{Sha3_512, Other}
+use Rattle.opgp_octets.specs.declared.hash_algorithm.HashAlgorithm.TheVariants.{Sha3_512}
 use Rattle.opgp_octets.specs.HashAlgorithm.{hash_algorithm_of}
 use Rattle.opgp_octets.specs.KeyAlgorithm.{key_algorithm_of}
 use Rattle.opgp_octets.specs.Reading.{◌>>=◌}

@@ -13,12 +13,12 @@ ghost use Rattle.opgp_body.specs.Spans.{octets_in, IsIn};
 ghost use Rattle.opgp_sig.specs.AreasValue.{areas_fields};
 ghost use Rattle.opgp_sig.specs.Material.{fields_in, shape, AreIn};
 ghost use Rattle.opgp_sig.specs.Shape.{shape_of};
-ghost use Rattle.opgp_sig.specs.SignatureBody.{extent, salt_of, material_kinds, with_areas};
+ghost use Rattle.opgp_sig.specs.SignatureBody.{extent, material_kinds, with_areas};
 
 use crate::material::MaterialPlaces;
 use crate::signature_fields::{material_at, salt_at};
 use opgp_body::{AreaLength, Cursor, Span};
-use opgp_octets::{BodyFault, HashAlgorithm, KeyAlgorithm, Reason};
+use opgp_octets::{BodyFault, Reason};
 
 /// The fields of a version 4 or 6 signature; of the longer ones, where they lie in the body.
 #[derive(Clone, Copy)]
@@ -43,32 +43,6 @@ fn width_of(version: u8) -> AreaLength
     } else {
         AreaLength::Two
     }
-}
-
-/// The salt of a hash algorithm, which comes next.
-fn salt_of_hash(cursor: &mut Cursor<'_>, hash: u8) -> Result<Span, BodyFault>
-    ensures reads { ReadsField (salt_of hash)
-        (λ p. named (octets_in p (body_under cursor.old))) cursor.old cursor.new result }
-    ensures body { body_under cursor.new ≡ body_under cursor.old }
-    ensures within { IfOk result (λ p. IsIn p (length (body_under cursor.old))) }
-{
-    salt_at(cursor, HashAlgorithm::from(hash))
-}
-
-/// The material of a version and an algorithm, which comes next.
-fn material_of(
-    cursor: &mut Cursor<'_>,
-    version: u8,
-    algorithm: u8,
-) -> Result<MaterialPlaces, BodyFault>
-    ensures reads { ReadsAll
-        (sequence (material_kinds (version == 6) (shape_of (key_algorithm_of algorithm))))
-        (λ m. fields_in m (body_under cursor.old)) cursor.old cursor.new result }
-    ensures shape { IfOk result (λ m. shape m ≡ shape_of (key_algorithm_of algorithm)) }
-    ensures body { body_under cursor.new ≡ body_under cursor.old }
-    ensures within { IfOk result (λ m. AreIn m (length (body_under cursor.old))) }
-{
-    material_at(cursor, version == 6, KeyAlgorithm::from(algorithm))
 }
 
 impl AreaPlaces {
@@ -97,9 +71,9 @@ impl AreaPlaces {
         let left = cursor.array::<2>()?;
         let mut salt = Span { start: 0, end: 0 };
         if version == 6 {
-            salt = salt_of_hash(&mut cursor, hash)?;
+            salt = salt_at(&mut cursor, hash)?;
         }
-        let material = material_of(&mut cursor, version, algorithm)?;
+        let material = material_at(&mut cursor, version == 6, algorithm)?;
         cursor.end()?;
         Ok(AreaPlaces {
             kind,

@@ -23,16 +23,6 @@ impl OtherSignature {
     ghost use Rattle.opgp_sig.specs.OtherView.{other_view_octets};
     ghost use Rattle.opgp_sig.specs.SignatureBody.{IsOther};
 
-    /// The signature of this body.
-    pub(crate) fn new(body: Vec<u8>) -> OtherSignature
-        requires octets { IsOctets body.items }
-        requires small { IsBodySized body.items }
-        requires parses { signature_at body.items ≡ Ok (of_other body.items) }
-        ensures { other_signature_octets result ≡ body.items }
-    {
-        OtherSignature { body }
-    }
-
     /// The signature that a view shows, with octets of its own.
     ///
     /// An error is want of memory.

@@ -18,14 +18,6 @@ impl<'a> OtherView<'a> {
     ghost use Rattle.opgp_sig.specs.OtherView.{other_view_octets};
     ghost use Rattle.opgp_sig.specs.SignatureBody.{IsOther};
 
-    pub(crate) fn new(o: &'a [u8]) -> OtherView<'a>
-        requires small { IsBodySized o.now }
-        requires parses { signature_at o.now ≡ Ok (of_other o.now) }
-        ensures { other_view_octets result ≡ o.now }
-    {
-        OtherView { body: o }
-    }
-
     /// The octets of its body.
     pub fn body(&self) -> &'a [u8]
         ensures value { result.now ≡ other_view_octets self.now }

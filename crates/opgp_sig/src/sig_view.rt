@@ -75,9 +75,9 @@ impl<'a> SigView<'a> {
             6 => Ok(SigView::Six(SixView::read(o)?)),
             3 => match ThreeView::read(o) {
                 Ok(view) => Ok(SigView::Three(view)),
-                Err(_) => Ok(SigView::Other(OtherView::new(o))),
+                Err(_) => Ok(SigView::Other(OtherView { body: o })),
             },
-            _ => Ok(SigView::Other(OtherView::new(o))),
+            _ => Ok(SigView::Other(OtherView { body: o })),
         }
     }
 

@@ -103,10 +103,10 @@ impl Signature {
             4 => Ok(Signature::Four(FourSignature::keep(body)?)),
             6 => Ok(Signature::Six(SixSignature::keep(body)?)),
             3 => match ThreePlaces::read(&body) {
-                Ok(places) => Ok(Signature::Three(ThreeSignature::new(body, places))),
-                Err(_) => Ok(Signature::Other(OtherSignature::new(body))),
+                Ok(places) => Ok(Signature::Three(ThreeSignature { body, places })),
+                Err(_) => Ok(Signature::Other(OtherSignature { body })),
             },
-            _ => Ok(Signature::Other(OtherSignature::new(body))),
+            _ => Ok(Signature::Other(OtherSignature { body })),
         }
     }
 

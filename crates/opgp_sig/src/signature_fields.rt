@@ -1,12 +1,13 @@
 //! The fields that signatures alone have.
 
 ghost use Rattle.std.specs.Prelude.{◌≡◌, ◌≤◌, length, IfOk};
+ghost use Rattle.opgp_octets.specs.KeyAlgorithm.{key_algorithm_of};
 ghost use Rattle.opgp_body.specs.Cursor.{body_under, ReadsField, ReadsAll};
 ghost use Rattle.opgp_body.specs.Fields.{named, sequence};
 ghost use Rattle.opgp_body.specs.Spans.{octets_in, IsIn};
 ghost use Rattle.opgp_sig.specs.Material.{fields_in, shape, AreIn, material_fields, HasSizes};
 ghost use Rattle.opgp_sig.specs.Shape.{shape_of};
-ghost use Rattle.opgp_sig.specs.SignatureBody.{salt_of_size, salt_size, material_kinds};
+ghost use Rattle.opgp_sig.specs.SignatureBody.{salt_of, salt_of_size, salt_size, material_kinds};
 ghost use Rattle.opgp_sig.specs.SignatureBody.{old_material_kinds};
 
 use crate::material::{MaterialPlaces, SignatureMaterial, SignatureMaterialView};
@@ -14,13 +15,13 @@ use opgp_body::{Cursor, MpiSpan, Span};
 use opgp_octets::{BodyFault, HashAlgorithm, KeyAlgorithm, Reason};
 
 /// The salt that comes next, which has the size of its hash algorithm (RFC 9580, 9.5).
-pub(crate) fn salt_at(cursor: &mut Cursor<'_>, hash: HashAlgorithm) -> Result<Span, BodyFault>
-    ensures reads { ReadsField (salt_of_size (salt_size hash))
+pub(crate) fn salt_at(cursor: &mut Cursor<'_>, hash: u8) -> Result<Span, BodyFault>
+    ensures reads { ReadsField (salt_of hash)
         (λ p. named (octets_in p (body_under cursor.old))) cursor.old cursor.new result }
     ensures body { body_under cursor.new ≡ body_under cursor.old }
     ensures within { IfOk result (λ p. IsIn p (length (body_under cursor.old))) }
 {
-    match hash {
+    match HashAlgorithm::from(hash) {
         HashAlgorithm::Sha224 | HashAlgorithm::Sha256 | HashAlgorithm::Sha3_256 => {
             cursor.sized(Reason::SaltSize, 16, 16)
         }
@@ -34,15 +35,16 @@ pub(crate) fn salt_at(cursor: &mut Cursor<'_>, hash: HashAlgorithm) -> Result<Sp
 pub(crate) fn material_at(
     cursor: &mut Cursor<'_>,
     strict: bool,
-    algorithm: KeyAlgorithm,
+    algorithm: u8,
 ) -> Result<MaterialPlaces, BodyFault>
-    ensures reads { ReadsAll (sequence (material_kinds strict (shape_of algorithm)))
+    ensures reads { ReadsAll (sequence
+        (material_kinds strict (shape_of (key_algorithm_of algorithm))))
         (λ m. fields_in m (body_under cursor.old)) cursor.old cursor.new result }
-    ensures shape { IfOk result (λ m. shape m ≡ shape_of algorithm) }
+    ensures shape { IfOk result (λ m. shape m ≡ shape_of (key_algorithm_of algorithm)) }
     ensures body { body_under cursor.new ≡ body_under cursor.old }
     ensures within { IfOk result (λ m. AreIn m (length (body_under cursor.old))) }
 {
-    match algorithm {
+    match KeyAlgorithm::from(algorithm) {
         KeyAlgorithm::Rsa | KeyAlgorithm::RsaSign => {
             Ok(SignatureMaterial::Rsa(cursor.mpi(strict)?))
         }
@@ -71,15 +73,15 @@ pub(crate) fn material_at(
 #[tactic(auto, unfolding(opgp_body::specs::FieldReading::step_at, opgp_body::specs::FieldReading::kind_at))]
 pub(crate) fn old_material_at(
     cursor: &mut Cursor<'_>,
-    algorithm: KeyAlgorithm,
+    algorithm: u8,
 ) -> Result<MaterialPlaces, BodyFault>
-    ensures reads { ReadsAll (sequence (old_material_kinds (shape_of algorithm)))
+    ensures reads { ReadsAll (sequence (old_material_kinds (shape_of (key_algorithm_of algorithm))))
         (λ m. fields_in m (body_under cursor.old)) cursor.old cursor.new result }
-    ensures shape { IfOk result (λ m. shape m ≡ shape_of algorithm) }
+    ensures shape { IfOk result (λ m. shape m ≡ shape_of (key_algorithm_of algorithm)) }
     ensures body { body_under cursor.new ≡ body_under cursor.old }
     ensures within { IfOk result (λ m. AreIn m (length (body_under cursor.old))) }
 {
-    match algorithm {
+    match KeyAlgorithm::from(algorithm) {
         KeyAlgorithm::Rsa | KeyAlgorithm::RsaSign => {
             Ok(SignatureMaterial::Rsa(cursor.mpi(false)?))
         }

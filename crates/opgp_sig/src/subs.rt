@@ -40,6 +40,8 @@ impl<'a> Iterator for Subs<'a> {
     ghost remaining = { item_count subs_to_come };
 
     fn next(&mut self) -> Option<SubView<'a>> {
-        self.walk.next().map(|sub| SubView { sub })
+        Some(SubView {
+            sub: self.walk.next()?,
+        })
     }
 }

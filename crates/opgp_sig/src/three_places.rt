@@ -15,7 +15,7 @@ ghost use Rattle.opgp_sig.specs.ThreeValue.{three_fields};
 use crate::material::MaterialPlaces;
 use crate::signature_fields::old_material_at;
 use opgp_body::Cursor;
-use opgp_octets::{BodyFault, KeyAlgorithm, Reason};
+use opgp_octets::{BodyFault, Reason};
 
 /// The fields of a version 3 signature; of its material, where they lie in the body.
 #[derive(Clone, Copy)]
@@ -27,17 +27,6 @@ pub(crate) struct ThreePlaces {
     pub(crate) hash: u8,
     pub(crate) left: [u8; 2],
     pub(crate) material: MaterialPlaces,
-}
-
-/// The material of an algorithm, which comes next.
-fn material_of(cursor: &mut Cursor<'_>, algorithm: u8) -> Result<MaterialPlaces, BodyFault>
-    ensures reads { ReadsAll (sequence (old_material_kinds (shape_of (key_algorithm_of algorithm))))
-        (λ m. fields_in m (body_under cursor.old)) cursor.old cursor.new result }
-    ensures shape { IfOk result (λ m. shape m ≡ shape_of (key_algorithm_of algorithm)) }
-    ensures body { body_under cursor.new ≡ body_under cursor.old }
-    ensures within { IfOk result (λ m. AreIn m (length (body_under cursor.old))) }
-{
-    old_material_at(cursor, KeyAlgorithm::from(algorithm))
 }
 
 impl ThreePlaces {
@@ -64,7 +53,7 @@ impl ThreePlaces {
         let algorithm = cursor.octet()?;
         let hash = cursor.octet()?;
         let left = cursor.array::<2>()?;
-        let material = material_of(&mut cursor, algorithm)?;
+        let material = old_material_at(&mut cursor, algorithm)?;
         cursor.end()?;
         Ok(ThreePlaces {
             kind,

@@ -21,7 +21,7 @@ use std::alloc::Global;
 #[derive(Drop)]
 pub struct ThreeSignature {
     pub(crate) body: Vec<u8>,
-    places: ThreePlaces,
+    pub(crate) places: ThreePlaces,
     ghost octets: { IsOctets body.items },
     ghost small: { IsBodySized body.items },
     ghost within: { AreIn places.material (length body.items) } by { AreIn-prop places.material (length body.items) },
@@ -32,20 +32,6 @@ pub struct ThreeSignature {
 impl ThreeSignature {
     ghost use Rattle.opgp_sig.specs.ThreeSignature.{three_signature_value, three_signature_octets};
     ghost use Rattle.opgp_sig.specs.ThreeView.{three_view_value, three_view_octets};
-
-    /// The signature whose fields lie at these places of the body.
-    pub(crate) fn new(body: Vec<u8>, places: ThreePlaces) -> ThreeSignature
-        requires octets { IsOctets body.items }
-        requires small { IsBodySized body.items }
-        requires within { AreIn places.material (length body.items) }
-        requires shape { shape places.material ≡ shape_of (key_algorithm_of places.algorithm) }
-        requires parses { body_at version_three body.items
-            ≡ Ok (three_fields (three_in places body.items)) }
-        ensures body { three_signature_octets result ≡ body.items }
-        ensures fields { three_signature_value result ≡ three_in places body.items }
-    {
-        ThreeSignature { body, places }
-    }
 
     /// The signature that a view shows, with octets of its own.
     ///

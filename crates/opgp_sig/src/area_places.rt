@@ -1,19 +1,15 @@
 //! The fields of a version 4 or 6 signature and where they lie in its body.
 
 ghost use Rattle.std.specs.Prelude.{◌≡◌, ◌≤◌, ◌==◌, length, IfOk};
-ghost use Rattle.opgp_octets.specs.HashAlgorithm.{hash_algorithm_of};
 ghost use Rattle.opgp_octets.specs.KeyAlgorithm.{key_algorithm_of};
 ghost use Rattle.opgp_octets.specs.Octets.{IsOctets, IsBodySized};
 ghost use Rattle.opgp_octets.specs.Reading.{Reads};
 ghost use Rattle.opgp_body.specs.AreaLength.{extent_of};
-ghost use Rattle.opgp_body.specs.Cursor.{body_under, ReadsField, ReadsAll};
 ghost use Rattle.opgp_body.specs.FieldReading.{body_at};
-ghost use Rattle.opgp_body.specs.Fields.{named, sequence};
-ghost use Rattle.opgp_body.specs.Spans.{octets_in, IsIn};
 ghost use Rattle.opgp_sig.specs.AreasValue.{areas_fields};
-ghost use Rattle.opgp_sig.specs.Material.{fields_in, shape, AreIn};
+ghost use Rattle.opgp_sig.specs.Material.{shape};
 ghost use Rattle.opgp_sig.specs.Shape.{shape_of};
-ghost use Rattle.opgp_sig.specs.SignatureBody.{extent, material_kinds, with_areas};
+ghost use Rattle.opgp_sig.specs.SignatureBody.{extent, with_areas};
 
 use crate::material::MaterialPlaces;
 use crate::signature_fields::{material_at, salt_at};

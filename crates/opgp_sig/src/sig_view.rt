@@ -33,8 +33,7 @@ impl<'a> SigView<'a> {
     ///
     /// A body of another version than 4 and 6 is never refused, unless it is empty. The errors are
     /// [`Short`], [`AreaShort`], [`SubEmpty`] and [`SubShort`] at a subpacket, in version 6
-    /// [`SaltSize`]
-    /// and [`MpiBits`], and [`Trailing`], each at the first field that isn't there.
+    /// [`SaltSize`] and [`MpiBits`], and [`Trailing`], each at the first field that isn't there.
     ///
     /// [`Short`]: opgp_octets::Reason::Short
     /// [`AreaShort`]: opgp_octets::Reason::AreaShort

@@ -7,7 +7,7 @@ ghost use Rattle.opgp_body.specs.Fields.{named, sequence};
 ghost use Rattle.opgp_body.specs.Spans.{octets_in, IsIn};
 ghost use Rattle.opgp_sig.specs.Material.{fields_in, shape, AreIn, material_fields, HasSizes};
 ghost use Rattle.opgp_sig.specs.Shape.{shape_of};
-ghost use Rattle.opgp_sig.specs.SignatureBody.{salt_of, salt_of_size, salt_size, material_kinds};
+ghost use Rattle.opgp_sig.specs.SignatureBody.{salt_of, material_kinds};
 ghost use Rattle.opgp_sig.specs.SignatureBody.{old_material_kinds};
 
 use crate::material::{MaterialPlaces, SignatureMaterial, SignatureMaterialView};

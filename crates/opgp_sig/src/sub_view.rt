@@ -73,8 +73,7 @@ impl<'a> SubView<'a> {
 
     /// What it means: the typed form that its octets have, or [`SubMeaning::Unfit`], or
     /// [`SubMeaning::Unknown`]. Takes no memory; the work is linear in its octets. For kind 32 it
-    /// reads a
-    /// whole signature: whoever looks for another kind asks for [`SubView::kind`] first.
+    /// reads a whole signature: whoever looks for another kind asks for [`SubView::kind`] first.
     pub fn meaning(&self) -> SubMeaning<'a>
         ensures means { Means (subpacket_kind_of (kind_shown (sub_shown self.now).kind))
             (sub_shown self.now).octets (meaning_shown result) }

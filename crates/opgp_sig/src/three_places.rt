@@ -4,12 +4,10 @@ ghost use Rattle.std.specs.Prelude.{◌≡◌, ◌≤◌, length, IfOk};
 ghost use Rattle.opgp_octets.specs.KeyAlgorithm.{key_algorithm_of};
 ghost use Rattle.opgp_octets.specs.Octets.{IsOctets, IsBodySized};
 ghost use Rattle.opgp_octets.specs.Reading.{Reads};
-ghost use Rattle.opgp_body.specs.Cursor.{body_under, ReadsAll};
 ghost use Rattle.opgp_body.specs.FieldReading.{body_at};
-ghost use Rattle.opgp_body.specs.Fields.{sequence};
-ghost use Rattle.opgp_sig.specs.Material.{fields_in, shape, AreIn};
+ghost use Rattle.opgp_sig.specs.Material.{shape, AreIn};
 ghost use Rattle.opgp_sig.specs.Shape.{shape_of};
-ghost use Rattle.opgp_sig.specs.SignatureBody.{old_material_kinds, version_three};
+ghost use Rattle.opgp_sig.specs.SignatureBody.{version_three};
 ghost use Rattle.opgp_sig.specs.ThreeValue.{three_fields};
 
 use crate::material::MaterialPlaces;

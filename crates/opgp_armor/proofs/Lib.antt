@@ -28,3 +28,5 @@ pub mod LetterLines
 pub mod Sizes
 pub mod Order
 pub mod Wholes
+pub mod JoinedRows
+pub mod Closing

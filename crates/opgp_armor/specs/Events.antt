@@ -40,6 +40,14 @@ AreInOrder true (Header key value ∷ es) = AreInOrder true es
 AreInOrder true (Octets o ∷ es) = AreInOrder true es
 AreInOrder true (End ∷ es) = AreInOrder false es
 
+-- behind the events a block is open, where one was (true) or none was (false) before them
+abbrev pub is_open_behind : Bool → List Event → Bool
+is_open_behind inside [] = inside
+is_open_behind inside (Begin l ∷ es) = is_open_behind true es
+is_open_behind inside (Header key value ∷ es) = is_open_behind inside es
+is_open_behind inside (Octets o ∷ es) = is_open_behind inside es
+is_open_behind inside (End ∷ es) = is_open_behind false es
+
 -- how many blocks the events end
 abbrev pub ends_in : List Event → ℕ
 ends_in [] = 0

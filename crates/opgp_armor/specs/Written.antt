@@ -44,6 +44,10 @@ rows (suc n) letters = take 64 letters ∷ rows n (drop 64 letters)
 unfoldable pub letter_lines : List ℕ → List Line
 letter_lines letters = rows ((length letters + 63) / 64) letters
 
+-- the data lines of octets: their letters, 64 a line
+abbrev pub data_lines : List ℕ → List ℕ
+data_lines octets = text_of (letter_lines (base64_of octets))
+
 abbrev pub armor_lines : Label → List (List ℕ × List ℕ) → List ℕ → List Line
 armor_lines label headers octets =
     begin_line label ∷ (map header_line headers

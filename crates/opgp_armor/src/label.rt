@@ -17,8 +17,8 @@ impl Label {
     ghost use Rattle.std.specs.Prelude.{◌≡◌};
     ghost use Rattle.opgp_armor.specs.Text.{begin_line, end_line};
 
-    /// The begin line of a block with this label, without its line feed.
-    pub(crate) fn begin_line(self) -> &'static [u8]
+    /// The begin line of a block with this label, without its line feed (RFC 9580, 6.2.1).
+    pub fn begin_line(self) -> &'static [u8]
         ensures { result.now ≡ begin_line self }
     {
         match self {
@@ -29,8 +29,8 @@ impl Label {
         }
     }
 
-    /// The end line of a block with this label, without its line feed.
-    pub(crate) fn end_line(self) -> &'static [u8]
+    /// The end line of a block with this label, without its line feed (RFC 9580, 6.2.3).
+    pub fn end_line(self) -> &'static [u8]
         ensures { result.now ≡ end_line self }
     {
         match self {

@@ -1,7 +1,7 @@
 //! Laws of armor: what the definitions say of each other, and what holds of every reader.
 
-ghost use Rattle.std.specs.Prelude.{◌≡◌, ◌+◌, ◌≤◌, ◌⊎◌, ◌++◌, ◌∷◌, [], ℕ, List, Some, false};
-ghost use Rattle.std.specs.Prelude.{length, sum_by};
+ghost use Rattle.std.specs.Prelude.{◌≡◌, ◌+◌, ◌%◌, ◌<◌, ◌≤◌, ◌⊎◌, ◌++◌, ◌∷◌, [], ℕ, List, Some};
+ghost use Rattle.std.specs.Prelude.{false, length, sum_by};
 ghost use Rattle.std.specs.List.{AllByRecursion};
 ghost use Rattle.opgp_octets.specs.Octets.{IsOctets};
 ghost use Rattle.opgp_octets.specs.declared.fault.Fault.{Fault};
@@ -11,8 +11,9 @@ ghost use Rattle.opgp_armor.specs.Armored.{Armored, Block, IsArmorFault};
 ghost use Rattle.opgp_armor.specs.Cuts.{lines_ended};
 ghost use Rattle.opgp_armor.specs.Events.{AreInOrder, Event, built, event_octets};
 ghost use Rattle.opgp_armor.specs.Fed.{Fed, events_so_far, fault_of, has_ended, line_limit_of};
+ghost use Rattle.opgp_armor.specs.Letters.{base64_of};
 ghost use Rattle.opgp_armor.specs.Shown.{Shown};
-ghost use Rattle.opgp_armor.specs.Written.{AreWithin, AreWritable, armor_text};
+ghost use Rattle.opgp_armor.specs.Written.{AreWithin, AreWritable, armor_text, data_lines};
 
 /// A text has at most one list of blocks.
 pub fn one_list()
@@ -104,4 +105,22 @@ pub fn written_armor_is_read_again()
         → 128 ≤ limit → IsOctets octets → AreWritable headers → AreWithin limit headers
         → Armored limit (armor_text label headers octets)
         (record { label = label; headers = headers; octets = octets } ∷ []) }
+{}
+
+/// No octets have no data lines.
+pub fn no_octets_have_no_data_lines()
+    ensures { data_lines [] ≡ [] }
+{}
+
+/// A row of at most 48 octets has one data line: its letters and a line feed.
+pub fn a_row_has_one_data_line()
+    ensures { (row : List ℕ) → 0 < length row → length row ≤ 48
+        → data_lines row ≡ base64_of row ++ 10 ∷ [] }
+{}
+
+/// The data lines of whole rows of 48 octets, and then those of the octets behind them, are the
+/// data lines of all these octets.
+pub fn data_lines_of_whole_rows_join()
+    ensures { (rows more : List ℕ) → length rows % 48 ≡ 0
+        → data_lines (rows ++ more) ≡ data_lines rows ++ data_lines more }
 {}

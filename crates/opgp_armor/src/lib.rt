@@ -19,4 +19,4 @@ pub use dearmoring::dearmor;
 pub use event::ArmorEvent;
 pub use label::Label;
 pub use reader::Dearmor;
-pub use writing::armor;
+pub use writing::{armor, encode_row};

@@ -4,7 +4,7 @@ ghost use Rattle.std.specs.Prelude.{◌≡◌, ◌+◌, ◌-◌, ◌^◌, ◌<�
 ghost use Rattle.std.specs.Prelude.{false, is_some, length, take, Some, None, Ok, Err, IfOk, OnOk};
 ghost use Rattle.std.specs.Prelude.{OnErr, MatchOption, MatchResult};
 ghost use Rattle.opgp_armor.specs.Armored.{end_reason};
-ghost use Rattle.opgp_armor.specs.Events.{events_of, ends_in, octets_held};
+ghost use Rattle.opgp_armor.specs.Events.{events_of, ends_in, is_open_behind, octets_held};
 ghost use Rattle.opgp_armor.specs.Machine.{step};
 ghost use Rattle.opgp_armor.specs.LineAnswer.{pending_of, state_of};
 ghost use Rattle.opgp_armor.specs.Cuts.{kept, IsLineSplit};
@@ -442,6 +442,9 @@ impl Dearmor {
         ensures ok { (given : List ℕ) (taken : List Event) → Fed self given taken
             → MatchResult result (λ _. Armored (line_limit_of self) given (built taken).blocks)
             (IsArmorFault (line_limit_of self) given) }
+        // Of an armored text no block is open.
+        ensures closed { OnOk result ((given : List ℕ) (taken : List Event) → Fed self given taken
+            → is_open_behind false taken ≡ false) }
         ensures faulty { (f : Fault) → is_spent self ≡ false → fault_of self ≡ Some f
             → result ≡ Err f }
         ensures spent { is_spent self ≡ true → result ≡ Err spent_fault }

@@ -5,8 +5,8 @@ ghost use Rattle.opgp_armor.specs.Armored.{Armored};
 ghost use Rattle.opgp_armor.specs.Blocks.{headers_of};
 ghost use Rattle.opgp_armor.specs.Text.{begin_line, end_line};
 ghost use Rattle.opgp_armor.specs.Letters.{base64_of};
-ghost use Rattle.opgp_armor.specs.Written.{AreWithin, AreWritable, armor_text, header_line};
-ghost use Rattle.opgp_armor.specs.Written.{letter_lines, text_of};
+ghost use Rattle.opgp_armor.specs.Written.{AreWithin, AreWritable, armor_text, data_lines};
+ghost use Rattle.opgp_armor.specs.Written.{header_line, text_of};
 
 use crate::label::Label;
 use base64::engine::general_purpose::STANDARD;
@@ -43,9 +43,11 @@ fn add_headers(text: &mut Vec<u8>, headers: &[(Vec<u8>, Vec<u8>)]) -> Result<(),
     Ok(())
 }
 
-/// Writes the letters of a row's octets, and says how many there are.
+/// Writes the letters of a data line (RFC 9580, 6.2), and says how many there are.
+///
+/// A row has at most 48 octets, so the line has at most 64 letters. Its line feed isn't written.
 #[tactic(auto, unfolding(crate::specs::Letters::base64_of))]
-fn encode_row(octets: &[u8], row: &mut [u8; 64]) -> usize
+pub fn encode_row(octets: &[u8], row: &mut [u8; 64]) -> usize
     requires { length octets.now ≤ 48 }
     ensures within { result ≤ 64 }
     ensures letters { take result row.new ≡ base64_of octets.now }
@@ -58,8 +60,7 @@ fn encode_row(octets: &[u8], row: &mut [u8; 64]) -> usize
 
 /// Appends the lines of the letters of octets, 64 letters a line, the last of what is left.
 fn add_letters(text: &mut Vec<u8>, octets: &[u8]) -> Result<(), OutOfMemory>
-    ensures { OnOk result
-        (text.new.items ≡ text.old.items ++ text_of (letter_lines (base64_of octets.now))) }
+    ensures { OnOk result (text.new.items ≡ text.old.items ++ data_lines octets.now) }
 {
     let mut rest = octets;
     'rows: while rest.len() > 0 {

@@ -3,6 +3,7 @@
 
 mod fingerprints;
 mod key_hash;
+pub mod laws;
 mod packet_body;
 
 pub use fingerprints::{Fingerprint, KeyId};

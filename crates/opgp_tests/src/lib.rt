@@ -1,4 +1,4 @@
-//! Tests of the crates of octets, armor and framing, by what they make public.
+//! Tests of the crates of octets, armor, framing and streams, by what they make public.
 #![tactic(auto)]
 
 #[cfg(test)]
@@ -9,3 +9,5 @@ mod frame;
 mod numbers;
 #[cfg(test)]
 mod octets;
+#[cfg(test)]
+mod stream;

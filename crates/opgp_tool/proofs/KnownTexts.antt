@@ -1,7 +1,7 @@
 -- The octets that were read decide what is said of all the octets that a source had.
 use Rattle.std.proofs.Common.{◌≡◌, ℕ, ◌+◌, ◌≤◌, ◌⊎◌, inl, inr, List, [], ◌++◌, length, Option, Some, None, IfSome, refl, sym, ap, ◌∙◌, subst, append-nil, arith}
 use Rattle.std.specs.Io.KnownBytes.{Keeps}
-use Rattle.opgp_tool.specs.Stream.{Reads}
+use Rattle.opgp_tool.specs.Reading.{Reads}
 use Rattle.opgp_tool.specs.FirstText.{FirstText}
 use Rattle.opgp_tool.specs.Running.{IsUnlisted}
 

@@ -5,7 +5,8 @@ use Rattle.opgp_tool.specs.declared.running.RunFault.{RunFault}
 use Rattle.opgp_tool.specs.declared.running.RunFault.TheVariants as F
 use Rattle.opgp_tool.specs.FirstText.{FirstText}
 use Rattle.opgp_tool.specs.KeyLine.{first_line}
-use Rattle.opgp_tool.specs.Stream.{Reads, AppendsPrefix}
+use Rattle.opgp_tool.specs.Reading.{Reads}
+use Rattle.opgp_stream.specs.Stream.{AppendsPrefix}
 
 -- the text isn't too long, it is of the first form, and has this key
 pub record Listed (text : List ℕ) (created : ℕ) (body : List ℕ) : Type 0 where

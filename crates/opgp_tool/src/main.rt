@@ -7,21 +7,17 @@ mod key_line;
 mod laws;
 mod reading;
 mod running;
-mod sink;
-mod source;
 mod task;
 #[cfg(test)]
 mod tests;
-mod watched;
-mod writing;
 
 use ending::end_of;
+use opgp_stream::Watched;
 use running::{RunFault, run};
 use std::alloc::AllocError;
 use std::process::ExitCode;
 use std::{env, io};
 use task::{Task, task_of};
-use watched::Watched;
 
 /// The exit status and the line of words that name no task.
 const USAGE: (u8, &str) = (2, "opgp: usage\n");

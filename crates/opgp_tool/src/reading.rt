@@ -2,9 +2,9 @@
 
 ghost use Rattle.std.specs.Prelude.{◌≡◌, ◌≤◌, ◌<◌, ◌+◌, ◌^◌, true, false, IfOk, OnOk, OnErr, Err, length, take};
 ghost use Rattle.std.specs.Io.KnownBytes.{Consumes, IsAtEnd};
-ghost use Rattle.opgp_tool.specs.Stream.{Reads};
+ghost use Rattle.opgp_tool.specs.Reading.{Reads};
 
-use crate::source::Source;
+use opgp_stream::Source;
 use std::alloc::Global;
 
 /// Why a reading ends early.

@@ -8,12 +8,10 @@ ghost use Rattle.opgp_tool.specs.KeyLine.{list_line};
 use crate::first_text::first_key;
 use crate::key_line::{KeyRole, key_line};
 use crate::reading::{ReadFault, read_octets};
-use crate::sink::Sink;
-use crate::source::Source;
 use crate::task::{Action, Task};
-use crate::writing::put_all;
 use opgp_hash::{KeyId, fingerprint};
 use opgp_key::Key;
+use opgp_stream::{Sink, Source, put_all};
 use std::alloc::{AllocError, Global};
 
 /// Why a run ends without its output. Nothing was written, but for [`RunFault::Write`].

@@ -1,6 +1,6 @@
 use crate::running::{RunFault, run};
 use crate::task::{Action, Task};
-use crate::watched::Watched;
+use opgp_stream::Watched;
 use std::io;
 use std::io::{Read, Write};
 use std::test::Fail;

@@ -1,0 +1,5 @@
+pub mod Added
+pub mod Loops
+pub mod Pieces
+pub mod Rows
+pub mod Texts

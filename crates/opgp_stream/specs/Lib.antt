@@ -1,0 +1,9 @@
+pub mod Added
+pub mod Armoring
+pub mod Block
+pub mod Line
+pub mod Output
+pub mod Rows
+pub mod Stream
+pub mod Texts
+pub mod Watch

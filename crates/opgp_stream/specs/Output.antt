@@ -1,0 +1,31 @@
+-- What an output has put and what waits in it.
+use Rattle.std.specs.Prelude.{ℕ, Bool, List, Option}
+use Rattle.std.specs.Borrow.{GName}
+use Rattle.opgp_stream.specs.declared.buffer.Buffer.{Buffer}
+use Rattle.opgp_stream.specs.declared.output.Output.{Output}
+use Rattle.opgp_stream.specs.Added.{State}
+
+-- the octets in a buffer
+abbrev pub held_in : Buffer → List ℕ
+held_in b = b.octets.items
+
+-- the sink of an output
+abbrev pub sink_of : {W : Type 0} → Output W → W
+sink_of o = o.sink.now
+
+-- which sink it is: the name of the reference that was lent
+abbrev pub sink_name : {W : Type 0} → Output W → GName
+sink_name o = o.sink.ghost_name
+
+-- the octets that wait to be put
+abbrev pub waiting_in : {W : Type 0} → Output W → List ℕ
+waiting_in o = held_in o.buffer.now
+
+-- what the sink holds and whether it has failed, as `held` and `has_failed` of the sink's type
+-- tell, and what waits
+abbrev pub state_of : {W : Type 0} → (W → Option (List ℕ)) → (W → Bool) → Output W → State
+state_of held has_failed o = record {
+  held = held (sink_of o);
+  failed = has_failed (sink_of o);
+  waiting = waiting_in o;
+}

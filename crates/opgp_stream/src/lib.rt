@@ -1,0 +1,29 @@
+//! The two ends of a program: where octets come from, where they go, and output through one buffer
+//! of fixed size.
+//!
+//! An output takes octets, words of lines ([`Output`]) and blocks of armor ([`Armoring`]). All the
+//! memory that it needs is its [`Buffer`], which is made before anything is written.
+#![tactic(auto)]
+
+mod armoring;
+mod block;
+mod buffer;
+pub mod laws;
+mod line;
+mod output;
+mod row;
+mod sink;
+mod source;
+mod watched;
+mod words;
+mod writing;
+
+pub use armoring::Armoring;
+pub use block::put_block;
+pub use buffer::Buffer;
+pub use line::Word;
+pub use output::Output;
+pub use sink::Sink;
+pub use source::Source;
+pub use watched::Watched;
+pub use writing::put_all;

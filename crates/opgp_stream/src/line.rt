@@ -1,0 +1,54 @@
+//! A line, word by word.
+
+ghost use Rattle.std.specs.Prelude.{◌≡◌, false};
+ghost use Rattle.opgp_stream.specs.Added.{Writes};
+ghost use Rattle.opgp_stream.specs.Line.{line_text, word_text};
+ghost use Rattle.opgp_stream.specs.Output.{sink_name, sink_of, state_of};
+
+use crate::output::Output;
+use crate::sink::Sink;
+use std::io;
+
+/// A part of a line.
+#[derive(Clone, Copy)]
+pub enum Word<'a> {
+    /// Octets as they are.
+    Text(&'a [u8]),
+    /// A number in decimal.
+    Decimal(u64),
+    /// Octets in upper-case hexadecimal, two digits an octet.
+    Hex(&'a [u8]),
+    /// Octets as a text: printable ASCII other than `"` and `\` as it is, and each other octet as
+    /// `\x` and two upper-case digits.
+    Escaped(&'a [u8]),
+}
+
+impl<'a, W: Sink> Output<'a, W> {
+    /// Adds a word.
+    fn add_word(&mut self, word: &Word<'_>) -> io::Result<()>
+        requires { W.has_failed (sink_of self.old) ≡ false }
+        ensures same { sink_name self.new ≡ sink_name self.old }
+        ensures written { Writes (state_of W.held W.has_failed self.old)
+            (state_of W.held W.has_failed self.new) result (word_text word.now) }
+    {
+        match *word {
+            Word::Text(octets) => self.add(octets),
+            Word::Decimal(n) => self.add_decimal(n),
+            Word::Hex(octets) => self.add_hex(octets),
+            Word::Escaped(octets) => self.add_escaped(octets),
+        }
+    }
+
+    /// Adds words, one after the other. A line feed is a word like any other.
+    pub fn add_words(&mut self, words: &[Word<'_>]) -> io::Result<()>
+        requires { W.has_failed (sink_of self.old) ≡ false }
+        ensures same { sink_name self.new ≡ sink_name self.old }
+        ensures written { Writes (state_of W.held W.has_failed self.old)
+            (state_of W.held W.has_failed self.new) result (line_text words.now) }
+    {
+        for word in words {
+            self.add_word(word)?;
+        }
+        Ok(())
+    }
+}

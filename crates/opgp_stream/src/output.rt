@@ -1,0 +1,85 @@
+//! A buffered writer that takes no memory.
+
+ghost use Rattle.std.specs.Prelude.{◌≡◌, [], false, OnOk};
+ghost use Rattle.opgp_stream.specs.Added.{Writes};
+ghost use Rattle.opgp_stream.specs.Output.{sink_name, sink_of, state_of, waiting_in};
+
+use crate::buffer::{Buffer, SIZE};
+use crate::sink::Sink;
+use crate::writing::put_all;
+use std::io;
+
+/// A writer over a sink. Octets wait in a buffer until it is full, or until [`Output::finish`].
+///
+/// No call takes memory. After an error the sink has failed, and holds a prefix of what was added.
+#[derive(Drop)]
+pub struct Output<'a, W> {
+    sink: &'a mut W,
+    buffer: &'a mut Buffer,
+}
+
+impl<'a, W: Sink> Output<'a, W> {
+    /// Nothing is put, and nothing waits: the buffer forgets what an earlier output left in it.
+    pub fn new(sink: &'a mut W, buffer: &'a mut Buffer) -> Self
+        ensures same { sink_name result ≡ sink.entry.ghost_name }
+        ensures kept { sink_of result ≡ sink.old }
+        ensures empty { waiting_in result ≡ [] }
+    {
+        buffer.clear();
+        Output { sink, buffer }
+    }
+
+    /// Adds octets. 65,536 and more aren't copied.
+    pub fn add(&mut self, octets: &[u8]) -> io::Result<()>
+        requires { W.has_failed (sink_of self.old) ≡ false }
+        ensures same { sink_name self.new ≡ sink_name self.old }
+        ensures written { Writes (state_of W.held W.has_failed self.old)
+            (state_of W.held W.has_failed self.new) result octets.now }
+    {
+        if octets.len() <= self.buffer.room() {
+            self.buffer.hold(octets);
+            return Ok(());
+        }
+        self.add_past_room(octets)
+    }
+
+    /// Adds octets, whatever room there is.
+    #[inline(never)]
+    fn add_past_room(&mut self, octets: &[u8]) -> io::Result<()>
+        requires { W.has_failed (sink_of self.old) ≡ false }
+        ensures same { sink_name self.new ≡ sink_name self.old }
+        ensures written { Writes (state_of W.held W.has_failed self.old)
+            (state_of W.held W.has_failed self.new) result octets.now }
+    {
+        self.finish()?;
+        self.add_first(octets)
+    }
+
+    /// Adds octets where nothing waits. Many go straight to the sink.
+    fn add_first(&mut self, octets: &[u8]) -> io::Result<()>
+        requires empty { waiting_in self.old ≡ [] }
+        requires sound { W.has_failed (sink_of self.old) ≡ false }
+        ensures same { sink_name self.new ≡ sink_name self.old }
+        ensures written { Writes (state_of W.held W.has_failed self.old)
+            (state_of W.held W.has_failed self.new) result octets.now }
+    {
+        if octets.len() < SIZE {
+            self.buffer.hold(octets);
+            return Ok(());
+        }
+        put_all(&mut *self.sink, octets)
+    }
+
+    /// Puts all that waits.
+    pub fn finish(&mut self) -> io::Result<()>
+        requires { W.has_failed (sink_of self.old) ≡ false }
+        ensures same { sink_name self.new ≡ sink_name self.old }
+        ensures written { Writes (state_of W.held W.has_failed self.old)
+            (state_of W.held W.has_failed self.new) result [] }
+        ensures empty { OnOk result (waiting_in self.new ≡ []) }
+    {
+        put_all(&mut *self.sink, self.buffer.octets())?;
+        self.buffer.clear();
+        Ok(())
+    }
+}

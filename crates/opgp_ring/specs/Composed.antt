@@ -1,0 +1,44 @@
+-- What is answered of packets: their keyring, or the one fault.
+use Rattle.std.specs.Prelude.{◌≡◌, true, List, [], ◌∷◌, ◌++◌, map, All, ◌⊎◌}
+use Rattle.opgp_octets.specs.declared.limits.Limits.{Limits}
+use Rattle.opgp_octets.specs.declared.fault.Fault.{Fault}
+use Rattle.opgp_octets.specs.Octets.{IsOctets}
+use Rattle.opgp_frame.specs.Packet.{PacketValue}
+use Rattle.opgp_ring.specs.Bodies.{IsSound, IsFirstBodyFault}
+use Rattle.opgp_ring.specs.Composition.{Item, of_label, of_packet, placed_in, packets_in}
+use Rattle.opgp_ring.specs.Composition.{labels_fit, Composes, IsOrderFault}
+use Rattle.opgp_ring.specs.Keyring.{KeyringValue, CertificateValue}
+
+-- bodies come first: a fault of the order is answered only where no body has one
+abbrev pub IsFault : Limits → List Item → Fault → Type 0
+IsFault limits items f =
+    IsFirstBodyFault (placed_in items) f
+    ⊎ (All IsSound (placed_in items) × IsOrderFault limits items f)
+
+-- a packet whose body is sound, or a label
+abbrev pub IsSoundItem : Item → Type 0
+IsSoundItem (of_label block fits) = Unit {0}
+IsSoundItem (of_packet p) = IsSound p
+
+-- the bound of its numbers
+abbrev pub HasOctets : Item → Type 0
+HasOctets (of_label block fits) = Unit {0}
+HasOctets (of_packet p) = IsOctets p.packet.body
+
+-- all labels are the wanted ones, each body is sound, and the packets are those of the keyring
+pub record IsKeyringOf (limits : Limits) (items : List Item) (r : KeyringValue) : Type 0 where
+  pub labels : labels_fit items ≡ true
+  pub sound : All IsSound (placed_in items)
+  pub composes : Composes limits (packets_in items) r
+
+-- The parts of a keyring, as they become ready: the lead, if there is one, and each certificate.
+pub data PartValue : Type 0 where
+  of_lead : List PacketValue → PartValue
+  of_certificate : CertificateValue → PartValue
+
+abbrev pub lead_parts : List PacketValue → List PartValue
+lead_parts [] = []
+lead_parts (p ∷ ps) = of_lead (p ∷ ps) ∷ []
+
+abbrev pub parts_of : KeyringValue → List PartValue
+parts_of r = lead_parts r.lead ++ map of_certificate r.certificates

@@ -1,0 +1,24 @@
+-- The packets of a keyring as they are lent: each with what its body holds.
+use Rattle.opgp_frame.specs.Packet.{PacketValue}
+use Rattle.opgp_key.specs.Attribute.{attribute_octets}
+use Rattle.opgp_key.specs.Key.{key_octets}
+use Rattle.opgp_key.specs.UserId.{user_id_octets}
+use Rattle.opgp_sig.specs.Signature.{signature_octets}
+use Rattle.opgp_ring.specs.declared.lent.Hang.{Hang}
+use Rattle.opgp_ring.specs.declared.lent.Hang.TheVariants as hang
+use Rattle.opgp_ring.specs.declared.lent.Head.{Head}
+use Rattle.opgp_ring.specs.declared.lent.Head.TheVariants as head
+use Rattle.opgp_ring.specs.Member.{packet_with}
+
+-- the packet that hangs there
+abbrev pub hang_packet : Hang → PacketValue
+hang_packet (hang.Signature form signature) =
+    packet_with form.now 2 (signature_octets signature.now)
+hang_packet (hang.Filler packet) = packet.now
+
+-- the packet that begins a component
+abbrev pub head_packet : Head → PacketValue
+head_packet (head.UserId form id) = packet_with form.now 13 (user_id_octets id.now)
+head_packet (head.Attribute form attribute) =
+    packet_with form.now 17 (attribute_octets attribute.now)
+head_packet (head.Subkey form key) = packet_with form.now 14 (key_octets key.now)

@@ -1,0 +1,15 @@
+pub mod Block
+pub mod Bodies
+pub mod Composed
+pub mod Composition
+pub mod Fed
+pub mod Gathering
+pub mod Keyring
+pub mod Member
+pub mod Sorted
+pub mod State
+pub mod Taken
+pub mod Joining
+pub mod Lent
+pub mod Normal
+pub mod Packets

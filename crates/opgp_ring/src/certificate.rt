@@ -1,0 +1,214 @@
+//! A certificate.
+
+ghost use Rattle.std.specs.Prelude.{◌≡◌, ◌++◌, ◌∷◌, [], All, OnOk, IfOk};
+ghost use Rattle.std.specs.List.{flat_map};
+ghost use Rattle.opgp_ring.specs.Keyring.{CertificateValue, IsCertificate, certificate_packets};
+ghost use Rattle.opgp_ring.specs.Keyring.{component_packets, IsPrimary, IsHead, IsHung, IsFiller};
+ghost use Rattle.opgp_ring.specs.Normal.{normal_certificate};
+
+use crate::component::{Component, copy_members};
+use crate::content::Content;
+use crate::member::Member;
+use crate::reframing::{reframe_components, reframe_members};
+use opgp_frame::Packet;
+use opgp_key::Key;
+use opgp_octets::OutOfMemory;
+use std::alloc::Global;
+use std::marker::Model;
+
+/// A certificate, or transferable public key: a primary key, what hangs on it, and its components
+/// (RFC 9580, 10.1).
+#[derive(Drop)]
+pub struct Certificate {
+    primary: Member,
+    hangs: Vec<Member>,
+    components: Vec<Component>,
+}
+
+impl Model for Certificate {
+    ghost use Rattle.opgp_ring.specs.Keyring.{CertificateValue, IsCertificate};
+
+    ghost Value = { CertificateValue };
+
+    ghost view = { λ c. record {
+      primary = c.primary;
+      hangs = c.hangs.items;
+      components = c.components.items;
+    } };
+
+    ghost invariant = { λ c. IsCertificate (record {
+      primary = c.primary;
+      hangs = c.hangs.items;
+      components = c.components.items;
+    }) };
+}
+
+impl Certificate {
+    ghost use Rattle.opgp_key.specs.Key.{key_octets};
+
+    /// A certificate of a primary key alone. Takes no memory.
+    pub(crate) fn new(alloc: Global, primary: Member) -> Certificate
+        requires { IsPrimary primary }
+        ensures { result ≡ record { primary = primary; hangs = []; components = [] } }
+    {
+        Certificate {
+            primary,
+            hangs: Vec::new(alloc),
+            components: Vec::new(alloc),
+        }
+    }
+
+    /// Begins a component. An error is want of memory.
+    pub(crate) fn begin(&mut self, alloc: Global, head: Member) -> Result<(), OutOfMemory>
+        requires { IsHead head }
+        ensures ok { OnOk result
+            (certificate_packets self.new ≡ certificate_packets self.old ++ head ∷ []) }
+        ensures certificate { OnOk result (IsCertificate self.new) }
+    {
+        self.components.push(Component::new(alloc, head))?;
+        Ok(())
+    }
+
+    /// Hangs a packet on the last component, or on the primary key where there is none. An error is
+    /// want of memory.
+    pub(crate) fn hang(&mut self, packet: Member) -> Result<(), OutOfMemory>
+        requires { IsHung packet }
+        ensures ok { OnOk result
+            (certificate_packets self.new ≡ certificate_packets self.old ++ packet ∷ []) }
+        ensures certificate { OnOk result (IsCertificate self.new) }
+    {
+        match self.components.last_mut() {
+            Some(last) => {
+                last.hang(packet)?;
+                Ok(())
+            }
+            None => {
+                self.hangs.push(packet)?;
+                Ok(())
+            }
+        }
+    }
+
+    /// The primary key.
+    pub fn primary(&self) -> &Member
+        ensures value { result.now ≡ self.now.primary }
+        ensures certificate { IsCertificate self.now }
+    {
+        &self.primary
+    }
+
+    /// The primary key itself (5.5.1.1).
+    pub fn key(&self) -> &Key
+        ensures { key_octets result.now ≡ self.now.primary.body }
+    {
+        match self.primary.content() {
+            Content::Primary(_, key) => key,
+            _ => unreachable!(),
+        }
+    }
+
+    /// What hangs on the primary key, in order.
+    pub fn hangs(&self) -> &[Member]
+        ensures value { result.now ≡ self.now.hangs }
+        ensures certificate { IsCertificate self.now }
+    {
+        &self.hangs
+    }
+
+    /// The user IDs, attributes and subkeys, in order.
+    pub fn components(&self) -> &[Component]
+        ensures value { result.now ≡ self.now.components }
+        ensures certificate { IsCertificate self.now }
+    {
+        &self.components
+    }
+
+    /// Adds its packets, copied. After an error some of them stand there.
+    pub(crate) fn append_to(&self, alloc: Global, out: &mut Vec<Packet>) -> Result<(), OutOfMemory>
+        ensures { OnOk result (out.new.items ≡ out.old.items ++ certificate_packets self.now) }
+    {
+        let primary = self.primary.packet(alloc)?;
+        out.push(primary)?;
+        for hang in &self.hangs {
+            let packet = hang.packet(alloc)?;
+            out.push(packet)?;
+        }
+        self.append_components(alloc, out)
+    }
+
+    fn append_components(&self, alloc: Global, out: &mut Vec<Packet>) -> Result<(), OutOfMemory>
+        ensures { OnOk result
+            (out.new.items ≡ out.old.items ++ flat_map component_packets self.now.components) }
+    {
+        for component in &self.components {
+            component.append_to(alloc, out)?;
+        }
+        Ok(())
+    }
+
+    /// Hangs fillers on the last component, or on the primary key where there is none. An error is
+    /// want of memory.
+    pub(crate) fn hang_all(&mut self, fillers: Vec<Packet>) -> Result<(), OutOfMemory>
+        requires { All IsFiller fillers.items }
+        ensures ok { OnOk result
+            (certificate_packets self.new ≡ certificate_packets self.old ++ fillers.items) }
+        ensures certificate { OnOk result (IsCertificate self.new) }
+    {
+        let _known = &self.primary;
+        for filler in fillers {
+            let member = Member::filler(filler);
+            self.hang(member)?;
+        }
+        Ok(())
+    }
+
+    /// An equal certificate. An error is want of memory.
+    pub fn copy(&self, alloc: Global) -> Result<Certificate, OutOfMemory>
+        ensures value { IfOk result (λ c. c ≡ self.now) }
+        ensures certificate { IsCertificate self.now }
+    {
+        let primary = self.primary.copy(alloc)?;
+        let hangs = copy_members(alloc, &self.hangs)?;
+        let components = copy_components(alloc, &self.components)?;
+        Ok(Certificate {
+            primary,
+            hangs,
+            components,
+        })
+    }
+
+    /// Gives each of its packets the current format with its shortest length. Takes no memory.
+    pub(crate) fn reframe(&mut self, alloc: Global)
+        ensures { self.new ≡ normal_certificate self.old }
+    {
+        self.primary.reframe(alloc);
+        reframe_members(alloc, &mut self.hangs);
+        reframe_components(alloc, &mut self.components);
+    }
+}
+
+fn copy_components(alloc: Global, components: &[Component]) -> Result<Vec<Component>, OutOfMemory>
+    ensures { IfOk result (λ v. v.items ≡ components.now) }
+{
+    let mut copies = Vec::new(alloc);
+    for component in components {
+        let copy = component.copy(alloc)?;
+        copies.push(copy)?;
+    }
+    Ok(copies)
+}
+
+/// Equal certificates. An error is want of memory.
+pub(crate) fn copy_certificates(
+    alloc: Global,
+    certificates: &[Certificate],
+) -> Result<Vec<Certificate>, OutOfMemory>
+    ensures { IfOk result (λ v. v.items ≡ certificates.now) }
+{
+    let mut copies = Vec::new(alloc);
+    for certificate in certificates {
+        let copy = certificate.copy(alloc)?;
+        copies.push(copy)?;
+    }
+    Ok(copies)
+}

@@ -1,0 +1,45 @@
+//! The faults of packets' bodies.
+
+ghost use Rattle.std.specs.Prelude.{All, MatchOption};
+ghost use Rattle.opgp_ring.specs.Bodies.{IsSound, IsFirstBodyFault};
+ghost use Rattle.opgp_ring.specs.Block.{placed_of};
+
+use crate::block_of::BlockOf;
+use opgp_frame::Placed;
+use opgp_hash::body_fault;
+use opgp_octets::{Fault, Layer, PacketType};
+
+/// The fault of the first packet whose body has one, in order of blocks (RFC 9580, 5). Takes no
+/// memory.
+///
+/// Keys, signatures, literals and user attributes may have one.
+pub fn check_bodies(blocks: &[BlockOf]) -> Option<Fault>
+    ensures { MatchOption result (All IsSound (placed_of blocks.now))
+        (IsFirstBodyFault (placed_of blocks.now)) }
+{
+    for block in blocks {
+        if let Some(fault) = check_packets(&block.packets) {
+            return Some(fault);
+        }
+    }
+    None
+}
+
+/// The fault of the first packet whose body has one.
+fn check_packets(packets: &[Placed]) -> Option<Fault>
+    ensures { MatchOption result (All IsSound packets.now) (IsFirstBodyFault packets.now) }
+{
+    for placed in packets {
+        let packet = &placed.packet;
+        if let Some(fault) = body_fault(PacketType::from(packet.kind()), packet.body()) {
+            return Some(Fault {
+                layer: Layer::Body,
+                reason: fault.reason,
+                block: placed.block,
+                pos: placed.pos,
+                inner: fault.inner,
+            });
+        }
+    }
+    None
+}

@@ -1,0 +1,113 @@
+//! A component of a certificate.
+
+ghost use Rattle.std.specs.Prelude.{◌≡◌, ◌++◌, ◌∷◌, [], OnOk, IfOk};
+ghost use Rattle.opgp_ring.specs.Keyring.{ComponentValue, IsComponent, component_packets, IsHead};
+ghost use Rattle.opgp_ring.specs.Keyring.{IsHung};
+ghost use Rattle.opgp_ring.specs.Normal.{normal_component};
+
+use crate::member::Member;
+use crate::reframing::reframe_members;
+use opgp_frame::Packet;
+use opgp_octets::OutOfMemory;
+use std::alloc::Global;
+use std::marker::Model;
+
+/// A user ID, an attribute or a subkey of a certificate, and what hangs on it: signatures and
+/// fillers (RFC 9580, 10.1).
+#[derive(Drop)]
+pub struct Component {
+    head: Member,
+    hangs: Vec<Member>,
+}
+
+impl Model for Component {
+    ghost use Rattle.opgp_ring.specs.Keyring.{ComponentValue, IsComponent};
+
+    ghost Value = { ComponentValue };
+
+    ghost view = { λ c. record { head = c.head; hangs = c.hangs.items } };
+
+    ghost invariant = { λ c. IsComponent (record { head = c.head; hangs = c.hangs.items }) };
+}
+
+impl Component {
+    /// A component on which nothing hangs. Takes no memory.
+    pub(crate) fn new(alloc: Global, head: Member) -> Component
+        requires { IsHead head }
+        ensures { result ≡ record { head = head; hangs = [] } }
+    {
+        Component {
+            head,
+            hangs: Vec::new(alloc),
+        }
+    }
+
+    /// Hangs a packet on it. An error is want of memory.
+    pub(crate) fn hang(&mut self, packet: Member) -> Result<(), OutOfMemory>
+        requires { IsHung packet }
+        ensures head { self.new.head ≡ self.old.head }
+        ensures ok { OnOk result (self.new.hangs ≡ self.old.hangs ++ packet ∷ []) }
+        ensures component { IsComponent self.new }
+    {
+        self.hangs.push(packet)?;
+        Ok(())
+    }
+
+    /// The user ID, attribute or subkey.
+    pub fn head(&self) -> &Member
+        ensures value { result.now ≡ self.now.head }
+        ensures component { IsComponent self.now }
+    {
+        &self.head
+    }
+
+    /// What hangs on it, in order.
+    pub fn hangs(&self) -> &[Member]
+        ensures value { result.now ≡ self.now.hangs }
+        ensures component { IsComponent self.now }
+    {
+        &self.hangs
+    }
+
+    /// Adds its packets, copied. After an error some of them stand there.
+    pub(crate) fn append_to(&self, alloc: Global, out: &mut Vec<Packet>) -> Result<(), OutOfMemory>
+        ensures { OnOk result (out.new.items ≡ out.old.items ++ component_packets self.now) }
+    {
+        let head = self.head.packet(alloc)?;
+        out.push(head)?;
+        for hang in &self.hangs {
+            let packet = hang.packet(alloc)?;
+            out.push(packet)?;
+        }
+        Ok(())
+    }
+
+    /// An equal component. An error is want of memory.
+    pub fn copy(&self, alloc: Global) -> Result<Component, OutOfMemory>
+        ensures { IfOk result (λ c. c ≡ self.now) }
+    {
+        let head = self.head.copy(alloc)?;
+        let hangs = copy_members(alloc, &self.hangs)?;
+        Ok(Component { head, hangs })
+    }
+
+    /// Gives each of its packets the current format with its shortest length. Takes no memory.
+    pub(crate) fn reframe(&mut self, alloc: Global)
+        ensures { self.new ≡ normal_component self.old }
+    {
+        self.head.reframe(alloc);
+        reframe_members(alloc, &mut self.hangs);
+    }
+}
+
+/// Equal packets. An error is want of memory.
+pub(crate) fn copy_members(alloc: Global, members: &[Member]) -> Result<Vec<Member>, OutOfMemory>
+    ensures { IfOk result (λ v. v.items ≡ members.now) }
+{
+    let mut copies = Vec::new(alloc);
+    for member in members {
+        let copy = member.copy(alloc)?;
+        copies.push(copy)?;
+    }
+    Ok(copies)
+}

@@ -1,0 +1,484 @@
+//! A composer of keyrings that packets are pushed into.
+
+ghost use Rattle.std.specs.Prelude.{◌≡◌, ◌≤◌, ◌+◌, ◌++◌, ◌∷◌, ◌↔◌, ℕ, List, [], true, false};
+ghost use Rattle.std.specs.Prelude.{length, is_some, IsSome, IsOk, OnOk, OnErr, MatchResult, Ok};
+ghost use Rattle.std.specs.Prelude.{Err, Some};
+ghost use Rattle.opgp_octets.specs.declared.fault.Fault.{Fault};
+ghost use Rattle.opgp_octets.specs.declared.fault.Layer.TheVariants as layer;
+ghost use Rattle.opgp_octets.specs.declared.fault.Reason.TheVariants as reason;
+ghost use Rattle.opgp_octets.specs.declared.limits.Limits.{Limits};
+ghost use Rattle.opgp_octets.specs.Limits.{cert_limit, body_limit};
+ghost use Rattle.opgp_octets.specs.Octets.{IsOctets};
+ghost use Rattle.opgp_frame.specs.Packet.{PacketValue, spelling};
+ghost use Rattle.opgp_ring.specs.Bodies.{HasFault, HasNoFault};
+ghost use Rattle.opgp_ring.specs.Composed.{IsFault, IsKeyringOf, PartValue, parts_of, lead_parts};
+ghost use Rattle.opgp_ring.specs.Composition.{Item, of_label, of_packet};
+ghost use Rattle.opgp_ring.specs.Keyring.{KeyringValue, IsPrimary, IsHead, IsFiller, octets_of};
+ghost use Rattle.opgp_ring.specs.State.{open_octets, ready_octets, ready_parts};
+
+use crate::certificate::Certificate;
+use crate::member::Member;
+use crate::ready::Ready;
+use crate::sorted::{Sorted, sort};
+use opgp_frame::{Packet, Placed};
+use opgp_octets::{BodyFault, Fault, Layer, Limits, OutOfMemory, PushFault, Reason};
+use std::alloc::Global;
+use std::mem;
+
+/// Where a composer stands.
+#[derive(Drop)]
+enum State {
+    /// Before the first primary key: the fillers so far.
+    Leading(Vec<Packet>),
+    /// In a certificate.
+    Growing(Certificate),
+    /// Behind a fault of the order, where a body may still be at fault.
+    Disordered(Fault),
+    /// Behind a fault of a body.
+    Broken(Fault),
+    /// After want of memory.
+    Spent,
+}
+
+/// A composer of keyrings (RFC 9580, 10.1) that packets are pushed into, one at a time.
+///
+/// It hands out the lead and each certificate as soon as it is whole. It keeps no more than the one
+/// that is unfinished or ready, and after a fault or want of memory nothing.
+#[derive(Drop)]
+pub struct Composer {
+    alloc: Global,
+    limits: Limits,
+    state: State,
+    size: u64,
+    ready: Option<Ready>,
+    ghost short: { size ≤ cert_limit limits },
+    ghost counted: { open_octets state ≡ size },
+    ghost ready_short: { ready_octets ready ≤ cert_limit limits },
+}
+
+impl Composer {
+    ghost use Rattle.opgp_frame.specs.declared.packet.Placed.{Placed};
+    ghost use Rattle.opgp_ring.specs.Fed.{Fed, KeepsFed, TakesIn, StaysFaulty, is_spent, is_ready};
+    ghost use Rattle.opgp_ring.specs.Fed.{fault_of, is_broken, limits_of, held_of};
+    ghost use Rattle.opgp_ring.specs.Sorted.{IsSorted, sorted_packet};
+    ghost use Rattle.opgp_ring.specs.State.{is_open};
+    ghost use Rattle.opgp_ring.specs.Composed.{IsSoundItem};
+    ghost use Rattle.opgp_ring.specs.Composition.{IsFaultAt, fault_at, packets_in};
+
+    /// A composer that was given nothing. Takes no memory; pushes do, from `alloc`.
+    #[tactic(auto, unfolding(crate::specs::Keyring::octets_of))]
+    pub fn new(alloc: Global, limits: Limits) -> Composer
+        ensures fed { Fed limits result [] [] }
+        ensures free { is_ready result ≡ false }
+        ensures sound { is_spent result ≡ false }
+        ensures limits { limits_of result ≡ limits }
+        ensures held { held_of result ≡ 0 }
+    {
+        Composer {
+            alloc,
+            limits,
+            state: State::Leading(Vec::new(alloc)),
+            size: 0,
+            ready: None,
+        }
+    }
+
+    /// Whether a part waits to be taken.
+    pub fn ready(&self) -> bool
+        ensures { result ≡ is_ready self.now }
+    {
+        self.ready.is_some()
+    }
+
+    /// Takes the part that is ready.
+    pub fn take(&mut self) -> Option<Ready>
+        ensures fed { KeepsFed self.old self.new [] (ready_parts result) }
+        ensures some { is_some result ≡ is_ready self.old }
+        ensures free { is_ready self.new ≡ false }
+        ensures spent { is_spent self.new ≡ is_spent self.old }
+        ensures faulty { fault_of self.new ≡ fault_of self.old }
+        ensures held { held_of self.new ≤ held_of self.old }
+        ensures limits { limits_of self.new ≡ limits_of self.old }
+    {
+        self.ready.take()
+    }
+
+    /// Ends the packets. The condition is that nothing is ready. Answers the last part: the last
+    /// certificate, else a lead that isn't empty, else none.
+    ///
+    /// An error is the fault of the first body that has one, else that of the order; after want of
+    /// memory its reason is `Spent` and its places are 0.
+    ///
+    /// Takes no memory.
+    pub fn finish(self) -> Result<Option<Ready>, Fault>
+        requires { is_ready self ≡ false }
+        ensures ok { (limits : Limits) (given : List Item) (taken : List PartValue)
+            → Fed limits self given taken
+            → MatchResult result (λ last. (r : KeyringValue) × IsKeyringOf limits given r
+            × (parts_of r ≡ taken ++ ready_parts last)) (IsFault limits given) }
+        // A fault that it has is answered.
+        ensures faulty { (fault : Fault) → fault_of self ≡ Some fault → result ≡ Err fault }
+        ensures spent { is_spent self ≡ true → result ≡ Err (record {
+          layer = layer.Composition;
+          reason = reason.Spent;
+          block = 0;
+          pos = 0;
+          inner = 0;
+        }) }
+    {
+        let Composer {
+            alloc: _,
+            limits: _,
+            state,
+            size: _,
+            ready: _,
+        } = self;
+        match state {
+            State::Leading(lead) => Ok(lead_part(lead)),
+            State::Growing(certificate) => Ok(Some(Ready::Certificate(certificate))),
+            State::Disordered(fault) | State::Broken(fault) => Err(fault),
+            State::Spent => Err(Fault {
+                layer: Layer::Composition,
+                reason: Reason::Spent,
+                block: 0,
+                pos: 0,
+                inner: 0,
+            }),
+        }
+    }
+
+    /// Takes the packet, which may make a part ready. The condition is that nothing is ready.
+    ///
+    /// After a fault nothing becomes ready. An error is want of memory; the composer is spent from
+    /// then on.
+    pub fn push(&mut self, placed: Placed) -> Result<(), PushFault>
+        requires { is_ready self.old ≡ false }
+        ensures fed { OnOk result (KeepsFed self.old self.new (of_packet placed ∷ []) []) }
+        // After a fault nothing becomes ready, and the fault stays.
+        ensures faulty { IsSome (fault_of self.old) → IsOk result × (is_ready self.new ≡ false) }
+        ensures stays { StaysFaulty self.old self.new }
+        ensures held { length placed.packet.body ≤ body_limit (limits_of self.new)
+            → held_of self.new
+            ≤ cert_limit (limits_of self.new) + body_limit (limits_of self.new) + 16 }
+        ensures sound { OnOk result (is_spent self.new ≡ false) }
+        ensures spent { OnErr result ((is_spent self.new ≡ true) × (is_ready self.new ≡ false)) }
+        ensures was_spent { (result ≡ Err PushFault.Spent) ↔ (is_spent self.old ≡ true) }
+        ensures limits { limits_of self.new ≡ limits_of self.old }
+    {
+        if let State::Spent = self.state {
+            return Err(PushFault::Spent);
+        }
+        let Placed { packet, block, pos } = placed;
+        let octets = packet.spelled_len();
+        match sort(packet) {
+            Ok(sorted) => match self.add(sorted, octets, block, pos) {
+                Ok(()) => Ok(()),
+                Err(_) => {
+                    self.spend();
+                    Err(PushFault::Memory)
+                }
+            },
+            Err(fault) => {
+                self.break_off(fault, block, pos);
+                Ok(())
+            }
+        }
+    }
+
+    /// Begins a block, whose label is the wanted one or not.
+    pub fn begin_block(&mut self, block: u64, label_fits: bool)
+        ensures fed { KeepsFed self.old self.new (of_label block label_fits ∷ []) [] }
+        ensures ready { is_ready self.new ≡ is_ready self.old }
+        ensures spent { is_spent self.new ≡ is_spent self.old }
+        ensures faulty { (fault : Fault) → fault_of self.old ≡ Some fault
+            → fault_of self.new ≡ Some fault }
+        ensures limits { limits_of self.new ≡ limits_of self.old }
+        ensures held { held_of self.new ≤ held_of self.old }
+    {
+        if !label_fits {
+            self.refuse(Reason::BlockLabel, block, 0);
+        }
+    }
+
+    fn is_open(&self) -> bool
+        ensures { result ≡ is_open self.now.state }
+    {
+        match self.state {
+            State::Leading(_) | State::Growing(_) => true,
+            State::Disordered(_) | State::Broken(_) | State::Spent => false,
+        }
+    }
+
+    fn is_broken(&self) -> bool
+        ensures { result ≡ is_broken self.now }
+    {
+        match self.state {
+            State::Broken(_) => true,
+            State::Leading(_) | State::Growing(_) | State::Disordered(_) | State::Spent => false,
+        }
+    }
+
+    /// Want of memory: nothing is kept.
+    fn spend(&mut self)
+        ensures spent { is_spent self.new ≡ true }
+        ensures free { is_ready self.new ≡ false }
+        ensures limits { limits_of self.new ≡ limits_of self.old }
+        ensures held { held_of self.new ≡ 0 }
+    {
+        drop(mem::replace(&mut self.state, State::Spent));
+        drop(mem::replace(&mut self.ready, None));
+        self.size = 0;
+    }
+
+    /// Keeps the fault of the order, if it is the first.
+    fn refuse(&mut self, reason: Reason, block: u64, pos: u64)
+        ensures fed { (limits : Limits) (given : List Item) (taken : List PartValue) (i : Item)
+            → Fed limits self.old given taken → IsSoundItem i
+            → (is_open self.old.state ≡ true
+            → IsFaultAt limits (packets_in given) i (fault_at reason block pos))
+            → Fed limits self.new (given ++ i ∷ []) taken }
+        ensures stays { is_open self.old.state ≡ false → self.new.state ≡ self.old.state }
+        ensures held { open_octets self.new.state ≤ open_octets self.old.state }
+        ensures ready { self.new.ready ≡ self.old.ready }
+        ensures spent { is_spent self.new ≡ is_spent self.old }
+        ensures limits { limits_of self.new ≡ limits_of self.old }
+    {
+        if self.is_open() {
+            let fault = Fault {
+                layer: Layer::Composition,
+                reason,
+                block,
+                pos,
+                inner: 0,
+            };
+            drop(mem::replace(&mut self.state, State::Disordered(fault)));
+            self.size = 0;
+        }
+    }
+
+    /// Keeps the fault of a body, if it is the first.
+    fn break_off(&mut self, fault: BodyFault, block: u64, pos: u64)
+        requires { is_spent self.old ≡ false }
+        ensures fed { (p : PacketValue) → IsOctets p.body → HasFault p fault
+            → TakesIn self.old self.new
+            (of_packet (record { packet = p; block = block; pos = pos })) }
+        ensures stays { StaysFaulty self.old self.new }
+        ensures ready { self.new.ready ≡ self.old.ready }
+        ensures spent { is_spent self.new ≡ false }
+        ensures limits { limits_of self.new ≡ limits_of self.old }
+    {
+        if !self.is_broken() {
+            let fault = Fault {
+                layer: Layer::Body,
+                reason: fault.reason,
+                block,
+                pos,
+                inner: fault.inner,
+            };
+            drop(mem::replace(&mut self.state, State::Broken(fault)));
+            self.size = 0;
+        }
+    }
+
+    /// Adds a packet whose body is sound.
+    fn add(&mut self, sorted: Sorted, octets: u64, block: u64, pos: u64) -> Result<(), OutOfMemory>
+        requires free { is_ready self.old ≡ false }
+        requires unspent { is_spent self.old ≡ false }
+        requires sorted { IsSorted sorted }
+        requires sound { HasNoFault (sorted_packet sorted) }
+        requires octets { octets ≡ length (spelling (sorted_packet sorted)) }
+        ensures fed { OnOk result (TakesIn self.old self.new
+            (of_packet (record { packet = sorted_packet sorted; block = block; pos = pos }))) }
+        // After a fault nothing changes.
+        ensures behind { is_open self.old.state ≡ false
+            → IsOk result × (self.new.state ≡ self.old.state)
+            × (self.new.ready ≡ self.old.ready) }
+        ensures held { OnOk result (is_ready self.new ≡ true
+            → IsPrimary (sorted_packet sorted) × (self.new.size ≡ octets)) }
+        ensures sound { OnOk result (is_spent self.new ≡ false) }
+        ensures limits { limits_of self.new ≡ limits_of self.old }
+    {
+        if !self.is_open() {
+            return Ok(());
+        }
+        match sorted {
+            Sorted::Primary(primary) => {
+                self.begin(primary, octets, block, pos);
+                Ok(())
+            }
+            Sorted::Head(head) => self.add_head(head, octets, block, pos),
+            Sorted::Signature(signature) => self.add_signature(signature, octets, block, pos),
+            Sorted::Filler(filler) => self.add_filler(filler, octets, block, pos),
+            Sorted::Stray(_) => {
+                self.refuse(Reason::NotInKeyring, block, pos);
+                Ok(())
+            }
+        }
+    }
+
+    /// Begins a certificate; what came before it becomes ready.
+    fn begin(&mut self, primary: Member, octets: u64, block: u64, pos: u64)
+        requires free { is_ready self.old ≡ false }
+        requires open { is_open self.old.state ≡ true }
+        requires unspent { is_spent self.old ≡ false }
+        requires primary { IsPrimary primary }
+        requires sound { HasNoFault primary }
+        requires octets { octets ≡ length (spelling primary) }
+        ensures fed { TakesIn self.old self.new
+            (of_packet (record { packet = primary; block = block; pos = pos })) }
+        ensures held { is_ready self.new ≡ true → self.new.size ≡ octets }
+        ensures sound { is_spent self.new ≡ false }
+        ensures limits { limits_of self.new ≡ limits_of self.old }
+    {
+        if octets > self.limits.cert() {
+            self.refuse(Reason::CertTooLong, block, pos);
+            return;
+        }
+        let next = State::Growing(Certificate::new(self.alloc, primary));
+        match mem::replace(&mut self.state, next) {
+            State::Leading(lead) => {
+                let ready = lead_part(lead);
+                self.ready = ready;
+                self.size = octets;
+            }
+            State::Growing(certificate) => {
+                self.ready = Some(Ready::Certificate(certificate));
+                self.size = octets;
+            }
+            _ => unreachable!(),
+        }
+    }
+
+    /// Adds a user ID, an attribute or a subkey.
+    fn add_head(
+        &mut self,
+        head: Member,
+        octets: u64,
+        block: u64,
+        pos: u64,
+    ) -> Result<(), OutOfMemory>
+        requires open { is_open self.old.state ≡ true }
+        requires unspent { is_spent self.old ≡ false }
+        requires head { IsHead head }
+        requires sound { HasNoFault head }
+        requires octets { octets ≡ length (spelling head) }
+        ensures fed { OnOk result (TakesIn self.old self.new
+            (of_packet (record { packet = head; block = block; pos = pos }))) }
+        ensures ready { OnOk result (self.new.ready ≡ self.old.ready) }
+        ensures sound { OnOk result (is_spent self.new ≡ false) }
+        ensures limits { limits_of self.new ≡ limits_of self.old }
+    {
+        let alloc = self.alloc;
+        let room = self.limits.cert() - self.size;
+        match &mut self.state {
+            State::Leading(_) => self.refuse(Reason::NoPrimary, block, pos),
+            State::Growing(_) if octets > room => self.refuse(Reason::CertTooLong, block, pos),
+            State::Growing(certificate) => {
+                match certificate.begin(alloc, head) {
+                    Ok(()) => self.size += octets,
+                    Err(e) => {
+                        drop(mem::replace(&mut self.state, State::Spent));
+                        self.size = 0;
+                        return Err(e);
+                    }
+                }
+            }
+            _ => unreachable!(),
+        }
+        Ok(())
+    }
+
+    /// Adds a signature.
+    fn add_signature(
+        &mut self,
+        signature: Member,
+        octets: u64,
+        block: u64,
+        pos: u64,
+    ) -> Result<(), OutOfMemory>
+        requires open { is_open self.old.state ≡ true }
+        requires unspent { is_spent self.old ≡ false }
+        requires signature { signature.kind ≡ 2 }
+        requires sound { HasNoFault signature }
+        requires octets { octets ≡ length (spelling signature) }
+        ensures fed { OnOk result (TakesIn self.old self.new
+            (of_packet (record { packet = signature; block = block; pos = pos }))) }
+        ensures ready { OnOk result (self.new.ready ≡ self.old.ready) }
+        ensures sound { OnOk result (is_spent self.new ≡ false) }
+        ensures limits { limits_of self.new ≡ limits_of self.old }
+    {
+        let room = self.limits.cert() - self.size;
+        match &mut self.state {
+            State::Leading(_) => self.refuse(Reason::NoPrimary, block, pos),
+            State::Growing(_) if octets > room => self.refuse(Reason::CertTooLong, block, pos),
+            State::Growing(certificate) => {
+                match certificate.hang(signature) {
+                    Ok(()) => self.size += octets,
+                    Err(e) => {
+                        drop(mem::replace(&mut self.state, State::Spent));
+                        self.size = 0;
+                        return Err(e);
+                    }
+                }
+            }
+            _ => unreachable!(),
+        }
+        Ok(())
+    }
+
+    /// Adds a filler.
+    fn add_filler(
+        &mut self,
+        filler: Packet,
+        octets: u64,
+        block: u64,
+        pos: u64,
+    ) -> Result<(), OutOfMemory>
+        requires open { is_open self.old.state ≡ true }
+        requires unspent { is_spent self.old ≡ false }
+        requires filler { IsFiller filler }
+        requires sound { HasNoFault filler }
+        requires octets { octets ≡ length (spelling filler) }
+        ensures fed { OnOk result (TakesIn self.old self.new
+            (of_packet (record { packet = filler; block = block; pos = pos }))) }
+        ensures ready { OnOk result (self.new.ready ≡ self.old.ready) }
+        ensures sound { OnOk result (is_spent self.new ≡ false) }
+        ensures limits { limits_of self.new ≡ limits_of self.old }
+    {
+        let room = self.limits.cert() - self.size;
+        match &mut self.state {
+            State::Leading(_) if octets > room => self.refuse(Reason::CertTooLong, block, pos),
+            State::Growing(_) if octets > room => self.refuse(Reason::CertTooLong, block, pos),
+            State::Leading(lead) => {
+                lead.push(filler)?;
+                self.size += octets;
+            }
+            State::Growing(certificate) => {
+                let member = Member::filler(filler);
+                match certificate.hang(member) {
+                    Ok(()) => self.size += octets,
+                    Err(e) => {
+                        drop(mem::replace(&mut self.state, State::Spent));
+                        self.size = 0;
+                        return Err(e);
+                    }
+                }
+            }
+            _ => unreachable!(),
+        }
+        Ok(())
+    }
+}
+
+/// The lead as a part, where there is one.
+#[tactic(auto, unfolding(crate::specs::Keyring::octets_of))]
+fn lead_part(lead: Vec<Packet>) -> Option<Ready>
+    ensures part { ready_parts result ≡ lead_parts lead.items }
+    ensures octets { ready_octets result ≡ octets_of lead.items }
+{
+    if lead.is_empty() {
+        None
+    } else {
+        Some(Ready::Lead(lead))
+    }
+}

@@ -1,0 +1,40 @@
+//! Composing blocks of packets to a keyring.
+
+ghost use Rattle.std.specs.Prelude.{IfOk};
+ghost use Rattle.opgp_ring.specs.Block.{IsComposed, items_of};
+ghost use Rattle.opgp_ring.specs.Composed.{IsFault, IsKeyringOf};
+ghost use Rattle.opgp_ring.specs.Gathering.{Gathers};
+
+use crate::block_of::BlockOf;
+use crate::composed::Composed;
+use crate::gathering::Gathering;
+use opgp_octets::{Limits, OutOfMemory};
+use std::alloc::Global;
+
+/// The keyring of the packets of all blocks, in order (RFC 9580, 10.1), or the one fault: that of
+/// the first body that has one, else the first of the order, a block's label before its packets.
+///
+/// An error is want of memory.
+pub fn compose(
+    alloc: Global,
+    blocks: Vec<BlockOf>,
+    limits: &Limits,
+) -> Result<Composed, OutOfMemory>
+    ensures { IfOk result (IsComposed (IsKeyringOf limits.now (items_of blocks.items))
+        (IsFault limits.now (items_of blocks.items))) }
+{
+    let gathering = gather(alloc, blocks, *limits)?;
+    let composed = gathering.finish()?;
+    Ok(composed)
+}
+
+/// The parts of all blocks' packets but the last.
+fn gather(alloc: Global, blocks: Vec<BlockOf>, limits: Limits) -> Result<Gathering, OutOfMemory>
+    ensures { IfOk result (λ g. Gathers limits g (items_of blocks.items)) }
+{
+    let mut gathering = Gathering::new(alloc, limits);
+    for block in blocks {
+        gathering.add_block(block)?;
+    }
+    Ok(gathering)
+}

@@ -1,0 +1,119 @@
+//! Gathering the parts of a keyring.
+
+ghost use Rattle.std.specs.Prelude.{◌≡◌, ◌++◌, ◌∷◌, [], List, map, false, IfOk, OnOk};
+ghost use Rattle.opgp_octets.specs.declared.limits.Limits.{Limits};
+ghost use Rattle.opgp_ring.specs.Composed.{IsFault, IsKeyringOf};
+ghost use Rattle.opgp_ring.specs.Composition.{Item, of_label, of_packet};
+ghost use Rattle.opgp_ring.specs.Fed.{is_ready};
+
+use crate::block_of::BlockOf;
+use crate::certificate::Certificate;
+use crate::composed::Composed;
+use crate::composer::Composer;
+use crate::keyring::Keyring;
+use crate::ready::Ready;
+use opgp_frame::{Packet, Placed};
+use opgp_octets::{Limits, OutOfMemory};
+use std::alloc::{AllocError, Global};
+
+/// A keyring in the making (RFC 9580, 10.1): a composer, and the parts that were taken from it. For
+/// who wants the whole keyring of packets that come one at a time.
+#[derive(Drop)]
+pub struct Gathering {
+    alloc: Global,
+    composer: Composer,
+    lead: Vec<Packet>,
+    certificates: Vec<Certificate>,
+    ghost free: { is_ready composer ≡ false },
+}
+
+impl Gathering {
+    ghost use Rattle.opgp_ring.specs.Block.{IsComposed, block_items};
+    ghost use Rattle.opgp_ring.specs.Gathering.{Gathers};
+    ghost use Rattle.opgp_frame.specs.declared.packet.Placed.{Placed};
+
+    /// A keyring of nothing yet, within limits. Takes no memory; what is added does, from `alloc`.
+    pub fn new(alloc: Global, limits: Limits) -> Gathering
+        ensures { Gathers limits result [] }
+    {
+        Gathering {
+            alloc,
+            composer: Composer::new(alloc, limits),
+            lead: Vec::new(alloc),
+            certificates: Vec::new(alloc),
+        }
+    }
+
+    pub(crate) fn add_block(&mut self, block: BlockOf) -> Result<(), OutOfMemory>
+        ensures { OnOk result ((limits : Limits) (given : List Item)
+            → Gathers limits self.old given
+            → Gathers limits self.new (given ++ block_items block)) }
+    {
+        let BlockOf {
+            block,
+            label_fits,
+            packets,
+        } = block;
+        self.begin_block(block, label_fits);
+        for placed in packets {
+            self.add(placed)?;
+        }
+        Ok(())
+    }
+
+    /// Begins a block of this number, whose label is the wanted one or not. Takes no memory.
+    pub fn begin_block(&mut self, block: u64, label_fits: bool)
+        ensures { (limits : Limits) (given : List Item) → Gathers limits self.old given
+            → Gathers limits self.new (given ++ of_label block label_fits ∷ []) }
+    {
+        self.composer.begin_block(block, label_fits);
+    }
+
+    /// Adds the next packet of the block. An error is want of memory; the keyring is lost then.
+    pub fn add(&mut self, placed: Placed) -> Result<(), OutOfMemory>
+        ensures { OnOk result ((limits : Limits) (given : List Item)
+            → Gathers limits self.old given
+            → Gathers limits self.new (given ++ of_packet placed ∷ [])) }
+    {
+        match self.composer.push(placed) {
+            Ok(()) => {}
+            Err(_) => return Err(AllocError),
+        }
+        match self.composer.take() {
+            Some(Ready::Lead(lead)) => self.lead = lead,
+            Some(Ready::Certificate(certificate)) => self.certificates.push(certificate)?,
+            None => {}
+        }
+        Ok(())
+    }
+
+    /// The keyring of what was added, or the one fault: that of the first body that has one, else the
+    /// first of the order, a block's label before its packets. The condition is that nothing was
+    /// refused.
+    ///
+    /// An error is want of memory.
+    pub fn finish(self) -> Result<Composed, OutOfMemory>
+        requires { (limits : Limits) × (items : List Item) × Gathers limits self items }
+        ensures { IfOk result (λ composed. (limits : Limits) (items : List Item)
+            → Gathers limits self items
+            → IsComposed (IsKeyringOf limits items) (IsFault limits items) composed) }
+    {
+        let Gathering {
+            alloc,
+            composer,
+            lead,
+            mut certificates,
+        } = self;
+        match composer.finish() {
+            Ok(None) => Ok(Composed::Ring(Keyring::new(alloc, lead, certificates))),
+            Ok(Some(Ready::Lead(lead))) => {
+                Ok(Composed::Ring(Keyring::new(alloc, lead, certificates)))
+            }
+            Ok(Some(Ready::Certificate(certificate))) => {
+                certificates.push(certificate)?;
+                Ok(Composed::Ring(Keyring::new(alloc, lead, certificates)))
+            }
+            Err(fault) => Ok(Composed::Refused(fault)),
+        }
+    }
+}

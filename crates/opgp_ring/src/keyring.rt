@@ -1,0 +1,96 @@
+//! Keyrings.
+
+ghost use Rattle.std.specs.Prelude.{◌≡◌, IfOk};
+ghost use Rattle.opgp_ring.specs.Keyring.{KeyringValue, IsKeyring};
+
+use crate::certificate::{Certificate, copy_certificates};
+use opgp_frame::Packet;
+use opgp_octets::OutOfMemory;
+use std::alloc::Global;
+use std::marker::Model;
+
+/// A keyring: fillers that lead it, and certificates (RFC 9580, 10.1).
+#[derive(Drop)]
+pub struct Keyring {
+    alloc: Global,
+    lead: Vec<Packet>,
+    certificates: Vec<Certificate>,
+}
+
+impl Model for Keyring {
+    ghost use Rattle.opgp_ring.specs.Keyring.{KeyringValue, IsKeyring};
+
+    ghost Value = { KeyringValue };
+
+    ghost view = { λ r. record { lead = r.lead.items; certificates = r.certificates.items } };
+
+    ghost invariant = { λ r.
+        IsKeyring (record { lead = r.lead.items; certificates = r.certificates.items }) };
+}
+
+impl Keyring {
+    pub(crate) fn new(alloc: Global, lead: Vec<Packet>, certificates: Vec<Certificate>) -> Keyring
+        requires { IsKeyring (record { lead = lead.items; certificates = certificates.items }) }
+        ensures { result ≡ record { lead = lead.items; certificates = certificates.items } }
+    {
+        Keyring {
+            alloc,
+            lead,
+            certificates,
+        }
+    }
+
+    pub(crate) fn into_parts(self) -> (Vec<Packet>, Vec<Certificate>, Global)
+        ensures lead { result.0.items ≡ self.lead }
+        ensures certificates { result.1.items ≡ self.certificates }
+        ensures keyring { IsKeyring self }
+    {
+        let Keyring {
+            alloc,
+            lead,
+            certificates,
+        } = self;
+        (lead, certificates, alloc)
+    }
+
+    /// The fillers before the first certificate.
+    pub fn lead(&self) -> &[Packet]
+        ensures value { result.now ≡ self.now.lead }
+        ensures keyring { IsKeyring self.now }
+    {
+        &self.lead
+    }
+
+    /// The certificates, in order.
+    pub fn certificates(&self) -> &[Certificate]
+        ensures value { result.now ≡ self.now.certificates }
+        ensures keyring { IsKeyring self.now }
+    {
+        &self.certificates
+    }
+
+    /// An equal keyring. An error is want of memory.
+    pub fn copy(&self, alloc: Global) -> Result<Keyring, OutOfMemory>
+        ensures { IfOk result (λ r. r ≡ self.now) }
+    {
+        let lead = copy_packets(alloc, &self.lead)?;
+        let certificates = copy_certificates(alloc, &self.certificates)?;
+        Ok(Keyring {
+            alloc,
+            lead,
+            certificates,
+        })
+    }
+}
+
+/// Equal packets. An error is want of memory.
+fn copy_packets(alloc: Global, packets: &[Packet]) -> Result<Vec<Packet>, OutOfMemory>
+    ensures { IfOk result (λ v. v.items ≡ packets.now) }
+{
+    let mut copies = Vec::new(alloc);
+    for packet in packets {
+        let copy = packet.copy(alloc)?;
+        copies.push(copy)?;
+    }
+    Ok(copies)
+}

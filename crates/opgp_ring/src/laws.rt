@@ -1,0 +1,70 @@
+//! What the definitions imply.
+
+ghost use Rattle.std.specs.Prelude.{◌≡◌, ◌⊎◌, All, ◌++◌, List, Some, true, false};
+ghost use Rattle.opgp_octets.specs.declared.limits.Limits.{Limits};
+ghost use Rattle.opgp_octets.specs.declared.fault.Fault.{Fault};
+ghost use Rattle.opgp_frame.specs.Packet.{PacketValue};
+ghost use Rattle.opgp_ring.specs.Composed.{HasOctets, IsKeyringOf, IsFault, PartValue, parts_of};
+ghost use Rattle.opgp_ring.specs.Composition.{Item, AreKeyring};
+ghost use Rattle.opgp_ring.specs.Keyring.{KeyringValue, IsKeyring, flat};
+ghost use Rattle.opgp_ring.specs.Normal.{normal_of};
+ghost use Rattle.opgp_ring.specs.declared.composer.Composer.{Composer};
+ghost use Rattle.opgp_ring.specs.Fed.{Fed, fault_of, held_of, is_ready, is_spent};
+ghost use Rattle.opgp_ring.specs.Taken.{IsAllButLast, so_far};
+
+/// A list of packets is that of one keyring at most.
+pub fn one_keyring()
+    ensures { (r s : KeyringValue) → IsKeyring r → IsKeyring s → flat r ≡ flat s → r ≡ s }
+{}
+
+/// While the items are those of a keyring, what was taken from a composer and what is ready are all
+/// parts of it but the last: nothing, where there is one part or none.
+pub fn all_parts_but_the_last()
+    ensures { (limits : Limits) (c : Composer) (given : List Item) (taken : List PartValue)
+        (r : KeyringValue) → Fed limits c given taken → IsKeyringOf limits given r
+        → IsAllButLast (so_far c taken) (parts_of r) }
+{}
+
+/// After a fault or want of memory nothing is held, once nothing is ready.
+pub fn nothing_is_held_after_a_fault()
+    ensures fault { (c : Composer) (fault : Fault) → fault_of c ≡ Some fault
+        → is_ready c ≡ false → held_of c ≡ 0 }
+    ensures spent { (c : Composer) → is_spent c ≡ true → is_ready c ≡ false → held_of c ≡ 0 }
+{}
+
+/// What begins the packets of a keyring is a keyring's.
+pub fn prefixes_are_keyrings()
+    ensures { (limits : Limits) (ps qs : List PacketValue) → AreKeyring limits (ps ++ qs)
+        → AreKeyring limits ps }
+{}
+
+/// Items that are a keyring have no fault.
+pub fn no_fault()
+    ensures { (limits : Limits) (items : List Item) (r : KeyringValue) (f : Fault)
+        → IsKeyringOf limits items r → IsFault limits items f → ⊥ }
+{}
+
+/// Items have one fault at most.
+pub fn one_fault()
+    ensures { (limits : Limits) (items : List Item) (f g : Fault) → IsFault limits items f
+        → IsFault limits items g → f ≡ g }
+{
+    opgp_hash::laws::one_body_fault();
+}
+
+/// Items whose bodies are octets are a keyring's or have a fault.
+pub fn some_answer()
+    ensures { (limits : Limits) (items : List Item) → All HasOctets items
+        → ((r : KeyringValue) × IsKeyringOf limits items r)
+        ⊎ ((f : Fault) × IsFault limits items f) }
+{
+    opgp_body::laws::some_answer();
+    opgp_body::laws::no_fault();
+    opgp_sig::laws::some_answer();
+    opgp_sig::laws::no_fault();
+}
+
+/// Normalising twice is normalising once.
+pub fn normalised_twice()
+    ensures { (r : KeyringValue) → normal_of (normal_of r) ≡ normal_of r }
+{}

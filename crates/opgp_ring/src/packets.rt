@@ -1,0 +1,98 @@
+//! The packets of a keyring, one after the other.
+
+ghost use Rattle.std.specs.Prelude.{◌≡◌, ◌∷◌, [], All, IfSome, MatchOption};
+ghost use Rattle.opgp_frame.specs.Packet.{PacketValue};
+ghost use Rattle.opgp_ring.specs.Keyring.{IsFiller, certificate_packets, flat};
+
+use crate::certificate::Certificate;
+use crate::component::Component;
+use crate::keyring::Keyring;
+use crate::member::Member;
+use opgp_frame::Packet;
+use std::slice;
+
+/// A packet of a keyring, lent (RFC 9580, 10.1).
+#[derive(Clone, Copy)]
+pub enum Part<'a> {
+    /// A filler before the first certificate.
+    Lead(&'a Packet),
+    /// A packet of a certificate, with its body read.
+    Member(&'a Member),
+}
+
+/// The packets of a keyring that are left, in order. Takes no memory.
+#[derive(Clone, Copy)]
+pub struct Packets<'a> {
+    lead: &'a [Packet],
+    hangs: &'a [Member],
+    components: &'a [Component],
+    certificates: &'a [Certificate],
+    ghost fillers: { All IsFiller lead.now },
+}
+
+impl<'a> Packets<'a> {
+    ghost use Rattle.opgp_ring.specs.Packets.{IsLent, packets_left, part_packet};
+
+    /// The packets of a keyring.
+    pub fn of(keyring: &'a Keyring) -> Packets<'a>
+        ensures { packets_left result ≡ flat keyring.now }
+    {
+        Packets {
+            lead: keyring.lead(),
+            hangs: &[],
+            components: &[],
+            certificates: keyring.certificates(),
+        }
+    }
+
+    /// The packets of a certificate.
+    pub fn of_certificate(certificate: &'a Certificate) -> Packets<'a>
+        ensures { packets_left result ≡ certificate_packets certificate.now }
+    {
+        Packets {
+            lead: &[],
+            hangs: &[],
+            components: &[],
+            certificates: slice::from_ref(certificate),
+        }
+    }
+
+    /// The next packet, or None at the end.
+    pub fn next(&mut self) -> Option<Part<'a>>
+        ensures next { MatchOption result (packets_left self.old ≡ [])
+            (λ part. packets_left self.old ≡ part_packet part ∷ packets_left self.new) }
+        ensures lent { IfSome result IsLent }
+    {
+        if let [first, rest @ ..] = self.lead {
+            self.lead = rest;
+            return Some(Part::Lead(first));
+        }
+        if let [first, rest @ ..] = self.hangs {
+            self.hangs = rest;
+            return Some(Part::Member(first));
+        }
+        self.begin()
+    }
+
+    /// The next packet where nothing is left before a component or a certificate.
+    fn begin(&mut self) -> Option<Part<'a>>
+        requires lead { self.old.lead.now ≡ [] }
+        requires hangs { self.old.hangs.now ≡ [] }
+        ensures next { MatchOption result (packets_left self.old ≡ [])
+            (λ part. packets_left self.old ≡ part_packet part ∷ packets_left self.new) }
+        ensures lent { IfSome result IsLent }
+    {
+        if let [component, rest @ ..] = self.components {
+            self.components = rest;
+            self.hangs = component.hangs();
+            return Some(Part::Member(component.head()));
+        }
+        if let [certificate, rest @ ..] = self.certificates {
+            self.certificates = rest;
+            self.hangs = certificate.hangs();
+            self.components = certificate.components();
+            return Some(Part::Member(certificate.primary()));
+        }
+        None
+    }
+}

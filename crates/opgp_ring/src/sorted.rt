@@ -1,0 +1,81 @@
+//! Packets by the place that they have in keyrings.
+
+ghost use Rattle.std.specs.Prelude.{◌≡◌, IfOk, IfErr, OnOk};
+ghost use Rattle.opgp_frame.specs.Packet.{PacketValue, IsPacket};
+ghost use Rattle.opgp_ring.specs.Bodies.{HasFault, HasNoFault};
+ghost use Rattle.opgp_ring.specs.Keyring.{is_filler};
+ghost use Rattle.opgp_ring.specs.Sorted.{IsSorted, sorted_packet};
+
+use crate::content::Content;
+use crate::member::Member;
+use opgp_frame::Packet;
+use opgp_key::{Attribute, Key, Literal, UserId};
+use opgp_octets::{BodyFault, PacketType};
+use opgp_sig::Signature;
+
+/// A packet by the place that it has in keyrings.
+#[derive(Drop)]
+pub(crate) enum Sorted {
+    /// A primary key.
+    Primary(Member),
+    /// A user ID, an attribute or a subkey.
+    Head(Member),
+    /// A signature.
+    Signature(Member),
+    /// A marker, trust or padding packet, or one of a type that isn't critical.
+    Filler(Packet),
+    /// None: its type stands in no keyring.
+    Stray(Packet),
+}
+
+/// The packet with its body read, or the fault of its body. Takes no memory.
+pub(crate) fn sort(packet: Packet) -> Result<Sorted, BodyFault>
+    ensures packet { IfOk result (λ s. sorted_packet s ≡ packet) }
+    ensures sorted { IfOk result IsSorted }
+    ensures form { IsPacket packet }
+    ensures sound { OnOk result (HasNoFault packet) }
+    ensures fault { IfErr result (HasFault packet) }
+{
+    opgp_body::laws::no_fault();
+    opgp_sig::laws::no_fault();
+    match PacketType::from(packet.kind()) {
+        PacketType::Signature => {
+            let (form, _, body) = packet.into_parts();
+            let signature = Signature::from_body(body)?;
+            Ok(Sorted::Signature(Member::new(Content::Signature(form, signature))))
+        }
+        PacketType::PublicKey => {
+            let (form, _, body) = packet.into_parts();
+            let key = Key::from_body(body)?;
+            Ok(Sorted::Primary(Member::new(Content::Primary(form, key))))
+        }
+        PacketType::LiteralData => match Literal::check_body(packet.body()) {
+            Some(fault) => Err(fault),
+            None => Ok(Sorted::Stray(packet)),
+        },
+        PacketType::UserId => {
+            let (form, _, body) = packet.into_parts();
+            let id = UserId::from_body(body);
+            Ok(Sorted::Head(Member::new(Content::UserId(form, id))))
+        }
+        PacketType::PublicSubkey => {
+            let (form, _, body) = packet.into_parts();
+            let key = Key::from_body(body)?;
+            Ok(Sorted::Head(Member::new(Content::Subkey(form, key))))
+        }
+        PacketType::UserAttribute => {
+            let (form, _, body) = packet.into_parts();
+            let attribute = Attribute::from_body(body)?;
+            Ok(Sorted::Head(Member::new(Content::Attribute(form, attribute))))
+        }
+        _ if is_filler(packet.kind()) => Ok(Sorted::Filler(packet)),
+        _ => Ok(Sorted::Stray(packet)),
+    }
+}
+
+/// Whether packets of the type stay in place wherever they stand.
+fn is_filler(kind: u8) -> bool
+    ensures { result ≡ is_filler kind }
+{
+    matches!(kind, 10 | 12 | 21 | 40..)
+}

@@ -1,0 +1,105 @@
+//! The composer that packets are pushed into.
+
+use crate::reading::{KEY, SIGNATURE, joined, packets_of};
+use opgp_frame::Placed;
+use opgp_octets::{Fault, Limits, fault_line};
+use opgp_ring::{Composer, Ready};
+use std::alloc::Global;
+use std::test::Fail;
+
+/// What became ready: a letter for the lead, for a certificate, or for nothing.
+fn letter(ready: Option<Ready>) -> char {
+    match ready {
+        Some(Ready::Lead(_)) => 'l',
+        Some(Ready::Certificate(_)) => 'c',
+        None => '-',
+    }
+}
+
+/// Pushes the packet, and takes what became ready.
+fn push(composer: &mut Composer, placed: Placed) -> Result<char, Fail> {
+    if composer.ready() {
+        return Err("not taken".into());
+    }
+    composer.push(placed)?;
+    Ok(letter(composer.take()))
+}
+
+/// What is answered at the end.
+fn finish(composer: Composer) -> Result<Result<char, Fault>, Fail> {
+    if composer.ready() {
+        return Err("not taken".into());
+    }
+    match composer.finish() {
+        Ok(last) => Ok(Ok(letter(last))),
+        Err(fault) => Ok(Err(fault)),
+    }
+}
+
+/// What becomes ready with each packet and at the end, or the fault.
+fn run(alloc: Global, octets: &[u8]) -> Result<String, Fail> {
+    let mut composer = Composer::new(alloc, Limits::usual());
+    let mut said = String::new(alloc);
+    for placed in packets_of(alloc, 0, octets)? {
+        said.push(push(&mut composer, placed)?)?;
+    }
+    match finish(composer)? {
+        Ok(last) => said.push(last)?,
+        Err(fault) => said.push_str(fault_line(alloc, &fault)?.as_str())?,
+    }
+    Ok(said)
+}
+
+#[test]
+fn parts_as_they_become_ready(rt: HostRuntime) -> Result<(), Fail> {
+    let alloc = rt.alloc();
+    let filler = b"\xE8\x00".as_slice();
+    let name = b"\xCD\x01\x61".as_slice();
+    let old = b"\xC6\x01\x03".as_slice();
+    for (parts, wanted) in [
+        ([b"".as_slice(), b"", b"", b""], "-"),
+        ([filler, filler, b"", b""], "--l"),
+        ([KEY, name, b"", b""], "--c"),
+        ([filler, KEY, b"", b""], "-lc"),
+        ([KEY, name, KEY, KEY], "--ccc"),
+        ([filler, KEY, SIGNATURE, KEY], "-l-cc"),
+        (
+            [name, KEY, KEY, b""],
+            "---composition: NoPrimary block 0 at 0 inner 0",
+        ),
+        (
+            [KEY, KEY, b"\xC1\x00", KEY],
+            "-c--composition: NotInKeyring block 0 at 106 inner 0",
+        ),
+        (
+            [name, old, KEY, old],
+            "----body: KeyVersion block 0 at 3 inner 0",
+        ),
+    ] {
+        let octets = joined(alloc, parts.as_slice())?;
+        assert_eq!(rt; run(alloc, &octets)?.as_str(), wanted);
+    }
+    Ok(())
+}
+
+#[test]
+fn labels(rt: HostRuntime) -> Result<(), Fail> {
+    let alloc = rt.alloc();
+    for (second, wanted) in [
+        (true, "composition: NoPrimary block 1 at 0 inner 0"),
+        (false, "composition: BlockLabel block 1 at 0 inner 0"),
+    ] {
+        let mut composer = Composer::new(alloc, Limits::usual());
+        composer.begin_block(0, true);
+        composer.begin_block(1, second);
+        for placed in packets_of(alloc, 1, SIGNATURE)? {
+            assert_eq!(rt; push(&mut composer, placed)?, '-');
+        }
+        composer.begin_block(2, false);
+        match finish(composer)? {
+            Ok(_) => panic!(rt; "no fault"),
+            Err(fault) => assert_eq!(rt; fault_line(alloc, &fault)?.as_str(), wanted),
+        }
+    }
+    Ok(())
+}

@@ -1,0 +1,128 @@
+//! Want of memory, and how many growths are made.
+
+use crate::reading::{KEY, SIGNATURE};
+use opgp_frame::{Form, Packet, Placed};
+use opgp_octets::{Fault, Layer, Limits, PushFault, Reason};
+use opgp_ring::{
+    BlockOf, Certificate, Composed, Composer, Keyring, Ready, compose, flatten, join, nth,
+};
+use std::alloc::Global;
+use std::process::Abort;
+
+// The bodies of a key, a user ID and a signature.
+fn bodies() -> [(u8, &'static [u8]); 3] {
+    [(6, &KEY[2..]), (13, b"a"), (2, &SIGNATURE[2..])]
+}
+
+/// A packet of the current format, unless memory runs out.
+fn packet(alloc: Global, kind: u8, body: &[u8]) -> Option<Placed> {
+    let body = body.to_vec(alloc).ok()?;
+    let packet = Packet::new(Form::NewOne, kind, body)?;
+    Some(Placed {
+        packet,
+        block: 0,
+        pos: 0,
+    })
+}
+
+/// After want of memory nothing more is taken or given.
+fn is_spent(rt: &impl Abort, mut composer: Composer, placed: Placed) {
+    assert!(rt; !composer.ready());
+    assert!(rt; composer.push(placed) == Err(PushFault::Spent));
+    assert!(rt; composer.take().is_none());
+    assert!(rt; !composer.ready());
+    let spent = Fault {
+        layer: Layer::Composition,
+        reason: Reason::Spent,
+        block: 0,
+        pos: 0,
+        inner: 0,
+    };
+    match composer.finish() {
+        Ok(_) => panic!(rt; "not spent"),
+        Err(fault) => assert!(rt; fault == spent),
+    }
+}
+
+/// The certificate of the bodies; None where memory runs out.
+fn certificate(rt: &impl Abort, alloc: Global) -> Option<Certificate> {
+    let mut composer = Composer::new(alloc, Limits::usual());
+    for (kind, body) in bodies() {
+        let placed = packet(alloc, kind, body)?;
+        assert!(rt; !composer.ready());
+        match composer.push(placed) {
+            Ok(()) => assert!(rt; composer.take().is_none()),
+            Err(fault) => {
+                assert!(rt; fault == PushFault::Memory);
+                if let Some(placed) = packet(alloc, 13, b"a") {
+                    is_spent(rt, composer, placed);
+                }
+                return None;
+            }
+        }
+    }
+    assert!(rt; !composer.ready());
+    match composer.finish() {
+        Ok(Some(Ready::Certificate(certificate))) => Some(certificate),
+        _ => panic!(rt; "no certificate"),
+    }
+}
+
+// A growth makes each body, one the components and one what hangs on the user ID: no body is
+// copied.
+#[test]
+fn composing_moves_bodies_in_5_growths(rt: HostRuntime) {
+    if let Some(certificate) = certificate(&rt, rt.alloc()) {
+        assert_eq!(rt; certificate.key().created(), 1_408_458_507);
+        assert_eq!(rt; certificate.components().len(), 1);
+    }
+}
+
+/// The keyring of the bodies; None where memory runs out.
+fn ring(rt: &impl Abort, alloc: Global) -> Option<Keyring> {
+    let mut packets = Vec::new(alloc);
+    for (kind, body) in bodies() {
+        packets.push(packet(alloc, kind, body)?).ok()?;
+    }
+    let mut blocks = Vec::new(alloc);
+    blocks
+        .push(BlockOf {
+            block: 0,
+            label_fits: true,
+            packets,
+        })
+        .ok()?;
+    match compose(alloc, blocks, &Limits::usual()) {
+        Ok(Composed::Ring(ring)) => Some(ring),
+        Ok(Composed::Refused(_)) => panic!(rt; "refused"),
+        Err(_) => None,
+    }
+}
+
+/// The keyring twice, one behind the other.
+fn joins(rt: &impl Abort, alloc: Global, ring: Keyring) {
+    if let Ok(copy) = ring.copy(alloc) {
+        assert_eq!(rt; copy.certificates().len(), 1);
+        if let Ok(both) = join(ring, copy) {
+            assert_eq!(rt; both.certificates().len(), 2);
+        }
+    }
+}
+
+#[test]
+fn refused_growth(rt: HostRuntime) {
+    let alloc = rt.alloc();
+    if let Some(certificate) = certificate(&rt, alloc) {
+        assert_eq!(rt; certificate.components().len(), 1);
+    }
+    if let Some(ring) = ring(&rt, alloc) {
+        assert_eq!(rt; ring.certificates().len(), 1);
+        if let Ok(packets) = flatten(alloc, &ring) {
+            assert_eq!(rt; packets.len(), 3);
+        }
+        if let Ok(one) = nth(alloc, &ring, 0) {
+            assert!(rt; one.is_some());
+        }
+        joins(&rt, alloc, ring);
+    }
+}

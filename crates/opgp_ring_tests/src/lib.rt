@@ -1,0 +1,16 @@
+//! The tests of the crate of keyrings, in a crate of their own, since a crate with tests is proved
+//! twice.
+#![tactic(auto)]
+
+#[cfg(test)]
+mod composer;
+#[cfg(test)]
+mod growth;
+#[cfg(test)]
+mod keyrings;
+#[cfg(test)]
+mod making;
+#[cfg(test)]
+mod parts;
+#[cfg(test)]
+mod reading;

@@ -1,0 +1,15 @@
+mod Lines
+mod Loops
+mod Put
+mod Armored
+mod Framing
+mod Handing
+mod KeyLines
+mod Labels
+mod OneAnswer
+mod OneTop
+mod Passing
+mod Pulling
+mod SomeAnswer
+mod Texts
+mod Ways

@@ -1,0 +1,61 @@
+-- What the reading loop keeps, and that the octets read decide the answer to all that a source had.
+use Rattle.std.proofs.Common.{◌≡◌, ℕ, ◌+◌, ◌<◌, ◌≤◌, ◌⊎◌, take, refl, inl, inr, List, [], ◌++◌, length, Option, Some, None, IfSome, sym, ap, ◌∙◌, subst, append-nil, length-append, arith}
+use Rattle.std.specs.Io.KnownBytes.{Consumes, IsAtEnd}
+use Rattle.std.proofs.KnownBytes.{Consumes-trans}
+use Rattle.opgp_octets.specs.declared.limits.Limits.{Limits}
+use Rattle.opgp_octets.specs.Limits.{input_limit}
+use Rattle.opgp_stack.specs.declared.mode.Mode.{Mode}
+use Rattle.opgp_stack.specs.declared.pipeline.Pipeline.{Pipeline}
+use Rattle.opgp_stack.specs.Pipeline.{Fed, count_of}
+use Rattle.opgp_stack.specs.Pulled.{Pulls}
+use Rattle.opgp_ring.specs.Composition.{Item}
+use Rattle.opgp_stack.specs.Reading.{Wanted, Outcome, AnswerOf, at_length, at_armor, at_framing, at_top}
+
+-- some octets were read, and pushed into the pipeline
+pub record Progress {T : Type 0} (fed_top : Limits → T → List Item → Type 0) (wanted : Wanted) (before now : Option (List ℕ)) (mode : Mode) (limits : Limits) (p : Pipeline T) (count : ℕ) : Type 0 where
+  pub octets : List ℕ
+  pub taken : Consumes before now octets
+  pub fed : Fed fed_top wanted mode limits p octets
+  pub size : length octets ≡ count
+  pub counted : count_of p ≡ count
+
+module _ {A : Type 0} (wanted : Wanted) (top : List Item → Outcome A → Type 0) (mode : Mode) (limits : Limits) where
+  -- more octets behind too many are too many
+  too_many : (octets more : List ℕ) (a : Outcome A) → length octets ≡ input_limit limits + 1 → AnswerOf wanted top mode limits octets a → AnswerOf wanted top mode limits (octets ++ more) a
+  too_many octets more a size (at_length x e) = at_length (omega (arith, length-append octets more)) e
+  too_many octets more a size (at_armor x f h e) = absurd (omega arith)
+  too_many octets more a size (at_framing x bs h f i e) = absurd (omega arith)
+  too_many octets more a size (at_top x bs h ps i e) = absurd (omega arith)
+
+  known_of : (before after octets : List ℕ) (a : Outcome A) → before ≡ octets ++ after → ((length octets ≤ input_limit limits) × (after ≡ [])) ⊎ (length octets ≡ input_limit limits + 1)
+      → AnswerOf wanted top mode limits octets a → AnswerOf wanted top mode limits before a
+  known_of before after octets a e (inl all) h = subst (λ (l : List ℕ). AnswerOf wanted top mode limits l a) (sym (e ∙ ap (λ (l : List ℕ). octets ++ l) all.1 ∙ append-nil octets)) h
+  known_of before after octets a e (inr size) h = subst (λ (l : List ℕ). AnswerOf wanted top mode limits l a) (sym e) (too_many octets after a size h)
+
+  pub answer_known : (before after : Option (List ℕ)) (octets : List ℕ) (a : Outcome A) → Pulls before after (input_limit limits) octets → AnswerOf wanted top mode limits octets a
+      → IfSome before (λ all. AnswerOf wanted top mode limits all a)
+  answer_known None after octets a r h = tt
+  answer_known (Some before) None octets a r h = absurd r.taken
+  answer_known (Some before) (Some after) octets a r h = known_of before after octets a r.taken r.all h
+
+-- nothing was read yet
+none_taken : (left : Option (List ℕ)) → Consumes left left []
+none_taken None = tt
+none_taken (Some octets) = refl
+
+module _ {T : Type 0} (fed_top : Limits → T → List Item → Type 0) (wanted : Wanted) (mode : Mode) (limits : Limits) where
+  pub progress_none : (left : Option (List ℕ)) (p : Pipeline T) → Fed fed_top wanted mode limits p [] → count_of p ≡ 0 → Progress fed_top wanted left left mode limits p 0
+  progress_none left p fed counted = record { octets = []; taken = none_taken left; fed = fed; size = refl; counted = counted }
+
+  -- the source gave no octet more
+  pub pulled_all : (before now after : Option (List ℕ)) (p : Pipeline T) (count limit n : ℕ) (part : List ℕ) (r : Progress fed_top wanted before now mode limits p count) → Consumes now after (take n part) → n ≡ 0 → IsAtEnd after
+      → count ≤ limit → limit ≡ input_limit limits → Pulls before after (input_limit limits) r.octets
+  pulled_all before now after p count limit n part r more none end within is = record {
+    taken = rw append-nil at (Consumes-trans before now after r.octets [] r.taken (subst (λ (m : ℕ). Consumes now after (take m part)) none more));
+    all = inl (omega (arith, r.size), end);
+  }
+
+  -- it gave more than may be
+  pub pulled_many : (before now : Option (List ℕ)) (p : Pipeline T) (count limit : ℕ) (r : Progress fed_top wanted before now mode limits p count) → count ≤ limit + 1 → limit < count → limit ≡ input_limit limits
+      → Pulls before now (input_limit limits) r.octets
+  pulled_many before now p count limit r within past is = record { taken = r.taken; all = inr (omega (arith, r.size)) }

@@ -1,0 +1,65 @@
+-- An input has some answer.
+use Rattle.std.proofs.Common.{ℕ, ◌+◌, ◌≤◌, ◌⊎◌, Bool, true, false, List, [], ◌∷◌, ◌++◌, length, map, refl, sym, subst, inl, inr}
+use Rattle.std.proofs.lemmas.Bool.{cases_lt}
+use Rattle.std.specs.List.{AllByRecursion}
+use Rattle.opgp_octets.specs.Octets.{IsOctets}
+use Rattle.opgp_octets.specs.declared.fault.Fault.{Fault}
+use Rattle.opgp_octets.specs.declared.limits.Limits.{Limits}
+use Rattle.opgp_octets.specs.Limits.{input_limit, line_limit}
+use Rattle.opgp_armor.specs.Armored.{Armored, Block, IsArmorFault}
+use Rattle.opgp_frame.specs.declared.packet.Placed.{Placed}
+use Rattle.opgp_frame.specs.Frames.{Frames, IsFramingFault}
+use Rattle.opgp_stack.specs.declared.mode.Mode.{Mode}
+use Rattle.opgp_ring.specs.Composition.{Item}
+use Rattle.opgp_stack.specs.Reading.{TextBlock, Wanted, armored_block, block_items, is_binary, Holds, IsTextFault, AreFramed, FirstFault, Outcome, Refused, too_long, AnswerOf, at_length, at_armor, at_framing, at_top, IsSome}
+
+-- what the layers promise of their definitions
+pub record LayersAnswer : Type 0 where
+  pub armor : (limit : ℕ) (text : List ℕ) → 128 ≤ limit → IsOctets text → ((blocks : List Block) × Armored limit text blocks) ⊎ ((f : Fault) × IsArmorFault limit text f)
+  pub armor_octets : (limit : ℕ) (text : List ℕ) (blocks : List Block) → Armored limit text blocks → AllByRecursion (λ b. IsOctets b.octets) blocks
+  pub frame : (limits : Limits) (block : ℕ) (octets : List ℕ) → IsOctets octets → ((packets : List Placed) × Frames limits block octets packets) ⊎ ((fault : Fault) × IsFramingFault limits block octets fault)
+
+HaveOctets : List TextBlock → Type 0
+HaveOctets bs = AllByRecursion (λ (b : TextBlock). IsOctets b.octets) bs
+
+mapped_octets : (bs : List Block) → AllByRecursion (λ b. IsOctets b.octets) bs → HaveOctets (map armored_block bs)
+unfolding HaveOctets
+mapped_octets [] all = tt
+mapped_octets (b ∷ bs) all = (all.0, mapped_octets bs all.1)
+
+-- blocks hold octets
+text_octets : LayersAnswer → (limits : Limits) (binary : Bool) (input : List ℕ) (bs : List TextBlock) → IsOctets input → Holds binary limits input bs → HaveOctets bs
+text_octets w limits true input bs octets h = subst HaveOctets (sym h) (unfold HaveOctets in (octets, tt))
+text_octets w limits false input bs octets h = subst HaveOctets (sym h.2) (mapped_octets h.0 (w.armor_octets (line_limit limits) input h.0 h.1))
+
+some_text : LayersAnswer → (limits : Limits) (binary : Bool) (input : List ℕ) → IsOctets input → ((bs : List TextBlock) × Holds binary limits input bs) ⊎ ((f : Fault) × IsTextFault binary limits input f)
+some_text w limits true input octets = inl (_, refl)
+some_text w limits false input octets = elim (w.armor (line_limit limits) input limits.allowed.line_least octets) [
+  | inl h ↦ inl (map armored_block h.0, (h.0, h.1, refl))
+  | inr k ↦ inr k
+]
+
+some_framed : LayersAnswer → (limits : Limits) (wanted : Wanted) (n : ℕ) (bs : List TextBlock) → HaveOctets bs → ((items : List Item) × AreFramed limits wanted n bs items) ⊎ ((f : Fault) × FirstFault limits n bs f)
+unfolding HaveOctets
+some_framed w limits wanted n [] octets = inl ([], refl)
+some_framed w limits wanted n (b ∷ bs) octets = elim (w.frame limits n b.octets octets.0) [
+  | inl h ↦ elim (some_framed w limits wanted (n + 1) bs octets.1) [
+    | inl r ↦ inl (block_items n (wanted b.label) h.0 ++ r.0, (h.0, r.0, h.1, r.1, refl))
+    | inr r ↦ inr (r.0, inr (h.0, h.1, r.1))
+  ]
+  | inr k ↦ inr (k.0, inl k.1)
+]
+
+-- Whatever the top, where it has some answer, so has reading.
+pub some_answer : {A : Type 0} (wanted : Wanted) (top : List Item → Outcome A → Type 0) → IsSome top → LayersAnswer → (mode : Mode) (limits : Limits) (input : List ℕ) → IsOctets input
+    → (a : Outcome A) × AnswerOf wanted top mode limits input a
+some_answer {A} wanted top some w mode limits input octets = elim (cases_lt (input_limit limits) (length input)) [
+  | inl long ↦ (Refused (too_long limits), at_length long refl)
+  | inr within ↦ elim (some_text w limits (is_binary mode input) input octets) [
+    | inr f ↦ (Refused f.0, at_armor within f.0 f.1 refl)
+    | inl bs ↦ elim (some_framed w limits wanted 0 bs.0 (text_octets w limits (is_binary mode input) input bs.0 octets bs.1)) [
+      | inr f ↦ (Refused f.0, at_framing within bs.0 bs.1 f.0 f.1 refl)
+      | inl ps ↦ let a = some ps.0 in (a.0, at_top within bs.0 bs.1 ps.0 ps.1 a.1)
+    ]
+  ]
+]

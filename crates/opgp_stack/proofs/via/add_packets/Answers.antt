@@ -1,0 +1,33 @@
+use Rattle.std.proofs.Common.{◌≡◌, ◌++◌, ◌∙◌, List, ℕ, ap}
+use Rattle.opgp_frame.specs.Packet.{packets_octets, spelling}
+use Rattle.opgp_ring.specs.Packets.{packets_left, part_packet}
+use Rattle.opgp_stack.specs.Via.{way_of}
+use Rattle.opgp_stack.proofs.Ways.{fails, more_added, broken_in}
+use Rattle.opgp_stack.proofs.via.add_packets.Goals as goal
+
+pub packets-preserved : goal.packets-preserved
+packets-preserved g c =
+    let old = (way_of g.W.Sink.held g.W.Sink.has_failed c.args.output.now c.args.armoring.now) in
+    let mid = (way_of g.W.Sink.held g.W.Sink.has_failed c.packets.output c.packets.armoring) in
+    let new = (way_of g.W.Sink.held g.W.Sink.has_failed c.add_one.new.output c.add_one.new.armoring) in
+    let i = c.packets.invariant in
+    let part : List ℕ = spelling (part_packet c.in-Some.part) in
+    let more : List ℕ = packets_octets (packets_left c.next.new.self) in
+    let cut : packets_octets (packets_left c.packets.packets) ≡ part ++ more = ap packets_octets c.in-Some.ensures.next in
+    record {
+      same = c.in_ok-add_one.ensures.same ∙ i.same;
+      label = c.in_ok-add_one.ensures.label ∙ i.label;
+      added = more_added (record { then = c.adding_goes_on.ensures; behind = c.a_failure_behind.ensures; front = c.a_failure_in_front.ensures }) (record { then = c.rows_go_on.ensures; behind = c.a_failure_in_rows_behind.ensures; front = c.a_failure_in_rows_in_front.ensures }) old mid new _ (packets_octets (packets_left c.packets.packets)) part more i.added cut c.in_ok-add_one.ensures.written;
+    }
+
+pub returns-in_err-add_one-clause-written : goal.returns-in_err-add_one-clause-written
+returns-in_err-add_one-clause-written g c =
+    let old = (way_of g.W.Sink.held g.W.Sink.has_failed c.args.output.now c.args.armoring.now) in
+    let mid = (way_of g.W.Sink.held g.W.Sink.has_failed c.packets.output c.packets.armoring) in
+    let new = (way_of g.W.Sink.held g.W.Sink.has_failed c.add_one.new.output c.add_one.new.armoring) in
+    let i = c.packets.invariant in
+    let part : List ℕ = spelling (part_packet c.in-Some.part) in
+    let more : List ℕ = packets_octets (packets_left c.next.new.self) in
+    let cut : packets_octets (packets_left c.packets.packets) ≡ part ++ more = ap packets_octets c.in-Some.ensures.next in
+    fails old new c.from_residual.result _ c.from_residual.ensures.0
+    (broken_in (record { then = c.adding_goes_on.ensures; behind = c.a_failure_behind.ensures; front = c.a_failure_in_front.ensures }) (record { then = c.rows_go_on.ensures; behind = c.a_failure_in_rows_behind.ensures; front = c.a_failure_in_rows_in_front.ensures }) old mid new _ (packets_octets (packets_left c.packets.packets)) part more i.added cut c.in_err-add_one.ensures.written)

@@ -1,0 +1,30 @@
+-- The keyring of an input (RFC 9580, 10.1).
+use Rattle.std.specs.Prelude.{Bool, true, false, List, Option, Some, None}
+use Rattle.opgp_octets.specs.declared.limits.Limits.{Limits}
+use Rattle.opgp_armor.specs.declared.label.Label.{Label}
+use Rattle.opgp_armor.specs.declared.label.Label.TheVariants.{Message, PublicKeyBlock}
+use Rattle.opgp_armor.specs.declared.label.Label.TheVariants.{PrivateKeyBlock, Signature}
+use Rattle.opgp_ring.specs.Composed.{IsKeyringOf, IsFault}
+use Rattle.opgp_ring.specs.Composition.{Item}
+use Rattle.opgp_ring.specs.Keyring.{KeyringValue}
+use Rattle.opgp_stack.specs.declared.answer.Answer.{Answer}
+use Rattle.opgp_stack.specs.declared.answer.Answer.TheVariants as answer
+use Rattle.opgp_stack.specs.Reading.{Outcome, Whole, Refused}
+
+-- a block of public keys, or a binary one
+abbrev pub key_label : Option Label → Bool
+key_label None = true
+key_label (Some PublicKeyBlock) = true
+key_label (Some Message) = false
+key_label (Some PrivateKeyBlock) = false
+key_label (Some Signature) = false
+
+-- the labels and packets are those of the keyring; or this is their fault: that of the first body
+-- that has one, else the first of the order
+abbrev pub ComposesTo : Limits → List Item → Outcome KeyringValue → Type 0
+ComposesTo limits items (Whole r) = IsKeyringOf limits items r
+ComposesTo limits items (Refused f) = IsFault limits items f
+
+abbrev pub ring_outcome : Answer → Outcome KeyringValue
+ring_outcome (answer.Ring r) = Whole r
+ring_outcome (answer.Refused fault) = Refused fault

@@ -1,0 +1,15 @@
+pub mod Faults
+pub mod Framed
+pub mod Keyrings
+pub mod Listing
+pub mod Packets
+pub mod Pipeline
+pub mod Pulled
+pub mod Reading
+pub mod Role
+pub mod Texts
+pub mod Through
+pub mod Via
+pub mod Writing
+pub mod Written
+pub mod Receiver

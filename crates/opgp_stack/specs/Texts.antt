@@ -1,0 +1,13 @@
+-- What is written.
+use Rattle.std.specs.Prelude.{ℕ, List}
+use Rattle.opgp_ring.specs.Packets.{packets_left}
+use Rattle.opgp_stack.specs.declared.writing.Text.{Text}
+use Rattle.opgp_stack.specs.declared.writing.Text.TheVariants.{Packets, Certificates, Listing}
+use Rattle.opgp_stack.specs.Listing.{listing}
+use Rattle.opgp_stack.specs.Writing.{packets_text, certificates_text}
+
+-- its octets
+abbrev pub text_octets : Text → List ℕ
+text_octets (Packets out packets) = packets_text out (packets_left packets)
+text_octets (Certificates out certificates) = certificates_text out certificates.now
+text_octets (Listing packets) = listing (packets_left packets)

@@ -1,0 +1,39 @@
+//! Reading OpenPGP's data: armored or binary octets, in any pieces, to what a layer on top makes of
+//! the packets, or the one fault.
+#![tactic(auto)]
+
+mod answer;
+mod engine_error;
+mod feeding;
+mod framer;
+mod keyrings;
+pub mod laws;
+mod listing;
+mod mode;
+mod packets;
+mod packets_answer;
+mod pipeline;
+mod reading;
+mod reading_keyring;
+mod reading_packets;
+mod receiver;
+mod run_fault;
+mod task;
+mod unarmoring;
+mod via;
+mod writing;
+mod writing_keyring;
+
+pub use answer::Answer;
+pub use engine_error::EngineError;
+pub use mode::Mode;
+pub use opgp_stream::{Sink, Source, Watched};
+pub use packets_answer::PacketsAnswer;
+pub use pipeline::Pipeline;
+pub use reading::read_with;
+pub use reading_keyring::read_keyring;
+pub use reading_packets::read_packets;
+pub use receiver::Receiver;
+pub use run_fault::RunFault;
+pub use task::{Action, Out, Task, Top};
+pub use writing_keyring::{write_certificates, write_keyring, write_listing};

@@ -1,0 +1,259 @@
+//! The lines of a keyring's listing, without memory.
+
+ghost use Rattle.std.specs.Prelude.{◌≡◌, ◌++◌, false, codes, length};
+ghost use Rattle.hex.specs.Hex.{encode_upper};
+ghost use Rattle.opgp_key.specs.Attribute.{attribute_octets};
+ghost use Rattle.opgp_key.specs.Key.{key_octets};
+ghost use Rattle.opgp_ring.specs.Packets.{IsLent, packets_left, part_packet};
+ghost use Rattle.opgp_sig.specs.Signature.{signature_octets};
+ghost use Rattle.opgp_stack.specs.Listing.{attribute_line, filler_line, key_line, listing};
+ghost use Rattle.opgp_stack.specs.Listing.{opaque_text, packet_line, signature_line, typed_text};
+ghost use Rattle.opgp_stack.specs.Listing.{key_names, key_numbers, user_id_line};
+ghost use Rattle.opgp_stack.specs.Role.{role_name};
+ghost use Rattle.opgp_stream.specs.Added.{Writes};
+ghost use Rattle.opgp_stream.specs.Output.{sink_name, sink_of, state_of};
+
+use opgp_hash::{KeyId, fingerprint};
+use opgp_key::{Attribute, Key};
+use opgp_ring::{Content, Packets, Part};
+use opgp_sig::Signature;
+use opgp_stream::laws::{a_failure_behind, a_failure_in_front, adding_goes_on, nothing_is_added};
+use opgp_stream::{Output, Sink, Word};
+use std::io;
+
+/// What a key's line begins with.
+#[derive(Clone, Copy)]
+enum Role {
+    Primary,
+    Subkey,
+}
+
+/// Adds a word.
+fn add_role<W: Sink>(output: &mut Output<'_, W>, role: Role) -> io::Result<()>
+    requires { W.has_failed (sink_of output.old) ≡ false }
+    ensures same { sink_name output.new ≡ sink_name output.old }
+    ensures written { Writes (state_of W.held W.has_failed output.old)
+        (state_of W.held W.has_failed output.new) result (role_name role) }
+{
+    match role {
+        Role::Primary => output.add(b"pub"),
+        Role::Subkey => output.add(b"sub"),
+    }
+}
+
+/// Adds a version, an algorithm and a time of creation.
+fn add_numbers<W: Sink>(
+    output: &mut Output<'_, W>,
+    version: u8,
+    created: u32,
+    algorithm: u8,
+) -> io::Result<()>
+    requires { W.has_failed (sink_of output.old) ≡ false }
+    ensures same { sink_name output.new ≡ sink_name output.old }
+    ensures written { Writes (state_of W.held W.has_failed output.old)
+        (state_of W.held W.has_failed output.new) result (key_numbers version created algorithm) }
+{
+    output.add_words(&[
+        Word::Text(b" v"),
+        Word::Decimal(version as u64),
+        Word::Text(b" alg "),
+        Word::Decimal(algorithm as u64),
+        Word::Text(b" created "),
+        Word::Decimal(created as u64),
+        Word::Text(b" "),
+    ])
+}
+
+/// Adds a fingerprint and a key ID.
+fn add_names<W: Sink>(output: &mut Output<'_, W>, print: &[u8], id: &[u8]) -> io::Result<()>
+    requires { W.has_failed (sink_of output.old) ≡ false }
+    ensures same { sink_name output.new ≡ sink_name output.old }
+    ensures written { Writes (state_of W.held W.has_failed output.old)
+        (state_of W.held W.has_failed output.new) result (key_names print.now id.now) }
+{
+    adding_goes_on();
+    a_failure_behind();
+    a_failure_in_front();
+    output.add_hex(print)?;
+    add_id(output, id)
+}
+
+/// Adds a key ID and the line's end.
+fn add_id<W: Sink>(output: &mut Output<'_, W>, id: &[u8]) -> io::Result<()>
+    requires { W.has_failed (sink_of output.old) ≡ false }
+    ensures same { sink_name output.new ≡ sink_name output.old }
+    ensures written { Writes (state_of W.held W.has_failed output.old)
+        (state_of W.held W.has_failed output.new) result
+        (codes " " ++ encode_upper id.now ++ codes "\n") }
+{
+    output.add_words(&[Word::Text(b" "), Word::Hex(id), Word::Text(b"\n")])
+}
+
+/// Adds the line of a key.
+fn add_key<W: Sink>(output: &mut Output<'_, W>, role: Role, key: &Key) -> io::Result<()>
+    requires { W.has_failed (sink_of output.old) ≡ false }
+    ensures same { sink_name output.new ≡ sink_name output.old }
+    ensures written { Writes (state_of W.held W.has_failed output.old)
+        (state_of W.held W.has_failed output.new) result
+        (key_line (role_name role) (key_octets key.now)) }
+{
+    opgp_key::laws::written_key();
+    adding_goes_on();
+    a_failure_behind();
+    a_failure_in_front();
+    let print = fingerprint(key);
+    let KeyId(id) = print.key_id();
+    add_role(output, role)?;
+    add_numbers(output, key.version(), key.created(), key.algorithm())?;
+    add_names(output, print.octets(), &id)
+}
+
+/// Adds the line of a user ID.
+fn add_user_id<W: Sink>(output: &mut Output<'_, W>, octets: &[u8]) -> io::Result<()>
+    requires { W.has_failed (sink_of output.old) ≡ false }
+    ensures same { sink_name output.new ≡ sink_name output.old }
+    ensures written { Writes (state_of W.held W.has_failed output.old)
+        (state_of W.held W.has_failed output.new) result (user_id_line octets.now) }
+{
+    output.add_words(&[
+        Word::Text(b"uid \""),
+        Word::Escaped(octets),
+        Word::Text(b"\"\n"),
+    ])
+}
+
+/// Adds the line of a user attribute.
+fn add_attribute<W: Sink>(output: &mut Output<'_, W>, attribute: &Attribute) -> io::Result<()>
+    requires { W.has_failed (sink_of output.old) ≡ false }
+    ensures same { sink_name output.new ≡ sink_name output.old }
+    ensures written { Writes (state_of W.held W.has_failed output.old)
+        (state_of W.held W.has_failed output.new) result
+        (attribute_line (attribute_octets attribute.now)) }
+{
+    let count = attribute.subpackets().count() as u64;
+    output.add_words(&[Word::Text(b"uat "), Word::Decimal(count), Word::Text(b"\n")])
+}
+
+/// Adds the line of a filler.
+fn add_filler<W: Sink>(output: &mut Output<'_, W>, kind: u8, body: &[u8]) -> io::Result<()>
+    requires { W.has_failed (sink_of output.old) ≡ false }
+    ensures same { sink_name output.new ≡ sink_name output.old }
+    ensures written { Writes (state_of W.held W.has_failed output.old)
+        (state_of W.held W.has_failed output.new) result (filler_line kind (length body.now)) }
+{
+    output.add_words(&[
+        Word::Text(b"pkt "),
+        Word::Decimal(kind as u64),
+        Word::Text(b" "),
+        Word::Decimal(body.len() as u64),
+        Word::Text(b"\n"),
+    ])
+}
+
+/// Adds the line of a typed signature.
+fn add_typed<W: Sink>(
+    output: &mut Output<'_, W>,
+    version: u8,
+    kind: u8,
+    algorithm: u8,
+    hash: u8,
+) -> io::Result<()>
+    requires { W.has_failed (sink_of output.old) ≡ false }
+    ensures same { sink_name output.new ≡ sink_name output.old }
+    ensures written { Writes (state_of W.held W.has_failed output.old)
+        (state_of W.held W.has_failed output.new) result (typed_text version kind algorithm hash) }
+{
+    output.add_words(&[
+        Word::Text(b"sig v"),
+        Word::Decimal(version as u64),
+        Word::Text(b" type "),
+        Word::Hex(&[kind]),
+        Word::Text(b" alg "),
+        Word::Decimal(algorithm as u64),
+        Word::Text(b" hash "),
+        Word::Decimal(hash as u64),
+        Word::Text(b"\n"),
+    ])
+}
+
+/// Adds the line of a signature that is kept as it is.
+fn add_opaque<W: Sink>(output: &mut Output<'_, W>, body: &[u8]) -> io::Result<()>
+    requires { W.has_failed (sink_of output.old) ≡ false }
+    ensures same { sink_name output.new ≡ sink_name output.old }
+    ensures written { Writes (state_of W.held W.has_failed output.old)
+        (state_of W.held W.has_failed output.new) result (opaque_text (length body.now)) }
+{
+    output.add_words(&[
+        Word::Text(b"sig opaque "),
+        Word::Decimal(body.len() as u64),
+        Word::Text(b"\n"),
+    ])
+}
+
+/// Adds the line of a signature.
+fn add_signature<W: Sink>(output: &mut Output<'_, W>, signature: &Signature) -> io::Result<()>
+    requires { W.has_failed (sink_of output.old) ≡ false }
+    ensures same { sink_name output.new ≡ sink_name output.old }
+    ensures written { Writes (state_of W.held W.has_failed output.old)
+        (state_of W.held W.has_failed output.new) result
+        (signature_line (signature_octets signature.now)) }
+{
+    opgp_sig::laws::written_signature();
+    match signature {
+        Signature::Three(three) => {
+            let view = three.view();
+            add_typed(output, 3, view.kind(), view.algorithm(), view.hash())
+        }
+        Signature::Four(four) => {
+            let view = four.view();
+            add_typed(output, 4, view.kind(), view.algorithm(), view.hash())
+        }
+        Signature::Six(six) => {
+            let view = six.view();
+            add_typed(output, 6, view.kind(), view.algorithm(), view.hash())
+        }
+        Signature::Other(other) => add_opaque(output, other.body()),
+    }
+}
+
+/// Adds the line of a packet.
+fn add_line<W: Sink>(output: &mut Output<'_, W>, part: Part<'_>) -> io::Result<()>
+    requires lent { IsLent part }
+    requires sound { W.has_failed (sink_of output.old) ≡ false }
+    ensures same { sink_name output.new ≡ sink_name output.old }
+    ensures written { Writes (state_of W.held W.has_failed output.old)
+        (state_of W.held W.has_failed output.new) result (packet_line (part_packet part.entry)) }
+{
+    let member = match part {
+        Part::Lead(packet) => return add_filler(output, packet.kind(), packet.body()),
+        Part::Member(member) => member,
+    };
+    match member.content() {
+        Content::Primary(_, key) => add_key(output, Role::Primary, key),
+        Content::Subkey(_, key) => add_key(output, Role::Subkey, key),
+        Content::UserId(_, id) => add_user_id(output, id.octets()),
+        Content::Attribute(_, attribute) => add_attribute(output, attribute),
+        Content::Signature(_, signature) => add_signature(output, signature),
+        Content::Filler(packet) => add_filler(output, packet.kind(), packet.body()),
+    }
+}
+
+/// Adds the lines of all packets that are left.
+pub(crate) fn add_listing<W: Sink>(
+    output: &mut Output<'_, W>,
+    mut packets: Packets<'_>,
+) -> io::Result<()>
+    requires { W.has_failed (sink_of output.old) ≡ false }
+    ensures same { sink_name output.new ≡ sink_name output.old }
+    ensures written { Writes (state_of W.held W.has_failed output.old)
+        (state_of W.held W.has_failed output.new) result (listing (packets_left packets.entry)) }
+{
+    nothing_is_added();
+    adding_goes_on();
+    a_failure_behind();
+    a_failure_in_front();
+    'packets: while let Some(part) = packets.next() {
+        add_line(output, part)?;
+    }
+    Ok(())
+}

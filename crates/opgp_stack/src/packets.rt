@@ -1,0 +1,74 @@
+//! The packets of an input, as they are.
+
+ghost use Rattle.std.specs.Prelude.{◌≡◌, ◌∷◌, [], true, List, OnOk, IfOk};
+ghost use Rattle.opgp_octets.specs.declared.limits.Limits.{Limits};
+ghost use Rattle.opgp_ring.specs.Block.{items_of};
+ghost use Rattle.opgp_ring.specs.Composition.{Item};
+ghost use Rattle.opgp_stack.specs.Packets.{GathersPackets, any_label, from_label};
+
+use crate::receiver::Receiver;
+use opgp_armor::Label;
+use opgp_frame::Placed;
+use opgp_octets::{Fault, OutOfMemory};
+use opgp_ring::{BlockOf, check_bodies};
+use std::alloc::Global;
+
+/// The blocks of an input with their packets. Each label is wanted.
+#[derive(Drop)]
+pub(crate) struct Packets {
+    alloc: Global,
+    blocks: Vec<BlockOf>,
+}
+
+impl Packets {
+    /// No blocks yet. Takes no memory; what is added does, from `alloc`.
+    pub(crate) fn new(alloc: Global) -> Packets
+        ensures { result.blocks.items ≡ [] }
+    {
+        Packets {
+            alloc,
+            blocks: Vec::new(alloc),
+        }
+    }
+}
+
+impl Receiver for Packets {
+    type Value = Vec<BlockOf>;
+
+    ghost wanted = { any_label };
+
+    ghost fed = { λ _ t items. items_of t.blocks.items ≡ from_label items };
+
+    ghost says = { λ _ items outcome. GathersPackets items outcome };
+
+    fn wants(_label: Option<Label>) -> bool {
+        true
+    }
+
+    fn begin_block(&mut self, block: u64, fits: bool) -> Result<(), OutOfMemory> {
+        self.blocks.push(BlockOf {
+            block,
+            label_fits: fits,
+            packets: Vec::new(self.alloc),
+        })?;
+        Ok(())
+    }
+
+    fn push(&mut self, packet: Placed) -> Result<(), OutOfMemory> {
+        match self.blocks.last_mut() {
+            Some(last) => {
+                last.packets.push(packet)?;
+                Ok(())
+            }
+            // It never comes to this: each block begins before its packets.
+            None => Ok(()),
+        }
+    }
+
+    fn finish(self) -> Result<Result<Vec<BlockOf>, Fault>, OutOfMemory> {
+        match check_bodies(&self.blocks) {
+            None => Ok(Ok(self.blocks)),
+            Some(fault) => Ok(Err(fault)),
+        }
+    }
+}

@@ -1,0 +1,75 @@
+//! What the program is asked to do.
+
+use crate::mode::Mode;
+use opgp_octets::Limits;
+
+/// How a keyring is written.
+#[derive(Clone, Copy, Debug, PartialEq, Eq)]
+pub enum Out {
+    /// As armored text (RFC 9580, 6.2).
+    Armor,
+    /// As packets (RFC 9580, 4).
+    Binary,
+}
+
+/// What an input is read as.
+#[derive(Clone, Copy, Debug, PartialEq, Eq)]
+pub enum Top {
+    /// A keyring (RFC 9580, 10.1).
+    Ring,
+    /// A signed literal (RFC 9580, 10.3).
+    Literal,
+}
+
+/// What is made of an input.
+#[derive(Clone, Copy, Debug, PartialEq, Eq)]
+pub enum Action {
+    /// A line for each packet, and one for each subpacket of a signature.
+    Show,
+    /// A line for each packet of the keyring.
+    List,
+    /// A line for each signature of a certificate, with what can be said of its digest.
+    Check,
+    /// The octets that one signature hashes.
+    Octets {
+        /// The number of the signature's row, from 0.
+        row: u64,
+        /// What the input is read as.
+        top: Top,
+    },
+    /// The keyring with its framing kept.
+    Write {
+        /// How it is written.
+        out: Out,
+    },
+    /// The keyring, each packet in the current format with its shortest length.
+    Normalise {
+        /// How it is written.
+        out: Out,
+    },
+    /// One certificate, or every certificate as a block of its own.
+    Split {
+        /// How each is written.
+        out: Out,
+        /// The number of the certificate, from 0; None: every one.
+        nth: Option<u64>,
+    },
+    /// All blocks of the input as one keyring.
+    Join {
+        /// How it is written.
+        out: Out,
+        /// Whether equal certificates become one.
+        merge: bool,
+    },
+}
+
+/// What the program is asked to do, how it reads its input, and within which limits.
+#[derive(Clone, Copy, Debug)]
+pub struct Task {
+    /// How the input is read.
+    pub mode: Mode,
+    /// The limits of what is read.
+    pub limits: Limits,
+    /// What is made of it.
+    pub action: Action,
+}

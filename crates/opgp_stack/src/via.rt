@@ -1,0 +1,152 @@
+//! Packets on their way to an output, bare or as armor, without memory.
+
+ghost use Rattle.std.specs.Prelude.{◌≡◌, ◌++◌, false};
+ghost use Rattle.opgp_frame.specs.Packet.{IsPacket, packets_octets, spelling};
+ghost use Rattle.opgp_ring.specs.Packets.{packets_left, part_packet};
+ghost use Rattle.opgp_stack.specs.Via.{WritesVia, label_in, way_of};
+ghost use Rattle.opgp_stream.specs.Output.{sink_name, sink_of};
+
+use opgp_frame::{Form, Spelling};
+use opgp_ring::{Packets, Part};
+use opgp_stream::laws::{
+    a_failure_behind, a_failure_in_front, a_failure_in_rows_behind, a_failure_in_rows_in_front,
+    adding_goes_on, no_rows_are_added, nothing_is_added, rows_go_on,
+};
+use opgp_stream::{Armoring, Output, Sink};
+use std::io;
+
+/// Adds octets, in rows of armor where a block is open.
+fn add<W: Sink>(
+    output: &mut Output<'_, W>,
+    armoring: &mut Option<Armoring>,
+    octets: &[u8],
+) -> io::Result<()>
+    requires { W.has_failed (sink_of output.old) ≡ false }
+    ensures same { sink_name output.new ≡ sink_name output.old }
+    ensures label { label_in armoring.new ≡ label_in armoring.old }
+    ensures written { WritesVia (way_of W.held W.has_failed output.old armoring.old)
+        (way_of W.held W.has_failed output.new armoring.new) result octets.now }
+{
+    match armoring {
+        Some(armoring) => armoring.add(output, octets),
+        None => output.add(octets),
+    }
+}
+
+/// Adds a header and what is behind it.
+fn add_part<W: Sink>(
+    output: &mut Output<'_, W>,
+    armoring: &mut Option<Armoring>,
+    header: &[u8],
+    piece: &[u8],
+) -> io::Result<()>
+    requires { W.has_failed (sink_of output.old) ≡ false }
+    ensures same { sink_name output.new ≡ sink_name output.old }
+    ensures label { label_in armoring.new ≡ label_in armoring.old }
+    ensures written { WritesVia (way_of W.held W.has_failed output.old armoring.old)
+        (way_of W.held W.has_failed output.new armoring.new) result (header.now ++ piece.now) }
+{
+    adding_goes_on();
+    a_failure_behind();
+    a_failure_in_front();
+    rows_go_on();
+    a_failure_in_rows_behind();
+    a_failure_in_rows_in_front();
+    add(output, armoring, header)?;
+    add(output, armoring, piece)?;
+    Ok(())
+}
+
+/// Adds the packet of this form, type and body (RFC 9580, 4.2). The condition is that there is such
+/// a packet.
+fn add_packet<W: Sink>(
+    output: &mut Output<'_, W>,
+    armoring: &mut Option<Armoring>,
+    form: &Form,
+    kind: u8,
+    body: &[u8],
+) -> io::Result<()>
+    requires packet { IsPacket (record { form = form.now; kind = kind; body = body.now }) }
+    requires sound { W.has_failed (sink_of output.old) ≡ false }
+    ensures same { sink_name output.new ≡ sink_name output.old }
+    ensures label { label_in armoring.new ≡ label_in armoring.old }
+    ensures written { WritesVia (way_of W.held W.has_failed output.old armoring.old)
+        (way_of W.held W.has_failed output.new armoring.new) result
+        (spelling (record { form = form.now; kind = kind; body = body.now })) }
+{
+    nothing_is_added();
+    adding_goes_on();
+    a_failure_behind();
+    a_failure_in_front();
+    no_rows_are_added();
+    rows_go_on();
+    a_failure_in_rows_behind();
+    a_failure_in_rows_in_front();
+    let mut spelling = Spelling::new(form, kind, body);
+    'parts: while let Some((header, piece)) = spelling.next() {
+        add_part(output, armoring, header.as_slice(), piece)?;
+    }
+    Ok(())
+}
+
+/// Adds a packet of a keyring.
+fn add_one<W: Sink>(
+    output: &mut Output<'_, W>,
+    armoring: &mut Option<Armoring>,
+    part: Part<'_>,
+) -> io::Result<()>
+    requires { W.has_failed (sink_of output.old) ≡ false }
+    ensures same { sink_name output.new ≡ sink_name output.old }
+    ensures label { label_in armoring.new ≡ label_in armoring.old }
+    ensures written { WritesVia (way_of W.held W.has_failed output.old armoring.old)
+        (way_of W.held W.has_failed output.new armoring.new) result
+        (spelling (part_packet part.entry)) }
+{
+    match part {
+        Part::Lead(packet) => {
+            add_packet(
+                output,
+                armoring,
+                packet.form(),
+                packet.kind(),
+                packet.body(),
+            )
+        }
+        Part::Member(member) => {
+            add_packet(
+                output,
+                armoring,
+                member.form(),
+                member.kind(),
+                member.body(),
+            )
+        }
+    }
+}
+
+/// Adds all packets that are left.
+pub(crate) fn add_packets<W: Sink>(
+    output: &mut Output<'_, W>,
+    armoring: &mut Option<Armoring>,
+    mut packets: Packets<'_>,
+) -> io::Result<()>
+    requires { W.has_failed (sink_of output.old) ≡ false }
+    ensures same { sink_name output.new ≡ sink_name output.old }
+    ensures label { label_in armoring.new ≡ label_in armoring.old }
+    ensures written { WritesVia (way_of W.held W.has_failed output.old armoring.old)
+        (way_of W.held W.has_failed output.new armoring.new) result
+        (packets_octets (packets_left packets.entry)) }
+{
+    nothing_is_added();
+    adding_goes_on();
+    a_failure_behind();
+    a_failure_in_front();
+    no_rows_are_added();
+    rows_go_on();
+    a_failure_in_rows_behind();
+    a_failure_in_rows_in_front();
+    'packets: while let Some(part) = packets.next() {
+        add_one(output, armoring, part)?;
+    }
+    Ok(())
+}

@@ -10,6 +10,7 @@ mod OneAnswer
 mod OneTop
 mod Passing
 mod Pulling
+mod Runs
 mod SomeAnswer
 mod Texts
 mod Ways

@@ -7,6 +7,7 @@ pub mod Pipeline
 pub mod Pulled
 pub mod Reading
 pub mod Role
+pub mod Running
 pub mod Texts
 pub mod Through
 pub mod Via

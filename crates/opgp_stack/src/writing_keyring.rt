@@ -1,7 +1,7 @@
 //! Writes a keyring into a sink.
 
 ghost use Rattle.std.specs.Prelude.{◌≡◌, false};
-ghost use Rattle.opgp_ring.specs.Keyring.{flat};
+ghost use Rattle.opgp_ring.specs.Keyring.{certificate_packets, flat};
 ghost use Rattle.opgp_stack.specs.Listing.{listing};
 ghost use Rattle.opgp_stack.specs.Texts.{text_octets};
 ghost use Rattle.opgp_stack.specs.Writing.{certificates_text, packets_text};
@@ -10,7 +10,7 @@ ghost use Rattle.opgp_stack.specs.Written.{IsWritten};
 use crate::engine_error::EngineError;
 use crate::task::Out;
 use crate::writing::{Text, put};
-use opgp_ring::{Keyring, Packets};
+use opgp_ring::{Certificate, Keyring, Packets};
 use opgp_stream::{Buffer, Sink};
 use std::alloc::Global;
 
@@ -49,6 +49,26 @@ pub fn write_certificates<W: Sink>(
     write(
         alloc,
         Text::Certificates(out, keyring.certificates()),
+        writer,
+    )
+}
+
+/// Writes one certificate, bare or as a block of armor. The condition is that the sink hasn't failed.
+///
+/// The errors are those of [`write_keyring`].
+pub fn write_certificate<W: Sink>(
+    alloc: Global,
+    certificate: &Certificate,
+    out: Out,
+    writer: &mut W,
+) -> Result<(), EngineError>
+    requires { W.has_failed writer.old ≡ false }
+    ensures { IsWritten W.held W.has_failed writer.old writer.new result
+        (packets_text out (certificate_packets certificate.now)) }
+{
+    write(
+        alloc,
+        Text::Packets(out, Packets::of_certificate(certificate)),
         writer,
     )
 }

@@ -1,20 +1,27 @@
 -- How a run ends: the exit status, and the line on standard error.
-use Rattle.std.specs.Prelude.{ℕ, List, [], codes, Result, Ok, Err}
-use Rattle.opgp_tool.specs.declared.running.RunFault.{RunFault}
-use Rattle.opgp_tool.specs.declared.running.RunFault.TheVariants.{NotYet, Read, Write, Memory}
+use Rattle.std.specs.Prelude.{ℕ, List, [], ◌++◌, codes, Result, Ok, Err}
+use Rattle.opgp_octets.specs.Fault.{fault_text}
+use Rattle.opgp_stack.specs.declared.run_fault.RunFault.{RunFault}
+use Rattle.opgp_stack.specs.declared.run_fault.RunFault.TheVariants as run
 
--- the exit status
+-- the exit status: 0 done, 1 refused, 3 where a device or the memory failed
 abbrev pub status_of : Result Unit RunFault → ℕ
 status_of (Ok done) = 0
-status_of (Err NotYet) = 1
-status_of (Err Read) = 3
-status_of (Err Write) = 3
-status_of (Err Memory) = 3
+status_of (Err (run.Refused fault)) = 1
+status_of (Err run.NoSuchRow) = 1
+status_of (Err run.NoSuchCertificate) = 1
+status_of (Err run.NotYet) = 1
+status_of (Err run.Read) = 3
+status_of (Err run.Write) = 3
+status_of (Err run.Memory) = 3
 
--- the line, or nothing
+-- the line and its line feed, or nothing
 abbrev pub line_of : Result Unit RunFault → List ℕ
 line_of (Ok done) = []
-line_of (Err NotYet) = codes "opgp: not yet\n"
-line_of (Err Read) = codes "opgp: read failed\n"
-line_of (Err Write) = codes "opgp: write failed\n"
-line_of (Err Memory) = codes "opgp: out of memory\n"
+line_of (Err (run.Refused fault)) = fault_text fault ++ codes "\n"
+line_of (Err run.NoSuchRow) = codes "opgp: no such row\n"
+line_of (Err run.NoSuchCertificate) = codes "opgp: no such certificate\n"
+line_of (Err run.NotYet) = codes "opgp: not yet\n"
+line_of (Err run.Read) = codes "opgp: read failed\n"
+line_of (Err run.Write) = codes "opgp: write failed\n"
+line_of (Err run.Memory) = codes "opgp: out of memory\n"

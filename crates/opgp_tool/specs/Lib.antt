@@ -1,7 +1,3 @@
 pub mod Ending
-pub mod FirstKey
-pub mod FirstText
-pub mod KeyLine
-pub mod Reading
-pub mod Running
+pub mod Program
 pub mod Words

@@ -1,20 +1,34 @@
 //! How a run ends, as its exit status and a line on standard error say.
 
-ghost use Rattle.std.specs.Prelude.{◌≡◌};
+ghost use Rattle.std.specs.Prelude.{◌≡◌, IfOk, string_bytes};
 ghost use Rattle.opgp_tool.specs.Ending.{status_of, line_of};
 
-use crate::running::RunFault;
+use opgp_octets::{OutOfMemory, fault_line};
+use opgp_stack::RunFault;
+use std::alloc::Global;
 
 /// The exit status of a run, and the line that it prints with its line feed, or nothing.
-pub fn end_of(outcome: Result<(), RunFault>) -> (u8, &'static str)
-    ensures status { result.0 ≡ status_of outcome }
-    ensures line { result.1.now ≡ line_of outcome }
+///
+/// An error is want of memory.
+pub fn end_of(alloc: Global, outcome: &Result<(), RunFault>) -> Result<(u8, String), OutOfMemory>
+    ensures status { IfOk result (λ end. end.0 ≡ status_of outcome.now) }
+    ensures line { IfOk result (λ end. string_bytes end.1 ≡ line_of outcome.now) }
 {
-    match outcome {
-        Ok(()) => (0, ""),
-        Err(RunFault::NotYet) => (1, "opgp: not yet\n"),
-        Err(RunFault::Read) => (3, "opgp: read failed\n"),
-        Err(RunFault::Write) => (3, "opgp: write failed\n"),
-        Err(RunFault::Memory) => (3, "opgp: out of memory\n"),
-    }
+    let (status, line) = match outcome {
+        Ok(()) => (0, String::new(alloc)),
+        Err(RunFault::Refused(fault)) => {
+            let mut line = fault_line(alloc, fault)?;
+            line.push('\n')?;
+            (1, line)
+        }
+        Err(RunFault::NoSuchRow) => (1, String::from_str(alloc, "opgp: no such row\n")?),
+        Err(RunFault::NoSuchCertificate) => {
+            (1, String::from_str(alloc, "opgp: no such certificate\n")?)
+        }
+        Err(RunFault::NotYet) => (1, String::from_str(alloc, "opgp: not yet\n")?),
+        Err(RunFault::Read) => (3, String::from_str(alloc, "opgp: read failed\n")?),
+        Err(RunFault::Write) => (3, String::from_str(alloc, "opgp: write failed\n")?),
+        Err(RunFault::Memory) => (3, String::from_str(alloc, "opgp: out of memory\n")?),
+    };
+    Ok((status, line))
 }

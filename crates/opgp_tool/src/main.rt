@@ -1,50 +1,68 @@
-//! Reads an OpenPGP key from standard input, and lists it on standard output.
+//! Reads OpenPGP keyrings from standard input, and lists or writes them on standard output.
 #![tactic(auto)]
 
+mod command;
 mod ending;
-mod first_text;
-mod key_line;
-mod laws;
-mod reading;
-mod running;
 mod task;
 #[cfg(test)]
 mod tests;
 
 use ending::end_of;
-use opgp_stream::Watched;
-use running::{RunFault, run};
-use std::alloc::AllocError;
+use opgp_stack::{RunFault, Task, Watched, run};
 use std::process::ExitCode;
 use std::{env, io};
-use task::{Task, task_of};
+use task::{Usage, task_of};
 
-/// The exit status and the line of words that name no task.
-const USAGE: (u8, &str) = (2, "opgp: usage\n");
+/// The exit status of words that name no task.
+const USAGE: u8 = 2;
 
 fn main(rt: HostRuntime) -> ExitCode {
-    let (status, line) = match named_task(&rt) {
-        Ok(Some(task)) => {
-            let mut reader = Watched::new(rt.stdin());
-            let mut writer = Watched::new(rt.stdout());
-            end_of(run(rt.alloc(), &task, &mut reader, &mut writer))
+    let status = match env::args(&rt) {
+        Ok(words) => match words.collect::<Vec<String>>(rt.alloc()) {
+            Ok(words) => run_words(&rt, &words),
+            Err(_) => end(&rt, &Err(RunFault::Memory)),
+        },
+        Err(error) if error.kind() == io::ErrorKind::OutOfMemory => {
+            end(&rt, &Err(RunFault::Memory))
         }
-        Ok(None) => USAGE,
-        Err(_) => end_of(Err(RunFault::Memory)),
+        // A word isn't UTF-8.
+        Err(_) => {
+            let _ = eprintln!(rt; "opgp: usage");
+            USAGE
+        }
     };
-    // A standard error that is closed or full changes no status.
-    let _ = eprint!(rt; "{line}");
     ExitCode::from(status)
 }
 
-/// The task that the command line names. A word that isn't UTF-8 names none.
-fn named_task(rt: &HostRuntime) -> Result<Option<Task>, AllocError> {
-    match env::args(rt) {
-        Ok(words) => {
-            let words: Vec<String> = words.collect(rt.alloc())?;
-            Ok(task_of(&words))
+/// Does what the words say.
+fn run_words(rt: &HostRuntime, words: &[String]) -> u8 {
+    match task_of(rt.alloc(), words) {
+        Ok(task) => run_task(rt, &task),
+        Err(Usage::Text(text)) => {
+            let _ = eprint!(rt; "{text}");
+            USAGE
         }
-        Err(error) if error.kind() == io::ErrorKind::OutOfMemory => Err(AllocError),
-        Err(_) => Ok(None),
+        Err(Usage::Memory) => end(rt, &Err(RunFault::Memory)),
+    }
+}
+
+/// Does the task, from standard input to standard output.
+fn run_task(rt: &HostRuntime, task: &Task) -> u8 {
+    let mut reader = Watched::new(rt.stdin());
+    let mut writer = Watched::new(rt.stdout());
+    end(rt, &run(rt.alloc(), task, &mut reader, &mut writer))
+}
+
+/// Prints the line of a run's end. A standard error that is closed or full changes no status.
+fn end(rt: &HostRuntime, outcome: &Result<(), RunFault>) -> u8 {
+    match end_of(rt.alloc(), outcome) {
+        Ok((status, line)) => {
+            let _ = eprint!(rt; "{line}");
+            status
+        }
+        Err(_) => {
+            let _ = eprintln!(rt; "opgp: out of memory");
+            3
+        }
     }
 }

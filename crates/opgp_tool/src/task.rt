@@ -1,36 +1,151 @@
-//! What a run is to do, and the words that say it.
+//! The task that the words of a command line name.
 
-ghost use Rattle.std.specs.Prelude.{◌≡◌, ◌↔◌, IsSome, length, codes, string_bytes, IfSome, slice_get};
-ghost use Rattle.opgp_tool.specs.Words.{AreListWords};
+ghost use Rattle.std.specs.Prelude.{◌≡◌, None, IfSome, IfOk, codes, map};
+ghost use Rattle.clap.specs.Words.{found_of, first_value, one_text};
+ghost use Rattle.opgp_tool.specs.Words.{mode_of, out_of, top_of, HasNumber, HasLimits};
+ghost use Rattle.opgp_tool.specs.Words.{IsAction, IsTask};
+ghost use Rattle.opgp_tool.specs.Program.{SaysTask};
 
-/// What is written.
-#[derive(Clone, Copy, Debug, PartialEq, Eq)]
-pub enum Action {
-    /// A line for each packet of the keyring.
-    List,
+use crate::command::program;
+use clap::error::ErrorKind;
+use clap::{ArgMatches, Error};
+use opgp_octets::Limits;
+use opgp_stack::{Action, Mode, Out, Task, Top};
+use std::alloc::Global;
+use std::convert::AsStr;
+
+/// Why words name no task.
+#[derive(Debug, Drop)]
+pub enum Usage {
+    /// They are refused, or help was asked for: the text that says so.
+    Text(String),
+    /// Want of memory.
+    Memory,
 }
 
-/// What a run is to do.
-#[derive(Clone, Copy, Debug, PartialEq, Eq)]
-pub struct Task {
-    /// What is written.
-    pub action: Action,
-}
-
-/// The task that the words of a command line name, the program's own name first: `list` alone names one.
-pub fn task_of(words: &[String]) -> Option<Task>
-    ensures { IsSome result ↔ AreListWords words.now }
+fn mode_of(matches: &ArgMatches) -> Mode
+    ensures { result ≡ mode_of (first_value (found_of matches.now) (codes "mode")) }
 {
-    match words {
-        [_, command] => {
-            if command.as_str() == "list" {
-                Some(Task {
-                    action: Action::List,
-                })
-            } else {
-                None
-            }
-        }
+    match matches.get_str("mode") {
+        Some("armor") => Mode::Armor,
+        Some("binary") => Mode::Binary,
+        _ => Mode::Auto,
+    }
+}
+
+fn out_of(matches: &ArgMatches) -> Out
+    ensures { result ≡ out_of (first_value (found_of matches.now) (codes "out")) }
+{
+    match matches.get_str("out") {
+        Some("binary") => Out::Binary,
+        _ => Out::Armor,
+    }
+}
+
+fn top_of(matches: &ArgMatches) -> Top
+    ensures { result ≡ top_of (first_value (found_of matches.now) (codes "of")) }
+{
+    match matches.get_str("of") {
+        Some("literal") => Top::Literal,
+        _ => Top::Ring,
+    }
+}
+
+/// The number of an option, or None where it isn't given.
+fn number_of(matches: &ArgMatches, id: &str) -> Option<u64>
+    ensures some { IfSome result (HasNumber (found_of matches.now) id.now) }
+    ensures none { one_text (found_of matches.now) id.now ≡ None → result ≡ None }
+{
+    matches.get_one::<u64>(id)
+}
+
+fn limits_of(matches: &ArgMatches) -> Option<Limits>
+    ensures { IfSome result (HasLimits (found_of matches.now)) }
+{
+    let line = number_of(matches, "line")?;
+    let body = number_of(matches, "body")?;
+    let cert = number_of(matches, "cert")?;
+    let input = number_of(matches, "input")?;
+    let pieces = number_of(matches, "pieces")?;
+    Limits::new(line, body, cert, input, pieces)
+}
+
+fn action_of(name: &str, matches: &ArgMatches) -> Option<Action>
+    ensures { IfSome result (IsAction name.now (found_of matches.now)) }
+{
+    match name {
+        "show" => Some(Action::Show),
+        "list" => Some(Action::List),
+        "check" => Some(Action::Check),
+        "octets" => Some(Action::Octets {
+            row: number_of(matches, "row")?,
+            top: top_of(matches),
+        }),
+        "write" => Some(Action::Write {
+            out: out_of(matches),
+        }),
+        "normalise" => Some(Action::Normalise {
+            out: out_of(matches),
+        }),
+        "split" => Some(Action::Split {
+            out: out_of(matches),
+            nth: number_of(matches, "nth"),
+        }),
+        "join" => Some(Action::Join {
+            out: out_of(matches),
+            merge: matches.get_flag("merge"),
+        }),
         _ => None,
+    }
+}
+
+/// The task of a command of this name with these options.
+fn task_from(name: &str, matches: &ArgMatches) -> Option<Task>
+    ensures { IfSome result (IsTask name.now (found_of matches.now)) }
+{
+    let limits = limits_of(matches)?;
+    let action = action_of(name, matches)?;
+    Some(Task {
+        mode: mode_of(matches),
+        limits,
+        action,
+    })
+}
+
+fn usage_of(alloc: Global, error: &Error) -> Usage {
+    if let ErrorKind::OutOfMemory = error.kind() {
+        return Usage::Memory;
+    }
+    match format!(in alloc; "{error}") {
+        Ok(text) => Usage::Text(text),
+        Err(_) => Usage::Memory,
+    }
+}
+
+/// The task that the words of a command line name, the program's own name first.
+///
+/// The refusals are the text of `clap`, for help too, and want of memory.
+pub fn task_of<'a, S: AsStr>(alloc: Global, words: &'a [S]) -> Result<Task, Usage>
+    ensures { IfOk result (SaysTask (map S.text words.entry.now)) }
+{
+    let program = match program(alloc) {
+        Ok(program) => program,
+        Err(_) => return Err(Usage::Memory),
+    };
+    let matches = match program.try_get_matches_from(words) {
+        Ok(matches) => matches,
+        Err(error) => return Err(usage_of(alloc, &error)),
+    };
+    let task = match matches.subcommand() {
+        Some((name, options)) => task_from(name, options),
+        None => None,
+    };
+    match task {
+        Some(task) => Ok(task),
+        // Words that `clap` passes name a task; no other is made up for them.
+        None => match String::from_str(alloc, "opgp: usage\n") {
+            Ok(text) => Err(Usage::Text(text)),
+            Err(_) => Err(Usage::Memory),
+        },
     }
 }

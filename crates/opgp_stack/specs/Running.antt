@@ -1,0 +1,93 @@
+-- What a run of the program makes of an input.
+use Rattle.std.specs.Prelude.{◌≡◌, ℕ, Bool, true, false, List, Option, Some, None, Result, Ok, Err}
+use Rattle.std.specs.Prelude.{slice_get}
+use Rattle.opgp_ring.specs.Keyring.{KeyringValue, CertificateValue, certificate_packets, flat}
+use Rattle.opgp_ring.specs.Normal.{normal_of}
+use Rattle.opgp_stack.specs.declared.engine_error.EngineError.{EngineError}
+use Rattle.opgp_stack.specs.declared.engine_error.EngineError.TheVariants as engine
+use Rattle.opgp_stack.specs.declared.run_fault.RunFault.{RunFault}
+use Rattle.opgp_stack.specs.declared.run_fault.RunFault.TheVariants as run
+use Rattle.opgp_stack.specs.declared.task.Action.{Action}
+use Rattle.opgp_stack.specs.declared.task.Action.TheVariants as action
+use Rattle.opgp_stack.specs.declared.task.Out.{Out}
+use Rattle.opgp_stack.specs.declared.task.Task.{Task}
+use Rattle.opgp_stack.specs.Keyrings.{ComposesTo, key_label}
+use Rattle.opgp_stack.specs.Listing.{listing}
+use Rattle.opgp_stack.specs.Reading.{AnswerOf, Outcome, Whole, Refused}
+use Rattle.opgp_stack.specs.Writing.{certificates_text, packets_text}
+use Rattle.opgp_stack.specs.Written.{IsWritten}
+
+-- ---- what is made
+-- a text to write, or why there is none
+pub data Made : Type 0 where
+  Text : List ℕ → Made
+  Ends : RunFault → Made
+
+-- the actions that are there
+abbrev pub is_there : Action → Bool
+is_there action.List = true
+is_there (action.Write out) = true
+is_there (action.Normalise out) = true
+is_there (action.Split out nth) = true
+is_there (action.Join out false) = true
+is_there (action.Join out true) = false
+is_there action.Show = false
+is_there action.Check = false
+is_there (action.Octets row top) = false
+
+-- the certificate of a number alone, if there is one
+abbrev pub one_text : Out → Option CertificateValue → Made
+one_text out (Some c) = Text (packets_text out (certificate_packets c))
+one_text out None = Ends run.NoSuchCertificate
+
+-- every certificate for itself, or that of a number
+abbrev pub split_text : Out → Option ℕ → List CertificateValue → Made
+split_text out None cs = Text (certificates_text out cs)
+split_text out (Some n) cs = one_text out (slice_get cs n)
+
+-- what is made of a keyring
+abbrev pub made_of : Action → KeyringValue → Made
+made_of action.List r = Text (listing (flat r))
+made_of (action.Write out) r = Text (packets_text out (flat r))
+made_of (action.Normalise out) r = Text (packets_text out (flat (normal_of r)))
+made_of (action.Split out nth) r = split_text out nth r.certificates
+made_of (action.Join out merge) r = Text (packets_text out (flat r))
+made_of action.Show r = Ends run.NotYet
+made_of action.Check r = Ends run.NotYet
+made_of (action.Octets row top) r = Ends run.NotYet
+
+-- what is made of an answer: a refusal ends the run
+abbrev pub made_of_answer : Action → Outcome KeyringValue → Made
+made_of_answer a (Whole r) = made_of a r
+made_of_answer a (Refused fault) = Ends (run.Refused fault)
+
+-- what a task makes of octets
+abbrev pub Makes : Task → List ℕ → Made → Type 0
+Makes task octets made = (answer : Outcome KeyringValue)
+    × AnswerOf key_label (ComposesTo task.limits) task.mode task.limits octets answer
+    × (made ≡ made_of_answer task.action answer)
+
+-- ---- how a run ends
+abbrev pub ended : Result Unit EngineError → Result Unit RunFault
+ended (Ok done) = Ok done
+ended (Err engine.Read) = Err run.Read
+ended (Err engine.Write) = Err run.Write
+ended (Err engine.Memory) = Err run.Memory
+
+-- The text is written, as writing goes; or the run ends with its fault, and nothing is written.
+abbrev pub IsMade : {W : Type 0} → (W → Option (List ℕ)) → (W → Bool) → W → W
+    → Result Unit RunFault → Made → Type 0
+IsMade held failed old new result (Text text) = (written : Result Unit EngineError)
+    × (result ≡ ended written) × IsWritten held failed old new written text
+IsMade held failed old new result (Ends fault) = (result ≡ Err fault) × (new ≡ old)
+
+-- A failed read and want of memory are told apart from what is made of the input.
+abbrev pub Runs : Result Unit RunFault → (failed made nothing : Type 0) → Type 0
+Runs (Ok done) failed made nothing = made
+Runs (Err (run.Refused fault)) failed made nothing = made
+Runs (Err run.Read) failed made nothing = failed
+Runs (Err run.Write) failed made nothing = made
+Runs (Err run.Memory) failed made nothing = nothing
+Runs (Err run.NoSuchRow) failed made nothing = made
+Runs (Err run.NoSuchCertificate) failed made nothing = made
+Runs (Err run.NotYet) failed made nothing = made

@@ -1,0 +1,121 @@
+//! Does what a task asks.
+
+ghost use Rattle.std.specs.Prelude.{◌≡◌, ℕ, List, true, false, IfSome, Err};
+ghost use Rattle.opgp_octets.specs.Limits.{input_limit};
+ghost use Rattle.opgp_stack.specs.Pulled.{Pulls};
+ghost use Rattle.opgp_stack.specs.Running.{IsMade, Made, Makes, Runs, ended, is_there, made_of};
+ghost use Rattle.opgp_stack.specs.Running.{split_text};
+
+use crate::answer::Answer;
+use crate::engine_error::EngineError;
+use crate::reading_keyring::read_keyring;
+use crate::run_fault::RunFault;
+use crate::task::{Action, Out, Task};
+use crate::writing_keyring::{write_certificate, write_certificates, write_keyring, write_listing};
+use opgp_ring::{Keyring, normalise};
+use opgp_stream::{Sink, Source};
+use std::alloc::Global;
+
+/// Does what a task asks: reads a keyring, and writes what is made of it. The condition is that
+/// neither the source nor the sink has failed.
+///
+/// With any error but `Write` nothing was written; after `Write` the sink has failed, and holds a
+/// prefix of the text. `NotYet` is answered for an action that isn't there, and then nothing was read:
+/// [`Action::Show`], [`Action::Check`], [`Action::Octets`], and [`Action::Join`] that merges.
+pub fn run<R: Source, W: Sink>(
+    alloc: Global,
+    task: &Task,
+    reader: &mut R,
+    writer: &mut W,
+) -> Result<(), RunFault>
+    requires reader { R.has_failed reader.old ≡ false }
+    requires writer { W.has_failed writer.old ≡ false }
+    ensures not_yet { is_there task.now.action ≡ false → (result ≡ Err RunFault.NotYet)
+        × (reader.new ≡ reader.old) × (writer.new ≡ writer.old) }
+    ensures run { is_there task.now.action ≡ true → Runs result
+        ((R.has_failed reader.new ≡ true) × (writer.new ≡ writer.old))
+        ((octets : List ℕ)
+        × Pulls (R.left reader.old) (R.left reader.new) (input_limit task.now.limits) octets
+        × (made : Made) × Makes task.now octets made
+        × IsMade W.held W.has_failed writer.old writer.new result made)
+        (writer.new ≡ writer.old) }
+    ensures known { is_there task.now.action ≡ true → Runs result
+        ((R.has_failed reader.new ≡ true) × (writer.new ≡ writer.old))
+        (IfSome (R.left reader.old) (λ octets. (made : Made) × Makes task.now octets made
+        × IsMade W.held W.has_failed writer.old writer.new result made))
+        (writer.new ≡ writer.old) }
+{
+    if !is_there(&task.action) {
+        return Err(RunFault::NotYet);
+    }
+    match read_keyring(alloc, reader, task.mode, &task.limits) {
+        Ok(Answer::Ring(keyring)) => make(alloc, task.action, keyring, writer),
+        Ok(Answer::Refused(fault)) => Err(RunFault::Refused(fault)),
+        Err(EngineError::Read) => Err(RunFault::Read),
+        Err(_) => Err(RunFault::Memory),
+    }
+}
+
+/// Whether an action is there already.
+fn is_there(action: &Action) -> bool
+    ensures { result ≡ is_there action.now }
+{
+    match action {
+        Action::Show | Action::Check | Action::Octets { row: _, top: _ } => false,
+        Action::Join { out: _, merge } => !*merge,
+        _ => true,
+    }
+}
+
+/// Makes what an action asks of a keyring.
+fn make<W: Sink>(
+    alloc: Global,
+    action: Action,
+    keyring: Keyring,
+    writer: &mut W,
+) -> Result<(), RunFault>
+    requires { W.has_failed writer.old ≡ false }
+    ensures { IsMade W.held W.has_failed writer.old writer.new result (made_of action keyring) }
+{
+    match action {
+        Action::List => end(write_listing(alloc, &keyring, writer)),
+        Action::Write { out } => end(write_keyring(alloc, &keyring, out, writer)),
+        Action::Normalise { out } => end(write_keyring(alloc, &normalise(keyring), out, writer)),
+        Action::Split { out, nth } => split(alloc, out, nth, &keyring, writer),
+        Action::Join { out, merge: _ } => end(write_keyring(alloc, &keyring, out, writer)),
+        Action::Show | Action::Check | Action::Octets { row: _, top: _ } => Err(RunFault::NotYet),
+    }
+}
+
+/// Writes every certificate for itself, or that of a number.
+fn split<W: Sink>(
+    alloc: Global,
+    out: Out,
+    nth: Option<u64>,
+    keyring: &Keyring,
+    writer: &mut W,
+) -> Result<(), RunFault>
+    requires { W.has_failed writer.old ≡ false }
+    ensures { IsMade W.held W.has_failed writer.old writer.new result
+        (split_text out nth keyring.now.certificates) }
+{
+    match nth {
+        None => end(write_certificates(alloc, keyring, out, writer)),
+        Some(n) => match keyring.certificates().get(n as usize) {
+            None => Err(RunFault::NoSuchCertificate),
+            Some(certificate) => end(write_certificate(alloc, certificate, out, writer)),
+        },
+    }
+}
+
+/// A run ends as its writing does.
+fn end(written: Result<(), EngineError>) -> Result<(), RunFault>
+    ensures { result ≡ ended written }
+{
+    match written {
+        Ok(()) => Ok(()),
+        Err(EngineError::Read) => Err(RunFault::Read),
+        Err(EngineError::Write) => Err(RunFault::Write),
+        Err(EngineError::Memory) => Err(RunFault::Memory),
+    }
+}

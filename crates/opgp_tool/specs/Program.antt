@@ -1,0 +1,149 @@
+-- The command line as `clap` reads it: eight commands, and the options of each.
+use Rattle.std.specs.Prelude.{◌≡◌, ℕ, List, [], ◌∷◌, Some, true, false, codes, map}
+use Rattle.std.specs.Borrow.{Bor}
+use Rattle.std.specs.List.{AllByRecursion}
+use Rattle.clap.specs.Words.{App, Rule, Shape, Text, app_of, new_rule}
+use Rattle.clap.specs.Words.{subcommand_of, rows_of, found_of}
+use Rattle.clap.specs.Simple.{new_shape}
+use Rattle.clap.specs.declared.builder.action.ArgAction.TheVariants.{Set, SetTrue}
+use Rattle.clap.specs.declared.builder.command.Command.{Command}
+use Rattle.clap.specs.declared.builder.value_parser.ValueParser.{ValueParser}
+use Rattle.clap.specs.declared.builder.value_parser.ValueParser.TheVariants as parser
+use Rattle.clap.specs.declared.parser.matches.ArgMatches.{ArgMatches}
+use Rattle.opgp_stack.specs.declared.task.Task.{Task}
+use Rattle.opgp_tool.specs.Words.{IsTask}
+
+-- the words that an option takes
+abbrev pub Choice : Type 0
+Choice = Bor (List (Bor Text))
+
+abbrev pub words_in : Choice → List Text
+words_in choice = map (λ word. word.now) choice.now
+
+-- an option `--name` with one value
+abbrev pub valued_rule : Text → ValueParser → Rule
+valued_rule name p = record (new_rule name) {
+  long = Some name;
+  action = Some Set;
+  value_names = 1;
+  parser = Some p;
+}
+
+-- one of some words, `usual` where the option isn't used
+abbrev pub choice_rule : Text → Choice → Text → Rule
+choice_rule name choice usual =
+    record (valued_rule name (parser.Names choice)) { defaults = usual ∷ [] }
+
+-- a number from least to most, `usual` where the option isn't used
+abbrev pub limit_rule : Text → ℕ → ℕ → Text → Rule
+limit_rule name least most usual =
+    record (valued_rule name (parser.Unsigned least most)) { defaults = usual ∷ [] }
+
+-- any number of 64 bits
+abbrev pub number_rule : Text → Rule
+number_rule name = valued_rule name (parser.Unsigned 0 18446744073709551615)
+
+abbrev pub mode_rule : Choice → Rule
+mode_rule modes = choice_rule (codes "mode") modes (codes "auto")
+
+abbrev pub out_rule : Choice → Rule
+out_rule outs = choice_rule (codes "out") outs (codes "armor")
+
+abbrev pub of_rule : Choice → Rule
+of_rule tops = choice_rule (codes "of") tops (codes "ring")
+
+abbrev pub line_rule : Rule
+line_rule = limit_rule (codes "line") 128 1048576 (codes "8192")
+
+abbrev pub body_rule : Rule
+body_rule = limit_rule (codes "body") 512 4294967295 (codes "16777216")
+
+abbrev pub cert_rule : Rule
+cert_rule = limit_rule (codes "cert") 512 1099511627776 (codes "67108864")
+
+abbrev pub input_rule : Rule
+input_rule = limit_rule (codes "input") 0 4611686018427387904 (codes "1099511627776")
+
+abbrev pub pieces_rule : Rule
+pieces_rule = limit_rule (codes "pieces") 1 16777216 (codes "1048576")
+
+abbrev pub row_rule : Rule
+row_rule = record (number_rule (codes "row")) { required = true }
+
+abbrev pub nth_rule : Rule
+nth_rule = number_rule (codes "nth")
+
+abbrev pub merge_rule : Rule
+merge_rule =
+    record (new_rule (codes "merge")) { long = Some (codes "merge"); action = Some SetTrue }
+
+-- the words of `--mode`, `--out` and `--of`
+abbrev pub AreModes : Choice → Type 0
+AreModes modes = words_in modes ≡ codes "auto" ∷ codes "armor" ∷ codes "binary" ∷ []
+
+abbrev pub AreOuts : Choice → Type 0
+AreOuts outs = words_in outs ≡ codes "armor" ∷ codes "binary" ∷ []
+
+abbrev pub AreTops : Choice → Type 0
+AreTops tops = words_in tops ≡ codes "ring" ∷ codes "literal" ∷ []
+
+-- the command of this name takes the mode, the limits, and these options
+abbrev pub command_shape : Text → Choice → List Rule → Shape
+command_shape name modes more = record (new_shape name) {
+  rules = mode_rule modes ∷ line_rule ∷ body_rule ∷ cert_rule ∷ input_rule ∷ pieces_rule ∷ more;
+}
+
+pub record IsCommand (name : Text) (more : List Rule) (c : Command) : Type 0 where
+  pub modes : Choice
+  pub are_modes : AreModes modes
+  pub app : app_of c ≡ record { top = command_shape name modes more; subs = [] }
+
+abbrev pub AllModes : List Choice → Type 0
+AllModes = AllByRecursion AreModes
+
+abbrev pub AllOuts : List Choice → Type 0
+AllOuts = AllByRecursion AreOuts
+
+-- the eight commands, in order, each with its own words for `--mode`, `--of` and `--out`
+abbrev pub program_of : (show list check octets write normalise split join tops : Choice)
+    → (write_outs normalise_outs split_outs join_outs : Choice) → App
+program_of show list check octets write normalise split join tops
+    write_outs normalise_outs split_outs join_outs = record {
+      top = record (new_shape (codes "opgp")) { subcommand_required = true; is_leaf = false };
+      subs = command_shape (codes "show") show []
+          ∷ command_shape (codes "list") list []
+          ∷ command_shape (codes "check") check []
+          ∷ command_shape (codes "octets") octets (row_rule ∷ of_rule tops ∷ [])
+          ∷ command_shape (codes "write") write (out_rule write_outs ∷ [])
+          ∷ command_shape (codes "normalise") normalise (out_rule normalise_outs ∷ [])
+          ∷ command_shape (codes "split") split (out_rule split_outs ∷ nth_rule ∷ [])
+          ∷ command_shape (codes "join") join (out_rule join_outs ∷ merge_rule ∷ [])
+          ∷ [];
+    }
+
+pub record IsProgram (program : App) : Type 0 where
+  pub show_modes : Choice
+  pub list_modes : Choice
+  pub check_modes : Choice
+  pub octets_modes : Choice
+  pub write_modes : Choice
+  pub normalise_modes : Choice
+  pub split_modes : Choice
+  pub join_modes : Choice
+  pub are_modes : AllModes (show_modes ∷ list_modes ∷ check_modes ∷ octets_modes ∷ write_modes
+      ∷ normalise_modes ∷ split_modes ∷ join_modes ∷ [])
+  pub tops : Choice
+  pub are_tops : AreTops tops
+  pub write_outs : Choice
+  pub normalise_outs : Choice
+  pub split_outs : Choice
+  pub join_outs : Choice
+  pub are_outs : AllOuts (write_outs ∷ normalise_outs ∷ split_outs ∷ join_outs ∷ [])
+  pub is : program ≡ program_of show_modes list_modes check_modes octets_modes write_modes
+      normalise_modes split_modes join_modes tops write_outs normalise_outs split_outs join_outs
+
+-- the words name a command, and the task is that of its name and its options
+abbrev pub SaysTask : List Text → Task → Type 0
+SaysTask words task = (program : App) × IsProgram program × (name : Text) × (options : ArgMatches)
+    × (subcommand_of program words ≡ Some (name, rows_of (found_of options)))
+    × IsTask name (found_of options) task

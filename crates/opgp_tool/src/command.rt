@@ -1,0 +1,259 @@
+//! The program's commands and their options, as `clap` reads them.
+
+ghost use Rattle.std.specs.Prelude.{◌≡◌, true, false, IfOk, [], ◌∷◌, codes};
+ghost use Rattle.clap.specs.Words.{rule_of, app_of, shape_of, with_rule, with_subcommand};
+ghost use Rattle.opgp_tool.specs.Program.{Choice, AreModes, AreOuts, AreTops, mode_rule, out_rule};
+ghost use Rattle.opgp_tool.specs.Program.{of_rule, line_rule, body_rule, cert_rule, input_rule};
+ghost use Rattle.opgp_tool.specs.Program.{pieces_rule, row_rule, nth_rule, merge_rule};
+ghost use Rattle.opgp_tool.specs.Program.{IsCommand, IsProgram};
+
+use clap::{Arg, ArgAction, Command};
+use opgp_octets::OutOfMemory;
+use std::alloc::Global;
+
+static MODES: [&str; 3] = ["auto", "armor", "binary"];
+
+static OUTS: [&str; 2] = ["armor", "binary"];
+
+static TOPS: [&str; 2] = ["ring", "literal"];
+
+/// `--mode`: how the input is read.
+fn mode_option<'a>(alloc: Global) -> Arg<'a>
+    ensures rule { (words : Choice) × AreModes words × (rule_of result ≡ mode_rule words) }
+    ensures own { result.global ≡ false }
+{
+    Arg::new(alloc, "mode")
+        .long("mode")
+        .value_name("MODE")
+        .action(ArgAction::Set)
+        .value_parser(MODES.as_slice())
+        .default_value("auto")
+        .help("How the input is read")
+}
+
+/// `--out`: how keyrings are written.
+fn out_option<'a>(alloc: Global) -> Arg<'a>
+    ensures rule { (words : Choice) × AreOuts words × (rule_of result ≡ out_rule words) }
+    ensures own { result.global ≡ false }
+{
+    Arg::new(alloc, "out")
+        .long("out")
+        .value_name("OUT")
+        .action(ArgAction::Set)
+        .value_parser(OUTS.as_slice())
+        .default_value("armor")
+        .help("How keyrings are written")
+}
+
+/// `--of`: what the input is read as.
+fn of_option<'a>(alloc: Global) -> Arg<'a>
+    ensures rule { (words : Choice) × AreTops words × (rule_of result ≡ of_rule words) }
+    ensures own { result.global ≡ false }
+{
+    Arg::new(alloc, "of")
+        .long("of")
+        .value_name("TOP")
+        .action(ArgAction::Set)
+        .value_parser(TOPS.as_slice())
+        .default_value("ring")
+        .help("What the input is read as")
+}
+
+/// `--line`: 128 to 1,048,576.
+fn line_option<'a>(alloc: Global) -> Arg<'a>
+    ensures rule { rule_of result ≡ line_rule }
+    ensures own { result.global ≡ false }
+{
+    Arg::new(alloc, "line")
+        .long("line")
+        .value_name("N")
+        .action(ArgAction::Set)
+        .value_parser(clap::value_parser!(u64).range(128..=1_048_576))
+        .default_value("8192")
+        .help("The most octets of an armored line")
+}
+
+/// `--body`: 512 to 4,294,967,295.
+fn body_option<'a>(alloc: Global) -> Arg<'a>
+    ensures rule { rule_of result ≡ body_rule }
+    ensures own { result.global ≡ false }
+{
+    Arg::new(alloc, "body")
+        .long("body")
+        .value_name("N")
+        .action(ArgAction::Set)
+        .value_parser(clap::value_parser!(u64).range(512..=4_294_967_295))
+        .default_value("16777216")
+        .help("The most octets of a packet's body")
+}
+
+/// `--cert`: 512 to 2^40.
+fn cert_option<'a>(alloc: Global) -> Arg<'a>
+    ensures rule { rule_of result ≡ cert_rule }
+    ensures own { result.global ≡ false }
+{
+    Arg::new(alloc, "cert")
+        .long("cert")
+        .value_name("N")
+        .action(ArgAction::Set)
+        .value_parser(clap::value_parser!(u64).range(512..=1_099_511_627_776))
+        .default_value("67108864")
+        .help("The most octets of a certificate")
+}
+
+/// `--input`: 0 to 2^62.
+fn input_option<'a>(alloc: Global) -> Arg<'a>
+    ensures rule { rule_of result ≡ input_rule }
+    ensures own { result.global ≡ false }
+{
+    Arg::new(alloc, "input")
+        .long("input")
+        .value_name("N")
+        .action(ArgAction::Set)
+        .value_parser(clap::value_parser!(u64).range(0..=4_611_686_018_427_387_904))
+        .default_value("1099511627776")
+        .help("The most octets of the input")
+}
+
+/// `--pieces`: 1 to 16,777,216.
+fn pieces_option<'a>(alloc: Global) -> Arg<'a>
+    ensures rule { rule_of result ≡ pieces_rule }
+    ensures own { result.global ≡ false }
+{
+    Arg::new(alloc, "pieces")
+        .long("pieces")
+        .value_name("N")
+        .action(ArgAction::Set)
+        .value_parser(clap::value_parser!(u64).range(1..=16_777_216))
+        .default_value("1048576")
+        .help("The most partial lengths of a packet")
+}
+
+/// `--row`: any `u64`, and required.
+fn row_option<'a>(alloc: Global) -> Arg<'a>
+    ensures rule { rule_of result ≡ row_rule }
+    ensures own { result.global ≡ false }
+{
+    Arg::new(alloc, "row")
+        .long("row")
+        .value_name("N")
+        .required(true)
+        .action(ArgAction::Set)
+        .value_parser(clap::value_parser!(u64))
+        .help("The number of the signature's row, from 0")
+}
+
+/// `--nth`: any `u64`.
+fn nth_option<'a>(alloc: Global) -> Arg<'a>
+    ensures rule { rule_of result ≡ nth_rule }
+    ensures own { result.global ≡ false }
+{
+    Arg::new(alloc, "nth")
+        .long("nth")
+        .value_name("N")
+        .action(ArgAction::Set)
+        .value_parser(clap::value_parser!(u64))
+        .help("The number of the one certificate that is written, from 0")
+}
+
+/// `--merge`: a flag.
+fn merge_option<'a>(alloc: Global) -> Arg<'a>
+    ensures rule { rule_of result ≡ merge_rule }
+    ensures own { result.global ≡ false }
+{
+    Arg::new(alloc, "merge")
+        .long("merge")
+        .action(ArgAction::SetTrue)
+        .help("Makes equal certificates one")
+}
+
+/// The command with an option more, its last.
+fn with_option<'a>(command: Command<'a>, option: Arg<'a>) -> Result<Command<'a>, OutOfMemory>
+    requires own { option.global ≡ false }
+    ensures { IfOk result (λ r. app_of r ≡ with_rule (app_of command.entry)
+        (rule_of option.entry)) }
+{
+    command.arg(option)
+}
+
+/// The program with a command more, its last.
+fn with_command<'a>(tool: Command<'a>, command: Command<'a>) -> Result<Command<'a>, OutOfMemory>
+    requires plain { (app_of command).top.is_plain ≡ true }
+    ensures { IfOk result (λ r. app_of r ≡ with_subcommand (app_of tool.entry)
+        (shape_of command.entry)) }
+{
+    tool.subcommand(command)
+}
+
+/// A command with the options that every command takes.
+fn new_command<'a>(alloc: Global, name: &'a str, about: &'a str) -> Result<Command<'a>, OutOfMemory>
+    ensures { IfOk result (IsCommand name.entry.now []) }
+{
+    let command = Command::new(alloc, name).about(about);
+    let command = with_option(command, mode_option(alloc))?;
+    let command = with_option(command, line_option(alloc))?;
+    let command = with_option(command, body_option(alloc))?;
+    let command = with_option(command, cert_option(alloc))?;
+    let command = with_option(command, input_option(alloc))?;
+    with_option(command, pieces_option(alloc))
+}
+
+fn octets_command<'a>(alloc: Global) -> Result<Command<'a>, OutOfMemory>
+    ensures { IfOk result (λ c. (tops : Choice) × AreTops tops
+        × IsCommand (codes "octets") (row_rule ∷ of_rule tops ∷ []) c) }
+{
+    let about = "Writes the octets that one signature hashes";
+    let command = with_option(new_command(alloc, "octets", about)?, row_option(alloc))?;
+    with_option(command, of_option(alloc))
+}
+
+/// A command that writes keyrings.
+fn writing_command<'a>(
+    alloc: Global,
+    name: &'a str,
+    about: &'a str,
+) -> Result<Command<'a>, OutOfMemory>
+    ensures { IfOk result (λ c. (outs : Choice) × AreOuts outs
+        × IsCommand name.entry.now (out_rule outs ∷ []) c) }
+{
+    with_option(new_command(alloc, name, about)?, out_option(alloc))
+}
+
+fn split_command<'a>(alloc: Global) -> Result<Command<'a>, OutOfMemory>
+    ensures { IfOk result (λ c. (outs : Choice) × AreOuts outs
+        × IsCommand (codes "split") (out_rule outs ∷ nth_rule ∷ []) c) }
+{
+    let about = "Writes each certificate apart, or one of them";
+    with_option(writing_command(alloc, "split", about)?, nth_option(alloc))
+}
+
+fn join_command<'a>(alloc: Global) -> Result<Command<'a>, OutOfMemory>
+    ensures { IfOk result (λ c. (outs : Choice) × AreOuts outs
+        × IsCommand (codes "join") (out_rule outs ∷ merge_rule ∷ []) c) }
+{
+    let about = "Writes all blocks of the input as one keyring";
+    with_option(writing_command(alloc, "join", about)?, merge_option(alloc))
+}
+
+/// The program and its eight commands.
+pub fn program<'a>(alloc: Global) -> Result<Command<'a>, OutOfMemory>
+    ensures { IfOk result (λ c. IsProgram (app_of c)) }
+{
+    let tool = Command::new(alloc, "opgp")
+        .about("Reads OpenPGP keyrings from standard input")
+        .subcommand_required(true)
+        .bin_name("opgp")?;
+    let show = new_command(alloc, "show", "Lists every packet and every subpacket")?;
+    let list = new_command(alloc, "list", "Lists the packets of a keyring")?;
+    let check = new_command(alloc, "check", "Lists the signatures of a keyring")?;
+    let write = writing_command(alloc, "write", "Writes a keyring, its framing kept")?;
+    let about = "Writes a keyring in the current format";
+    let normalise = writing_command(alloc, "normalise", about)?;
+    let tool = with_command(with_command(tool, show)?, list)?;
+    let tool = with_command(with_command(tool, check)?, octets_command(alloc)?)?;
+    let tool = with_command(with_command(tool, write)?, normalise)?;
+    with_command(
+        with_command(tool, split_command(alloc)?)?,
+        join_command(alloc)?,
+    )
+}

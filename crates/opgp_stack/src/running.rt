@@ -1,6 +1,6 @@
 //! Does what a task asks.
 
-ghost use Rattle.std.specs.Prelude.{◌≡◌, ℕ, List, true, false, IfSome, Err};
+ghost use Rattle.std.specs.Prelude.{◌≡◌, ◌≢◌, ℕ, List, true, false, IfSome, Err};
 ghost use Rattle.opgp_octets.specs.Limits.{input_limit};
 ghost use Rattle.opgp_stack.specs.Pulled.{Pulls};
 ghost use Rattle.opgp_stack.specs.Running.{IsMade, Made, Makes, Runs, ended, is_there, made_of};
@@ -44,6 +44,7 @@ pub fn run<R: Source, W: Sink>(
         (IfSome (R.left reader.old) (λ octets. (made : Made) × Makes task.now octets made
         × IsMade W.held W.has_failed writer.old writer.new result made))
         (writer.new ≡ writer.old) }
+    ensures sound { result ≢ Err RunFault.Read → R.has_failed reader.new ≡ false }
 {
     if !is_there(&task.action) {
         return Err(RunFault::NotYet);

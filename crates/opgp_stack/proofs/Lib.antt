@@ -1,6 +1,7 @@
 mod Lines
 mod Loops
 mod Put
+mod Again
 mod Armored
 mod Framing
 mod Handing

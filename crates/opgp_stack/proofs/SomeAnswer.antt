@@ -1,17 +1,22 @@
 -- An input has some answer.
 use Rattle.std.proofs.Common.{ℕ, ◌+◌, ◌≤◌, ◌⊎◌, Bool, true, false, List, [], ◌∷◌, ◌++◌, length, map, refl, sym, subst, inl, inr}
 use Rattle.std.proofs.lemmas.Bool.{cases_lt}
-use Rattle.std.specs.List.{AllByRecursion}
+use Rattle.std.specs.List.{All, AllByRecursion}
+use Rattle.std.proofs.lemmas.List.Elements.{All-append, All-nil, All-cons}
 use Rattle.opgp_octets.specs.Octets.{IsOctets}
 use Rattle.opgp_octets.specs.declared.fault.Fault.{Fault}
 use Rattle.opgp_octets.specs.declared.limits.Limits.{Limits}
 use Rattle.opgp_octets.specs.Limits.{input_limit, line_limit}
 use Rattle.opgp_armor.specs.Armored.{Armored, Block, IsArmorFault}
 use Rattle.opgp_frame.specs.declared.packet.Placed.{Placed}
-use Rattle.opgp_frame.specs.Frames.{Frames, IsFramingFault}
+use Rattle.opgp_frame.specs.Frames.{Frames, IsFramingFault, StandFrom}
+use Rattle.opgp_frame.specs.Packet.{spelling}
 use Rattle.opgp_stack.specs.declared.mode.Mode.{Mode}
-use Rattle.opgp_ring.specs.Composition.{Item}
-use Rattle.opgp_stack.specs.Reading.{TextBlock, Wanted, armored_block, block_items, is_binary, Holds, IsTextFault, AreFramed, FirstFault, Outcome, Refused, too_long, AnswerOf, at_length, at_armor, at_framing, at_top, IsSome}
+use Rattle.opgp_ring.specs.Composed.{HasOctets, IsKeyringOf, IsFault}
+use Rattle.opgp_ring.specs.Composition.{Item, of_label, of_packet}
+use Rattle.opgp_ring.specs.Keyring.{KeyringValue}
+use Rattle.opgp_stack.specs.Keyrings.{ComposesTo}
+use Rattle.opgp_stack.specs.Reading.{TextBlock, Wanted, armored_block, block_items, is_binary, Holds, IsTextFault, AreFramed, FirstFault, Outcome, Whole, Refused, too_long, AnswerOf, at_length, at_armor, at_framing, at_top, IsSome}
 
 -- what the layers promise of their definitions
 pub record LayersAnswer : Type 0 where
@@ -50,6 +55,18 @@ some_framed w limits wanted n (b ∷ bs) octets = elim (w.frame limits n b.octet
   | inr k ↦ inr (k.0, inl k.1)
 ]
 
+-- packets that stand somewhere have octets
+standing_octets : (limits : Limits) (block at : ℕ) (ps : List Placed) → StandFrom limits block at ps → All HasOctets (map of_packet ps)
+standing_octets limits block at [] h = All-nil HasOctets
+standing_octets limits block at (p ∷ ps) h = All-cons HasOctets (of_packet p) (map of_packet ps) h.0.packet.octets (standing_octets limits block (at + length (spelling p.packet)) ps h.3)
+
+framed_octets : (limits : Limits) (wanted : Wanted) (n : ℕ) (bs : List TextBlock) (items : List Item) → AreFramed limits wanted n bs items → All HasOctets items
+framed_octets limits wanted n [] items h = subst (All HasOctets) (sym h) (All-nil HasOctets)
+framed_octets limits wanted n (b ∷ bs) items (packets, more, framed, rest, is) = subst (All HasOctets) (sym is)
+    (All-append HasOctets (block_items n (wanted b.label) packets) more
+    (All-cons HasOctets (of_label n (wanted b.label)) (map of_packet packets) tt (standing_octets limits n 0 packets framed.stand))
+    (framed_octets limits wanted (n + 1) bs more rest))
+
 -- Whatever the top, where it has some answer, so has reading.
 pub some_answer : {A : Type 0} (wanted : Wanted) (top : List Item → Outcome A → Type 0) → IsSome top → LayersAnswer → (mode : Mode) (limits : Limits) (input : List ℕ) → IsOctets input
     → (a : Outcome A) × AnswerOf wanted top mode limits input a
@@ -59,7 +76,15 @@ some_answer {A} wanted top some w mode limits input octets = elim (cases_lt (inp
     | inr f ↦ (Refused f.0, at_armor within f.0 f.1 refl)
     | inl bs ↦ elim (some_framed w limits wanted 0 bs.0 (text_octets w limits (is_binary mode input) input bs.0 octets bs.1)) [
       | inr f ↦ (Refused f.0, at_framing within bs.0 bs.1 f.0 f.1 refl)
-      | inl ps ↦ let a = some ps.0 in (a.0, at_top within bs.0 bs.1 ps.0 ps.1 a.1)
+      | inl ps ↦ let a = some ps.0 (framed_octets limits wanted 0 bs.0 ps.0 ps.1) in (a.0, at_top within bs.0 bs.1 ps.0 ps.1 a.1)
     ]
   ]
+]
+
+-- composition has some answer
+pub some_ring : ((limits : Limits) (items : List Item) → All HasOctets items → ((r : KeyringValue) × IsKeyringOf limits items r) ⊎ ((f : Fault) × IsFault limits items f))
+    → (limits : Limits) → IsSome (ComposesTo limits)
+some_ring law limits items octets = elim (law limits items octets) [
+  | inl r ↦ (Whole r.0, r.1)
+  | inr f ↦ (Refused f.0, f.1)
 ]

@@ -8,6 +8,7 @@ pub mod Pulled
 pub mod Reading
 pub mod Role
 pub mod Running
+pub mod Showing
 pub mod Texts
 pub mod Through
 pub mod Via

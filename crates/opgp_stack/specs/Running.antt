@@ -1,6 +1,7 @@
 -- What a run of the program makes of an input.
 use Rattle.std.specs.Prelude.{◌≡◌, ℕ, Bool, true, false, List, Option, Some, None, Result, Ok, Err}
-use Rattle.std.specs.Prelude.{slice_get}
+use Rattle.std.specs.Prelude.{slice_get, IfSome}
+use Rattle.opgp_octets.specs.Limits.{input_limit}
 use Rattle.opgp_ring.specs.Keyring.{KeyringValue, CertificateValue, certificate_packets, flat}
 use Rattle.opgp_ring.specs.Normal.{normal_of}
 use Rattle.opgp_stack.specs.declared.engine_error.EngineError.{EngineError}
@@ -13,7 +14,10 @@ use Rattle.opgp_stack.specs.declared.task.Out.{Out}
 use Rattle.opgp_stack.specs.declared.task.Task.{Task}
 use Rattle.opgp_stack.specs.Keyrings.{ComposesTo, key_label}
 use Rattle.opgp_stack.specs.Listing.{listing}
+use Rattle.opgp_stack.specs.Packets.{ArePackets, BlockValue, any_label}
+use Rattle.opgp_stack.specs.Pulled.{Pulls}
 use Rattle.opgp_stack.specs.Reading.{AnswerOf, Outcome, Whole, Refused}
+use Rattle.opgp_stack.specs.Showing.{shown_blocks}
 use Rattle.opgp_stack.specs.Writing.{certificates_text, packets_text}
 use Rattle.opgp_stack.specs.Written.{IsWritten}
 
@@ -31,9 +35,20 @@ is_there (action.Normalise out) = true
 is_there (action.Split out nth) = true
 is_there (action.Join out false) = true
 is_there (action.Join out true) = false
-is_there action.Show = false
+is_there action.Show = true
 is_there action.Check = false
 is_there (action.Octets row top) = false
+
+-- the actions that read packets; the others read a keyring
+abbrev pub reads_packets : Action → Bool
+reads_packets action.Show = true
+reads_packets action.List = false
+reads_packets (action.Write out) = false
+reads_packets (action.Normalise out) = false
+reads_packets (action.Split out nth) = false
+reads_packets (action.Join out merge) = false
+reads_packets action.Check = false
+reads_packets (action.Octets row top) = false
 
 -- the certificate of a number alone, if there is one
 abbrev pub one_text : Out → Option CertificateValue → Made
@@ -61,11 +76,22 @@ abbrev pub made_of_answer : Action → Outcome KeyringValue → Made
 made_of_answer a (Whole r) = made_of a r
 made_of_answer a (Refused fault) = Ends (run.Refused fault)
 
--- what a task makes of octets
-abbrev pub Makes : Task → List ℕ → Made → Type 0
-Makes task octets made = (answer : Outcome KeyringValue)
+abbrev pub shown_answer : Outcome (List BlockValue) → Made
+shown_answer (Whole blocks) = Text (shown_blocks blocks)
+shown_answer (Refused fault) = Ends (run.Refused fault)
+
+-- what a task makes of octets that are read as packets, or as a keyring
+abbrev pub MakesBy : Bool → Task → List ℕ → Made → Type 0
+MakesBy true task octets made = (answer : Outcome (List BlockValue))
+    × AnswerOf any_label ArePackets task.mode task.limits octets answer
+    × (made ≡ shown_answer answer)
+MakesBy false task octets made = (answer : Outcome KeyringValue)
     × AnswerOf key_label (ComposesTo task.limits) task.mode task.limits octets answer
     × (made ≡ made_of_answer task.action answer)
+
+-- what a task makes of octets
+abbrev pub Makes : Task → List ℕ → Made → Type 0
+Makes task octets made = MakesBy (reads_packets task.action) task octets made
 
 -- ---- how a run ends
 abbrev pub ended : Result Unit EngineError → Result Unit RunFault
@@ -91,3 +117,22 @@ Runs (Err run.Memory) failed made nothing = nothing
 Runs (Err run.NoSuchRow) failed made nothing = made
 Runs (Err run.NoSuchCertificate) failed made nothing = made
 Runs (Err run.NotYet) failed made nothing = made
+
+-- The run of what is made of the octets that were read.
+abbrev pub RunsOver : {W : Type 0} → (W → Option (List ℕ)) → (W → Bool) → W → W
+    → Result Unit RunFault → Option (List ℕ) → Option (List ℕ) → Type 0 → Task
+    → (List ℕ → Made → Type 0) → Type 0
+RunsOver held has_failed old new result before after failed task makes = Runs result
+    (failed × (new ≡ old))
+    ((octets : List ℕ) × Pulls before after (input_limit task.limits) octets
+    × (made : Made) × makes octets made × IsMade held has_failed old new result made)
+    (new ≡ old)
+
+-- The same where the octets of the source are known: what is made of all of them.
+abbrev pub RunsKnown : {W : Type 0} → (W → Option (List ℕ)) → (W → Bool) → W → W
+    → Result Unit RunFault → Option (List ℕ) → Type 0 → (List ℕ → Made → Type 0) → Type 0
+RunsKnown held has_failed old new result before failed makes = Runs result
+    (failed × (new ≡ old))
+    (IfSome before (λ octets. (made : Made) × makes octets made
+    × IsMade held has_failed old new result made))
+    (new ≡ old)

@@ -1,12 +1,14 @@
 //! What the definition of an answer implies, however the octets came.
 
-ghost use Rattle.std.specs.Prelude.{◌≡◌, ℕ, List};
+ghost use Rattle.std.specs.Prelude.{◌≡◌, ℕ, List, true};
+ghost use Rattle.opgp_frame.specs.Packet.{packets_octets};
 ghost use Rattle.opgp_octets.specs.Octets.{IsOctets};
 ghost use Rattle.opgp_octets.specs.declared.limits.Limits.{Limits};
-ghost use Rattle.opgp_ring.specs.Keyring.{KeyringValue};
+ghost use Rattle.opgp_ring.specs.Keyring.{KeyringValue, flat};
 ghost use Rattle.opgp_stack.specs.Keyrings.{ComposesTo, key_label};
 ghost use Rattle.opgp_stack.specs.Packets.{ArePackets, BlockValue, any_label};
-ghost use Rattle.opgp_stack.specs.Reading.{AnswerOf, Outcome};
+ghost use Rattle.opgp_stack.specs.Reading.{AnswerOf, Holds, Outcome, TextBlock, Whole};
+ghost use Rattle.opgp_stack.specs.Reading.{blocks_octets, is_binary};
 ghost use Rattle.opgp_stack.specs.declared.mode.Mode.{Mode};
 
 use opgp_armor::laws as armor;
@@ -29,6 +31,30 @@ pub fn one_answer()
     ring::one_fault();
     ring::no_fault();
 }
+
+/// All octets have some answer: one keyring, or one fault.
+pub fn some_answer()
+    ensures { (mode : Mode) (limits : Limits) (input : List ℕ) → IsOctets input
+        → (a : Outcome KeyringValue)
+        × AnswerOf key_label (ComposesTo limits) mode limits input a }
+{
+    armor::some_answer();
+    armor::blocks_hold_octets();
+    frame::some_answer();
+    ring::some_answer();
+}
+
+/// The packets of a keyring are spelled in the octets of the blocks that it was read of, in order;
+/// those of a binary input are all of it.
+pub fn packets_are_written_again()
+    ensures blocks { (mode : Mode) (limits : Limits) (input : List ℕ) (r : KeyringValue)
+        → AnswerOf key_label (ComposesTo limits) mode limits input (Whole r)
+        → (blocks : List TextBlock) × Holds (is_binary mode input) limits input blocks
+        × (packets_octets (flat r) ≡ blocks_octets blocks) }
+    ensures binary { (mode : Mode) (limits : Limits) (input : List ℕ) (r : KeyringValue)
+        → AnswerOf key_label (ComposesTo limits) mode limits input (Whole r)
+        → is_binary mode input ≡ true → packets_octets (flat r) ≡ input }
+{}
 
 /// Octets, mode and limits have one answer at most as packets: one list of blocks, or one fault.
 pub fn one_list_of_packets()

@@ -19,11 +19,13 @@ mod reading_packets;
 mod receiver;
 mod run_fault;
 mod running;
+mod showing;
 mod task;
 mod unarmoring;
 mod via;
 mod writing;
 mod writing_keyring;
+mod writing_shown;
 
 pub use answer::Answer;
 pub use engine_error::EngineError;
@@ -39,3 +41,4 @@ pub use run_fault::RunFault;
 pub use running::run;
 pub use task::{Action, Out, Task, Top};
 pub use writing_keyring::{write_certificate, write_certificates, write_keyring, write_listing};
+pub use writing_shown::write_shown;

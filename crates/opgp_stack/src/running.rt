@@ -1,27 +1,28 @@
 //! Does what a task asks.
 
-ghost use Rattle.std.specs.Prelude.{◌≡◌, ◌≢◌, ℕ, List, true, false, IfSome, Err};
-ghost use Rattle.opgp_octets.specs.Limits.{input_limit};
-ghost use Rattle.opgp_stack.specs.Pulled.{Pulls};
-ghost use Rattle.opgp_stack.specs.Running.{IsMade, Made, Makes, Runs, ended, is_there, made_of};
-ghost use Rattle.opgp_stack.specs.Running.{split_text};
+ghost use Rattle.std.specs.Prelude.{◌≡◌, ◌≢◌, true, false, Err};
+ghost use Rattle.opgp_stack.specs.Running.{IsMade, Makes, MakesBy, RunsKnown, RunsOver, ended};
+ghost use Rattle.opgp_stack.specs.Running.{is_there, made_of, reads_packets, split_text};
 
 use crate::answer::Answer;
 use crate::engine_error::EngineError;
+use crate::packets_answer::PacketsAnswer;
 use crate::reading_keyring::read_keyring;
+use crate::reading_packets::read_packets;
 use crate::run_fault::RunFault;
 use crate::task::{Action, Out, Task};
 use crate::writing_keyring::{write_certificate, write_certificates, write_keyring, write_listing};
+use crate::writing_shown::write_shown;
 use opgp_ring::{Keyring, normalise};
 use opgp_stream::{Sink, Source};
 use std::alloc::Global;
 
-/// Does what a task asks: reads a keyring, and writes what is made of it. The condition is that
-/// neither the source nor the sink has failed.
+/// Does what a task asks: reads packets or a keyring, and writes what is made of it. The condition
+/// is that neither the source nor the sink has failed.
 ///
 /// With any error but `Write` nothing was written; after `Write` the sink has failed, and holds a
 /// prefix of the text. `NotYet` is answered for an action that isn't there, and then nothing was read:
-/// [`Action::Show`], [`Action::Check`], [`Action::Octets`], and [`Action::Join`] that merges.
+/// [`Action::Check`], [`Action::Octets`], and [`Action::Join`] that merges.
 pub fn run<R: Source, W: Sink>(
     alloc: Global,
     task: &Task,
@@ -32,23 +33,62 @@ pub fn run<R: Source, W: Sink>(
     requires writer { W.has_failed writer.old ≡ false }
     ensures not_yet { is_there task.now.action ≡ false → (result ≡ Err RunFault.NotYet)
         × (reader.new ≡ reader.old) × (writer.new ≡ writer.old) }
-    ensures run { is_there task.now.action ≡ true → Runs result
-        ((R.has_failed reader.new ≡ true) × (writer.new ≡ writer.old))
-        ((octets : List ℕ)
-        × Pulls (R.left reader.old) (R.left reader.new) (input_limit task.now.limits) octets
-        × (made : Made) × Makes task.now octets made
-        × IsMade W.held W.has_failed writer.old writer.new result made)
-        (writer.new ≡ writer.old) }
-    ensures known { is_there task.now.action ≡ true → Runs result
-        ((R.has_failed reader.new ≡ true) × (writer.new ≡ writer.old))
-        (IfSome (R.left reader.old) (λ octets. (made : Made) × Makes task.now octets made
-        × IsMade W.held W.has_failed writer.old writer.new result made))
-        (writer.new ≡ writer.old) }
+    ensures run { is_there task.now.action ≡ true → RunsOver W.held W.has_failed writer.old writer.new
+        result (R.left reader.old) (R.left reader.new) (R.has_failed reader.new ≡ true) task.now
+        (Makes task.now) }
+    ensures known { is_there task.now.action ≡ true → RunsKnown W.held W.has_failed writer.old writer.new
+        result (R.left reader.old) (R.has_failed reader.new ≡ true) (Makes task.now) }
     ensures sound { result ≢ Err RunFault.Read → R.has_failed reader.new ≡ false }
 {
     if !is_there(&task.action) {
         return Err(RunFault::NotYet);
     }
+    if reads_packets(&task.action) {
+        return run_packets(alloc, task, reader, writer);
+    }
+    run_keyring(alloc, task, reader, writer)
+}
+
+/// Does what a task asks of packets: shows them.
+fn run_packets<R: Source, W: Sink>(
+    alloc: Global,
+    task: &Task,
+    reader: &mut R,
+    writer: &mut W,
+) -> Result<(), RunFault>
+    requires reader { R.has_failed reader.old ≡ false }
+    requires writer { W.has_failed writer.old ≡ false }
+    ensures run { RunsOver W.held W.has_failed writer.old writer.new
+        result (R.left reader.old) (R.left reader.new) (R.has_failed reader.new ≡ true) task.now
+        (MakesBy true task.now) }
+    ensures known { RunsKnown W.held W.has_failed writer.old writer.new
+        result (R.left reader.old) (R.has_failed reader.new ≡ true) (MakesBy true task.now) }
+    ensures sound { result ≢ Err RunFault.Read → R.has_failed reader.new ≡ false }
+{
+    match read_packets(alloc, reader, task.mode, &task.limits) {
+        Ok(PacketsAnswer::Packets(blocks)) => end(write_shown(alloc, &blocks, writer)),
+        Ok(PacketsAnswer::Refused(fault)) => Err(RunFault::Refused(fault)),
+        Err(EngineError::Read) => Err(RunFault::Read),
+        Err(_) => Err(RunFault::Memory),
+    }
+}
+
+/// Does what a task asks of a keyring.
+fn run_keyring<R: Source, W: Sink>(
+    alloc: Global,
+    task: &Task,
+    reader: &mut R,
+    writer: &mut W,
+) -> Result<(), RunFault>
+    requires reader { R.has_failed reader.old ≡ false }
+    requires writer { W.has_failed writer.old ≡ false }
+    ensures run { RunsOver W.held W.has_failed writer.old writer.new
+        result (R.left reader.old) (R.left reader.new) (R.has_failed reader.new ≡ true) task.now
+        (MakesBy false task.now) }
+    ensures known { RunsKnown W.held W.has_failed writer.old writer.new
+        result (R.left reader.old) (R.has_failed reader.new ≡ true) (MakesBy false task.now) }
+    ensures sound { result ≢ Err RunFault.Read → R.has_failed reader.new ≡ false }
+{
     match read_keyring(alloc, reader, task.mode, &task.limits) {
         Ok(Answer::Ring(keyring)) => make(alloc, task.action, keyring, writer),
         Ok(Answer::Refused(fault)) => Err(RunFault::Refused(fault)),
@@ -62,9 +102,19 @@ fn is_there(action: &Action) -> bool
     ensures { result ≡ is_there action.now }
 {
     match action {
-        Action::Show | Action::Check | Action::Octets { row: _, top: _ } => false,
+        Action::Check | Action::Octets { row: _, top: _ } => false,
         Action::Join { out: _, merge } => !*merge,
         _ => true,
+    }
+}
+
+/// Whether an action reads packets, and no keyring.
+fn reads_packets(action: &Action) -> bool
+    ensures { result ≡ reads_packets action.now }
+{
+    match action {
+        Action::Show => true,
+        _ => false,
     }
 }
 

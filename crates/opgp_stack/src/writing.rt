@@ -1,4 +1,4 @@
-//! Writing packets of keyrings, without memory once it has begun.
+//! Writing packets and lines, without memory once it has begun.
 
 ghost use Rattle.std.specs.Prelude.{◌≡◌, [], false};
 ghost use Rattle.opgp_armor.specs.Written.{armor_text};
@@ -10,10 +10,11 @@ ghost use Rattle.opgp_stream.specs.Added.{Writes};
 ghost use Rattle.opgp_stream.specs.Output.{sink_name, sink_of, state_of, waiting_in};
 
 use crate::listing::add_listing;
+use crate::showing::add_shown;
 use crate::task::Out;
 use crate::via::add_packets;
 use opgp_armor::Label;
-use opgp_ring::{Certificate, Packets};
+use opgp_ring::{BlockOf, Certificate, Packets};
 use opgp_stream::laws::{
     a_block_is_added, a_failure_at_a_begin_line, a_failure_at_an_end_line, a_failure_behind,
     a_failure_in_a_block, a_failure_in_front, a_prefix_is_put, adding_goes_on, all_is_put,
@@ -107,6 +108,8 @@ pub(crate) enum Text<'a> {
     Certificates(Out, &'a [Certificate]),
     /// A line for each packet.
     Listing(Packets<'a>),
+    /// Lines for each packet, with those of its subpackets.
+    Shown(&'a [BlockOf]),
 }
 
 /// Adds a text.
@@ -120,6 +123,7 @@ fn add<W: Sink>(output: &mut Output<'_, W>, text: Text<'_>) -> io::Result<()>
         Text::Packets(out, packets) => add_text(output, out, packets),
         Text::Certificates(out, certificates) => add_certificates(output, out, certificates),
         Text::Listing(packets) => add_listing(output, packets),
+        Text::Shown(blocks) => add_shown(output, blocks),
     }
 }
 

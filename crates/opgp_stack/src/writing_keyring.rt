@@ -99,7 +99,11 @@ pub fn write_listing<W: Sink>(
 }
 
 /// Writes a text through a buffer of its own.
-fn write<W: Sink>(alloc: Global, text: Text<'_>, writer: &mut W) -> Result<(), EngineError>
+pub(crate) fn write<W: Sink>(
+    alloc: Global,
+    text: Text<'_>,
+    writer: &mut W,
+) -> Result<(), EngineError>
     requires { W.has_failed writer.old ≡ false }
     ensures { IsWritten W.held W.has_failed writer.old writer.new result (text_octets text.entry) }
 {

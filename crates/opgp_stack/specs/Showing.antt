@@ -1,0 +1,119 @@
+-- The lines that show packets: one for each packet, and one for each subpacket of a signature.
+use Rattle.std.specs.Prelude.{ℕ, zero, suc, ◌==◌, if◌then◌else◌, Bool, true, false, List, [], ◌∷◌}
+use Rattle.std.specs.Prelude.{◌++◌, length, codes, Result, Ok, Err}
+use Rattle.std.specs.Fmt.{decimal}
+use Rattle.std.specs.List.{flat_map}
+use Rattle.opgp_octets.specs.declared.fault.BodyFault.{BodyFault}
+use Rattle.opgp_octets.specs.SubLen.{sub_len_amount}
+use Rattle.opgp_octets.specs.SubpacketKind.{subpacket_kind_of}
+use Rattle.opgp_body.specs.Fields.{Field, small, wide, integer, named, bare, subpackets}
+use Rattle.opgp_body.specs.Subpackets.{Sub}
+use Rattle.opgp_frame.specs.declared.form.Form.{Form}
+use Rattle.opgp_frame.specs.declared.form.Form.TheVariants.{OldOne, OldTwo, OldFour, NewOne, NewTwo}
+use Rattle.opgp_frame.specs.declared.form.Form.TheVariants.{NewFive, Partial}
+use Rattle.opgp_frame.specs.declared.packet.Placed.{Placed}
+use Rattle.opgp_sig.specs.Meaning.{Meaning, unfit, unknown}
+use Rattle.opgp_sig.specs.MeaningReading.{meaning_of}
+use Rattle.opgp_sig.specs.SignatureBody.{SignatureValue, of_three, of_four, of_six, of_other}
+use Rattle.opgp_sig.specs.SignatureBody.{signature_at}
+use Rattle.opgp_sig.specs.SubView.{is_critical, kind_shown}
+use Rattle.opgp_stack.specs.Packets.{BlockValue}
+use Rattle.opgp_stack.specs.declared.showing.Area.{Area}
+use Rattle.opgp_stack.specs.declared.showing.Area.TheVariants.{Hashed, Unhashed}
+
+-- ---- names
+-- of the forms of a packet's length (RFC 9580, 4.2)
+abbrev pub form_name : Form → List ℕ
+form_name OldOne = codes "old1"
+form_name OldTwo = codes "old2"
+form_name OldFour = codes "old4"
+form_name NewOne = codes "new1"
+form_name NewTwo = codes "new2"
+form_name NewFive = codes "new5"
+form_name (Partial pieces) = codes "part"
+
+-- of the areas of a signature (RFC 9580, 5.2.3)
+abbrev pub area_name : Area → List ℕ
+area_name Hashed = codes "hashed"
+area_name Unhashed = codes "unhashed"
+
+-- of what is known of a subpacket
+abbrev pub meaning_name : Meaning → List ℕ
+meaning_name unfit = codes "unfit"
+meaning_name unknown = codes "unknown"
+meaning_name typed = codes "typed"
+
+-- of a bit
+abbrev pub bit_name : Bool → List ℕ
+bit_name true = codes "1"
+bit_name false = codes "0"
+
+-- ---- lines
+-- `block <b> at <pos>`
+abbrev pub place_text : ℕ → ℕ → List ℕ
+place_text block pos = codes "block " ++ decimal block ++ codes " at " ++ decimal pos
+
+-- ` type <n> form <f> length <n>`
+abbrev pub shape_text : ℕ → Form → ℕ → List ℕ
+shape_text kind form n = codes " type " ++ decimal kind ++ codes " form " ++ form_name form
+    ++ codes " length " ++ decimal n ++ codes "\n"
+
+-- where a packet stands, and its type, form and the length of its body
+abbrev pub header_line : Placed → List ℕ
+header_line p = place_text p.block p.pos
+    ++ shape_text p.packet.kind p.packet.form (length p.packet.body)
+
+-- `  <area> kind <n> critical <0 or 1> length <n> <typed, unfit or unknown>`, where the length
+-- counts the type octet, as it is written
+abbrev pub subpacket_line : Area → Sub → List ℕ
+subpacket_line area s = codes "  " ++ area_name area ++ codes " kind " ++ decimal (kind_shown s.kind)
+    ++ codes " critical " ++ bit_name (is_critical s.kind)
+    ++ codes " length " ++ decimal (sub_len_amount s.len) ++ codes " "
+    ++ meaning_name (meaning_of (subpacket_kind_of (kind_shown s.kind)) s.octets) ++ codes "\n"
+
+abbrev pub area_lines : Area → List Sub → List ℕ
+area_lines area subs = flat_map (subpacket_line area) subs
+
+-- ---- of a signature's body
+abbrev pub subs_of : Field → List Sub
+subs_of (subpackets extent subs) = subs
+subs_of (small n) = []
+subs_of (wide n) = []
+subs_of (integer m) = []
+subs_of (named o) = []
+subs_of (bare o) = []
+
+-- the subpackets that the field of this place is, from 0
+abbrev pub subs_at : List Field → ℕ → List Sub
+subs_at [] n = []
+subs_at (f ∷ fields) zero = subs_of f
+subs_at (f ∷ fields) (suc n) = subs_at fields n
+
+-- the fields are version, type, algorithm, hash, hashed area, unhashed area, .. (RFC 9580, 5.2.3)
+abbrev pub areas_lines : List Field → List ℕ
+areas_lines fields = area_lines Hashed (subs_at fields 4) ++ area_lines Unhashed (subs_at fields 5)
+
+-- signatures of versions 4 and 6 have areas
+abbrev pub value_lines : Result SignatureValue BodyFault → List ℕ
+value_lines (Ok (of_four fields)) = areas_lines fields
+value_lines (Ok (of_six fields)) = areas_lines fields
+value_lines (Ok (of_three fields)) = []
+value_lines (Ok (of_other octets)) = []
+value_lines (Err fault) = []
+
+abbrev pub signature_lines : List ℕ → List ℕ
+signature_lines body = value_lines (signature_at body)
+
+-- ---- of packets
+abbrev pub content_lines : ℕ → List ℕ → List ℕ
+content_lines kind body = if kind == 2 then signature_lines body else []
+
+abbrev pub packet_lines : Placed → List ℕ
+packet_lines p = header_line p ++ content_lines p.packet.kind p.packet.body
+
+abbrev pub shown : List Placed → List ℕ
+shown packets = flat_map packet_lines packets
+
+-- of blocks, in order
+abbrev pub shown_blocks : List BlockValue → List ℕ
+shown_blocks blocks = flat_map (λ b. shown b.packets) blocks

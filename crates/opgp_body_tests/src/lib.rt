@@ -1,4 +1,4 @@
-//! The tests of the crates of bodies, keys, signatures and fingerprints, in a crate of their own, since a crate
+//! The tests of the crates of bodies, keys, signatures, fingerprints and questions, in a crate of their own, since a crate
 //! with tests is proved twice.
 #![tactic(auto)]
 
@@ -8,5 +8,7 @@ mod hash;
 mod key;
 #[cfg(test)]
 mod meaning;
+#[cfg(test)]
+mod questions;
 #[cfg(test)]
 mod sig;

@@ -1,10 +1,14 @@
-//! What the definitions imply.
+//! What the definitions imply: a packet's body has one fault at most, and hashed octets are those
+//! of one question, which is read again.
 
-ghost use Rattle.std.specs.Prelude.{◌≡◌, ℕ, List};
+ghost use Rattle.std.specs.Prelude.{◌≡◌, ◌↔◌, ℕ, List, Some};
 ghost use Rattle.opgp_octets.specs.Octets.{IsOctets};
 ghost use Rattle.opgp_octets.specs.declared.fault.BodyFault.{BodyFault};
 ghost use Rattle.opgp_octets.specs.declared.packet_type.PacketType.{PacketType};
+ghost use Rattle.opgp_hash.specs.Hashed.{hashed};
 ghost use Rattle.opgp_hash.specs.PacketBody.{HasBodyFault};
+ghost use Rattle.opgp_hash.specs.QuestionValue.{QuestionValue, IsQuestion};
+ghost use Rattle.opgp_hash.specs.Reopening.{question_at};
 
 /// A packet's body has one fault at most.
 pub fn one_body_fault()
@@ -13,4 +17,26 @@ pub fn one_body_fault()
 {
     opgp_body::laws::one_fault();
     opgp_sig::laws::one_fault();
+}
+
+/// A question is read of octets exactly where they are its hashed octets.
+pub fn questions_are_reopened()
+    ensures { (q : QuestionValue) (o : List ℕ) → IsOctets o
+        → (question_at o ≡ Some q) ↔ (IsQuestion q × (hashed q ≡ o)) }
+{
+    opgp_body::laws::fields_are_read();
+}
+
+/// The hashed octets of a question are read again as that question.
+pub fn written_question()
+    ensures { (q : QuestionValue) → IsQuestion q → question_at (hashed q) ≡ Some q }
+{
+    opgp_body::laws::fields_are_read();
+}
+
+/// Questions that differ in anything never have the same hashed octets.
+pub fn one_question()
+    ensures { (q r : QuestionValue) → IsQuestion q → IsQuestion r → hashed q ≡ hashed r → q ≡ r }
+{
+    opgp_body::laws::fields_are_read();
 }

@@ -1,11 +1,36 @@
-//! What names an OpenPGP key: its fingerprint and its key ID (RFC 9580, 5.5.4).
+//! What names an OpenPGP key: its fingerprint and its key ID (RFC 9580, 5.5.4); and what a
+//! signature's hash is taken over (RFC 9580, 5.2.4).
 #![tactic(auto)]
 
+mod asking;
+mod bodies;
+mod digesting;
+mod digests;
 mod fingerprints;
+mod hashers;
 mod key_hash;
+mod kinds;
 pub mod laws;
 mod packet_body;
+mod part;
+mod parts;
+mod question;
+mod reopening;
+mod signed;
+mod site;
+mod subject;
+mod why;
+mod writing;
 
+pub use asking::{ask, ask_at, ask_view};
+pub use digesting::digest;
+pub use digests::Digest;
 pub use fingerprints::{Fingerprint, KeyId};
 pub use key_hash::{fingerprint, fingerprint_of_view, key_id};
 pub use packet_body::body_fault;
+pub use question::Question;
+pub use reopening::reopen;
+pub use site::Site;
+pub use subject::Subject;
+pub use why::Why;
+pub use writing::write_octets;

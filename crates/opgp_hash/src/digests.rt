@@ -1,0 +1,36 @@
+//! Digests of five lengths.
+
+ghost use Rattle.std.specs.Prelude.{◌≡◌, length};
+
+/// A digest under one of the five hash algorithms that questions have (RFC 9580, 9.5).
+#[derive(Clone, Copy, PartialEq, Eq)]
+pub enum Digest {
+    /// Of SHA-1.
+    Sha1([u8; 20]),
+    /// Of SHA2-256.
+    Sha256([u8; 32]),
+    /// Of SHA2-384.
+    Sha384([u8; 48]),
+    /// Of SHA2-512.
+    Sha512([u8; 64]),
+    /// Of SHA2-224.
+    Sha224([u8; 28]),
+}
+
+impl Digest {
+    ghost use Rattle.opgp_hash.specs.Digest.{digest_octets, digest_size};
+
+    /// Its octets: 20, 32, 48, 64 or 28.
+    pub fn octets(&self) -> &[u8]
+        ensures value { result.now ≡ digest_octets self.now }
+        ensures size { length result.now ≡ digest_size self.now }
+    {
+        match self {
+            Digest::Sha1(octets) => octets,
+            Digest::Sha256(octets) => octets,
+            Digest::Sha384(octets) => octets,
+            Digest::Sha512(octets) => octets,
+            Digest::Sha224(octets) => octets,
+        }
+    }
+}

@@ -8,6 +8,7 @@ pub mod Sound
 pub mod HeaderLines
 pub mod Complete
 pub mod Texts
+pub mod TextSizes
 pub mod Faults
 pub mod Answer
 pub mod Contents

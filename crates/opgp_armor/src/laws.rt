@@ -46,6 +46,12 @@ pub fn blocks_hold_octets()
         → AllByRecursion (λ b. IsOctets b.octets) blocks }
 {}
 
+/// A block has no more octets than the text that it stands in.
+pub fn a_block_has_no_more_octets_than_the_text()
+    ensures { (limit : ℕ) (text : List ℕ) (blocks : List Block) → Armored limit text blocks
+        → AllByRecursion (λ b. length b.octets ≤ length text) blocks }
+{}
+
 /// However a text is cut into pieces, what was taken and what is ready are the events of the
 /// longest list of first ended lines with which an armored text begins.
 pub fn events_are_those_of_the_longest_opening()

@@ -8,6 +8,7 @@ pub mod KeyView
 pub mod Literal
 pub mod LiteralBody
 pub mod LiteralPlaces
+pub mod LiteralView
 pub mod Material
 pub mod Shape
 pub mod UserId

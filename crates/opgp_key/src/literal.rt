@@ -15,6 +15,7 @@ ghost use Rattle.opgp_key.specs.LiteralBody.{LiteralFault};
 ghost use Rattle.opgp_key.specs.LiteralPlaces.{literal_in, LieIn};
 
 use crate::literal_places::LiteralPlaces;
+use crate::literal_view::LiteralView;
 use opgp_octets::{BodyFault, OutOfMemory, ParseFault};
 use std::alloc::Global;
 
@@ -31,6 +32,7 @@ pub struct Literal {
 
 impl Literal {
     ghost use Rattle.opgp_key.specs.Literal.{literal_octets, literal_value};
+    ghost use Rattle.opgp_key.specs.LiteralView.{literal_view_octets, literal_view_value};
 
     /// The fault of a literal's body, if it has one. Takes no memory.
     ///
@@ -125,6 +127,17 @@ impl Literal {
     {
         let Literal { body, places: _ } = self;
         body
+    }
+
+    /// The literal over its body. Takes no memory, and reads nothing again.
+    pub fn view(&self) -> LiteralView<'_>
+        ensures body { literal_view_octets result ≡ literal_octets self.now }
+        ensures fields { literal_view_value result ≡ literal_value self.now }
+    {
+        LiteralView {
+            body: &self.body,
+            places: self.places,
+        }
     }
 
     /// Its format octet: mostly `b`, `t` or `u`.

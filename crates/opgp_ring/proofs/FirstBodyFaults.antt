@@ -12,7 +12,7 @@ use Rattle.opgp_ring.specs.Block.{placed_of}
 use Rattle.opgp_ring.specs.Bodies.{IsSound, IsFirstBodyFault, HasFault, placed_fault}
 
 -- a list at one of its elements
-at_place : {X : Type 0} (xs : List X) (i : ℕ) (x : X) → i < length xs → x ≡ get_or xs i x → xs ≡ take i xs ++ x ∷ drop (suc i) xs
+pub at_place : {X : Type 0} (xs : List X) (i : ℕ) (x : X) → i < length xs → x ≡ get_or xs i x → xs ≡ take i xs ++ x ∷ drop (suc i) xs
 at_place {X} xs i x h e =
     sym (take-append-drop i xs) ∙ ap (λ (l : List X). take i xs ++ l) (drop-cons xs i x h) ∙ ap (λ (y : X). take i xs ++ y ∷ drop (suc i) xs) (sym e)
 

@@ -2,6 +2,7 @@ pub mod Adding
 pub mod AllButLast
 pub mod FirstBodyFaults
 pub mod Contents
+pub mod BlockEnds
 pub mod Faults
 pub mod Feeding
 pub mod Hanging
@@ -20,3 +21,7 @@ pub mod Starting
 pub mod States
 pub mod Stepping
 pub mod Values
+pub mod SignedBodies
+pub mod SignedLaws
+pub mod SignedShapes
+pub mod SignedStates

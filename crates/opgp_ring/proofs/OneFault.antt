@@ -67,7 +67,7 @@ sound_fails ps p more why a here = let s : HasNoFault p.packet = middle IsSound 
 abbrev pub OneBodyFault : Type 0
 OneBodyFault = (kind : PacketType) (o : List ℕ) (f g : BodyFault) → IsOctets o → HasBodyFault kind o f → HasBodyFault kind o g → f ≡ g
 
-body_by : (one : OneBodyFault) (ps : List Placed) (f g : Fault) (b : IsFirstBodyFault ps f) (q : IsFirstBodyFault ps g) → Two b.before q.before b.at q.at → f ≡ g
+pub body_by : (one : OneBodyFault) (ps : List Placed) (f g : Fault) (b : IsFirstBodyFault ps f) (q : IsFirstBodyFault ps g) → Two b.before q.before b.at q.at → f ≡ g
 body_by one ps f g b q (same xs at) =
     let here : HasFault q.at.packet b.why = subst (λ (p : Placed). HasFault p.packet b.why) at b.here in
     let why : b.why ≡ q.why = one (packet_type_of q.at.packet.kind) q.at.packet.body b.why q.why q.octets here q.here in
@@ -75,7 +75,7 @@ body_by one ps f g b q (same xs at) =
 body_by one ps f g b q (before more e) = absurd (sound_fails b.before b.at more b.why (subst (All IsSound) e q.sound) b.here)
 body_by one ps f g b q (behind more e) = absurd (sound_fails q.before q.at more q.why (subst (All IsSound) e b.sound) q.here)
 
-none_sound : (ps : List Placed) (f : Fault) → All IsSound ps → IsFirstBodyFault ps f → ⊥
+pub none_sound : (ps : List Placed) (f : Fault) → All IsSound ps → IsFirstBodyFault ps f → ⊥
 none_sound ps f a b = sound_fails b.before b.at b.after b.why (subst (All IsSound) b.whole a) b.here
 
 pub one_fault : (one : OneBodyFault) (limits : Limits) (items : List Item) (f g : Fault) → IsFault limits items f → IsFault limits items g → f ≡ g

@@ -46,7 +46,7 @@ by_fields : (laws : Laws) (grammar : Grammar) (o : List ℕ) → IsOctets o → 
 by_fields laws grammar o octets = elim (laws.fields grammar o octets) [ inl b ↦ inr (λ f h. laws.no_field grammar b.0 o f octets b.1 h) | inr w ↦ inl w ]
 
 -- a body has a fault or none
-decided : (laws : Laws) (kind : PacketType) (o : List ℕ) → IsOctets o → ((f : BodyFault) × HasBodyFault kind o f) ⊎ ((f : BodyFault) → HasBodyFault kind o f → ⊥)
+pub decided : (laws : Laws) (kind : PacketType) (o : List ℕ) → IsOctets o → ((f : BodyFault) × HasBodyFault kind o f) ⊎ ((f : BodyFault) → HasBodyFault kind o f → ⊥)
 decided laws Signature o octets = elim (laws.signature o octets) [ inl b ↦ inr (λ f h. laws.no_signature b.0 o f octets b.1 h) | inr w ↦ inl w ]
 decided laws PublicKey o octets = by_fields laws key o octets
 decided laws PublicSubkey o octets = by_fields laws key o octets

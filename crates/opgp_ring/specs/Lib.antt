@@ -13,3 +13,8 @@ pub mod Joining
 pub mod Lent
 pub mod Normal
 pub mod Packets
+pub mod Shape
+pub mod Signed
+pub mod SignedGathering
+pub mod SignedLiteral
+pub mod SignedState

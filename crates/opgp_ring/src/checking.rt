@@ -26,7 +26,7 @@ pub fn check_bodies(blocks: &[BlockOf]) -> Option<Fault>
 }
 
 /// The fault of the first packet whose body has one.
-fn check_packets(packets: &[Placed]) -> Option<Fault>
+pub(crate) fn check_packets(packets: &[Placed]) -> Option<Fault>
     ensures { MatchOption result (All IsSound packets.now) (IsFirstBodyFault packets.now) }
 {
     for placed in packets {

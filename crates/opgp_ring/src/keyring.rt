@@ -84,7 +84,7 @@ impl Keyring {
 }
 
 /// Equal packets. An error is want of memory.
-fn copy_packets(alloc: Global, packets: &[Packet]) -> Result<Vec<Packet>, OutOfMemory>
+pub(crate) fn copy_packets(alloc: Global, packets: &[Packet]) -> Result<Vec<Packet>, OutOfMemory>
     ensures { IfOk result (λ v. v.items ≡ packets.now) }
 {
     let mut copies = Vec::new(alloc);

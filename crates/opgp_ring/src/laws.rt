@@ -8,6 +8,7 @@ ghost use Rattle.opgp_ring.specs.Composed.{HasOctets, IsKeyringOf, IsFault, Part
 ghost use Rattle.opgp_ring.specs.Composition.{Item, AreKeyring};
 ghost use Rattle.opgp_ring.specs.Keyring.{KeyringValue, IsKeyring, flat};
 ghost use Rattle.opgp_ring.specs.Normal.{normal_of};
+ghost use Rattle.opgp_ring.specs.Signed.{IsSignedFault, IsSignedOf};
 ghost use Rattle.opgp_ring.specs.declared.composer.Composer.{Composer};
 ghost use Rattle.opgp_ring.specs.Fed.{Fed, fault_of, held_of, is_ready, is_spent};
 ghost use Rattle.opgp_ring.specs.Taken.{IsAllButLast, so_far};
@@ -68,3 +69,35 @@ pub fn some_answer()
 pub fn normalised_twice()
     ensures { (r : KeyringValue) → normal_of (normal_of r) ≡ normal_of r }
 {}
+
+/// Items are one signed literal at most.
+pub fn one_signed_literal()
+    ensures { (items : List Item) (ps qs : List PacketValue) → IsSignedOf items ps
+        → IsSignedOf items qs → ps ≡ qs }
+{}
+
+/// Items that are a signed literal have no fault as one.
+pub fn no_signed_fault()
+    ensures { (items : List Item) (ps : List PacketValue) (f : Fault) → IsSignedOf items ps
+        → IsSignedFault items f → ⊥ }
+{}
+
+/// Items have one fault at most as a signed literal.
+pub fn one_signed_fault()
+    ensures { (items : List Item) (f g : Fault) → IsSignedFault items f → IsSignedFault items g
+        → f ≡ g }
+{
+    opgp_hash::laws::one_body_fault();
+}
+
+/// Items whose bodies are octets are a signed literal or have a fault as one.
+pub fn some_signed_answer()
+    ensures { (items : List Item) → All HasOctets items
+        → ((ps : List PacketValue) × IsSignedOf items ps)
+        ⊎ ((f : Fault) × IsSignedFault items f) }
+{
+    opgp_body::laws::some_answer();
+    opgp_body::laws::no_fault();
+    opgp_sig::laws::some_answer();
+    opgp_sig::laws::no_fault();
+}

@@ -74,7 +74,7 @@ pub(crate) fn sort(packet: Packet) -> Result<Sorted, BodyFault>
 }
 
 /// Whether packets of the type stay in place wherever they stand.
-fn is_filler(kind: u8) -> bool
+pub(crate) fn is_filler(kind: u8) -> bool
     ensures { result ≡ is_filler kind }
 {
     matches!(kind, 10 | 12 | 21 | 40..)

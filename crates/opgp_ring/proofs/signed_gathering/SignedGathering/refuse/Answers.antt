@@ -1,0 +1,17 @@
+use Rattle.std.proofs.Common.{subst, refl, ap}
+use Rattle.opgp_ring.specs.declared.signed_gathering.SignedState.{SignedState}
+use Rattle.opgp_ring.specs.SignedState.{IsSignedIn, is_open}
+use Rattle.opgp_ring.proofs.SignedStates.{behind, refused, not_open}
+use Rattle.opgp_ring.proofs.signed_gathering.SignedGathering.refuse.Goals as goal
+
+pub returns-in-Open-clause-state : goal.returns-in-Open-clause-state
+returns-in-Open-clause-state c = λ given i sound here is.
+    let kept = c.args.self.now.flat.items in
+    refused c.in-Open.field-0 given kept i _ (subst (λ (s : SignedState). IsSignedIn s given kept) c.in-Open.is is) sound (here (ap is_open c.in-Open.is))
+
+pub returns-in_default : goal.returns-in_default
+returns-in_default c = record {
+  state = λ given i sound here is. behind c.args.self.now.state given c.args.self.now.flat.items i sound (not_open c.args.self.now.state c.in_default.not-Open) is;
+  block = refl;
+  end = refl;
+}

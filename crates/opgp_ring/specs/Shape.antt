@@ -1,0 +1,27 @@
+-- How far packets have come that begin a signed literal.
+use Rattle.std.specs.Prelude.{◌≡◌, ℕ, ◌+◌, ◌<◌, ◌==◌, Bool, false, List, ◌∷◌, ◌++◌, replicate}
+use Rattle.opgp_frame.specs.Packet.{PacketValue}
+use Rattle.opgp_ring.specs.declared.shape.Shape.{Shape}
+use Rattle.opgp_ring.specs.declared.shape.Shape.TheVariants.{Opening, Closing}
+use Rattle.opgp_ring.specs.Signed.{types_of}
+
+-- so many signatures are still to come behind the literal
+pub record IsClosing (left : ℕ) (ps : List PacketValue) : Type 0 where
+  pub done : ℕ
+  pub some : 0 < done + left
+  pub whole : types_of ps ≡ replicate (done + left) 4 ++ 11 ∷ replicate done 2
+
+-- the packets have come so far
+abbrev pub Stands : Shape → List PacketValue → Type 0
+Stands (Opening n) ps = types_of ps ≡ replicate n 4
+Stands (Closing left) ps = IsClosing left ps
+
+-- how many one-pass signatures it counts
+abbrev pub opened : Shape → ℕ
+opened (Opening n) = n
+opened (Closing left) = 0
+
+-- nothing is missing
+abbrev pub is_whole : Shape → Bool
+is_whole (Opening n) = false
+is_whole (Closing left) = left == 0

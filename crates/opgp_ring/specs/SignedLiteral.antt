@@ -1,0 +1,14 @@
+-- What a signed literal shows.
+use Rattle.std.specs.Prelude.{ℕ, List}
+use Rattle.opgp_frame.specs.Packet.{PacketValue}
+use Rattle.opgp_ring.specs.declared.signatures.Signatures.{Signatures}
+use Rattle.opgp_ring.specs.declared.signed_literal.SignedLiteral.{SignedLiteral}
+use Rattle.opgp_ring.specs.Signed.{bodies_of}
+
+-- all its packets, in order
+abbrev pub signed_packets : SignedLiteral → List PacketValue
+signed_packets l = l.flat.items
+
+-- the bodies of the signatures that are left, in order
+abbrev pub signatures_left : Signatures → List (List ℕ)
+signatures_left s = bodies_of 2 s.packets.now

@@ -1,0 +1,36 @@
+-- Where the gathering of a signed literal stands.
+use Rattle.std.specs.Prelude.{◌≡◌, ℕ, Bool, true, false, List, All}
+use Rattle.opgp_frame.specs.Packet.{PacketValue}
+use Rattle.opgp_ring.specs.declared.shape.Shape.{Shape}
+use Rattle.opgp_ring.specs.declared.signed_gathering.SignedState.{SignedState}
+use Rattle.opgp_ring.specs.declared.signed_gathering.SignedState.TheVariants.{Open, Disordered}
+use Rattle.opgp_ring.specs.declared.signed_gathering.SignedState.TheVariants.{Broken}
+use Rattle.opgp_ring.specs.Bodies.{IsSound, IsFirstBodyFault}
+use Rattle.opgp_ring.specs.Composition.{Item, placed_in, packets_in, labels_fit}
+use Rattle.opgp_ring.specs.Shape.{Stands, opened}
+use Rattle.opgp_ring.specs.Signed.{StopsAt}
+
+-- the items have no fault so far, the packets are kept, and they have come to this place
+pub record IsOpen (shape : Shape) (items : List Item) (kept : List PacketValue) : Type 0 where
+  pub labels : labels_fit items ≡ true
+  pub sound : All IsSound (placed_in items)
+  pub flat : kept ≡ packets_in items
+  pub stands : Stands shape kept
+
+-- what a state says of the items given and of the packets kept
+abbrev pub IsSignedIn : SignedState → List Item → List PacketValue → Type 0
+IsSignedIn (Open shape) items kept = IsOpen shape items kept
+IsSignedIn (Disordered f) items kept = All IsSound (placed_in items) × StopsAt items f
+IsSignedIn (Broken f) items kept = IsFirstBodyFault (placed_in items) f
+
+-- how many one-pass signatures a state counts
+abbrev pub opened_in : SignedState → ℕ
+opened_in (Open shape) = opened shape
+opened_in (Disordered f) = 0
+opened_in (Broken f) = 0
+
+-- no fault has come
+abbrev pub is_open : SignedState → Bool
+is_open (Open shape) = true
+is_open (Disordered f) = false
+is_open (Broken f) = false

@@ -1,0 +1,47 @@
+//! Composing blocks of packets to a signed literal.
+
+ghost use Rattle.std.specs.Prelude.{◌<◌, ◌^◌, IfOk, MatchResult};
+ghost use Rattle.opgp_ring.specs.Block.{items_of};
+ghost use Rattle.opgp_ring.specs.Signed.{IsSignedFault, IsSignedOf, end_pos};
+ghost use Rattle.opgp_ring.specs.SignedGathering.{GathersSigned};
+ghost use Rattle.opgp_ring.specs.SignedLiteral.{signed_packets};
+
+use crate::block_of::BlockOf;
+use crate::signed_gathering::SignedGathering;
+use crate::signed_literal::SignedLiteral;
+use opgp_octets::{Fault, OutOfMemory};
+use std::alloc::Global;
+
+/// The signed literal of the packets of all blocks, in order (RFC 9580, 10.3), or the one fault:
+/// that of the first body that has one, else the first of the order, a block's label before its
+/// packets.
+///
+/// Fillers aside, the packets are one-pass signatures, at least one, then the literal, then as many
+/// signatures. The fault stands at the first packet with which no such list begins; where packets
+/// are missing, at the end of the last block. The condition is that this end is at most 2^64 - 1,
+/// which [`end_fits`](crate::end_fits) tells.
+///
+/// An error is want of memory.
+pub fn compose_signed(
+    alloc: Global,
+    blocks: Vec<BlockOf>,
+) -> Result<Result<SignedLiteral, Fault>, OutOfMemory>
+    requires { end_pos (items_of blocks.items) < 2 ^ 64 }
+    ensures { IfOk result (λ r. MatchResult r
+        (λ l. IsSignedOf (items_of blocks.items) (signed_packets l))
+        (IsSignedFault (items_of blocks.items))) }
+{
+    let gathering = gather(alloc, blocks)?;
+    Ok(gathering.finish())
+}
+
+/// The packets of all blocks.
+fn gather(alloc: Global, blocks: Vec<BlockOf>) -> Result<SignedGathering, OutOfMemory>
+    ensures { IfOk result (λ g. GathersSigned g (items_of blocks.items)) }
+{
+    let mut gathering = SignedGathering::new(alloc);
+    for block in blocks {
+        gathering.add_block(block)?;
+    }
+    Ok(gathering)
+}

@@ -1,0 +1,64 @@
+//! The signatures of a literal, one after the other.
+
+ghost use Rattle.std.specs.Prelude.{◌≡◌, ◌∷◌, [], All, IfSome, MatchOption};
+ghost use Rattle.opgp_sig.specs.SigView.{sig_view_octets};
+ghost use Rattle.opgp_ring.specs.Bodies.{HasNoFault};
+ghost use Rattle.opgp_ring.specs.Signed.{bodies_of};
+
+use opgp_frame::Packet;
+use opgp_sig::SigView;
+
+/// The signatures that are left, in order. Takes no memory.
+#[derive(Clone, Copy)]
+pub struct Signatures<'a> {
+    packets: &'a [Packet],
+    ghost sound: { All HasNoFault packets.now },
+}
+
+impl<'a> Signatures<'a> {
+    ghost use Rattle.opgp_ring.specs.SignedLiteral.{signatures_left};
+
+    /// Those among packets whose bodies are sound.
+    pub(crate) fn new(packets: &'a [Packet]) -> Signatures<'a>
+        requires { All HasNoFault packets.now }
+        ensures { signatures_left result ≡ bodies_of 2 packets.now }
+    {
+        Signatures { packets }
+    }
+
+    /// The next signature, or None at the end.
+    pub fn next(&mut self) -> Option<SigView<'a>>
+        ensures { MatchOption result (signatures_left self.old ≡ [])
+            (λ view. signatures_left self.old
+            ≡ sig_view_octets view ∷ signatures_left self.new) }
+    {
+        match first_of(self.packets, 2) {
+            Some((packet, rest)) => {
+                self.packets = rest;
+                match SigView::parse_body(packet.body()) {
+                    Ok(view) => Some(view),
+                    Err(_) => unreachable!(),
+                }
+            }
+            None => None,
+        }
+    }
+}
+
+/// The first packet of a type, and those behind it.
+pub(crate) fn first_of(packets: &[Packet], kind: u8) -> Option<(&Packet, &[Packet])>
+    requires { All HasNoFault packets.now }
+    ensures bodies { MatchOption result (bodies_of kind packets.now ≡ [])
+        (λ found. bodies_of kind packets.now
+        ≡ found.0.now.body ∷ bodies_of kind found.1.now) }
+    ensures kind { IfSome result (λ found. found.0.now.kind ≡ kind) }
+    ensures sound { IfSome result (λ found. HasNoFault found.0.now) }
+    ensures rest { IfSome result (λ found. All HasNoFault found.1.now) }
+{
+    for (i, packet) in packets.iter().enumerate() {
+        if packet.kind() == kind {
+            return Some((packet, &packets[i + 1..]));
+        }
+    }
+    None
+}

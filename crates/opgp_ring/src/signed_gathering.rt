@@ -1,0 +1,192 @@
+//! Gathering the packets of a signed literal.
+
+ghost use Rattle.std.specs.Prelude.{◌≡◌, ◌≤◌, ◌<◌, ◌^◌, ◌++◌, ◌∷◌, [], List, length, true, false};
+ghost use Rattle.std.specs.Prelude.{MatchResult, OnOk};
+ghost use Rattle.opgp_ring.specs.Bodies.{IsSound, IsFirstBodyFault};
+ghost use Rattle.opgp_ring.specs.Composed.{IsSoundItem};
+ghost use Rattle.opgp_ring.specs.Composition.{Item, of_label, of_packet, packets_in, fault_at};
+ghost use Rattle.opgp_ring.specs.Signed.{IsSignedFault, IsSignedFaultAt, IsSignedOf, end_pos};
+ghost use Rattle.opgp_ring.specs.SignedState.{IsSignedIn, is_open, opened_in};
+
+use crate::block_of::BlockOf;
+use crate::checking::check_packets;
+use crate::shape::Shape;
+use crate::signed_literal::SignedLiteral;
+use opgp_frame::{Packet, Placed};
+use opgp_octets::{Fault, Layer, OutOfMemory, Reason};
+use std::alloc::Global;
+use std::slice;
+
+/// Where the gathering of a signed literal stands.
+#[derive(Clone, Copy)]
+enum SignedState {
+    /// The packets begin a signed literal, and have come so far.
+    Open(Shape),
+    /// Behind a fault of the order, where a body may still be at fault.
+    Disordered(Fault),
+    /// Behind a fault of a body.
+    Broken(Fault),
+}
+
+/// A signed literal in the making (RFC 9580, 10.3), of packets that come one at a time.
+#[derive(Drop)]
+pub struct SignedGathering {
+    flat: Vec<Packet>,
+    state: SignedState,
+    block: u64,
+    end: u64,
+    ghost counted: { opened_in state ≤ length flat.items },
+}
+
+impl SignedGathering {
+    ghost use Rattle.opgp_frame.specs.declared.packet.Placed.{Placed};
+    ghost use Rattle.opgp_ring.specs.Block.{block_items};
+    ghost use Rattle.opgp_ring.specs.SignedGathering.{GathersSigned};
+    ghost use Rattle.opgp_ring.specs.SignedLiteral.{signed_packets};
+
+    /// A signed literal of nothing yet. Takes no memory; what is added does, from `alloc`.
+    pub fn new(alloc: Global) -> SignedGathering
+        ensures { GathersSigned result [] }
+    {
+        SignedGathering {
+            flat: Vec::new(alloc),
+            state: SignedState::Open(Shape::Opening(0)),
+            block: 0,
+            end: 0,
+        }
+    }
+
+    pub(crate) fn add_block(&mut self, block: BlockOf) -> Result<(), OutOfMemory>
+        ensures { OnOk result ((given : List Item) → GathersSigned self.old given
+            → GathersSigned self.new (given ++ block_items block)) }
+    {
+        let BlockOf {
+            block,
+            label_fits,
+            packets,
+        } = block;
+        self.begin_block(block, label_fits);
+        for placed in packets {
+            self.add(placed)?;
+        }
+        Ok(())
+    }
+
+    /// Begins a block of this number, whose label is the wanted one or not. Takes no memory.
+    pub fn begin_block(&mut self, block: u64, label_fits: bool)
+        ensures { (given : List Item) → GathersSigned self.old given
+            → GathersSigned self.new (given ++ of_label block label_fits ∷ []) }
+    {
+        self.block = block;
+        self.end = 0;
+        if !label_fits {
+            self.refuse(Reason::BlockLabel, block, 0);
+        }
+    }
+
+    /// Adds the next packet of the block. An error is want of memory; the signed literal is lost
+    /// then.
+    pub fn add(&mut self, placed: Placed) -> Result<(), OutOfMemory>
+        ensures { OnOk result ((given : List Item) → GathersSigned self.old given
+            → GathersSigned self.new (given ++ of_packet placed ∷ [])) }
+    {
+        self.end = placed.pos.saturating_add(placed.packet.spelled_len());
+        match check_packets(slice::from_ref(&placed)) {
+            Some(fault) => {
+                self.break_off(fault);
+                Ok(())
+            }
+            None => {
+                self.keep(placed)?;
+                Ok(())
+            }
+        }
+    }
+
+    /// The signed literal of what was added, or the one fault: that of the first body that has one,
+    /// else the first of the order, a block's label before its packets. Where packets are missing,
+    /// that is at the end of the last block.
+    ///
+    /// The condition is that nothing was refused. Where the last block ends past 2^64 - 1 the
+    /// answer says nothing. Takes no memory.
+    pub fn finish(self) -> Result<SignedLiteral, Fault>
+        requires { (items : List Item) × GathersSigned self items }
+        ensures { (items : List Item) → GathersSigned self items → end_pos items < 2 ^ 64
+            → MatchResult result (λ l. IsSignedOf items (signed_packets l)) (IsSignedFault items) }
+    {
+        let SignedGathering {
+            flat,
+            state,
+            block,
+            end,
+        } = self;
+        match state {
+            SignedState::Open(shape) if shape.is_whole() => Ok(SignedLiteral::new(flat)),
+            SignedState::Open(_) => Err(Fault {
+                layer: Layer::Composition,
+                reason: Reason::NotASignedLiteral,
+                block,
+                pos: end,
+                inner: 0,
+            }),
+            SignedState::Disordered(fault) | SignedState::Broken(fault) => Err(fault),
+        }
+    }
+
+    /// Keeps a packet whose body is sound, where a signed literal begins so.
+    fn keep(&mut self, placed: Placed) -> Result<(), OutOfMemory>
+        ensures state { OnOk result ((given : List Item) → IsSound placed
+            → IsSignedIn self.old.state given self.old.flat.items
+            → IsSignedIn self.new.state (given ++ of_packet placed ∷ []) self.new.flat.items) }
+        ensures block { self.new.block ≡ self.old.block }
+        ensures end { self.new.end ≡ self.old.end }
+    {
+        let SignedState::Open(shape) = self.state else {
+            return Ok(());
+        };
+        let Placed { packet, block, pos } = placed;
+        match shape.next(packet.kind()) {
+            Some(next) => {
+                self.flat.push(packet)?;
+                self.state = SignedState::Open(next);
+            }
+            None => self.refuse(Reason::NotASignedLiteral, block, pos),
+        }
+        Ok(())
+    }
+
+    /// Keeps the fault of the order, if it is the first.
+    fn refuse(&mut self, reason: Reason, block: u64, pos: u64)
+        ensures state { (given : List Item) (i : Item) → IsSoundItem i
+            → (is_open self.old.state ≡ true
+            → IsSignedFaultAt (packets_in given) i (fault_at reason block pos))
+            → IsSignedIn self.old.state given self.old.flat.items
+            → IsSignedIn self.new.state (given ++ i ∷ []) self.new.flat.items }
+        ensures block { self.new.block ≡ self.old.block }
+        ensures end { self.new.end ≡ self.old.end }
+    {
+        if let SignedState::Open(_) = self.state {
+            self.state = SignedState::Disordered(Fault {
+                layer: Layer::Composition,
+                reason,
+                block,
+                pos,
+                inner: 0,
+            });
+        }
+    }
+
+    /// Keeps the fault of a body, if it is the first.
+    fn break_off(&mut self, fault: Fault)
+        ensures state { (given : List Item) (p : Placed) → IsFirstBodyFault (p ∷ []) fault
+            → IsSignedIn self.old.state given self.old.flat.items
+            → IsSignedIn self.new.state (given ++ of_packet p ∷ []) self.new.flat.items }
+        ensures block { self.new.block ≡ self.old.block }
+        ensures end { self.new.end ≡ self.old.end }
+    {
+        match self.state {
+            SignedState::Broken(_) => {}
+            _ => self.state = SignedState::Broken(fault),
+        }
+    }
+}

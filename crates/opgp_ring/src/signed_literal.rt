@@ -1,0 +1,77 @@
+//! A literal and the signatures of it.
+
+ghost use Rattle.std.specs.Prelude.{◌≡◌, ◌∷◌, [], List, length, All, IfOk};
+ghost use Rattle.opgp_key.specs.LiteralView.{literal_view_octets};
+ghost use Rattle.opgp_ring.specs.Bodies.{HasNoFault};
+ghost use Rattle.opgp_ring.specs.Signed.{IsSigned, bodies_of};
+
+use crate::keyring::copy_packets;
+use crate::signatures::{Signatures, first_of};
+use opgp_frame::Packet;
+use opgp_key::LiteralView;
+use opgp_octets::OutOfMemory;
+use std::alloc::Global;
+
+/// A literal with one-pass signatures before it and as many signatures behind it; fillers may stand
+/// anywhere (RFC 9580, 10.3).
+#[derive(Drop)]
+pub struct SignedLiteral {
+    flat: Vec<Packet>,
+    ghost sound: { All HasNoFault flat.items },
+    ghost one: { length (bodies_of 11 flat.items) ≡ 1 },
+}
+
+impl SignedLiteral {
+    ghost use Rattle.opgp_ring.specs.SignedLiteral.{signatures_left, signed_packets};
+
+    pub(crate) fn new(flat: Vec<Packet>) -> SignedLiteral
+        requires signed { IsSigned flat.items }
+        requires sound { All HasNoFault flat.items }
+        ensures { signed_packets result ≡ flat.items }
+    {
+        SignedLiteral { flat }
+    }
+
+    /// All its packets, in order.
+    pub fn flat(&self) -> &[Packet]
+        ensures { result.now ≡ signed_packets self.now }
+    {
+        &self.flat
+    }
+
+    /// The literal: the body of the one packet of that type. Takes no memory.
+    pub fn literal(&self) -> LiteralView<'_>
+        ensures { bodies_of 11 (signed_packets self.now) ≡ literal_view_octets result ∷ [] }
+    {
+        match first_of(&self.flat, 11) {
+            Some((packet, _)) => match LiteralView::parse_body(packet.body()) {
+                Ok(view) => view,
+                Err(_) => unreachable!(),
+            },
+            None => unreachable!(),
+        }
+    }
+
+    /// The signatures behind the literal, in order; fillers are left out. Takes no memory.
+    pub fn signatures(&self) -> Signatures<'_>
+        ensures { signatures_left result ≡ bodies_of 2 (signed_packets self.now) }
+    {
+        Signatures::new(&self.flat)
+    }
+
+    /// All its packets, in order, which it gives up. Takes no memory.
+    pub fn into_packets(self) -> Vec<Packet>
+        ensures { result.items ≡ signed_packets self }
+    {
+        let SignedLiteral { flat } = self;
+        flat
+    }
+
+    /// An equal signed literal. An error is want of memory.
+    pub fn copy(&self, alloc: Global) -> Result<SignedLiteral, OutOfMemory>
+        ensures { IfOk result (λ l. signed_packets l ≡ signed_packets self.now) }
+    {
+        let flat = copy_packets(alloc, &self.flat)?;
+        Ok(SignedLiteral { flat })
+    }
+}

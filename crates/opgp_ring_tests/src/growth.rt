@@ -3,8 +3,10 @@
 use crate::reading::{KEY, SIGNATURE};
 use opgp_frame::{Form, Packet, Placed};
 use opgp_octets::{Fault, Layer, Limits, PushFault, Reason};
+use opgp_report::{LeftOctets, check};
 use opgp_ring::{
-    BlockOf, Certificate, Composed, Composer, Keyring, Ready, compose, flatten, join, nth,
+    BlockOf, Certificate, Composed, Composer, Keyring, Ready, SignedLiteral, compose,
+    compose_signed, end_fits, flatten, join, nth,
 };
 use std::alloc::Global;
 use std::process::Abort;
@@ -99,6 +101,34 @@ fn ring(rt: &impl Abort, alloc: Global) -> Option<Keyring> {
     }
 }
 
+/// A signed literal of `a`; None where memory runs out.
+fn signed(rt: &impl Abort, alloc: Global) -> Option<SignedLiteral> {
+    let mut packets = Vec::new(alloc);
+    for (kind, body) in [
+        (4, b"".as_slice()),
+        (11, b"\x62\x00\x00\x00\x00\x00\x61"),
+        (2, &SIGNATURE[2..]),
+    ] {
+        packets.push(packet(alloc, kind, body)?).ok()?;
+    }
+    let mut blocks = Vec::new(alloc);
+    blocks
+        .push(BlockOf {
+            block: 0,
+            label_fits: true,
+            packets,
+        })
+        .ok()?;
+    if !end_fits(&blocks) {
+        panic!(rt; "past 2^64");
+    }
+    match compose_signed(alloc, blocks) {
+        Ok(Ok(literal)) => Some(literal),
+        Ok(Err(_)) => panic!(rt; "refused"),
+        Err(_) => None,
+    }
+}
+
 /// The keyring twice, one behind the other.
 fn joins(rt: &impl Abort, alloc: Global, ring: Keyring) {
     if let Ok(copy) = ring.copy(alloc) {
@@ -123,6 +153,15 @@ fn refused_growth(rt: HostRuntime) {
         if let Ok(one) = nth(alloc, &ring, 0) {
             assert!(rt; one.is_some());
         }
+        if let Ok(report) = check(alloc, &ring, &LeftOctets) {
+            assert_eq!(rt; report.rows().len(), 1);
+        }
         joins(&rt, alloc, ring);
+    }
+    if let Some(literal) = signed(&rt, alloc) {
+        assert_eq!(rt; literal.literal().content(), b"a".as_slice());
+        if let Ok(copy) = literal.copy(alloc) {
+            assert_eq!(rt; copy.flat().len(), 3);
+        }
     }
 }

@@ -14,3 +14,7 @@ mod making;
 mod parts;
 #[cfg(test)]
 mod reading;
+#[cfg(test)]
+mod report;
+#[cfg(test)]
+mod signed;

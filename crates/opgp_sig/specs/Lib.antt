@@ -1,4 +1,5 @@
 pub mod AreaPlaces
+pub mod Areas
 pub mod AreasSignature
 pub mod AreasValue
 pub mod AreasView

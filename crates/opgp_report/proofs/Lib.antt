@@ -1,0 +1,7 @@
+mod Embedded
+mod FirstLaws
+mod Looking
+mod NamedKeys
+mod Rewriting
+mod Scanning
+mod Telling

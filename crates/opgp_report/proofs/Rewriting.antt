@@ -1,0 +1,70 @@
+-- Rewritten keyrings ask what they asked.
+use Rattle.std.proofs.Common.{◌≡◌, ◌∙◌, ℕ, List, [], ◌∷◌, ◌++◌, map, Option, Some, None, refl, ap, append-nil, slice_get}
+use Rattle.std.specs.List.{flat_map}
+use Rattle.std.specs.Option.{option_map}
+use Rattle.opgp_frame.specs.Packet.{PacketValue}
+use Rattle.opgp_frame.specs.Reframed.{reframed}
+use Rattle.opgp_hash.specs.SubjectValue.{SubjectValue}
+use Rattle.opgp_ring.specs.Joining.{nth_of}
+use Rattle.opgp_ring.specs.Keyring.{CertificateValue, ComponentValue, KeyringValue}
+use Rattle.opgp_ring.specs.Normal.{normal_certificate, normal_component, normal_of}
+use Rattle.opgp_report.specs.Asked.{Asked, hang_asked, hangs_asked, component_asked, components_asked, certificate_asked, asked_of}
+use Rattle.opgp_report.specs.Report.{certificate_keys, keys_in, on_head, on_primary, subkey_bodies}
+
+-- ---- in the current format
+hangs : (subject : SubjectValue) (ps : List PacketValue) → hangs_asked subject (map reframed ps) ≡ hangs_asked subject ps
+hangs subject [] = refl
+hangs subject (p ∷ ps) = ap (λ (l : List Asked). hang_asked subject p ++ l) (hangs subject ps)
+
+components : (primary : List ℕ) (cs : List ComponentValue) → components_asked primary (map normal_component cs) ≡ components_asked primary cs
+components primary [] = refl
+components primary (c ∷ cs) =
+    ap (λ (l : List Asked). l ++ components_asked primary (map normal_component cs)) (hangs (on_head primary c.head) c.hangs)
+    ∙ ap (λ (l : List Asked). component_asked primary c ++ l) (components primary cs)
+
+certificate : (c : CertificateValue) → certificate_asked (normal_certificate c) ≡ certificate_asked c
+certificate c =
+    ap (λ (l : List Asked). l ++ components_asked c.primary.body (map normal_component c.components)) (hangs (on_primary c.primary.body) c.hangs)
+    ∙ ap (λ (l : List Asked). hangs_asked (on_primary c.primary.body) c.hangs ++ l) (components c.primary.body c.components)
+
+certificates : (cs : List CertificateValue) → flat_map certificate_asked (map normal_certificate cs) ≡ flat_map certificate_asked cs
+certificates [] = refl
+certificates (c ∷ cs) =
+    ap (λ (l : List Asked). l ++ flat_map certificate_asked (map normal_certificate cs)) (certificate c)
+    ∙ ap (λ (l : List Asked). certificate_asked c ++ l) (certificates cs)
+
+subkeys : (cs : List ComponentValue) → flat_map subkey_bodies (map normal_component cs) ≡ flat_map subkey_bodies cs
+subkeys [] = refl
+subkeys (c ∷ cs) = ap (λ (l : List (List ℕ)). subkey_bodies c ++ l) (subkeys cs)
+
+keys : (cs : List CertificateValue) → flat_map certificate_keys (map normal_certificate cs) ≡ flat_map certificate_keys cs
+keys [] = refl
+keys (c ∷ cs) =
+    ap (λ (l : List (List ℕ)). (c.primary.body ∷ l) ++ flat_map certificate_keys (map normal_certificate cs)) (subkeys c.components)
+    ∙ ap (λ (l : List (List ℕ)). certificate_keys c ++ l) (keys cs)
+
+pub normal_asks : (r : KeyringValue) → asked_of (normal_of r) ≡ asked_of r
+normal_asks r = certificates r.certificates
+
+pub normal_keys : (r : KeyringValue) → keys_in (normal_of r) ≡ keys_in r
+normal_keys r = keys r.certificates
+
+-- ---- one certificate
+alone : CertificateValue → KeyringValue
+alone c = record { lead = []; certificates = c ∷ [] }
+
+by_option : (o : Option CertificateValue) (c : CertificateValue) (s : KeyringValue) → o ≡ Some c → option_map (λ c. record { lead = []; certificates = c ∷ [] }) o ≡ Some s → s ≡ alone c
+unfolding alone
+by_option (Some d) c s e f = cc
+by_option None c s e f = cc
+
+one_is : (r s : KeyringValue) (c : CertificateValue) (n : ℕ) → slice_get r.certificates n ≡ Some c → nth_of r n ≡ Some s → s ≡ alone c
+one_is r s c n e f = by_option (slice_get r.certificates n) c s e f
+
+pub one_asks : (r s : KeyringValue) (c : CertificateValue) (n : ℕ) → slice_get r.certificates n ≡ Some c → nth_of r n ≡ Some s → asked_of s ≡ certificate_asked c
+unfolding alone
+one_asks r s c n e f = ap asked_of (one_is r s c n e f) ∙ append-nil (certificate_asked c)
+
+pub one_keys : (r s : KeyringValue) (c : CertificateValue) (n : ℕ) → slice_get r.certificates n ≡ Some c → nth_of r n ≡ Some s → keys_in s ≡ certificate_keys c
+unfolding alone
+one_keys r s c n e f = ap keys_in (one_is r s c n e f) ∙ append-nil (certificate_keys c)

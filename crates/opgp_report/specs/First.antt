@@ -1,0 +1,50 @@
+-- The first of a list of keys that has a name.
+use Rattle.std.specs.Prelude.{◌≡◌, ℕ, Bool, ◌&&◌, List, length, Option, Some, None, position}
+use Rattle.std.specs.Prelude.{◌==◌, if◌then◌else◌}
+use Rattle.std.specs.BTreeMap.{BTreeMap, get}
+use Rattle.std.specs.Cmp.Lexicographic.{slice_cmp}
+use Rattle.std.specs.List.{position_from}
+use Rattle.std.specs.Ordering.{nat_cmp}
+use Rattle.std.specs.Str.{bytes_eq}
+use Rattle.opgp_hash.specs.Fingerprint.{fingerprint_of}
+use Rattle.opgp_hash.specs.KeyId.{id_of}
+use Rattle.opgp_hash.specs.SubjectValue.{version_of}
+use Rattle.opgp_hash.specs.declared.fingerprints.Fingerprint.{Fingerprint}
+use Rattle.opgp_hash.specs.declared.fingerprints.Fingerprint.TheVariants.{Four, Six}
+
+-- the fingerprint of the key that has this body
+abbrev pub print_of : List ℕ → Fingerprint
+print_of body = fingerprint_of (version_of body) body
+
+-- the key of this fingerprint has this key ID
+abbrev pub has_id : List ℕ → Fingerprint → Bool
+has_id id print = bytes_eq (id_of print) id
+
+-- it is of this version, and its fingerprint has these octets
+abbrev pub has_print : ℕ → List ℕ → Fingerprint → Bool
+has_print version octets (Four o) = (version == 4) && bytes_eq o octets
+has_print version octets (Six o) = (version == 6) && bytes_eq o octets
+
+-- where the first of these keys stands that has this key ID, or this version and fingerprint
+abbrev pub first_by_id : List ℕ → List Fingerprint → Option ℕ
+first_by_id id prints = position (has_id id) prints
+
+abbrev pub first_by_print : ℕ → List ℕ → List Fingerprint → Option ℕ
+first_by_print version octets prints = position (has_print version octets) prints
+
+-- ---- what an index keeps
+-- the octets of a fingerprint are as many as its version says
+abbrev pub is_sized : Fingerprint → Bool
+is_sized (Four o) = length o == 20
+is_sized (Six o) = length o == 32
+
+-- a place that is kept, or else this one where the test is true
+abbrev pub first_or : Option ℕ → Bool → ℕ → Option ℕ
+first_or (Some n) test at = Some n
+first_or None test at = if test then Some at else None
+
+-- the map has, at each octets, the place of the first that passes the test for them
+abbrev pub HasFirsts : BTreeMap (List ℕ) ℕ → (List ℕ → Fingerprint → Bool) → List Fingerprint
+    → Type 0
+HasFirsts m test prints = (o : List ℕ)
+    → get (slice_cmp nat_cmp) m o ≡ position_from (test o) 0 prints

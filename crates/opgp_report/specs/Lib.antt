@@ -1,0 +1,11 @@
+pub mod Asked
+pub mod Asker
+pub mod First
+pub mod Left
+pub mod Names
+pub mod Report
+pub mod Row
+pub mod RowValue
+pub mod Signer
+pub mod Signers
+pub mod Told

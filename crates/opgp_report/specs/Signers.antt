@@ -1,0 +1,8 @@
+-- What the keys of a keyring show that can be named as signers.
+use Rattle.std.specs.Prelude.{ℕ, List, map}
+use Rattle.opgp_key.specs.KeyView.{key_view_octets}
+use Rattle.opgp_report.specs.declared.signers.Signers.{Signers}
+
+-- their bodies, in order
+abbrev pub signers_keys : Signers → List (List ℕ)
+signers_keys s = map (λ k. key_view_octets k) s.keys.items

@@ -1,0 +1,42 @@
+//! What the definitions imply.
+
+ghost use Rattle.std.specs.Prelude.{◌≡◌, ◌++◌, ℕ, map, Some};
+ghost use Rattle.std.specs.List.{slice_get};
+ghost use Rattle.opgp_ring.specs.Joining.{nth_of};
+ghost use Rattle.opgp_ring.specs.Keyring.{CertificateValue, KeyringValue, IsKeyring, flat};
+ghost use Rattle.opgp_ring.specs.Normal.{normal_of};
+ghost use Rattle.opgp_report.specs.Asked.{asked_of, certificate_asked};
+ghost use Rattle.opgp_report.specs.Report.{Says, certificate_keys, keys_in, report_of};
+ghost use Rattle.opgp_report.specs.Told.{asked_told, row_told};
+
+/// The rows of a keyring's report, whoever the verifier is, are those of what its signatures ask, in
+/// the same order: a row tells why nothing is asked, or the digest of the question.
+pub fn rows_are_those_of_questions()
+    ensures { (says : Says) (r : KeyringValue)
+        → map row_told (report_of says r) ≡ map asked_told (asked_of r) }
+{}
+
+/// In the current format a keyring asks what it asked, and has the keys that it had.
+pub fn normal_keyrings_ask_the_same()
+    ensures questions { (r : KeyringValue) → asked_of (normal_of r) ≡ asked_of r }
+    ensures keys { (r : KeyringValue) → keys_in (normal_of r) ≡ keys_in r }
+{}
+
+/// A keyring whose packets are those of one, followed by those of another, asks what both ask, and has
+/// the keys of both, in order.
+pub fn joined_keyrings_ask_what_both_ask()
+    ensures questions { (a b r : KeyringValue) → IsKeyring a → IsKeyring b → IsKeyring r
+        → flat r ≡ flat a ++ flat b → asked_of r ≡ asked_of a ++ asked_of b }
+    ensures keys { (a b r : KeyringValue) → IsKeyring a → IsKeyring b → IsKeyring r
+        → flat r ≡ flat a ++ flat b → keys_in r ≡ keys_in a ++ keys_in b }
+{}
+
+/// A certificate alone asks what it asked in its keyring, and has the keys that it had.
+pub fn one_certificate_asks_the_same()
+    ensures questions { (r s : KeyringValue) (c : CertificateValue) (n : ℕ)
+        → slice_get r.certificates n ≡ Some c → nth_of r n ≡ Some s
+        → asked_of s ≡ certificate_asked c }
+    ensures keys { (r s : KeyringValue) (c : CertificateValue) (n : ℕ)
+        → slice_get r.certificates n ≡ Some c → nth_of r n ≡ Some s
+        → keys_in s ≡ certificate_keys c }
+{}

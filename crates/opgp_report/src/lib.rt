@@ -1,0 +1,28 @@
+//! What can be said of the signatures of a keyring: whom each names as its signer, what it asks, and
+//! what a verifier says of it.
+#![tactic(auto)]
+
+mod asker;
+mod checking;
+mod finding;
+mod found;
+pub mod laws;
+mod left_octets;
+mod names;
+mod place;
+mod report;
+mod row;
+mod rows;
+mod signers;
+mod signing;
+mod verifier;
+
+pub use checking::check;
+pub use finding::question_at;
+pub use left_octets::LeftOctets;
+pub use names::Names;
+pub use place::Place;
+pub use report::Report;
+pub use row::{Finding, Row};
+pub use signing::signer;
+pub use verifier::{Job, Verdict, Verifier};

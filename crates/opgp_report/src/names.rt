@@ -1,0 +1,126 @@
+//! Finding a key by its fingerprint or its key ID.
+
+ghost use Rattle.std.specs.Prelude.{◌≡◌, ◌++◌, ◌∷◌, [], ℕ, List, true, OnOk, IfOk};
+ghost use Rattle.std.specs.BTreeMap.{get};
+ghost use Rattle.std.specs.Cmp.Lexicographic.{slice_cmp};
+ghost use Rattle.std.specs.List.{list_all};
+ghost use Rattle.std.specs.Ordering.{nat_cmp};
+ghost use Rattle.std.specs.Str.{bytes_eq};
+ghost use Rattle.std.proofs.Props.{props};
+ghost use Rattle.opgp_report.specs.First.{has_id, has_print, first_by_id, first_by_print};
+ghost use Rattle.opgp_report.specs.First.{is_sized, first_or, HasFirsts};
+
+use opgp_hash::Fingerprint;
+use opgp_octets::OutOfMemory;
+use std::alloc::Global;
+use std::collections::BTreeMap;
+
+/// The names of a list of keys: which is the first with a fingerprint, or with a key ID.
+///
+/// Each answer takes time in the logarithm of how many keys there are, however many share a key ID.
+#[derive(Drop)]
+pub struct Names {
+    prints: Vec<Fingerprint>,
+    four: BTreeMap<[u8; 20], usize>,
+    six: BTreeMap<[u8; 32], usize>,
+    ids: BTreeMap<[u8; 8], usize>,
+    ghost sized: { list_all is_sized prints.items ≡ true },
+    ghost fours: { HasFirsts four (has_print 4) prints.items } by { Prim.hlevel props },
+    ghost sixes: { HasFirsts six (has_print 6) prints.items } by { Prim.hlevel props },
+    ghost by_id: { HasFirsts ids has_id prints.items } by { Prim.hlevel props },
+}
+
+impl Names {
+    ghost use Rattle.opgp_report.specs.Names.{prints_shown};
+
+    /// Of no keys.
+    pub fn new(alloc: Global) -> Names
+        ensures { prints_shown result ≡ [] }
+    {
+        Names {
+            prints: Vec::new(alloc),
+            four: BTreeMap::new(alloc),
+            six: BTreeMap::new(alloc),
+            ids: BTreeMap::new(alloc),
+        }
+    }
+
+    /// With one more key, behind the others.
+    ///
+    /// An error is want of memory.
+    pub fn with(self, print: Fingerprint) -> Result<Names, OutOfMemory>
+        ensures { IfOk result (λ n. prints_shown n ≡ prints_shown self ++ print ∷ []) }
+    {
+        let Names {
+            mut prints,
+            mut four,
+            mut six,
+            mut ids,
+        } = self;
+        let at = prints.len();
+        prints.push(print)?;
+        note(&mut ids, print.key_id().0, at)?;
+        match print {
+            Fingerprint::Four(octets) => {
+                note(&mut four, octets, at)?;
+                Ok(Names {
+                    prints,
+                    four,
+                    six,
+                    ids,
+                })
+            }
+            Fingerprint::Six(octets) => {
+                note(&mut six, octets, at)?;
+                Ok(Names {
+                    prints,
+                    four,
+                    six,
+                    ids,
+                })
+            }
+        }
+    }
+
+    /// The place of the first key with this key ID.
+    pub fn first_by_key_id(&self, id: [u8; 8]) -> Option<usize>
+        ensures { result ≡ first_by_id id (prints_shown self.now) }
+    {
+        self.ids.get(&id).copied()
+    }
+
+    /// The place of the first key of this version with this fingerprint.
+    pub fn first_by_fingerprint(&self, version: u8, octets: &[u8]) -> Option<usize>
+        ensures { result ≡ first_by_print version octets.now (prints_shown self.now) }
+    {
+        if version == 4 {
+            match <[u8; 20]>::try_from(octets) {
+                Ok(four) => self.four.get(&four).copied(),
+                Err(_) => None,
+            }
+        } else if version == 6 {
+            match <[u8; 32]>::try_from(octets) {
+                Ok(six) => self.six.get(&six).copied(),
+                Err(_) => None,
+            }
+        } else {
+            None
+        }
+    }
+}
+
+/// Notes where a key stands, if no place is noted for it yet.
+fn note<const N: usize>(
+    map: &mut BTreeMap<[u8; N], usize>,
+    key: [u8; N],
+    at: usize,
+) -> Result<(), OutOfMemory>
+    ensures { OnOk result ((o : List ℕ) → get (slice_cmp nat_cmp) map.new o
+        ≡ first_or (get (slice_cmp nat_cmp) map.old o) (bytes_eq key.entry o) at) }
+{
+    if map.get(&key).is_some() {
+        return Ok(());
+    }
+    map.insert(key, at)?;
+    Ok(())
+}

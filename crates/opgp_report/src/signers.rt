@@ -1,0 +1,114 @@
+//! The keys of a keyring that may have made its signatures.
+
+ghost use Rattle.std.specs.Prelude.{◌≡◌, ◌++◌, ◌∷◌, [], map, IfOk};
+ghost use Rattle.std.specs.List.{flat_map};
+ghost use Rattle.std.specs.Option.{option_map};
+ghost use Rattle.opgp_key.specs.KeyView.{key_view_octets};
+ghost use Rattle.opgp_sig.specs.SigView.{sig_view_value};
+ghost use Rattle.opgp_report.specs.First.{print_of};
+ghost use Rattle.opgp_report.specs.Names.{prints_shown};
+ghost use Rattle.opgp_report.specs.Report.{certificate_keys, keys_in, signer_in, subkey_bodies};
+
+use crate::names::Names;
+use crate::signing::signer;
+use opgp_hash::{Fingerprint, fingerprint_of_view};
+use opgp_key::KeyView;
+use opgp_octets::OutOfMemory;
+use opgp_ring::{Certificate, Component, Head, Keyring};
+use opgp_sig::SigView;
+use std::alloc::Global;
+
+/// Keys in order, with an index of their names.
+#[derive(Drop)]
+pub(crate) struct Signers<'a> {
+    keys: Vec<KeyView<'a>>,
+    names: Names,
+    ghost named: { prints_shown names ≡ map (λ k. print_of (key_view_octets k)) keys.items },
+}
+
+impl<'a> Signers<'a> {
+    ghost use Rattle.opgp_report.specs.Signers.{signers_keys};
+
+    /// No keys yet.
+    fn new(alloc: Global) -> Signers<'a>
+        ensures { signers_keys result ≡ [] }
+    {
+        Signers {
+            keys: Vec::new(alloc),
+            names: Names::new(alloc),
+        }
+    }
+
+    /// With one more key, behind the others. An error is want of memory.
+    fn with(self, key: KeyView<'a>) -> Result<Signers<'a>, OutOfMemory>
+        ensures { IfOk result (λ s.
+            signers_keys s ≡ signers_keys self.entry ++ key_view_octets key.entry ∷ []) }
+    {
+        let Signers { mut keys, names } = self;
+        let names = names.with(print_of(&key))?;
+        keys.push(key)?;
+        Ok(Signers { keys, names })
+    }
+
+    /// With the subkeys of components. An error is want of memory.
+    fn with_components(self, components: &'a [Component]) -> Result<Signers<'a>, OutOfMemory>
+        ensures { IfOk result (λ s. signers_keys s
+            ≡ signers_keys self.entry ++ flat_map subkey_bodies components.now) }
+    {
+        let mut signers = self;
+        let mut rest = components;
+        'components: while let [component, more @ ..] = rest {
+            if let Head::Subkey(_, key) = component.head().head() {
+                signers = signers.with(key.view())?;
+            }
+            rest = more;
+        }
+        Ok(signers)
+    }
+
+    /// With the keys of a certificate. An error is want of memory.
+    fn with_certificate(self, certificate: &'a Certificate) -> Result<Signers<'a>, OutOfMemory>
+        ensures { IfOk result (λ s. signers_keys s
+            ≡ signers_keys self.entry ++ certificate_keys certificate.now) }
+    {
+        let signers = self.with(certificate.key().view())?;
+        let signers = signers.with_components(certificate.components())?;
+        Ok(signers)
+    }
+
+    /// The keys of a keyring. Each is hashed once. An error is want of memory.
+    pub(crate) fn of(alloc: Global, keyring: &'a Keyring) -> Result<Signers<'a>, OutOfMemory>
+        ensures { IfOk result (λ s. signers_keys s ≡ keys_in keyring.now) }
+    {
+        let mut signers = Signers::new(alloc);
+        let mut rest = keyring.certificates();
+        'certificates: while let [certificate, more @ ..] = rest {
+            signers = signers.with_certificate(certificate)?;
+            rest = more;
+        }
+        Ok(signers)
+    }
+
+    /// The first key that the signature names as its maker.
+    pub(crate) fn find(&self, signature: SigView<'_>) -> Option<KeyView<'a>>
+        ensures { option_map (λ k. key_view_octets k) result
+            ≡ signer_in (signers_keys self.now) (sig_view_value signature.entry) }
+    {
+        match signer(&self.names, signature) {
+            Some(place) => match self.keys.get(place) {
+                Some(key) => Some(*key),
+                None => None,
+            },
+            None => None,
+        }
+    }
+}
+
+/// The fingerprint of a key.
+pub(crate) fn print_of(key: &KeyView<'_>) -> Fingerprint
+    ensures { result ≡ print_of (key_view_octets key.now) }
+{
+    let _body = key.body();
+    let _version = key.version();
+    fingerprint_of_view(*key)
+}

@@ -12,6 +12,7 @@ mod OneTop
 mod Passing
 mod Pulling
 mod Runs
+mod SignedTop
 mod SomeAnswer
 mod Texts
 mod Ways

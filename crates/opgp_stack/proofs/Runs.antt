@@ -1,6 +1,10 @@
 -- What is made of a keyring, and how a run ends by it.
 use Rattle.std.proofs.Common.{◌≡◌, ℕ, Bool, List, subst, sym, Option, Some, None, Result, Ok, Err, IfSome, slice_get}
+use Rattle.opgp_frame.specs.Packet.{PacketValue}
+use Rattle.opgp_hash.specs.QuestionValue.{QuestionValue}
+use Rattle.opgp_report.specs.Asked.{asked_of, question_in}
 use Rattle.opgp_ring.specs.Keyring.{KeyringValue, CertificateValue}
+use Rattle.opgp_stack.specs.Hashing.{message_asked}
 use Rattle.opgp_stack.specs.declared.engine_error.EngineError.{EngineError}
 use Rattle.opgp_stack.specs.declared.engine_error.EngineError.TheVariants as engine
 use Rattle.opgp_stack.specs.declared.run_fault.RunFault.{RunFault}
@@ -8,7 +12,7 @@ use Rattle.opgp_stack.specs.declared.run_fault.RunFault.TheVariants as run
 use Rattle.opgp_stack.specs.declared.task.Action.{Action}
 use Rattle.opgp_stack.specs.declared.task.Action.TheVariants as action
 use Rattle.opgp_stack.specs.declared.task.Out.{Out}
-use Rattle.opgp_stack.specs.Running.{Made, Text, Ends, IsMade, Runs, made_of, split_text, one_text, ended}
+use Rattle.opgp_stack.specs.Running.{Made, Text, Ends, IsMade, Runs, made_of, message_made, question_made, split_text, one_text, ended}
 use Rattle.opgp_stack.specs.Written.{IsWritten}
 
 -- it isn't a failed read
@@ -30,6 +34,10 @@ split_is_other : (out : Out) (nth : Option ℕ) (cs : List CertificateValue) →
 split_is_other out None cs = tt
 split_is_other out (Some n) cs = one_is_other out (slice_get cs n)
 
+question_is_other : (q : Option QuestionValue) → IsOther (question_made q)
+question_is_other (Some q) = tt
+question_is_other None = tt
+
 pub made_is_other : (a : Action) (r : KeyringValue) → IsOther (made_of a r)
 made_is_other action.List r = tt
 made_is_other (action.Write out) r = tt
@@ -38,7 +46,17 @@ made_is_other (action.Split out nth) r = split_is_other out nth r.certificates
 made_is_other (action.Join out merge) r = tt
 made_is_other action.Show r = tt
 made_is_other action.Check r = tt
-made_is_other (action.Octets row top) r = tt
+made_is_other (action.Octets row top) r = question_is_other (question_in (slice_get (asked_of r) row))
+
+pub message_is_other : (a : Action) (packets : List PacketValue) → IsOther (message_made a packets)
+message_is_other action.List packets = tt
+message_is_other (action.Write out) packets = tt
+message_is_other (action.Normalise out) packets = tt
+message_is_other (action.Split out nth) packets = tt
+message_is_other (action.Join out merge) packets = tt
+message_is_other action.Show packets = tt
+message_is_other action.Check packets = tt
+message_is_other (action.Octets row top) packets = question_is_other (question_in (slice_get (message_asked packets) row))
 
 text_runs : {W : Type 0} (held : W → Option (List ℕ)) (failed : W → Bool) (old new : W) (text : List ℕ) (written : Result Unit EngineError) (F M : Type 0)
     → IsWritten held failed old new written text → M → Runs (ended written) F M (new ≡ old)

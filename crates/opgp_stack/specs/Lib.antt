@@ -1,14 +1,17 @@
 pub mod Faults
 pub mod Framed
+pub mod Hashing
 pub mod Keyrings
 pub mod Listing
 pub mod Packets
 pub mod Pipeline
 pub mod Pulled
 pub mod Reading
+pub mod Report
 pub mod Role
 pub mod Running
 pub mod Showing
+pub mod Signed
 pub mod Texts
 pub mod Through
 pub mod Via

@@ -2,6 +2,12 @@
 use Rattle.std.specs.Prelude.{◌≡◌, ℕ, Bool, true, false, List, Option, Some, None, Result, Ok, Err}
 use Rattle.std.specs.Prelude.{slice_get, IfSome}
 use Rattle.opgp_octets.specs.Limits.{input_limit}
+use Rattle.opgp_frame.specs.Packet.{PacketValue}
+use Rattle.opgp_hash.specs.Hashed.{hashed}
+use Rattle.opgp_hash.specs.QuestionValue.{QuestionValue}
+use Rattle.opgp_report.specs.Asked.{asked_of, question_in}
+use Rattle.opgp_report.specs.Left.{says_left}
+use Rattle.opgp_report.specs.Report.{report_of}
 use Rattle.opgp_ring.specs.Keyring.{KeyringValue, CertificateValue, certificate_packets, flat}
 use Rattle.opgp_ring.specs.Normal.{normal_of}
 use Rattle.opgp_stack.specs.declared.engine_error.EngineError.{EngineError}
@@ -11,13 +17,19 @@ use Rattle.opgp_stack.specs.declared.run_fault.RunFault.TheVariants as run
 use Rattle.opgp_stack.specs.declared.task.Action.{Action}
 use Rattle.opgp_stack.specs.declared.task.Action.TheVariants as action
 use Rattle.opgp_stack.specs.declared.task.Out.{Out}
+use Rattle.opgp_stack.specs.declared.task.Top.TheVariants as top
+use Rattle.opgp_stack.specs.declared.running.Reading.{Reading}
+use Rattle.opgp_stack.specs.declared.running.Reading.TheVariants as reading
 use Rattle.opgp_stack.specs.declared.task.Task.{Task}
+use Rattle.opgp_stack.specs.Hashing.{message_asked}
 use Rattle.opgp_stack.specs.Keyrings.{ComposesTo, key_label}
 use Rattle.opgp_stack.specs.Listing.{listing}
 use Rattle.opgp_stack.specs.Packets.{ArePackets, BlockValue, any_label}
 use Rattle.opgp_stack.specs.Pulled.{Pulls}
 use Rattle.opgp_stack.specs.Reading.{AnswerOf, Outcome, Whole, Refused}
+use Rattle.opgp_stack.specs.Report.{report_lines}
 use Rattle.opgp_stack.specs.Showing.{shown_blocks}
+use Rattle.opgp_stack.specs.Signed.{AreSigned, message_label}
 use Rattle.opgp_stack.specs.Writing.{certificates_text, packets_text}
 use Rattle.opgp_stack.specs.Written.{IsWritten}
 
@@ -36,19 +48,25 @@ is_there (action.Split out nth) = true
 is_there (action.Join out false) = true
 is_there (action.Join out true) = false
 is_there action.Show = true
-is_there action.Check = false
-is_there (action.Octets row top) = false
+is_there action.Check = true
+is_there (action.Octets row top) = true
 
--- the actions that read packets; the others read a keyring
-abbrev pub reads_packets : Action → Bool
-reads_packets action.Show = true
-reads_packets action.List = false
-reads_packets (action.Write out) = false
-reads_packets (action.Normalise out) = false
-reads_packets (action.Split out nth) = false
-reads_packets (action.Join out merge) = false
-reads_packets action.Check = false
-reads_packets (action.Octets row top) = false
+-- what an action reads its input as
+abbrev pub reads : Action → Reading
+reads action.Show = reading.Packets
+reads action.List = reading.Keyring
+reads (action.Write out) = reading.Keyring
+reads (action.Normalise out) = reading.Keyring
+reads (action.Split out nth) = reading.Keyring
+reads (action.Join out merge) = reading.Keyring
+reads action.Check = reading.Keyring
+reads (action.Octets row top.Ring) = reading.Keyring
+reads (action.Octets row top.Literal) = reading.Message
+
+-- the octets that a question hashes
+abbrev pub question_made : Option QuestionValue → Made
+question_made (Some q) = Text (hashed q)
+question_made None = Ends run.NoSuchRow
 
 -- the certificate of a number alone, if there is one
 abbrev pub one_text : Out → Option CertificateValue → Made
@@ -68,8 +86,9 @@ made_of (action.Normalise out) r = Text (packets_text out (flat (normal_of r)))
 made_of (action.Split out nth) r = split_text out nth r.certificates
 made_of (action.Join out merge) r = Text (packets_text out (flat r))
 made_of action.Show r = Ends run.NotYet
-made_of action.Check r = Ends run.NotYet
-made_of (action.Octets row top) r = Ends run.NotYet
+made_of action.Check r = Text (report_lines 0 (report_of says_left r))
+made_of (action.Octets row top) r =
+    question_made (question_in (slice_get (asked_of r) row))
 
 -- what is made of an answer: a refusal ends the run
 abbrev pub made_of_answer : Action → Outcome KeyringValue → Made
@@ -80,18 +99,31 @@ abbrev pub shown_answer : Outcome (List BlockValue) → Made
 shown_answer (Whole blocks) = Text (shown_blocks blocks)
 shown_answer (Refused fault) = Ends (run.Refused fault)
 
--- what a task makes of octets that are read as packets, or as a keyring
-abbrev pub MakesBy : Bool → Task → List ℕ → Made → Type 0
-MakesBy true task octets made = (answer : Outcome (List BlockValue))
+-- what is made of the packets of a signed literal
+abbrev pub message_made : Action → List PacketValue → Made
+message_made (action.Octets row top) packets =
+    question_made (question_in (slice_get (message_asked packets) row))
+message_made other packets = Ends run.NotYet
+
+abbrev pub message_answer : Action → Outcome (List PacketValue) → Made
+message_answer a (Whole packets) = message_made a packets
+message_answer a (Refused fault) = Ends (run.Refused fault)
+
+-- what a task makes of octets that are read as packets, as a keyring, or as a signed literal
+abbrev pub MakesBy : Reading → Task → List ℕ → Made → Type 0
+MakesBy reading.Packets task octets made = (answer : Outcome (List BlockValue))
     × AnswerOf any_label ArePackets task.mode task.limits octets answer
     × (made ≡ shown_answer answer)
-MakesBy false task octets made = (answer : Outcome KeyringValue)
+MakesBy reading.Keyring task octets made = (answer : Outcome KeyringValue)
     × AnswerOf key_label (ComposesTo task.limits) task.mode task.limits octets answer
     × (made ≡ made_of_answer task.action answer)
+MakesBy reading.Message task octets made = (answer : Outcome (List PacketValue))
+    × AnswerOf message_label AreSigned task.mode task.limits octets answer
+    × (made ≡ message_answer task.action answer)
 
 -- what a task makes of octets
 abbrev pub Makes : Task → List ℕ → Made → Type 0
-Makes task octets made = MakesBy (reads_packets task.action) task octets made
+Makes task octets made = MakesBy (reads task.action) task octets made
 
 -- ---- how a run ends
 abbrev pub ended : Result Unit EngineError → Result Unit RunFault

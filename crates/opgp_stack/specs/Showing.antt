@@ -1,21 +1,20 @@
 -- The lines that show packets: one for each packet, and one for each subpacket of a signature.
-use Rattle.std.specs.Prelude.{ℕ, zero, suc, ◌==◌, if◌then◌else◌, Bool, true, false, List, [], ◌∷◌}
-use Rattle.std.specs.Prelude.{◌++◌, length, codes, Result, Ok, Err}
+use Rattle.std.specs.Prelude.{ℕ, ◌==◌, if◌then◌else◌, Bool, true, false, List, [], ◌++◌, length}
+use Rattle.std.specs.Prelude.{codes, Result, Ok, Err}
 use Rattle.std.specs.Fmt.{decimal}
 use Rattle.std.specs.List.{flat_map}
 use Rattle.opgp_octets.specs.declared.fault.BodyFault.{BodyFault}
 use Rattle.opgp_octets.specs.SubLen.{sub_len_amount}
 use Rattle.opgp_octets.specs.SubpacketKind.{subpacket_kind_of}
-use Rattle.opgp_body.specs.Fields.{Field, small, wide, integer, named, bare, subpackets}
 use Rattle.opgp_body.specs.Subpackets.{Sub}
 use Rattle.opgp_frame.specs.declared.form.Form.{Form}
 use Rattle.opgp_frame.specs.declared.form.Form.TheVariants.{OldOne, OldTwo, OldFour, NewOne, NewTwo}
 use Rattle.opgp_frame.specs.declared.form.Form.TheVariants.{NewFive, Partial}
 use Rattle.opgp_frame.specs.declared.packet.Placed.{Placed}
+use Rattle.opgp_sig.specs.Areas.{hashed_subs, unhashed_subs}
 use Rattle.opgp_sig.specs.Meaning.{Meaning, unfit, unknown}
 use Rattle.opgp_sig.specs.MeaningReading.{meaning_of}
-use Rattle.opgp_sig.specs.SignatureBody.{SignatureValue, of_three, of_four, of_six, of_other}
-use Rattle.opgp_sig.specs.SignatureBody.{signature_at}
+use Rattle.opgp_sig.specs.SignatureBody.{SignatureValue, signature_at}
 use Rattle.opgp_sig.specs.SubView.{is_critical, kind_shown}
 use Rattle.opgp_stack.specs.Packets.{BlockValue}
 use Rattle.opgp_stack.specs.declared.showing.Area.{Area}
@@ -74,37 +73,15 @@ subpacket_line area s = codes "  " ++ area_name area ++ codes " kind " ++ decima
 abbrev pub area_lines : Area → List Sub → List ℕ
 area_lines area subs = flat_map (subpacket_line area) subs
 
--- ---- of a signature's body
-abbrev pub subs_of : Field → List Sub
-subs_of (subpackets extent subs) = subs
-subs_of (small n) = []
-subs_of (wide n) = []
-subs_of (integer m) = []
-subs_of (named o) = []
-subs_of (bare o) = []
-
--- the subpackets that the field of this place is, from 0
-abbrev pub subs_at : List Field → ℕ → List Sub
-subs_at [] n = []
-subs_at (f ∷ fields) zero = subs_of f
-subs_at (f ∷ fields) (suc n) = subs_at fields n
-
--- the fields are version, type, algorithm, hash, hashed area, unhashed area, .. (RFC 9580, 5.2.3)
-abbrev pub areas_lines : List Field → List ℕ
-areas_lines fields = area_lines Hashed (subs_at fields 4) ++ area_lines Unhashed (subs_at fields 5)
-
--- signatures of versions 4 and 6 have areas
+-- ---- of packets
+-- of the subpackets of a signature, those of the hashed area first
 abbrev pub value_lines : Result SignatureValue BodyFault → List ℕ
-value_lines (Ok (of_four fields)) = areas_lines fields
-value_lines (Ok (of_six fields)) = areas_lines fields
-value_lines (Ok (of_three fields)) = []
-value_lines (Ok (of_other octets)) = []
+value_lines (Ok v) = area_lines Hashed (hashed_subs v) ++ area_lines Unhashed (unhashed_subs v)
 value_lines (Err fault) = []
 
 abbrev pub signature_lines : List ℕ → List ℕ
 signature_lines body = value_lines (signature_at body)
 
--- ---- of packets
 abbrev pub content_lines : ℕ → List ℕ → List ℕ
 content_lines kind body = if kind == 2 then signature_lines body else []
 

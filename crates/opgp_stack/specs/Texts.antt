@@ -3,9 +3,11 @@ use Rattle.std.specs.Prelude.{ℕ, List, map}
 use Rattle.opgp_ring.specs.Packets.{packets_left}
 use Rattle.opgp_stack.specs.declared.writing.Text.{Text}
 use Rattle.opgp_stack.specs.declared.writing.Text.TheVariants.{Packets, Certificates, Listing}
-use Rattle.opgp_stack.specs.declared.writing.Text.TheVariants.{Shown}
+use Rattle.opgp_stack.specs.declared.writing.Text.TheVariants.{Shown, Rows, Octets}
 use Rattle.opgp_stack.specs.Listing.{listing}
+use Rattle.opgp_report.specs.Row.{row_value}
 use Rattle.opgp_stack.specs.Packets.{block_value}
+use Rattle.opgp_stack.specs.Report.{report_lines}
 use Rattle.opgp_stack.specs.Showing.{shown_blocks}
 use Rattle.opgp_stack.specs.Writing.{packets_text, certificates_text}
 
@@ -15,3 +17,5 @@ text_octets (Packets out packets) = packets_text out (packets_left packets)
 text_octets (Certificates out certificates) = certificates_text out certificates.now
 text_octets (Listing packets) = listing (packets_left packets)
 text_octets (Shown blocks) = shown_blocks (map block_value blocks.now)
+text_octets (Rows rows) = report_lines 0 (map row_value rows.now)
+text_octets (Octets octets) = octets.now

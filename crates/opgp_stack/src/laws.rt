@@ -1,7 +1,7 @@
 //! What the definition of an answer implies, however the octets came.
 
 ghost use Rattle.std.specs.Prelude.{◌≡◌, ℕ, List, true};
-ghost use Rattle.opgp_frame.specs.Packet.{packets_octets};
+ghost use Rattle.opgp_frame.specs.Packet.{PacketValue, packets_octets};
 ghost use Rattle.opgp_octets.specs.Octets.{IsOctets};
 ghost use Rattle.opgp_octets.specs.declared.limits.Limits.{Limits};
 ghost use Rattle.opgp_ring.specs.Keyring.{KeyringValue, flat};
@@ -9,6 +9,7 @@ ghost use Rattle.opgp_stack.specs.Keyrings.{ComposesTo, key_label};
 ghost use Rattle.opgp_stack.specs.Packets.{ArePackets, BlockValue, any_label};
 ghost use Rattle.opgp_stack.specs.Reading.{AnswerOf, Holds, Outcome, TextBlock, Whole};
 ghost use Rattle.opgp_stack.specs.Reading.{blocks_octets, is_binary};
+ghost use Rattle.opgp_stack.specs.Signed.{AreSigned, message_label};
 ghost use Rattle.opgp_stack.specs.declared.mode.Mode.{Mode};
 
 use opgp_armor::laws as armor;
@@ -71,4 +72,22 @@ pub fn one_list_of_packets()
     ring::one_keyring();
     ring::one_fault();
     ring::no_fault();
+}
+
+/// Octets, mode and limits have one answer at most as a signed literal: its packets, or one fault.
+pub fn one_signed_literal()
+    ensures { (mode : Mode) (limits : Limits) (input : List ℕ) → IsOctets input
+        → (a b : Outcome (List PacketValue))
+        → AnswerOf message_label AreSigned mode limits input a
+        → AnswerOf message_label AreSigned mode limits input b → a ≡ b }
+{
+    armor::one_list();
+    armor::one_fault();
+    armor::no_fault();
+    frame::one_list();
+    frame::one_fault();
+    frame::no_fault();
+    ring::one_signed_literal();
+    ring::one_signed_fault();
+    ring::no_signed_fault();
 }

@@ -1,28 +1,37 @@
 //! Does what a task asks.
 
 ghost use Rattle.std.specs.Prelude.{◌≡◌, ◌≢◌, true, false, Err};
-ghost use Rattle.opgp_stack.specs.Running.{IsMade, Makes, MakesBy, RunsKnown, RunsOver, ended};
-ghost use Rattle.opgp_stack.specs.Running.{is_there, made_of, reads_packets, split_text};
+ghost use Rattle.opgp_ring.specs.SignedLiteral.{signed_packets};
+ghost use Rattle.opgp_report.specs.Left.{says_left};
+ghost use Rattle.opgp_report.specs.Report.{report_of};
+ghost use Rattle.opgp_stack.specs.Report.{report_lines};
+ghost use Rattle.opgp_stack.specs.Running.{IsMade, Made, Makes, MakesBy, RunsKnown, RunsOver, ended};
+ghost use Rattle.opgp_stack.specs.Running.{is_there, made_of, message_made, reads, split_text};
 
 use crate::answer::Answer;
 use crate::engine_error::EngineError;
+use crate::hashing::{question_of, write_question};
 use crate::packets_answer::PacketsAnswer;
 use crate::reading_keyring::read_keyring;
 use crate::reading_packets::read_packets;
+use crate::reading_signed::read_signed;
 use crate::run_fault::RunFault;
-use crate::task::{Action, Out, Task};
+use crate::signed_answer::SignedAnswer;
+use crate::task::{Action, Out, Task, Top};
 use crate::writing_keyring::{write_certificate, write_certificates, write_keyring, write_listing};
+use crate::writing_report::write_report;
 use crate::writing_shown::write_shown;
-use opgp_ring::{Keyring, normalise};
+use opgp_report::{LeftOctets, check, question_at};
+use opgp_ring::{Keyring, SignedLiteral, normalise};
 use opgp_stream::{Sink, Source};
 use std::alloc::Global;
 
-/// Does what a task asks: reads packets or a keyring, and writes what is made of it. The condition
-/// is that neither the source nor the sink has failed.
+/// Does what a task asks: reads packets, a keyring or a signed literal, and writes what is made of
+/// it. The condition is that neither the source nor the sink has failed.
 ///
 /// With any error but `Write` nothing was written; after `Write` the sink has failed, and holds a
 /// prefix of the text. `NotYet` is answered for an action that isn't there, and then nothing was read:
-/// [`Action::Check`], [`Action::Octets`], and [`Action::Join`] that merges.
+/// [`Action::Join`] that merges.
 pub fn run<R: Source, W: Sink>(
     alloc: Global,
     task: &Task,
@@ -43,10 +52,11 @@ pub fn run<R: Source, W: Sink>(
     if !is_there(&task.action) {
         return Err(RunFault::NotYet);
     }
-    if reads_packets(&task.action) {
-        return run_packets(alloc, task, reader, writer);
+    match reads(&task.action) {
+        Reading::Packets => run_packets(alloc, task, reader, writer),
+        Reading::Keyring => run_keyring(alloc, task, reader, writer),
+        Reading::Message => run_message(alloc, task, reader, writer),
     }
-    run_keyring(alloc, task, reader, writer)
 }
 
 /// Does what a task asks of packets: shows them.
@@ -60,9 +70,9 @@ fn run_packets<R: Source, W: Sink>(
     requires writer { W.has_failed writer.old ≡ false }
     ensures run { RunsOver W.held W.has_failed writer.old writer.new
         result (R.left reader.old) (R.left reader.new) (R.has_failed reader.new ≡ true) task.now
-        (MakesBy true task.now) }
+        (MakesBy Reading.Packets task.now) }
     ensures known { RunsKnown W.held W.has_failed writer.old writer.new
-        result (R.left reader.old) (R.has_failed reader.new ≡ true) (MakesBy true task.now) }
+        result (R.left reader.old) (R.has_failed reader.new ≡ true) (MakesBy Reading.Packets task.now) }
     ensures sound { result ≢ Err RunFault.Read → R.has_failed reader.new ≡ false }
 {
     match read_packets(alloc, reader, task.mode, &task.limits) {
@@ -84,9 +94,9 @@ fn run_keyring<R: Source, W: Sink>(
     requires writer { W.has_failed writer.old ≡ false }
     ensures run { RunsOver W.held W.has_failed writer.old writer.new
         result (R.left reader.old) (R.left reader.new) (R.has_failed reader.new ≡ true) task.now
-        (MakesBy false task.now) }
+        (MakesBy Reading.Keyring task.now) }
     ensures known { RunsKnown W.held W.has_failed writer.old writer.new
-        result (R.left reader.old) (R.has_failed reader.new ≡ true) (MakesBy false task.now) }
+        result (R.left reader.old) (R.has_failed reader.new ≡ true) (MakesBy Reading.Keyring task.now) }
     ensures sound { result ≢ Err RunFault.Read → R.has_failed reader.new ≡ false }
 {
     match read_keyring(alloc, reader, task.mode, &task.limits) {
@@ -97,24 +107,82 @@ fn run_keyring<R: Source, W: Sink>(
     }
 }
 
+/// Does what a task asks of a signed literal.
+fn run_message<R: Source, W: Sink>(
+    alloc: Global,
+    task: &Task,
+    reader: &mut R,
+    writer: &mut W,
+) -> Result<(), RunFault>
+    requires reader { R.has_failed reader.old ≡ false }
+    requires writer { W.has_failed writer.old ≡ false }
+    ensures run { RunsOver W.held W.has_failed writer.old writer.new
+        result (R.left reader.old) (R.left reader.new) (R.has_failed reader.new ≡ true) task.now
+        (MakesBy Reading.Message task.now) }
+    ensures known { RunsKnown W.held W.has_failed writer.old writer.new
+        result (R.left reader.old) (R.has_failed reader.new ≡ true)
+        (MakesBy Reading.Message task.now) }
+    ensures sound { result ≢ Err RunFault.Read → R.has_failed reader.new ≡ false }
+{
+    match read_signed(alloc, reader, task.mode, &task.limits) {
+        Ok(SignedAnswer::Literal(message)) => make_of(alloc, task.action, &message, writer),
+        Ok(SignedAnswer::Refused(fault)) => Err(RunFault::Refused(fault)),
+        Err(EngineError::Read) => Err(RunFault::Read),
+        Err(_) => Err(RunFault::Memory),
+    }
+}
+
+/// Makes what an action asks of a signed literal.
+fn make_of<W: Sink>(
+    alloc: Global,
+    action: Action,
+    message: &SignedLiteral,
+    writer: &mut W,
+) -> Result<(), RunFault>
+    requires { W.has_failed writer.old ≡ false }
+    ensures { IsMade W.held W.has_failed writer.old writer.new result
+        (message_made action (signed_packets message.now)) }
+{
+    match action {
+        Action::Octets { row, top: _ } => write_question(alloc, question_of(message, row), writer),
+        Action::Show
+        | Action::List
+        | Action::Check
+        | Action::Write { out: _ }
+        | Action::Normalise { out: _ }
+        | Action::Split { out: _, nth: _ }
+        | Action::Join { out: _, merge: _ } => Err(RunFault::NotYet),
+    }
+}
+
 /// Whether an action is there already.
 fn is_there(action: &Action) -> bool
     ensures { result ≡ is_there action.now }
 {
     match action {
-        Action::Check | Action::Octets { row: _, top: _ } => false,
         Action::Join { out: _, merge } => !*merge,
         _ => true,
     }
 }
 
-/// Whether an action reads packets, and no keyring.
-fn reads_packets(action: &Action) -> bool
-    ensures { result ≡ reads_packets action.now }
+/// What an action reads its input as.
+#[derive(Clone, Copy)]
+enum Reading {
+    Packets,
+    Keyring,
+    Message,
+}
+
+fn reads(action: &Action) -> Reading
+    ensures { result ≡ reads action.now }
 {
     match action {
-        Action::Show => true,
-        _ => false,
+        Action::Show => Reading::Packets,
+        Action::Octets {
+            row: _,
+            top: Top::Literal,
+        } => Reading::Message,
+        _ => Reading::Keyring,
     }
 }
 
@@ -134,7 +202,23 @@ fn make<W: Sink>(
         Action::Normalise { out } => end(write_keyring(alloc, &normalise(keyring), out, writer)),
         Action::Split { out, nth } => split(alloc, out, nth, &keyring, writer),
         Action::Join { out, merge: _ } => end(write_keyring(alloc, &keyring, out, writer)),
-        Action::Show | Action::Check | Action::Octets { row: _, top: _ } => Err(RunFault::NotYet),
+        Action::Check => check_all(alloc, &keyring, writer),
+        Action::Octets { row, top: _ } => {
+            write_question(alloc, question_at(&keyring, row as usize), writer)
+        }
+        Action::Show => Err(RunFault::NotYet),
+    }
+}
+
+/// Writes the report of a keyring, by the first octets of digests.
+fn check_all<W: Sink>(alloc: Global, keyring: &Keyring, writer: &mut W) -> Result<(), RunFault>
+    requires { W.has_failed writer.old ≡ false }
+    ensures { IsMade W.held W.has_failed writer.old writer.new result
+        (Made.Text (report_lines 0 (report_of says_left keyring.now))) }
+{
+    match check(alloc, keyring, &LeftOctets) {
+        Ok(report) => end(write_report(alloc, &report, writer)),
+        Err(_) => end(Err(EngineError::Memory)),
     }
 }
 
@@ -160,7 +244,7 @@ fn split<W: Sink>(
 }
 
 /// A run ends as its writing does.
-fn end(written: Result<(), EngineError>) -> Result<(), RunFault>
+pub(crate) fn end(written: Result<(), EngineError>) -> Result<(), RunFault>
     ensures { result ≡ ended written }
 {
     match written {

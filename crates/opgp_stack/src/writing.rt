@@ -10,10 +10,12 @@ ghost use Rattle.opgp_stream.specs.Added.{Writes};
 ghost use Rattle.opgp_stream.specs.Output.{sink_name, sink_of, state_of, waiting_in};
 
 use crate::listing::add_listing;
+use crate::reporting::add_report;
 use crate::showing::add_shown;
 use crate::task::Out;
 use crate::via::add_packets;
 use opgp_armor::Label;
+use opgp_report::Row;
 use opgp_ring::{BlockOf, Certificate, Packets};
 use opgp_stream::laws::{
     a_block_is_added, a_failure_at_a_begin_line, a_failure_at_an_end_line, a_failure_behind,
@@ -110,6 +112,10 @@ pub(crate) enum Text<'a> {
     Listing(Packets<'a>),
     /// Lines for each packet, with those of its subpackets.
     Shown(&'a [BlockOf]),
+    /// A line for each row of a report.
+    Rows(&'a [Row]),
+    /// Octets as they are.
+    Octets(&'a [u8]),
 }
 
 /// Adds a text.
@@ -124,6 +130,8 @@ fn add<W: Sink>(output: &mut Output<'_, W>, text: Text<'_>) -> io::Result<()>
         Text::Certificates(out, certificates) => add_certificates(output, out, certificates),
         Text::Listing(packets) => add_listing(output, packets),
         Text::Shown(blocks) => add_shown(output, blocks),
+        Text::Rows(rows) => add_report(output, rows),
+        Text::Octets(octets) => output.add(octets),
     }
 }
 

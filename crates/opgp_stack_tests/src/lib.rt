@@ -10,4 +10,8 @@ mod keys;
 #[cfg(test)]
 mod reading;
 #[cfg(test)]
+mod running;
+#[cfg(test)]
+mod signed;
+#[cfg(test)]
 mod writing;

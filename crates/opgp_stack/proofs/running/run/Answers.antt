@@ -1,13 +1,19 @@
-use Rattle.std.proofs.Common.{◌≡◌, ◌∙◌, Bool, true, sym, subst}
+use Rattle.std.proofs.Common.{◌≡◌, ◌∙◌, true, sym, subst}
+use Rattle.opgp_stack.specs.declared.running.Reading.{Reading}
 use Rattle.opgp_stack.specs.Running.{MakesBy, RunsKnown}
 use Rattle.opgp_stack.proofs.running.run.Goals as goal
 
-pub returns-then-reads_packets-clause-known : goal.returns-then-reads_packets-clause-known
-returns-then-reads_packets-clause-known g c there =
-    subst (λ (b : Bool). RunsKnown g.W.Sink.held g.W.Sink.has_failed c.args.writer.now c.run_packets.new.writer c.run_packets.result (g.R.Source.left c.args.reader.now) (g.R.Source.has_failed c.run_packets.new.reader ≡ true) (MakesBy b c.args.task.now))
-    (sym c.if-reads_packets.true ∙ c.reads_packets.ensures) c.run_packets.ensures.known
+pub returns-in-Packets-clause-known : goal.returns-in-Packets-clause-known
+returns-in-Packets-clause-known g c there =
+    subst (λ (r : Reading). RunsKnown g.W.Sink.held g.W.Sink.has_failed c.args.writer.now c.run_packets.new.writer c.run_packets.result (g.R.Source.left c.args.reader.now) (g.R.Source.has_failed c.run_packets.new.reader ≡ true) (MakesBy r c.args.task.now))
+    (sym c.in-Packets.is ∙ c.reads.ensures) c.run_packets.ensures.known
 
-pub returns-clause-known : goal.returns-clause-known
-returns-clause-known g c there =
-    subst (λ (b : Bool). RunsKnown g.W.Sink.held g.W.Sink.has_failed c.args.writer.now c.run_keyring.new.writer c.run_keyring.result (g.R.Source.left c.args.reader.now) (g.R.Source.has_failed c.run_keyring.new.reader ≡ true) (MakesBy b c.args.task.now))
-    (sym c.if-reads_packets.false ∙ c.reads_packets.ensures) c.run_keyring.ensures.known
+pub returns-in-Keyring-clause-known : goal.returns-in-Keyring-clause-known
+returns-in-Keyring-clause-known g c there =
+    subst (λ (r : Reading). RunsKnown g.W.Sink.held g.W.Sink.has_failed c.args.writer.now c.run_keyring.new.writer c.run_keyring.result (g.R.Source.left c.args.reader.now) (g.R.Source.has_failed c.run_keyring.new.reader ≡ true) (MakesBy r c.args.task.now))
+    (sym c.in-Keyring.is ∙ c.reads.ensures) c.run_keyring.ensures.known
+
+pub returns-in-Message-clause-known : goal.returns-in-Message-clause-known
+returns-in-Message-clause-known g c there =
+    subst (λ (r : Reading). RunsKnown g.W.Sink.held g.W.Sink.has_failed c.args.writer.now c.run_message.new.writer c.run_message.result (g.R.Source.left c.args.reader.now) (g.R.Source.has_failed c.run_message.new.reader ≡ true) (MakesBy r c.args.task.now))
+    (sym c.in-Message.is ∙ c.reads.ensures) c.run_message.ensures.known

@@ -21,5 +21,5 @@ loop-placed-preserved g c =
     record {
       same = c.in_ok-add_packet.ensures.same ∙ c.loop-placed.invariant.same;
       added = more_of packet_lines c.adding_goes_on.ensures old mid new c.args.packets.now c.loop-placed.placed-index
-      c.placed-item.result _ c.loop-placed-test.true c.placed-item.is refl c.loop-placed.invariant.added c.in_ok-add_packet.ensures.written;
+          c.placed-item.result _ c.loop-placed-test.true c.placed-item.is refl c.loop-placed.invariant.added c.in_ok-add_packet.ensures.written;
     }

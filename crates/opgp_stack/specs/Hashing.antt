@@ -1,0 +1,36 @@
+-- What the signatures of a signed literal ask (RFC 9580, 5.2.4, 10.3).
+use Rattle.std.specs.Prelude.{ℕ, List, [], ◌∷◌, map, Result, Ok, Err}
+use Rattle.opgp_octets.specs.declared.fault.BodyFault.{BodyFault}
+use Rattle.opgp_body.specs.FieldReading.{body_at}
+use Rattle.opgp_body.specs.Fields.{Field, bare}
+use Rattle.opgp_frame.specs.Packet.{PacketValue}
+use Rattle.opgp_hash.specs.declared.why.Why.TheVariants.{Opaque}
+use Rattle.opgp_hash.specs.Asking.{ask_of}
+use Rattle.opgp_hash.specs.SubjectValue.{binary}
+use Rattle.opgp_key.specs.LiteralBody.{literal}
+use Rattle.opgp_report.specs.Asked.{Asked}
+use Rattle.opgp_ring.specs.Signed.{bodies_of}
+use Rattle.opgp_sig.specs.SignatureBody.{SignatureValue, signature_at}
+
+-- the fourth field of a literal is its content (5.9)
+abbrev pub content_of : Result (List Field) BodyFault → List ℕ
+content_of (Ok (format ∷ name ∷ date ∷ bare content ∷ rest)) = content
+content_of other = []
+
+abbrev pub first_content : List (List ℕ) → List ℕ
+first_content [] = []
+first_content (body ∷ bodies) = content_of (body_at literal body)
+
+-- the content of the literal among packets
+abbrev pub content_in : List PacketValue → List ℕ
+content_in packets = first_content (bodies_of 11 packets)
+
+-- what a signature asks about content
+abbrev pub asked_about : List ℕ → Result SignatureValue BodyFault → Asked
+asked_about content (Ok v) = ask_of v (binary content)
+asked_about content (Err fault) = Err Opaque
+
+-- what the signatures among packets ask about the literal, in order
+abbrev pub message_asked : List PacketValue → List Asked
+message_asked packets =
+    map (λ body. asked_about (content_in packets) (signature_at body)) (bodies_of 2 packets)

@@ -1,0 +1,75 @@
+//! The octets that a signature hashes.
+
+ghost use Rattle.std.specs.Prelude.{◌≡◌, false, Some};
+ghost use Rattle.std.specs.List.{slice_get};
+ghost use Rattle.std.specs.Option.{option_map};
+ghost use Rattle.opgp_hash.specs.Question.{question_value};
+ghost use Rattle.opgp_report.specs.Asked.{question_in};
+ghost use Rattle.opgp_ring.specs.SignedLiteral.{signed_packets};
+ghost use Rattle.opgp_sig.specs.SignatureBody.{signature_at};
+ghost use Rattle.opgp_sig.specs.SigView.{sig_view_octets};
+ghost use Rattle.opgp_stack.specs.Hashing.{asked_about, content_in, message_asked};
+ghost use Rattle.opgp_stack.specs.Running.{IsMade, question_made};
+
+use crate::engine_error::EngineError;
+use crate::run_fault::RunFault;
+use crate::running::end;
+use crate::writing::Text;
+use crate::writing_keyring::write;
+use opgp_hash::{Question, Subject, ask_view, write_octets};
+use opgp_ring::SignedLiteral;
+use opgp_sig::SigView;
+use opgp_stream::Sink;
+use std::alloc::Global;
+
+/// What a signature asks about a literal.
+fn question_about<'a>(message: &'a SignedLiteral, signature: SigView<'a>) -> Option<Question<'a>>
+    ensures { option_map (λ q. question_value q) result ≡ question_in (Some
+        (asked_about (content_in (signed_packets message.now))
+        (signature_at (sig_view_octets signature.entry)))) }
+{
+    opgp_body::laws::fields_are_read();
+    opgp_sig::laws::signatures_are_read();
+    let _body = signature.body();
+    let view = message.literal();
+    let _literal = view.body();
+    ask_view(signature, Subject::Binary(view.content())).ok()
+}
+
+/// The question of the signature of this number behind a literal, from 0; None where it asks nothing,
+/// or where there is no such signature.
+pub(crate) fn question_of(message: &SignedLiteral, row: u64) -> Option<Question<'_>>
+    ensures { option_map (λ q. question_value q) result
+        ≡ question_in (slice_get (message_asked (signed_packets message.now)) row) }
+{
+    let mut signatures = message.signatures();
+    let mut left = row;
+    'signatures: while let Some(signature) = signatures.next() {
+        if left == 0 {
+            return question_about(message, signature);
+        }
+        left -= 1;
+    }
+    None
+}
+
+/// Writes the octets that a question's hash is taken over.
+pub(crate) fn write_question<W: Sink>(
+    alloc: Global,
+    question: Option<Question<'_>>,
+    writer: &mut W,
+) -> Result<(), RunFault>
+    requires { W.has_failed writer.old ≡ false }
+    ensures { IsMade W.held W.has_failed writer.old writer.new result
+        (question_made (option_map (λ q. question_value q) question.entry)) }
+{
+    let question = match question {
+        Some(question) => question,
+        None => return Err(RunFault::NoSuchRow),
+    };
+    let mut octets = Vec::new(alloc);
+    match write_octets(&question, &mut octets) {
+        Ok(()) => end(write(alloc, Text::Octets(&octets), writer)),
+        Err(_) => end(Err(EngineError::Memory)),
+    }
+}

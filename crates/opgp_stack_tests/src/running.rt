@@ -1,0 +1,111 @@
+//! Runs of each action whose reads or writes fail.
+
+use crate::ends::{Drips, Trouble, in_drips, in_pieces};
+use crate::keys::KEYS;
+use opgp_octets::Limits;
+use opgp_stack::{Action, Mode, Out, RunFault, Task, Watched, run};
+use std::alloc::Global;
+use std::test::Fail;
+
+const ACTIONS: [Action; 12] = [
+    Action::Show,
+    Action::List,
+    Action::Write { out: Out::Armor },
+    Action::Write { out: Out::Binary },
+    Action::Normalise { out: Out::Armor },
+    Action::Normalise { out: Out::Binary },
+    Action::Split {
+        out: Out::Armor,
+        nth: None,
+    },
+    Action::Split {
+        out: Out::Binary,
+        nth: None,
+    },
+    Action::Split {
+        out: Out::Armor,
+        nth: Some(1),
+    },
+    Action::Split {
+        out: Out::Binary,
+        nth: Some(1),
+    },
+    Action::Join {
+        out: Out::Armor,
+        merge: false,
+    },
+    Action::Join {
+        out: Out::Binary,
+        merge: false,
+    },
+];
+
+fn task_of(action: Action) -> Task {
+    Task {
+        mode: Mode::Auto,
+        limits: Limits::usual(),
+        action,
+    }
+}
+
+/// What a run over both keys writes.
+fn output_of(alloc: Global, action: Action) -> Result<Vec<u8>, Fail> {
+    let mut reader = in_pieces(KEYS, 100, 0);
+    let mut sink = Watched::new(Vec::new(alloc));
+    match run(alloc, &task_of(action), &mut reader, &mut sink) {
+        Ok(()) => Ok(sink.into_inner()),
+        Err(_) => Err("no output".into()),
+    }
+}
+
+// 477 octets and the end in 6 reads, each of which fails in turn: nothing is read then, and nothing
+// written.
+#[test]
+fn runs_whose_reads_fail(rt: HostRuntime) -> Result<(), Fail> {
+    let alloc = rt.alloc();
+    for action in ACTIONS {
+        for fails_at in 1..=7u64 {
+            let fails = fails_at < 7;
+            let mut reader = in_pieces(KEYS, 100, fails_at);
+            let mut sink = in_drips(alloc, 1000, 0, Trouble::Error);
+            let result = run(alloc, &task_of(action), &mut reader, &mut sink);
+            assert_eq!(rt; result, if fails { Err(RunFault::Read) } else { Ok(()) });
+            assert!(rt; reader.failed() == fails && !sink.failed());
+            assert_eq!(rt; reader.into_inner().reads, fails_at.min(6));
+            assert_eq!(rt; sink.into_inner().writes == 0, fails);
+        }
+    }
+    Ok(())
+}
+
+// Into a sink that takes `most` octets a write, and is in trouble at each in turn: it holds the front
+// of the output that it took before, and nothing is written after a failure.
+#[test]
+fn runs_whose_writes_fail(rt: HostRuntime) -> Result<(), Fail> {
+    let alloc = rt.alloc();
+    for action in ACTIONS {
+        let whole = output_of(alloc, action)?;
+        for most in [1usize, 50, 1000] {
+            let all = whole.len().div_ceil(most) as u64;
+            for at in 1..=all + 1 {
+                for trouble in [Trouble::Error, Trouble::TakesNothing, Trouble::TakesOne] {
+                    let fails = at <= all && trouble != Trouble::TakesOne;
+                    let mut reader = in_pieces(KEYS, 1000, 0);
+                    let mut sink = in_drips(alloc, most, at, trouble);
+                    let result = run(alloc, &task_of(action), &mut reader, &mut sink);
+                    assert_eq!(rt; result, if fails { Err(RunFault::Write) } else { Ok(()) });
+                    assert!(rt; !reader.failed() && sink.failed() == fails);
+                    let Drips { held, writes, .. } = sink.into_inner();
+                    let size = if fails {
+                        most.saturating_mul(at as usize - 1)
+                    } else {
+                        whole.len()
+                    };
+                    assert!(rt; held.len() == size && whole.starts_with(held.as_slice()));
+                    assert!(rt; !fails || writes == at);
+                }
+            }
+        }
+    }
+    Ok(())
+}

@@ -1,8 +1,11 @@
 pub mod Asking
+pub mod CertificateHasher
 pub mod Digest
 pub mod Fingerprint
 pub mod Hashed
 pub mod Hasher
+pub mod HoldsProps
+pub mod Kept
 pub mod KeyId
 pub mod Opened
 pub mod PacketBody

@@ -7,3 +7,7 @@ abbrev pub parts_octets : Parts → List ℕ
 parts_octets p =
     part_octets p.salt ++ part_octets p.first ++ part_octets p.second ++ part_octets p.front
     ++ part_octets p.trailer
+
+-- those of the subject
+abbrev pub subject_octets : Parts → List ℕ
+subject_octets p = part_octets p.first ++ part_octets p.second

@@ -1,7 +1,7 @@
 -- What a signature is about (RFC 9580, 5.2.1, 5.2.4): content, one key or two, a key with a user ID
 -- or with a user attribute; keys and user attributes by the octets of their bodies.
 use Rattle.std.specs.Prelude.{ℕ, ◌^◌, ◌≤◌, Bool, true, ◌&&◌, ◌||◌, List, ◌∷◌, length}
-use Rattle.std.specs.Prelude.{◌==◌, nat_le, slice_index}
+use Rattle.std.specs.Prelude.{◌==◌, nat_le, slice_index, Option, Some, None}
 use Rattle.opgp_octets.specs.Octets.{IsOctets, IsBodySized}
 use Rattle.opgp_body.specs.Fields.{Field, small, Body}
 use Rattle.opgp_key.specs.AttributeBody.{attribute}
@@ -13,6 +13,14 @@ pub data SubjectValue : Type 0 where
   two : List ℕ → List ℕ → SubjectValue
   on_user_id : List ℕ → List ℕ → SubjectValue
   on_attribute : List ℕ → List ℕ → SubjectValue
+
+-- the key that is hashed first; content has none
+abbrev pub first_key : SubjectValue → Option (List ℕ)
+first_key (binary content) = None
+first_key (one key) = Some key
+first_key (two primary subkey) = Some primary
+first_key (on_user_id primary id) = Some primary
+first_key (on_attribute primary body) = Some primary
 
 -- ---- which types of signatures are about which subject
 

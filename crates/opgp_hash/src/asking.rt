@@ -33,6 +33,9 @@ pub fn ask<'a>(signature: &'a Signature, subject: Subject<'a>) -> Result<Questio
         (ask_of (signature_value signature.now) (subject_value subject.entry)) }
     // What is asked is a question.
     ensures question { IfOk result (λ q. IsQuestion (question_value q)) }
+    // It is about the subject.
+    ensures subject { IfOk result (λ q.
+        (question_value q).subject ≡ subject_value subject.entry) }
     // Its front is that of the signature's body.
     ensures front { IfOk result (λ q.
         BeginsWith (signature_octets signature.now) (front_hashed (question_value q))) }
@@ -50,6 +53,9 @@ pub fn ask_view<'a>(signature: SigView<'a>, subject: Subject<'a>) -> Result<Ques
         (ask_of (sig_view_value signature.entry) (subject_value subject.entry)) }
     // What is asked is a question.
     ensures question { IfOk result (λ q. IsQuestion (question_value q)) }
+    // It is about the subject.
+    ensures subject { IfOk result (λ q.
+        (question_value q).subject ≡ subject_value subject.entry) }
     // Its front is that of the signature's body.
     ensures front { IfOk result (λ q.
         BeginsWith (sig_view_octets signature.entry) (front_hashed (question_value q))) }
@@ -76,6 +82,9 @@ pub fn ask_at<'a>(
         (ask_at_of site (sig_view_value signature.entry) (subject_value subject.entry)) }
     // What is asked is a question.
     ensures question { IfOk result (λ q. IsQuestion (question_value q)) }
+    // It is about the subject.
+    ensures subject { IfOk result (λ q.
+        (question_value q).subject ≡ subject_value subject.entry) }
     // Its front is that of the signature's body.
     ensures front { IfOk result (λ q.
         BeginsWith (sig_view_octets signature.entry) (front_hashed (question_value q))) }
@@ -132,6 +141,8 @@ fn asked<'a>(signed: Signed<'a>, subject: Subject<'a>, stands: bool) -> Result<Q
         (subject_value subject.entry)
         (why_not stands (signed_value signed.entry) (subject_value subject.entry))) }
     ensures question { IfOk result (λ q. IsQuestion (question_value q)) }
+    ensures subject { IfOk result (λ q.
+        (question_value q).subject ≡ subject_value subject.entry) }
     ensures front { IfOk result (λ q.
         front_hashed (question_value q) ≡ signed_front (signed_value signed.entry)) }
 {

@@ -15,6 +15,9 @@ use opgp_octets::HashAlgorithm;
 use sha2::{Sha224, Sha256, Sha384, Sha512};
 
 /// The digest of the question under its hash algorithm. Takes no memory.
+///
+/// All its octets are hashed. For many signatures of one certificate there is
+/// [`CertificateHasher`](crate::CertificateHasher).
 #[tactic(auto, unfolding(opgp_octets::specs::HashAlgorithm::hash_algorithm_of))]
 pub fn digest(question: &Question<'_>) -> Digest
     ensures { result ≡ digest_of (question_value question.now) }
@@ -41,7 +44,8 @@ fn digest_by<D: sha2::Digest>(parts: &Parts<'_>) -> D::Output
     hasher.finalize()
 }
 
-fn feed<D: sha2::Digest>(part: &Part<'_>, hasher: &mut D)
+/// The hasher takes the part.
+pub(crate) fn feed<D: sha2::Digest>(part: &Part<'_>, hasher: &mut D)
     ensures { (m : List ℕ) → D.holds hasher.old m → D.holds hasher.new (m ++ part_octets part.now) }
 {
     hasher.update(part.head.octets());

@@ -4,10 +4,12 @@
 
 mod asking;
 mod bodies;
+mod certificate_hasher;
 mod digesting;
 mod digests;
 mod fingerprints;
 mod hashers;
+mod kept;
 mod key_hash;
 mod kinds;
 pub mod laws;
@@ -23,6 +25,7 @@ mod why;
 mod writing;
 
 pub use asking::{ask, ask_at, ask_view};
+pub use certificate_hasher::CertificateHasher;
 pub use digesting::digest;
 pub use digests::Digest;
 pub use fingerprints::{Fingerprint, KeyId};

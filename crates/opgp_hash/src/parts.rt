@@ -1,12 +1,12 @@
 //! What a question's hash is taken over, part by part.
 
-ghost use Rattle.std.specs.Prelude.{◌≡◌, ◌≤◌, ◌++◌, ◌^◌, length, true};
-ghost use Rattle.opgp_hash.specs.Hashed.{hashed, subject_hashed, trailer_hashed};
+ghost use Rattle.std.specs.Prelude.{◌≡◌, ◌≤◌, ◌++◌, ◌^◌, ℕ, List, [], length, true, Some};
+ghost use Rattle.opgp_hash.specs.Hashed.{hashed, key_hashed, subject_hashed, trailer_hashed};
 ghost use Rattle.opgp_hash.specs.Part.{part_octets};
-ghost use Rattle.opgp_hash.specs.Parts.{parts_octets};
+ghost use Rattle.opgp_hash.specs.Parts.{parts_octets, subject_octets};
 ghost use Rattle.opgp_hash.specs.Question.{question_value};
 ghost use Rattle.opgp_hash.specs.Subject.{subject_value};
-ghost use Rattle.opgp_hash.specs.SubjectValue.{are_keys_of, is_within};
+ghost use Rattle.opgp_hash.specs.SubjectValue.{are_keys_of, first_key, is_within};
 
 use crate::part::{Head, Part};
 use crate::question::Question;
@@ -25,7 +25,15 @@ pub(crate) struct Parts<'a> {
 impl<'a> Parts<'a> {
     /// Those of the question.
     pub(crate) fn of(question: &Question<'a>) -> Parts<'a>
-        ensures { parts_octets result ≡ hashed (question_value question.now) }
+        ensures value { parts_octets result ≡ hashed (question_value question.now) }
+        // Version 4 has no salt: its parts begin with the subject, and that with its first key.
+        ensures unsalted { (question_value question.now).version ≡ 4
+            → part_octets result.salt ≡ [] }
+        ensures subject { subject_octets result ≡ subject_hashed
+            (question_value question.now).version (question_value question.now).subject }
+        ensures first { (key : List ℕ)
+            → first_key (question_value question.now).subject ≡ Some key
+            → part_octets result.first ≡ key_hashed (question_value question.now).version key }
     {
         let (first, second) = subject_parts(question.version, &question.subject);
         let front = Part::front(question);
@@ -54,8 +62,10 @@ impl<'a> Parts<'a> {
 fn subject_parts<'a>(version: u8, subject: &Subject<'a>) -> (Part<'a>, Part<'a>)
     requires keys { are_keys_of version (subject_value subject.now) ≡ true }
     requires within { is_within (subject_value subject.now) ≡ true }
-    ensures { part_octets result.0 ++ part_octets result.1
+    ensures value { part_octets result.0 ++ part_octets result.1
         ≡ subject_hashed version (subject_value subject.now) }
+    ensures first { (key : List ℕ) → first_key (subject_value subject.now) ≡ Some key
+        → part_octets result.0 ≡ key_hashed version key }
 {
     match subject {
         Subject::Binary(content) => (Part::bare(content), Part::bare(&[])),

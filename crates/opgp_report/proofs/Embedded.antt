@@ -25,9 +25,10 @@ module _ (says : Says) (keys : List (List ℕ)) (subject : SubjectValue) (place 
       (ap (λ (m : ℕ). embedded_rows says keys subject place 0 (embedding_bodies hashed) ++ embedded_rows says keys subject place m (embedding_bodies unhashed)) n
       ∙ sym (embedded-append 0 (embedding_bodies hashed) (embedding_bodies unhashed)))
 
-  -- the rows of a binding
-  pub bound : (kind : ℕ) (hashed unhashed : List Sub) (number : ℕ) (a b c : List RowValue) → kind ≡ 24 → b ≡ a ++ embedded_rows says keys subject place 0 (embedding_bodies hashed)
-      → number ≡ 0 + length (embedding_bodies hashed) → c ≡ b ++ embedded_rows says keys subject place number (embedding_bodies unhashed)
+  -- the rows of a binding, whose second area is asked about an equal subject
+  pub bound : (kind : ℕ) (hashed unhashed : List Sub) (number : ℕ) (a b c : List RowValue) (other : SubjectValue) → other ≡ subject → kind ≡ 24 → b ≡ a ++ embedded_rows says keys subject place 0 (embedding_bodies hashed)
+      → number ≡ 0 + length (embedding_bodies hashed) → c ≡ b ++ embedded_rows says keys other place number (embedding_bodies unhashed)
       → c ≡ a ++ bound_rows says keys subject place kind hashed unhashed
-  bound kind hashed unhashed number a b c is e n f =
-      subst (λ (k : ℕ). c ≡ a ++ bound_rows says keys subject place k hashed unhashed) (sym is) (both hashed unhashed number a b c e n f)
+  bound kind hashed unhashed number a b c other same is e n f =
+      subst (λ (k : ℕ). c ≡ a ++ bound_rows says keys subject place k hashed unhashed) (sym is)
+      (both hashed unhashed number a b c e n (subst (λ (s : SubjectValue). c ≡ b ++ embedded_rows says keys s place number (embedding_bodies unhashed)) same f))

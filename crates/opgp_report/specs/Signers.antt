@@ -5,4 +5,4 @@ use Rattle.opgp_report.specs.declared.signers.Signers.{Signers}
 
 -- their bodies, in order
 abbrev pub signers_keys : Signers → List (List ℕ)
-signers_keys s = map (λ k. key_view_octets k) s.keys.items
+signers_keys s = map (λ k. key_view_octets k.key) s.keys.items

@@ -22,6 +22,10 @@ use std::alloc::Global;
 /// of both. Each key is hashed once for its name, and keys are found in time that grows with the
 /// logarithm of their number. The verifier is asked once for each question.
 ///
+/// In version 4 each primary key, and each user ID, attribute and subkey, is hashed once for each
+/// hash algorithm that is asked about it. In version 6 each digest hashes them anew, behind its
+/// signature's salt: there the time grows with the product of signatures and octets.
+///
 /// An error is want of memory.
 pub fn check<V: Verifier>(
     alloc: Global,

@@ -1,8 +1,10 @@
 //! The rows of what a keyring holds, in order.
 
-ghost use Rattle.std.specs.Prelude.{◌≡◌, ◌++◌, ◌+◌, ◌<◌, ◌≤◌, ◌^◌, length, map, true, None, OnOk, IfOk};
+ghost use Rattle.std.specs.Prelude.{◌≡◌, ◌++◌, ◌+◌, ◌<◌, ◌≤◌, ◌^◌, length, map, true};
+ghost use Rattle.std.specs.Prelude.{Some, None, OnOk, IfOk};
+ghost use Rattle.opgp_hash.specs.CertificateHasher.{hasher_subject};
 ghost use Rattle.opgp_hash.specs.Subject.{subject_value};
-ghost use Rattle.opgp_hash.specs.SubjectValue.{is_within};
+ghost use Rattle.opgp_hash.specs.SubjectValue.{first_key, is_within};
 ghost use Rattle.opgp_key.specs.KeyView.{key_view_octets};
 ghost use Rattle.opgp_sig.specs.Signature.{signature_octets};
 ghost use Rattle.opgp_sig.specs.SignatureBody.{signature_at};
@@ -19,7 +21,7 @@ use crate::asker::Asker;
 use crate::place::Place;
 use crate::row::Row;
 use crate::verifier::Verifier;
-use opgp_hash::{Site, Subject};
+use opgp_hash::{CertificateHasher, Site, Subject};
 use opgp_key::KeyView;
 use opgp_octets::{OutOfMemory, SignatureType};
 use opgp_ring::{Certificate, Component, Content, Head, Member};
@@ -30,16 +32,16 @@ use opgp_sig::{SigView, Signature, Subs};
 fn add_embedded<V: Verifier>(
     rows: &mut Vec<Row>,
     asker: &Asker<'_, V>,
-    subject: Subject<'_>,
+    hasher: &mut CertificateHasher<'_>,
     place: Place,
     first: usize,
     mut subpackets: Subs<'_>,
 ) -> Result<usize, OutOfMemory>
-    requires within { is_within (subject_value subject) ≡ true }
     requires few { first + length (subs_to_come subpackets) < 2 ^ 64 }
+    ensures subject { hasher_subject hasher.new ≡ hasher_subject hasher.old }
     ensures rows { OnOk result (map row_value rows.new.items ≡ map row_value rows.old.items
         ++ embedded_rows (V.says asker.now.verifier.now) (asker_keys asker.now)
-        (subject_value subject.entry) place first
+        (hasher_subject hasher.old) place first
         (embedding_bodies (subs_to_come subpackets.entry))) }
     ensures number { IfOk result (λ n. n
         ≡ first + length (embedding_bodies (subs_to_come subpackets.entry))) }
@@ -52,7 +54,7 @@ fn add_embedded<V: Verifier>(
                 nested: Some(number),
                 ..place
             };
-            rows.push(asker.embedded_row(subject, nested, subpacket.octets()))?;
+            rows.push(asker.embedded_row(hasher, nested, subpacket.octets()))?;
             number += 1;
         }
     }
@@ -64,52 +66,53 @@ fn add_embedded<V: Verifier>(
 fn add_bound<V: Verifier>(
     rows: &mut Vec<Row>,
     asker: &Asker<'_, V>,
-    subject: Subject<'_>,
+    hasher: &mut CertificateHasher<'_>,
     place: Place,
     kind: u8,
     hashed: Subs<'_>,
     unhashed: Subs<'_>,
 ) -> Result<(), OutOfMemory>
-    requires within { is_within (subject_value subject) ≡ true }
     requires hashed { length (subs_to_come hashed) ≤ 4294967295 }
     requires unhashed { length (subs_to_come unhashed) ≤ 4294967295 }
-    ensures { OnOk result (map row_value rows.new.items ≡ map row_value rows.old.items
+    ensures subject { hasher_subject hasher.new ≡ hasher_subject hasher.old }
+    ensures rows { OnOk result (map row_value rows.new.items ≡ map row_value rows.old.items
         ++ bound_rows (V.says asker.now.verifier.now) (asker_keys asker.now)
-        (subject_value subject.entry) place kind (subs_to_come hashed.entry)
+        (hasher_subject hasher.old) place kind (subs_to_come hashed.entry)
         (subs_to_come unhashed.entry)) }
 {
     if kind != SignatureType::SubkeyBinding.number() {
         return Ok(());
     }
-    let number = add_embedded(rows, asker, subject, place, 0, hashed)?;
-    let _number = add_embedded(rows, asker, subject, place, number, unhashed)?;
+    let number = add_embedded(rows, asker, hasher, place, 0, hashed)?;
+    let _number = add_embedded(rows, asker, hasher, place, number, unhashed)?;
     Ok(())
 }
 
-/// Adds the rows of what is embedded in a signature about a subject. An error is want of memory.
+/// Adds the rows of what is embedded in a signature about the hasher's subject. An error is want of
+/// memory.
 fn add_inner<V: Verifier>(
     rows: &mut Vec<Row>,
     asker: &Asker<'_, V>,
-    subject: Subject<'_>,
+    hasher: &mut CertificateHasher<'_>,
     place: Place,
     signature: SigView<'_>,
 ) -> Result<(), OutOfMemory>
-    requires { is_within (subject_value subject) ≡ true }
-    ensures { OnOk result (map row_value rows.new.items ≡ map row_value rows.old.items
+    ensures subject { hasher_subject hasher.new ≡ hasher_subject hasher.old }
+    ensures rows { OnOk result (map row_value rows.new.items ≡ map row_value rows.old.items
         ++ inner_rows (V.says asker.now.verifier.now) (asker_keys asker.now)
-        (subject_value subject.entry) place (sig_view_value signature.entry)) }
+        (hasher_subject hasher.old) place (sig_view_value signature.entry)) }
 {
-    if !is_on_two(&subject) {
+    if !is_on_two(&hasher.subject()) {
         return Ok(());
     }
     match signature {
         SigView::Four(view) => {
             let (kind, hashed, unhashed) = (view.kind(), view.hashed(), view.unhashed());
-            add_bound(rows, asker, subject, place, kind, hashed, unhashed)
+            add_bound(rows, asker, hasher, place, kind, hashed, unhashed)
         }
         SigView::Six(view) => {
             let (kind, hashed, unhashed) = (view.kind(), view.hashed(), view.unhashed());
-            add_bound(rows, asker, subject, place, kind, hashed, unhashed)
+            add_bound(rows, asker, hasher, place, kind, hashed, unhashed)
         }
         SigView::Three(_) | SigView::Other(_) => Ok(()),
     }
@@ -128,40 +131,40 @@ pub(crate) fn is_on_two(subject: &Subject<'_>) -> bool
     }
 }
 
-/// Adds the rows of a signature about a subject. An error is want of memory.
+/// Adds the rows of a signature about the hasher's subject. An error is want of memory.
 fn add_signature<V: Verifier>(
     rows: &mut Vec<Row>,
     asker: &Asker<'_, V>,
-    subject: Subject<'_>,
+    hasher: &mut CertificateHasher<'_>,
     place: Place,
     signature: &Signature,
 ) -> Result<(), OutOfMemory>
-    requires { is_within (subject_value subject) ≡ true }
-    ensures { OnOk result (map row_value rows.new.items ≡ map row_value rows.old.items
+    ensures subject { hasher_subject hasher.new ≡ hasher_subject hasher.old }
+    ensures rows { OnOk result (map row_value rows.new.items ≡ map row_value rows.old.items
         ++ value_rows (V.says asker.now.verifier.now) (asker_keys asker.now)
-        (subject_value subject.entry) place (signature_at (signature_octets signature.now))) }
+        (hasher_subject hasher.old) place (signature_at (signature_octets signature.now))) }
 {
     opgp_sig::laws::written_signature();
     let view = signature.view();
-    rows.push(asker.row(Site::Hung, subject, place, view))?;
-    add_inner(rows, asker, subject, place, view)
+    rows.push(asker.row(hasher, Site::Hung, place, view))?;
+    add_inner(rows, asker, hasher, place, view)
 }
 
 /// Adds the rows of what hangs in a place. An error is want of memory.
 fn add_hang<V: Verifier>(
     rows: &mut Vec<Row>,
     asker: &Asker<'_, V>,
-    subject: Subject<'_>,
+    hasher: &mut CertificateHasher<'_>,
     place: Place,
     hang: &Member,
 ) -> Result<(), OutOfMemory>
-    requires { is_within (subject_value subject) ≡ true }
-    ensures { OnOk result (map row_value rows.new.items ≡ map row_value rows.old.items
+    ensures subject { hasher_subject hasher.new ≡ hasher_subject hasher.old }
+    ensures rows { OnOk result (map row_value rows.new.items ≡ map row_value rows.old.items
         ++ hang_rows (V.says asker.now.verifier.now) (asker_keys asker.now)
-        (subject_value subject.entry) place hang.now) }
+        (hasher_subject hasher.old) place hang.now) }
 {
     match hang.content() {
-        Content::Signature(_, signature) => add_signature(rows, asker, subject, place, signature),
+        Content::Signature(_, signature) => add_signature(rows, asker, hasher, place, signature),
         Content::Primary(_, _)
         | Content::Subkey(_, _)
         | Content::UserId(_, _)
@@ -174,15 +177,15 @@ fn add_hang<V: Verifier>(
 fn add_hangs<V: Verifier>(
     rows: &mut Vec<Row>,
     asker: &Asker<'_, V>,
-    subject: Subject<'_>,
+    hasher: &mut CertificateHasher<'_>,
     certificate: usize,
     component: Option<usize>,
     hangs: &[Member],
 ) -> Result<(), OutOfMemory>
-    requires { is_within (subject_value subject) ≡ true }
-    ensures { OnOk result (map row_value rows.new.items ≡ map row_value rows.old.items
+    ensures subject { hasher_subject hasher.new ≡ hasher_subject hasher.old }
+    ensures rows { OnOk result (map row_value rows.new.items ≡ map row_value rows.old.items
         ++ hangs_rows (V.says asker.now.verifier.now) (asker_keys asker.now)
-        (subject_value subject.entry) certificate component 0 hangs.now) }
+        (hasher_subject hasher.old) certificate component 0 hangs.now) }
 {
     let mut number = 0usize;
     let mut rest = hangs;
@@ -193,7 +196,7 @@ fn add_hangs<V: Verifier>(
             hang: number,
             nested: None,
         };
-        add_hang(rows, asker, subject, place, hang)?;
+        add_hang(rows, asker, hasher, place, hang)?;
         number += 1;
         rest = more;
     }
@@ -204,6 +207,7 @@ fn add_hangs<V: Verifier>(
 pub(crate) fn subject_on<'a>(primary: KeyView<'a>, component: &'a Component) -> Subject<'a>
     ensures value { subject_value result
         ≡ on_head (key_view_octets primary.entry) component.now.head }
+    ensures first { first_key (subject_value result) ≡ Some (key_view_octets primary.entry) }
     ensures within { is_within (subject_value result) ≡ true }
 {
     match component.head().head() {
@@ -213,14 +217,16 @@ pub(crate) fn subject_on<'a>(primary: KeyView<'a>, component: &'a Component) -> 
     }
 }
 
-/// Adds the rows of the components of a certificate. An error is want of memory.
-fn add_components<V: Verifier>(
+/// Adds the rows of the components of the hasher's certificate. An error is want of memory.
+fn add_components<'a, V: Verifier>(
     rows: &mut Vec<Row>,
     asker: &Asker<'_, V>,
-    primary: KeyView<'_>,
+    hasher: &mut CertificateHasher<'a>,
+    primary: KeyView<'a>,
     certificate: usize,
-    components: &[Component],
+    components: &'a [Component],
 ) -> Result<(), OutOfMemory>
+    requires { first_key (hasher_subject hasher.old) ≡ Some (key_view_octets primary) }
     ensures { OnOk result (map row_value rows.new.items ≡ map row_value rows.old.items
         ++ components_rows (V.says asker.now.verifier.now) (asker_keys asker.now)
         (key_view_octets primary.entry) certificate 0 components.now) }
@@ -228,11 +234,11 @@ fn add_components<V: Verifier>(
     let mut number = 0usize;
     let mut rest = components;
     'components: while let [component, more @ ..] = rest {
-        let subject = subject_on(primary, component);
+        hasher.turn_to(subject_on(primary, component));
         add_hangs(
             rows,
             asker,
-            subject,
+            hasher,
             certificate,
             Some(number),
             component.hangs(),
@@ -255,15 +261,11 @@ fn add_certificate<V: Verifier>(
         certificate.now) }
 {
     let primary = certificate.key().view();
-    add_hangs(
-        rows,
-        asker,
-        Subject::One(primary),
-        number,
-        None,
-        certificate.hangs(),
-    )?;
-    add_components(rows, asker, primary, number, certificate.components())
+    let mut hasher = CertificateHasher::new(primary);
+    let hangs = certificate.hangs();
+    add_hangs(rows, asker, &mut hasher, number, None, hangs)?;
+    let components = certificate.components();
+    add_components(rows, asker, &mut hasher, primary, number, components)
 }
 
 /// Adds the rows of certificates. An error is want of memory.

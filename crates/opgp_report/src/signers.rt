@@ -3,6 +3,7 @@
 ghost use Rattle.std.specs.Prelude.{◌≡◌, ◌++◌, ◌∷◌, [], map, IfOk};
 ghost use Rattle.std.specs.List.{flat_map};
 ghost use Rattle.std.specs.Option.{option_map};
+ghost use Rattle.opgp_hash.specs.KeyId.{id_of};
 ghost use Rattle.opgp_key.specs.KeyView.{key_view_octets};
 ghost use Rattle.opgp_sig.specs.SigView.{sig_view_value};
 ghost use Rattle.opgp_report.specs.First.{print_of};
@@ -11,19 +12,27 @@ ghost use Rattle.opgp_report.specs.Report.{certificate_keys, keys_in, signer_in,
 
 use crate::names::Names;
 use crate::signing::signer;
-use opgp_hash::{Fingerprint, fingerprint_of_view};
+use opgp_hash::{Fingerprint, KeyId, fingerprint_of_view};
 use opgp_key::KeyView;
 use opgp_octets::OutOfMemory;
 use opgp_ring::{Certificate, Component, Head, Keyring};
 use opgp_sig::SigView;
 use std::alloc::Global;
 
+/// A key, with its key ID.
+#[derive(Clone, Copy)]
+pub(crate) struct Signer<'a> {
+    key: KeyView<'a>,
+    id: KeyId,
+    ghost named: { id.0 ≡ id_of (print_of (key_view_octets key)) },
+}
+
 /// Keys in order, with an index of their names.
 #[derive(Drop)]
 pub(crate) struct Signers<'a> {
-    keys: Vec<KeyView<'a>>,
+    keys: Vec<Signer<'a>>,
     names: Names,
-    ghost named: { prints_shown names ≡ map (λ k. print_of (key_view_octets k)) keys.items },
+    ghost named: { prints_shown names ≡ map (λ s. print_of (key_view_octets s.key)) keys.items },
 }
 
 impl<'a> Signers<'a> {
@@ -45,8 +54,12 @@ impl<'a> Signers<'a> {
             signers_keys s ≡ signers_keys self.entry ++ key_view_octets key.entry ∷ []) }
     {
         let Signers { mut keys, names } = self;
-        let names = names.with(print_of(&key))?;
-        keys.push(key)?;
+        let print = print_of(&key);
+        let names = names.with(print)?;
+        keys.push(Signer {
+            key,
+            id: print.key_id(),
+        })?;
         Ok(Signers { keys, names })
     }
 
@@ -90,8 +103,8 @@ impl<'a> Signers<'a> {
     }
 
     /// The first key that the signature names as its maker.
-    pub(crate) fn find(&self, signature: SigView<'_>) -> Option<KeyView<'a>>
-        ensures { option_map (λ k. key_view_octets k) result
+    pub(crate) fn find(&self, signature: SigView<'_>) -> Option<Signer<'a>>
+        ensures { option_map (λ s. key_view_octets s.key) result
             ≡ signer_in (signers_keys self.now) (sig_view_value signature.entry) }
     {
         match signer(&self.names, signature) {
@@ -104,8 +117,26 @@ impl<'a> Signers<'a> {
     }
 }
 
+/// The key of a signer, if there is one.
+pub(crate) fn key_of<'a>(signer: Option<Signer<'a>>) -> Option<KeyView<'a>>
+    ensures { option_map (λ k. key_view_octets k) result
+        ≡ option_map (λ s. key_view_octets s.key) signer.entry }
+{
+    let signer = signer?;
+    Some(signer.key)
+}
+
+/// Its key ID, if there is one.
+pub(crate) fn id_of(signer: Option<Signer<'_>>) -> Option<KeyId>
+    ensures { option_map (λ id. id.0) result ≡ option_map (λ body. id_of (print_of body))
+        (option_map (λ s. key_view_octets s.key) signer.entry) }
+{
+    let signer = signer?;
+    Some(signer.id)
+}
+
 /// The fingerprint of a key.
-pub(crate) fn print_of(key: &KeyView<'_>) -> Fingerprint
+fn print_of(key: &KeyView<'_>) -> Fingerprint
     ensures { result ≡ print_of (key_view_octets key.now) }
 {
     let _body = key.body();

@@ -1,4 +1,6 @@
-use Rattle.std.proofs.Common.{◌≡◌, ◌+◌, ◌++◌, length, map}
+use Rattle.std.proofs.Common.{◌≡◌, ◌+◌, ◌++◌, length, map, Some}
+use Rattle.opgp_hash.specs.CertificateHasher.{hasher_subject}
+use Rattle.opgp_hash.specs.SubjectValue.{first_key}
 use Rattle.opgp_key.specs.KeyView.{key_view_octets}
 use Rattle.opgp_report.specs.Asker.{asker_keys}
 use Rattle.opgp_report.specs.Report.{components_rows}
@@ -10,6 +12,7 @@ abbrev pub invariant-components : goal.invariant-components
 invariant-components g l = record {
   rows : map row_value l.rows.items ++ components_rows (g.V.Verifier.says l.asker.verifier.now) (asker_keys l.asker) (key_view_octets l.primary) l.certificate l.number l.rest
       ≡ map row_value l.fn.rows.items ++ components_rows (g.V.Verifier.says l.asker.verifier.now) (asker_keys l.asker) (key_view_octets l.primary) l.certificate 0 l.fn.components;
+  first : first_key (hasher_subject l.hasher) ≡ Some (key_view_octets l.primary);
   count : l.number + length l.rest ≡ length l.fn.components;
 }
 

@@ -4,6 +4,7 @@ ghost use Rattle.std.specs.Prelude.{◌≡◌, ◌++◌, ◌∷◌, [], All, OnO
 ghost use Rattle.std.specs.List.{flat_map};
 ghost use Rattle.opgp_ring.specs.Keyring.{CertificateValue, IsCertificate, certificate_packets};
 ghost use Rattle.opgp_ring.specs.Keyring.{component_packets, IsPrimary, IsHead, IsHung, IsFiller};
+ghost use Rattle.opgp_ring.specs.Keyring.{IsComponent};
 ghost use Rattle.opgp_ring.specs.Normal.{normal_certificate};
 
 use crate::component::{Component, copy_members};
@@ -56,6 +57,61 @@ impl Certificate {
             hangs: Vec::new(alloc),
             components: Vec::new(alloc),
         }
+    }
+
+    /// A certificate of its parts. The conditions are that the primary is a public key, that what
+    /// hangs on it are signatures and fillers, and that each component is one.
+    pub fn from_parts(
+        primary: Member,
+        hangs: Vec<Member>,
+        components: Vec<Component>,
+    ) -> Certificate
+        requires primary { IsPrimary primary }
+        requires hangs { All IsHung hangs.items }
+        requires components { All IsComponent components.items }
+        ensures { result ≡ record {
+          primary = primary;
+          hangs = hangs.items;
+          components = components.items;
+        } }
+    {
+        Certificate {
+            primary,
+            hangs,
+            components,
+        }
+    }
+
+    /// The primary key, what hangs on it, and the components.
+    pub fn into_parts(self) -> (Member, Vec<Member>, Vec<Component>)
+        ensures primary { result.0 ≡ self.primary }
+        ensures hangs { result.1.items ≡ self.hangs }
+        ensures components { result.2.items ≡ self.components }
+        ensures certificate { IsCertificate self }
+    {
+        let Certificate {
+            primary,
+            hangs,
+            components,
+        } = self;
+        (primary, hangs, components)
+    }
+
+    /// Adds what another certificate holds, but for its primary key: what hangs on that behind what
+    /// hangs on this one's, and its components behind this one's. Nothing is copied.
+    ///
+    /// An error is want of memory.
+    pub fn absorb(&mut self, other: Certificate) -> Result<(), OutOfMemory>
+        ensures { OnOk result (self.new ≡ record {
+          primary = self.old.primary;
+          hangs = self.old.hangs ++ other.hangs;
+          components = self.old.components ++ other.components;
+        }) }
+    {
+        let (_, mut hangs, mut components) = other.into_parts();
+        self.hangs.append(&mut hangs)?;
+        self.components.append(&mut components)?;
+        Ok(())
     }
 
     /// Begins a component. An error is want of memory.

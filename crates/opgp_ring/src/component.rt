@@ -1,6 +1,6 @@
 //! A component of a certificate.
 
-ghost use Rattle.std.specs.Prelude.{◌≡◌, ◌++◌, ◌∷◌, [], OnOk, IfOk};
+ghost use Rattle.std.specs.Prelude.{◌≡◌, ◌++◌, ◌∷◌, [], All, OnOk, IfOk};
 ghost use Rattle.opgp_ring.specs.Keyring.{ComponentValue, IsComponent, component_packets, IsHead};
 ghost use Rattle.opgp_ring.specs.Keyring.{IsHung};
 ghost use Rattle.opgp_ring.specs.Normal.{normal_component};
@@ -50,6 +50,40 @@ impl Component {
         ensures component { IsComponent self.new }
     {
         self.hangs.push(packet)?;
+        Ok(())
+    }
+
+    /// A component of its parts. The conditions are that the head is a user ID, an attribute or a
+    /// subkey, and that what hangs on it are signatures and fillers.
+    pub fn from_parts(head: Member, hangs: Vec<Member>) -> Component
+        requires head { IsHead head }
+        requires hangs { All IsHung hangs.items }
+        ensures { result ≡ record { head = head; hangs = hangs.items } }
+    {
+        Component { head, hangs }
+    }
+
+    /// The head, and what hangs on it.
+    pub fn into_parts(self) -> (Member, Vec<Member>)
+        ensures head { result.0 ≡ self.head }
+        ensures hangs { result.1.items ≡ self.hangs }
+        ensures component { IsComponent self }
+    {
+        let Component { head, hangs } = self;
+        (head, hangs)
+    }
+
+    /// Hangs what hangs on another component on this one too, behind its own. Nothing is copied.
+    ///
+    /// An error is want of memory.
+    pub fn absorb(&mut self, other: Component) -> Result<(), OutOfMemory>
+        ensures { OnOk result (self.new ≡ record {
+          head = self.old.head;
+          hangs = self.old.hangs ++ other.hangs;
+        }) }
+    {
+        let (_, mut hangs) = other.into_parts();
+        self.hangs.append(&mut hangs)?;
         Ok(())
     }
 

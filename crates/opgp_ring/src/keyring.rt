@@ -29,7 +29,9 @@ impl Model for Keyring {
 }
 
 impl Keyring {
-    pub(crate) fn new(alloc: Global, lead: Vec<Packet>, certificates: Vec<Certificate>) -> Keyring
+    /// A keyring of its parts. The conditions are that fillers alone lead it, and that each
+    /// certificate is one.
+    pub fn new(alloc: Global, lead: Vec<Packet>, certificates: Vec<Certificate>) -> Keyring
         requires { IsKeyring (record { lead = lead.items; certificates = certificates.items }) }
         ensures { result ≡ record { lead = lead.items; certificates = certificates.items } }
     {
@@ -40,7 +42,8 @@ impl Keyring {
         }
     }
 
-    pub(crate) fn into_parts(self) -> (Vec<Packet>, Vec<Certificate>, Global)
+    /// The fillers before the first certificate, the certificates, and the allocator.
+    pub fn into_parts(self) -> (Vec<Packet>, Vec<Certificate>, Global)
         ensures lead { result.0.items ≡ self.lead }
         ensures certificates { result.1.items ≡ self.certificates }
         ensures keyring { IsKeyring self }

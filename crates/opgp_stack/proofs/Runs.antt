@@ -24,7 +24,6 @@ IsOther (Ends run.Write) = Unit {0}
 IsOther (Ends run.Memory) = Unit {0}
 IsOther (Ends run.NoSuchRow) = Unit {0}
 IsOther (Ends run.NoSuchCertificate) = Unit {0}
-IsOther (Ends run.NotYet) = Unit {0}
 
 one_is_other : (out : Out) (o : Option CertificateValue) → IsOther (one_text out o)
 one_is_other out (Some c) = tt
@@ -72,7 +71,6 @@ end_runs old new run.Write F M other same m = m
 end_runs old new run.Memory F M other same m = same
 end_runs old new run.NoSuchRow F M other same m = m
 end_runs old new run.NoSuchCertificate F M other same m = m
-end_runs old new run.NotYet F M other same m = m
 
 -- Where something is made, the run ends by it.
 pub runs : {W : Type 0} (held : W → Option (List ℕ)) (failed : W → Bool) (old new : W) (result : Result Unit RunFault) (made : Made) (F M : Type 0)

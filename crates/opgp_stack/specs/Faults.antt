@@ -19,4 +19,3 @@ run_number run.Write = 61
 run_number run.Memory = 62
 run_number run.NoSuchRow = 70
 run_number run.NoSuchCertificate = 71
-run_number run.NotYet = 0

@@ -1,5 +1,5 @@
 -- What a run of the program makes of an input.
-use Rattle.std.specs.Prelude.{◌≡◌, ℕ, Bool, true, false, List, Option, Some, None, Result, Ok, Err}
+use Rattle.std.specs.Prelude.{◌≡◌, ℕ, Bool, true, false, List, [], Option, Some, None, Result, Ok, Err}
 use Rattle.std.specs.Prelude.{slice_get, IfSome}
 use Rattle.opgp_octets.specs.Limits.{input_limit}
 use Rattle.opgp_frame.specs.Packet.{PacketValue}
@@ -10,6 +10,7 @@ use Rattle.opgp_report.specs.Left.{says_left}
 use Rattle.opgp_report.specs.Report.{report_of}
 use Rattle.opgp_ring.specs.Keyring.{KeyringValue, CertificateValue, certificate_packets, flat}
 use Rattle.opgp_ring.specs.Normal.{normal_of}
+use Rattle.opgp_merge.specs.Merged.{merged_of}
 use Rattle.opgp_stack.specs.declared.engine_error.EngineError.{EngineError}
 use Rattle.opgp_stack.specs.declared.engine_error.EngineError.TheVariants as engine
 use Rattle.opgp_stack.specs.declared.run_fault.RunFault.{RunFault}
@@ -39,18 +40,6 @@ pub data Made : Type 0 where
   Text : List ℕ → Made
   Ends : RunFault → Made
 
--- the actions that are there
-abbrev pub is_there : Action → Bool
-is_there action.List = true
-is_there (action.Write out) = true
-is_there (action.Normalise out) = true
-is_there (action.Split out nth) = true
-is_there (action.Join out false) = true
-is_there (action.Join out true) = false
-is_there action.Show = true
-is_there action.Check = true
-is_there (action.Octets row top) = true
-
 -- what an action reads its input as
 abbrev pub reads : Action → Reading
 reads action.Show = reading.Packets
@@ -78,14 +67,19 @@ abbrev pub split_text : Out → Option ℕ → List CertificateValue → Made
 split_text out None cs = Text (certificates_text out cs)
 split_text out (Some n) cs = one_text out (slice_get cs n)
 
--- what is made of a keyring
+-- a keyring, merged where that is asked
+abbrev pub joined_of : Bool → KeyringValue → KeyringValue
+joined_of true r = merged_of r
+joined_of false r = r
+
+-- what is made of a keyring; packets are shown of no keyring
 abbrev pub made_of : Action → KeyringValue → Made
 made_of action.List r = Text (listing (flat r))
 made_of (action.Write out) r = Text (packets_text out (flat r))
 made_of (action.Normalise out) r = Text (packets_text out (flat (normal_of r)))
 made_of (action.Split out nth) r = split_text out nth r.certificates
-made_of (action.Join out merge) r = Text (packets_text out (flat r))
-made_of action.Show r = Ends run.NotYet
+made_of (action.Join out merge) r = Text (packets_text out (flat (joined_of merge r)))
+made_of action.Show r = Text []
 made_of action.Check r = Text (report_lines 0 (report_of says_left r))
 made_of (action.Octets row top) r =
     question_made (question_in (slice_get (asked_of r) row))
@@ -99,11 +93,11 @@ abbrev pub shown_answer : Outcome (List BlockValue) → Made
 shown_answer (Whole blocks) = Text (shown_blocks blocks)
 shown_answer (Refused fault) = Ends (run.Refused fault)
 
--- what is made of the packets of a signed literal
+-- what is made of the packets of a signed literal, of which octets alone are asked
 abbrev pub message_made : Action → List PacketValue → Made
 message_made (action.Octets row top) packets =
     question_made (question_in (slice_get (message_asked packets) row))
-message_made other packets = Ends run.NotYet
+message_made other packets = Text []
 
 abbrev pub message_answer : Action → Outcome (List PacketValue) → Made
 message_answer a (Whole packets) = message_made a packets
@@ -148,7 +142,6 @@ Runs (Err run.Write) failed made nothing = made
 Runs (Err run.Memory) failed made nothing = nothing
 Runs (Err run.NoSuchRow) failed made nothing = made
 Runs (Err run.NoSuchCertificate) failed made nothing = made
-Runs (Err run.NotYet) failed made nothing = made
 
 -- The run of what is made of the octets that were read.
 abbrev pub RunsOver : {W : Type 0} → (W → Option (List ℕ)) → (W → Bool) → W → W

@@ -21,12 +21,10 @@ pub enum RunFault {
     NoSuchRow,
     /// There is no certificate of that number.
     NoSuchCertificate,
-    /// The action isn't there yet.
-    NotYet,
 }
 
 impl RunFault {
-    /// The number, which stays: that of a refusal is its reason's. `NotYet` has none, so 0.
+    /// The number, which stays: that of a refusal is its reason's.
     pub fn number(&self) -> u8
         ensures { result ≡ run_number self.now }
     {
@@ -37,7 +35,6 @@ impl RunFault {
             RunFault::Memory => 62,
             RunFault::NoSuchRow => 70,
             RunFault::NoSuchCertificate => 71,
-            RunFault::NotYet => 0,
         }
     }
 }

@@ -1,12 +1,15 @@
 //! Does what a task asks.
 
 ghost use Rattle.std.specs.Prelude.{◌≡◌, ◌≢◌, true, false, Err};
+ghost use Rattle.opgp_merge.specs.Merged.{merged_of};
+ghost use Rattle.opgp_ring.specs.Keyring.{flat};
 ghost use Rattle.opgp_ring.specs.SignedLiteral.{signed_packets};
 ghost use Rattle.opgp_report.specs.Left.{says_left};
 ghost use Rattle.opgp_report.specs.Report.{report_of};
 ghost use Rattle.opgp_stack.specs.Report.{report_lines};
 ghost use Rattle.opgp_stack.specs.Running.{IsMade, Made, Makes, MakesBy, RunsKnown, RunsOver, ended};
-ghost use Rattle.opgp_stack.specs.Running.{is_there, made_of, message_made, reads, split_text};
+ghost use Rattle.opgp_stack.specs.Running.{made_of, message_made, reads, split_text};
+ghost use Rattle.opgp_stack.specs.Writing.{packets_text};
 
 use crate::answer::Answer;
 use crate::engine_error::EngineError;
@@ -21,6 +24,7 @@ use crate::task::{Action, Out, Task, Top};
 use crate::writing_keyring::{write_certificate, write_certificates, write_keyring, write_listing};
 use crate::writing_report::write_report;
 use crate::writing_shown::write_shown;
+use opgp_merge::merge;
 use opgp_report::{LeftOctets, check, question_at};
 use opgp_ring::{Keyring, SignedLiteral, normalise};
 use opgp_stream::{Sink, Source};
@@ -30,8 +34,7 @@ use std::alloc::Global;
 /// it. The condition is that neither the source nor the sink has failed.
 ///
 /// With any error but `Write` nothing was written; after `Write` the sink has failed, and holds a
-/// prefix of the text. `NotYet` is answered for an action that isn't there, and then nothing was read:
-/// [`Action::Join`] that merges.
+/// prefix of the text.
 pub fn run<R: Source, W: Sink>(
     alloc: Global,
     task: &Task,
@@ -40,18 +43,13 @@ pub fn run<R: Source, W: Sink>(
 ) -> Result<(), RunFault>
     requires reader { R.has_failed reader.old ≡ false }
     requires writer { W.has_failed writer.old ≡ false }
-    ensures not_yet { is_there task.now.action ≡ false → (result ≡ Err RunFault.NotYet)
-        × (reader.new ≡ reader.old) × (writer.new ≡ writer.old) }
-    ensures run { is_there task.now.action ≡ true → RunsOver W.held W.has_failed writer.old writer.new
+    ensures run { RunsOver W.held W.has_failed writer.old writer.new
         result (R.left reader.old) (R.left reader.new) (R.has_failed reader.new ≡ true) task.now
         (Makes task.now) }
-    ensures known { is_there task.now.action ≡ true → RunsKnown W.held W.has_failed writer.old writer.new
+    ensures known { RunsKnown W.held W.has_failed writer.old writer.new
         result (R.left reader.old) (R.has_failed reader.new ≡ true) (Makes task.now) }
     ensures sound { result ≢ Err RunFault.Read → R.has_failed reader.new ≡ false }
 {
-    if !is_there(&task.action) {
-        return Err(RunFault::NotYet);
-    }
     match reads(&task.action) {
         Reading::Packets => run_packets(alloc, task, reader, writer),
         Reading::Keyring => run_keyring(alloc, task, reader, writer),
@@ -90,6 +88,7 @@ fn run_keyring<R: Source, W: Sink>(
     reader: &mut R,
     writer: &mut W,
 ) -> Result<(), RunFault>
+    requires reads { reads task.now.action ≡ Reading.Keyring }
     requires reader { R.has_failed reader.old ≡ false }
     requires writer { W.has_failed writer.old ≡ false }
     ensures run { RunsOver W.held W.has_failed writer.old writer.new
@@ -114,6 +113,7 @@ fn run_message<R: Source, W: Sink>(
     reader: &mut R,
     writer: &mut W,
 ) -> Result<(), RunFault>
+    requires reads { reads task.now.action ≡ Reading.Message }
     requires reader { R.has_failed reader.old ≡ false }
     requires writer { W.has_failed writer.old ≡ false }
     ensures run { RunsOver W.held W.has_failed writer.old writer.new
@@ -139,7 +139,8 @@ fn make_of<W: Sink>(
     message: &SignedLiteral,
     writer: &mut W,
 ) -> Result<(), RunFault>
-    requires { W.has_failed writer.old ≡ false }
+    requires message { reads action ≡ Reading.Message }
+    requires writer { W.has_failed writer.old ≡ false }
     ensures { IsMade W.held W.has_failed writer.old writer.new result
         (message_made action (signed_packets message.now)) }
 {
@@ -151,17 +152,7 @@ fn make_of<W: Sink>(
         | Action::Write { out: _ }
         | Action::Normalise { out: _ }
         | Action::Split { out: _, nth: _ }
-        | Action::Join { out: _, merge: _ } => Err(RunFault::NotYet),
-    }
-}
-
-/// Whether an action is there already.
-fn is_there(action: &Action) -> bool
-    ensures { result ≡ is_there action.now }
-{
-    match action {
-        Action::Join { out: _, merge } => !*merge,
-        _ => true,
+        | Action::Join { out: _, merge: _ } => unreachable!(),
     }
 }
 
@@ -193,7 +184,8 @@ fn make<W: Sink>(
     keyring: Keyring,
     writer: &mut W,
 ) -> Result<(), RunFault>
-    requires { W.has_failed writer.old ≡ false }
+    requires keyring { reads action ≡ Reading.Keyring }
+    requires writer { W.has_failed writer.old ≡ false }
     ensures { IsMade W.held W.has_failed writer.old writer.new result (made_of action keyring) }
 {
     match action {
@@ -201,12 +193,30 @@ fn make<W: Sink>(
         Action::Write { out } => end(write_keyring(alloc, &keyring, out, writer)),
         Action::Normalise { out } => end(write_keyring(alloc, &normalise(keyring), out, writer)),
         Action::Split { out, nth } => split(alloc, out, nth, &keyring, writer),
-        Action::Join { out, merge: _ } => end(write_keyring(alloc, &keyring, out, writer)),
+        Action::Join { out, merge: false } => end(write_keyring(alloc, &keyring, out, writer)),
+        Action::Join { out, merge: true } => join_merged(alloc, out, keyring, writer),
         Action::Check => check_all(alloc, &keyring, writer),
         Action::Octets { row, top: _ } => {
             write_question(alloc, question_at(&keyring, row as usize), writer)
         }
-        Action::Show => Err(RunFault::NotYet),
+        Action::Show => unreachable!(),
+    }
+}
+
+/// Writes a keyring merged.
+fn join_merged<W: Sink>(
+    alloc: Global,
+    out: Out,
+    keyring: Keyring,
+    writer: &mut W,
+) -> Result<(), RunFault>
+    requires { W.has_failed writer.old ≡ false }
+    ensures { IsMade W.held W.has_failed writer.old writer.new result
+        (Made.Text (packets_text out (flat (merged_of keyring)))) }
+{
+    match merge(keyring) {
+        Ok(merged) => end(write_keyring(alloc, &merged, out, writer)),
+        Err(_) => end(Err(EngineError::Memory)),
     }
 }
 

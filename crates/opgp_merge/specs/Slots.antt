@@ -1,0 +1,96 @@
+-- Which of a list's items are the same, by their places among the firsts.
+use denote.Ref.{Bor}
+use Rattle.std.specs.Prelude.{◌≡◌, ℕ, suc, Bool, ◌&&◌, ◌==◌, if◌then◌else◌}
+use Rattle.std.specs.Prelude.{List, [], ◌∷◌, ◌++◌, length}
+use Rattle.std.specs.BTreeMap.{BTreeMap, get_by, btree_map_len}
+use Rattle.std.specs.Cmp.Lexicographic.{slice_cmp}
+use Rattle.std.specs.List.{position_from}
+use Rattle.std.specs.declared.cmp.Ordering.{Ordering}
+use Rattle.std.specs.Ordering.{nat_cmp, ordering_then}
+use Rattle.std.specs.Str.{bytes_eq}
+use Rattle.opgp_frame.specs.Packet.{PacketValue}
+use Rattle.opgp_ring.specs.Keyring.{CertificateValue, ComponentValue}
+use Rattle.opgp_merge.specs.Merged.{firsts, same_packet, same_head, same_primary}
+use Rattle.opgp_merge.specs.Merged.{united_components}
+
+-- a type and a body
+abbrev pub Name : Type 0
+Name = ℕ × List ℕ
+
+abbrev pub same_name : Name → Name → Bool
+same_name m n = (m.0 == n.0) && bytes_eq m.1 n.1
+
+abbrev pub packet_name : PacketValue → Name
+packet_name p = (p.kind, p.body)
+
+abbrev pub head_name : ComponentValue → Name
+head_name c = packet_name c.head
+
+-- primary keys are all of one type
+abbrev pub primary_name : CertificateValue → Name
+primary_name c = (6, c.primary.body)
+
+-- the list with one more item, which the first that is the same absorbs, if there is one
+abbrev pub added : {X : Type 0} → (X → X → Bool) → (X → X → X) → List X → X → List X
+added same absorb [] x = x ∷ []
+added same absorb (k ∷ ks) x = if same k x then absorb k x ∷ ks else k ∷ added same absorb ks x
+
+-- the list with more items, one after the other
+abbrev pub gathered : {X : Type 0} → (X → X → Bool) → (X → X → X) → List X → List X → List X
+gathered same absorb kept [] = kept
+gathered same absorb kept (x ∷ xs) = gathered same absorb (added same absorb kept x) xs
+
+-- the first stays as it is
+abbrev pub stays : {X : Type 0} → X → X → X
+stays k x = k
+
+abbrev pub with_hangs : ComponentValue → ComponentValue → ComponentValue
+with_hangs c d = record { head = c.head; hangs = c.hangs ++ d.hangs }
+
+abbrev pub with_parts : CertificateValue → CertificateValue → CertificateValue
+with_parts c d = record {
+  primary = c.primary;
+  hangs = c.hangs ++ d.hangs;
+  components = c.components ++ d.components;
+}
+
+abbrev pub gathered_packets : List PacketValue → List PacketValue
+gathered_packets ps = gathered same_packet stays [] ps
+
+abbrev pub gathered_components : List ComponentValue → List ComponentValue
+gathered_components cs = gathered same_head with_hangs [] cs
+
+abbrev pub gathered_certificates : List CertificateValue → List CertificateValue
+gathered_certificates cs = gathered same_primary with_parts [] cs
+
+-- a component, or a certificate, on which the same packet hangs once
+abbrev pub once_component : ComponentValue → ComponentValue
+once_component c = record { head = c.head; hangs = firsts same_packet c.hangs }
+
+abbrev pub once_certificate : CertificateValue → CertificateValue
+once_certificate c = record {
+  primary = c.primary;
+  hangs = firsts same_packet c.hangs;
+  components = united_components c.components;
+}
+
+-- where the first of this name stands, or how many there are
+abbrev pub place : List Name → Name → ℕ
+place [] n = 0
+place (s ∷ ss) n = if same_name s n then 0 else suc (place ss n)
+
+abbrev pub grown : List Name → Name → List Name
+grown seen n = added same_name stays seen n
+
+-- the place of each name among the firsts, behind those that were seen
+abbrev pub slots_from : List Name → List Name → List ℕ
+slots_from seen [] = []
+slots_from seen (n ∷ ns) = place seen n ∷ slots_from (grown seen n) ns
+
+-- ---- what an index keeps: at each name the place of the first that has it, and how many there are
+abbrev pub name_cmp : Name → ℕ × Bor (List ℕ) → Ordering
+name_cmp q k = ordering_then (nat_cmp q.0 k.0) (slice_cmp nat_cmp q.1 k.1.now)
+
+pub record IsIndex (m : BTreeMap (ℕ × Bor (List ℕ)) ℕ) (seen : List Name) : Type 0 where
+  pub places : (q : Name) → get_by (name_cmp q) m ≡ position_from (λ s. same_name s q) 0 seen
+  pub count : btree_map_len m ≡ length seen

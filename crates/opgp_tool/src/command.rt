@@ -7,6 +7,10 @@ ghost use Rattle.opgp_tool.specs.Program.{of_rule, line_rule, body_rule, cert_ru
 ghost use Rattle.opgp_tool.specs.Program.{pieces_rule, row_rule, nth_rule, merge_rule};
 ghost use Rattle.opgp_tool.specs.Program.{IsCommand, IsProgram};
 
+use crate::help::{
+    CHECK_HELP, JOIN_HELP, LIST_HELP, NORMALISE_HELP, OCTETS_HELP, PROGRAM_HELP, SHOW_HELP,
+    SPLIT_HELP, WRITE_HELP,
+};
 use clap::{Arg, ArgAction, Command};
 use opgp_octets::OutOfMemory;
 use std::alloc::Global;
@@ -70,7 +74,7 @@ fn line_option<'a>(alloc: Global) -> Arg<'a>
         .action(ArgAction::Set)
         .value_parser(clap::value_parser!(u64).range(128..=1_048_576))
         .default_value("8192")
-        .help("The most octets of an armored line")
+        .help("The most octets of an armored line, 128 to 1048576")
 }
 
 /// `--body`: 512 to 4,294,967,295.
@@ -84,7 +88,7 @@ fn body_option<'a>(alloc: Global) -> Arg<'a>
         .action(ArgAction::Set)
         .value_parser(clap::value_parser!(u64).range(512..=4_294_967_295))
         .default_value("16777216")
-        .help("The most octets of a packet's body")
+        .help("The most octets of a packet's body, 512 to 4294967295")
 }
 
 /// `--cert`: 512 to 2^40.
@@ -98,7 +102,7 @@ fn cert_option<'a>(alloc: Global) -> Arg<'a>
         .action(ArgAction::Set)
         .value_parser(clap::value_parser!(u64).range(512..=1_099_511_627_776))
         .default_value("67108864")
-        .help("The most octets of a certificate")
+        .help("The most octets of a certificate, 512 to 1099511627776")
 }
 
 /// `--input`: 0 to 2^62.
@@ -112,7 +116,7 @@ fn input_option<'a>(alloc: Global) -> Arg<'a>
         .action(ArgAction::Set)
         .value_parser(clap::value_parser!(u64).range(0..=4_611_686_018_427_387_904))
         .default_value("1099511627776")
-        .help("The most octets of the input")
+        .help("The most octets of the input, 0 to 4611686018427387904")
 }
 
 /// `--pieces`: 1 to 16,777,216.
@@ -126,7 +130,7 @@ fn pieces_option<'a>(alloc: Global) -> Arg<'a>
         .action(ArgAction::Set)
         .value_parser(clap::value_parser!(u64).range(1..=16_777_216))
         .default_value("1048576")
-        .help("The most partial lengths of a packet")
+        .help("The most partial lengths of a packet, 1 to 16777216")
 }
 
 /// `--row`: any `u64`, and required.
@@ -164,7 +168,7 @@ fn merge_option<'a>(alloc: Global) -> Arg<'a>
     Arg::new(alloc, "merge")
         .long("merge")
         .action(ArgAction::SetTrue)
-        .help("Makes equal certificates one")
+        .help("Makes certificates of one primary key one")
 }
 
 /// The command with an option more, its last.
@@ -185,11 +189,17 @@ fn with_command<'a>(tool: Command<'a>, command: Command<'a>) -> Result<Command<'
     tool.subcommand(command)
 }
 
-/// A command with the options that every command takes.
-fn new_command<'a>(alloc: Global, name: &'a str, about: &'a str) -> Result<Command<'a>, OutOfMemory>
+/// A command with the options that every command takes. Its help begins with `about`, and ends with
+/// `more`.
+fn new_command<'a>(
+    alloc: Global,
+    name: &'a str,
+    about: &'a str,
+    more: &'a str,
+) -> Result<Command<'a>, OutOfMemory>
     ensures { IfOk result (IsCommand name.entry.now []) }
 {
-    let command = Command::new(alloc, name).about(about);
+    let command = Command::new(alloc, name).about(about).after_help(more);
     let command = with_option(command, mode_option(alloc))?;
     let command = with_option(command, line_option(alloc))?;
     let command = with_option(command, body_option(alloc))?;
@@ -203,7 +213,8 @@ fn octets_command<'a>(alloc: Global) -> Result<Command<'a>, OutOfMemory>
         × IsCommand (codes "octets") (row_rule ∷ of_rule tops ∷ []) c) }
 {
     let about = "Writes the octets that one signature hashes";
-    let command = with_option(new_command(alloc, "octets", about)?, row_option(alloc))?;
+    let command = new_command(alloc, "octets", about, OCTETS_HELP)?;
+    let command = with_option(command, row_option(alloc))?;
     with_option(command, of_option(alloc))
 }
 
@@ -212,11 +223,12 @@ fn writing_command<'a>(
     alloc: Global,
     name: &'a str,
     about: &'a str,
+    more: &'a str,
 ) -> Result<Command<'a>, OutOfMemory>
     ensures { IfOk result (λ c. (outs : Choice) × AreOuts outs
         × IsCommand name.entry.now (out_rule outs ∷ []) c) }
 {
-    with_option(new_command(alloc, name, about)?, out_option(alloc))
+    with_option(new_command(alloc, name, about, more)?, out_option(alloc))
 }
 
 fn split_command<'a>(alloc: Global) -> Result<Command<'a>, OutOfMemory>
@@ -224,7 +236,8 @@ fn split_command<'a>(alloc: Global) -> Result<Command<'a>, OutOfMemory>
         × IsCommand (codes "split") (out_rule outs ∷ nth_rule ∷ []) c) }
 {
     let about = "Writes each certificate apart, or one of them";
-    with_option(writing_command(alloc, "split", about)?, nth_option(alloc))
+    let command = writing_command(alloc, "split", about, SPLIT_HELP)?;
+    with_option(command, nth_option(alloc))
 }
 
 fn join_command<'a>(alloc: Global) -> Result<Command<'a>, OutOfMemory>
@@ -232,7 +245,8 @@ fn join_command<'a>(alloc: Global) -> Result<Command<'a>, OutOfMemory>
         × IsCommand (codes "join") (out_rule outs ∷ merge_rule ∷ []) c) }
 {
     let about = "Writes all blocks of the input as one keyring";
-    with_option(writing_command(alloc, "join", about)?, merge_option(alloc))
+    let command = writing_command(alloc, "join", about, JOIN_HELP)?;
+    with_option(command, merge_option(alloc))
 }
 
 /// The program and its eight commands.
@@ -241,14 +255,18 @@ pub fn program<'a>(alloc: Global) -> Result<Command<'a>, OutOfMemory>
 {
     let tool = Command::new(alloc, "opgp")
         .about("Reads OpenPGP keyrings from standard input")
+        .after_help(PROGRAM_HELP)
         .subcommand_required(true)
         .bin_name("opgp")?;
-    let show = new_command(alloc, "show", "Lists every packet and every subpacket")?;
-    let list = new_command(alloc, "list", "Lists the packets of a keyring")?;
-    let check = new_command(alloc, "check", "Lists the signatures of a keyring")?;
-    let write = writing_command(alloc, "write", "Writes a keyring, its framing kept")?;
+    let about = "Lists every packet and every subpacket";
+    let show = new_command(alloc, "show", about, SHOW_HELP)?;
+    let list = new_command(alloc, "list", "Lists the packets of a keyring", LIST_HELP)?;
+    let about = "Lists the signatures of a keyring";
+    let check = new_command(alloc, "check", about, CHECK_HELP)?;
+    let about = "Writes a keyring, its framing kept";
+    let write = writing_command(alloc, "write", about, WRITE_HELP)?;
     let about = "Writes a keyring in the current format";
-    let normalise = writing_command(alloc, "normalise", about)?;
+    let normalise = writing_command(alloc, "normalise", about, NORMALISE_HELP)?;
     let tool = with_command(with_command(tool, show)?, list)?;
     let tool = with_command(with_command(tool, check)?, octets_command(alloc)?)?;
     let tool = with_command(with_command(tool, write)?, normalise)?;

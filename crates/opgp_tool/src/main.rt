@@ -3,6 +3,7 @@
 
 mod command;
 mod ending;
+mod help;
 mod task;
 #[cfg(test)]
 mod tests;

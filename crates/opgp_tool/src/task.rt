@@ -116,10 +116,23 @@ fn usage_of(alloc: Global, error: &Error) -> Usage {
     if let ErrorKind::OutOfMemory = error.kind() {
         return Usage::Memory;
     }
-    match format!(in alloc; "{error}") {
-        Ok(text) => Usage::Text(text),
+    let mut text = match format!(in alloc; "{error}") {
+        Ok(text) => text,
+        Err(_) => return Usage::Memory,
+    };
+    if !is_about_a_file(&text) {
+        return Usage::Text(text);
+    }
+    match text.push_str("\nopgp reads standard input: opgp COMMAND < FILE\n") {
+        Ok(()) => Usage::Text(text),
         Err(_) => Usage::Memory,
     }
+}
+
+/// Whether a text of `clap` refuses a word that is no option, as the name of a file is.
+fn is_about_a_file(text: &str) -> bool {
+    text.starts_with("error: unexpected argument '")
+        && !text.starts_with("error: unexpected argument '-")
 }
 
 /// The task that the words of a command line name, the program's own name first.

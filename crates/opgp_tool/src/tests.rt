@@ -375,7 +375,7 @@ fn whole_texts(rt: HostRuntime) -> Result<(), Fail> {
     let text = text_of(rt.alloc(), "list extra")?;
     assert_eq!(rt;
         text.as_str(),
-        "error: unexpected argument 'extra' found\n\nUsage: opgp list [OPTIONS]\n\nFor more information, try '--help'.\n"
+        "error: unexpected argument 'extra' found\n\nUsage: opgp list [OPTIONS]\n\nFor more information, try '--help'.\n\nopgp reads standard input: opgp COMMAND < FILE\n"
     );
     Ok(())
 }
@@ -407,7 +407,6 @@ fn ends_of_runs(rt: HostRuntime) -> Result<(), Fail> {
     assert!(rt; ends(alloc, &Err(RunFault::NoSuchRow), 1, "opgp: no such row\n")?);
     let line = "opgp: no such certificate\n";
     assert!(rt; ends(alloc, &Err(RunFault::NoSuchCertificate), 1, line)?);
-    assert!(rt; ends(alloc, &Err(RunFault::NotYet), 1, "opgp: not yet\n")?);
     assert!(rt; ends(alloc, &Err(RunFault::Read), 3, "opgp: read failed\n")?);
     assert!(rt; ends(alloc, &Err(RunFault::Write), 3, "opgp: write failed\n")?);
     assert!(rt; ends(alloc, &Err(RunFault::Memory), 3, "opgp: out of memory\n")?);

@@ -6,7 +6,7 @@ use Rattle.opgp_tool.proofs.command.new_command.Goals as goal
 pub returns : goal.returns
 returns c =
     let mode = c.mode_option.ensures.rule in
-    let start : app_of c.about-command.result ≡ new_app c.args.name.now = search rules in
+    let start : app_of c.after_help-command.result ≡ new_app c.args.name.now = search rules in
     let one = c.in_ok-command.ensures ∙ ap₂ with_rule start mode.2 in
     let two = c.in_ok-command-2.ensures ∙ ap₂ with_rule one c.line_option.ensures.rule in
     let three = c.in_ok-command-3.ensures ∙ ap₂ with_rule two c.body_option.ensures.rule in

@@ -27,7 +27,7 @@ returns c =
     let join = c.in_ok-join_command.ensures in
     let start : app_of c.in_ok-tool.tool ≡ bare = ap app_of_fields c.in_ok-tool.ensures.0
     ∙ (ap app_of_fields c.subcommand_required.ensures
-    ∙ ap required (ap app_of_fields c.about.ensures ∙ c.new.ensures.app)) in
+    ∙ ap required (ap app_of_fields c.after_help.ensures ∙ (ap app_of_fields c.about.ensures ∙ c.new.ensures.app))) in
     let one = c.in_ok-with_command.ensures ∙ ap₂ with_subcommand start (ap top_of show.app) in
     let two = c.in_ok-tool-2.ensures
     ∙ ap₂ with_subcommand one (ap top_of list.app) in

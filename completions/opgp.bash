@@ -1,0 +1,28 @@
+# Completion of opgp for bash.
+_opgp() {
+    local word=${COMP_WORDS[COMP_CWORD]} before=${COMP_WORDS[COMP_CWORD - 1]} words
+    local limits="--mode --line --body --cert --input --pieces --help"
+    if [ "$COMP_CWORD" = 1 ]; then
+        words="show list check octets write normalise split join help --help"
+    else
+        case $before in
+            --mode) words="auto armor binary" ;;
+            --out) words="armor binary" ;;
+            --of) words="ring literal" ;;
+            --row | --nth | --line | --body | --cert | --input | --pieces) return ;;
+            *)
+                case ${COMP_WORDS[1]} in
+                    show | list | check) words=$limits ;;
+                    octets) words="--row --of $limits" ;;
+                    write | normalise) words="--out $limits" ;;
+                    split) words="--out --nth $limits" ;;
+                    join) words="--out --merge $limits" ;;
+                    help) words="show list check octets write normalise split join help" ;;
+                    *) return ;;
+                esac
+                ;;
+        esac
+    fi
+    mapfile -t COMPREPLY < <(compgen -W "$words" -- "$word")
+}
+complete -o default -F _opgp opgp

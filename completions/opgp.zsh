@@ -1,0 +1,39 @@
+#compdef opgp
+# Completion of opgp for zsh: a file _opgp in a folder of $fpath.
+_opgp() {
+    local -a commands limits out
+    commands=(
+        'show:lists every packet and every subpacket'
+        'list:lists the packets of a keyring'
+        'check:lists the signatures of a keyring'
+        'octets:writes the octets that one signature hashes'
+        'write:writes a keyring, its framing kept'
+        'normalise:writes a keyring in the current format'
+        'split:writes each certificate apart, or one of them'
+        'join:writes all blocks of the input as one keyring'
+        'help:prints the help of the program or of a command'
+    )
+    limits=(
+        '--mode[how the input is read]:mode:(auto armor binary)'
+        '--line[the most octets of an armored line]:number:'
+        '--body[the most octets of a packet'"'"'s body]:number:'
+        '--cert[the most octets of a certificate]:number:'
+        '--input[the most octets of the input]:number:'
+        '--pieces[the most partial lengths of a packet]:number:'
+        '--help[prints the help]'
+    )
+    out=('--out[how keyrings are written]:form:(armor binary)')
+    if ((CURRENT == 2)); then
+        _describe command commands
+        return
+    fi
+    case $words[2] in
+        show | list | check) shift words; ((CURRENT--)); _arguments $limits ;;
+        octets) shift words; ((CURRENT--)); _arguments $limits '--row[the number of the row]:number:' '--of[what the input is read as]:top:(ring literal)' ;;
+        write | normalise) shift words; ((CURRENT--)); _arguments $limits $out ;;
+        split) shift words; ((CURRENT--)); _arguments $limits $out '--nth[the number of the certificate]:number:' ;;
+        join) shift words; ((CURRENT--)); _arguments $limits $out '--merge[makes certificates of one primary key one]' ;;
+        help) _describe command commands ;;
+    esac
+}
+if [ "$funcstack[1]" = _opgp ]; then _opgp "$@"; else compdef _opgp opgp; fi

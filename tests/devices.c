@@ -1,0 +1,77 @@
+// Preloaded by tests/devices alone: counts the program's growths, its reads of standard input and its writes to standard
+// output, and refuses, fails or shortens those that the environment names by their number, from 1 (0 or nothing: none).
+//   REFUSE         the growth that is refused. A growth is a call of malloc or realloc, by which std's heap makes each
+//   READ_FAILS     the read that fails, with the errno READ_ERROR
+//   READ_MOST      the most octets that a read gives
+//   WRITE_FAILS    the write that fails, with the errno WRITE_ERROR, or takes nothing where that is 0
+//   WRITE_MOST     the most octets that a write takes
+// As the program ends, the three counts go to descriptor 9.
+#include <errno.h>
+#include <stdio.h>
+#include <stdlib.h>
+#include <sys/syscall.h>
+#include <unistd.h>
+
+void *__libc_malloc(size_t size);
+void *__libc_realloc(void *block, size_t size);
+
+static long refuse, read_fails, read_error, read_most, write_fails, write_error, write_most;
+static long growths, reads, writes;
+static int counts;
+
+static long number(const char *name) {
+    const char *it = getenv(name);
+    return it ? atol(it) : 0;
+}
+
+static int refuses(void) {
+    if (!counts || ++growths != refuse) return 0;
+    errno = ENOMEM;
+    return 1;
+}
+
+void *malloc(size_t size) { return refuses() ? NULL : __libc_malloc(size); }
+
+void *realloc(void *block, size_t size) { return refuses() ? NULL : __libc_realloc(block, size); }
+
+ssize_t read(int file, void *octets, size_t most) {
+    if (file == 0 && counts) {
+        if (++reads == read_fails) {
+            errno = (int)read_error;
+            return -1;
+        }
+        if (read_most > 0 && most > (size_t)read_most) most = (size_t)read_most;
+    }
+    return syscall(SYS_read, file, octets, most);
+}
+
+static ssize_t put(int file, const void *octets, size_t size) {
+    if (file == 1 && counts) {
+        if (++writes == write_fails) {
+            errno = (int)write_error;
+            return write_error ? -1 : 0;
+        }
+        if (write_most > 0 && size > (size_t)write_most) size = (size_t)write_most;
+    }
+    return syscall(SYS_write, file, octets, size);
+}
+
+ssize_t write(int file, const void *octets, size_t size) { return put(file, octets, size); }
+
+ssize_t __write(int file, const void *octets, size_t size) { return put(file, octets, size); }
+
+__attribute__((constructor)) static void start(void) {
+    refuse = number("REFUSE");
+    read_fails = number("READ_FAILS");
+    read_error = number("READ_ERROR");
+    read_most = number("READ_MOST");
+    write_fails = number("WRITE_FAILS");
+    write_error = number("WRITE_ERROR");
+    write_most = number("WRITE_MOST");
+    counts = 1;
+}
+
+__attribute__((destructor)) static void end(void) {
+    counts = 0;
+    dprintf(9, "%ld %ld %ld\n", growths, reads, writes);
+}

@@ -1,0 +1,621 @@
+"""What list, show, check and octets answer to an input, written from docs/FORMAT.md and RFC 9580 alone and as plainly as it goes: an
+answer to hold the program's against."""
+
+import base64
+import collections
+import hashlib
+
+ALPHABET = b"ABCDEFGHIJKLMNOPQRSTUVWXYZabcdefghijklmnopqrstuvwxyz0123456789+/"
+LABELS = (b"MESSAGE", b"PUBLIC KEY BLOCK", b"PRIVATE KEY BLOCK", b"SIGNATURE")
+Limits = collections.namedtuple("Limits", "line body cert pieces")
+USUAL = Limits(8192, 1 << 24, 1 << 26, 1 << 20)
+
+
+class Refused(Exception):
+    """An input is refused, with this line."""
+
+    def __init__(self, layer, reason, block, at, inner):
+        super().__init__(f"{layer}: {reason} block {block} at {at} inner {inner}\n".encode())
+
+
+class Unfit(Exception):
+    """A body has this fault."""
+
+    def __init__(self, reason, inner):
+        super().__init__(reason, inner)
+
+
+def number(octets):
+    return int.from_bytes(octets, "big")
+
+
+def sized(size, octets):
+    return len(octets).to_bytes(size, "big") + octets
+
+
+# Armor.
+
+
+class Letters:
+    """The letters of a block, joined: octets of whole groups, and the letters of one that isn't whole."""
+
+    def __init__(self):
+        self.octets, self.group, self.padded = b"", b"", False
+
+    def add(self, line):
+        """Whether the letters, with this line behind them, can still become base64."""
+        for letter in line:
+            if self.padded or (letter != 61 and b"=" in self.group) or (letter == 61 and len(self.group) < 2):
+                return False
+            self.group += bytes([letter])
+            if len(self.group) == 4:
+                octets = base64.b64decode(self.group)
+                if base64.b64encode(octets) != self.group:  # unused bits are set
+                    return False
+                self.padded = b"=" in self.group
+                self.octets += octets
+                self.group = b""
+        return b"=" not in self.group
+
+
+def begun(content):
+    """The label of a begin line, or None."""
+    label = content[15:-5]
+    return label if content == b"-----BEGIN PGP " + label + b"-----" and label in LABELS else None
+
+
+def behind_the_headers(content, checked, label, letters):
+    """What a line behind a block's headers is: the next situation, or the reason why it is none."""
+    if not content:
+        return "checked" if checked else "data"
+    if content.startswith(b"-"):
+        if content != b"-----END PGP " + label + b"-----":
+            return "EndLabel"
+        return "Padding" if letters.group else "outside"
+    if checked:
+        return "AfterChecksum"
+    if content.startswith(b"="):
+        return "Padding" if letters.group else "checked"
+    if any(it not in ALPHABET + b"=" for it in content):
+        return "Letters"
+    return "data" if letters.add(content) else "Padding"
+
+
+def dearmored(text, limits):
+    """The labels and octets of the blocks."""
+    blocks, where, begin = [], "outside", 0
+    label, letters = None, Letters()
+    for line in text.split(b"\n"):
+        if begin == len(text):
+            break
+        content = line.rstrip(b" \t\r")
+        begins = line.startswith(b"-----BEGIN PGP ")
+        reason = None
+        if (where != "outside" or begins) and len(line) > limits.line:
+            reason = "LineTooLong"
+        elif where == "outside":
+            if begins:
+                label, letters, where = begun(content), Letters(), "headers"
+                reason = None if label else "Label"
+        elif where == "headers":
+            if not content:
+                where = "data"
+            elif content.find(b":") < 1:
+                reason = "Header"
+        else:
+            where = behind_the_headers(content, where == "checked", label, letters)
+            if where == "outside":
+                blocks.append((label, letters.octets))
+            elif where not in ("data", "checked"):
+                reason = where
+        if reason:
+            raise Refused("armor", reason, len(blocks), begin, 0)
+        begin += len(line) + 1
+    if where != "outside":
+        raise Refused("armor", "Unfinished", len(blocks), len(text), 0)
+    if not blocks:
+        raise Refused("armor", "NoBlock", 0, len(text), 0)
+    return blocks
+
+
+# Framing.
+
+
+def length_of(octets):
+    """The form, the length and how many octets spell it, of a length in the current format; None where they aren't there."""
+    if not octets or (octets[0] >= 192 and octets[0] < 224 and len(octets) < 2) or (octets[0] == 255 and len(octets) < 5):
+        return None
+    first = octets[0]
+    if first < 192:
+        return "new1", first, 1
+    if first < 224:
+        return "new2", (first - 192) * 256 + octets[1] + 192, 2
+    if first < 255:
+        return "part", 1 << (first - 224), 1
+    return "new5", number(octets[1:5]), 5
+
+
+def old_length_of(octets, kind):
+    size = 1 << kind
+    return None if len(octets) < size else (f"old{size}", number(octets[:size]), size)
+
+
+def packet_of(octets, block, at, limits):
+    """The packet that begins the octets: its type, form and body, and how many octets spell it."""
+
+    def refuse(reason, inner=0):
+        raise Refused("framing", reason, block, at, inner)
+
+    first = octets[0]
+    new = first & 0x40
+    kind = first & 0x3F if new else first >> 2 & 15
+    if first < 128:
+        refuse("NotAPacket")
+    if kind == 0:
+        refuse("TypeZero")
+    if kind == 8:
+        refuse("Compressed")
+    if kind in (15, 16, 19, 20) or 22 <= kind < 40:
+        refuse("UnknownCritical")
+    if not new and first & 3 == 3:
+        refuse("Indeterminate")
+    body, here, pieces, forms = b"", 1, 0, []
+    size = 0
+    while not forms or forms[-1] == "part":
+        found = length_of(octets[here : here + 5]) if new else old_length_of(octets[here : here + 4], first & 3)
+        if not found:
+            refuse("Truncated", here)
+        form, n, spelled = found
+        if form == "part" and kind not in (9, 11, 18):
+            refuse("PartialKind", here)
+        if form == "part" and not forms and n < 512:
+            refuse("FirstPartial", here)
+        if form == "part" and pieces == limits.pieces:
+            refuse("TooManyPieces", here)
+        size += n
+        if size > limits.body:
+            refuse("BodyTooLong", here)
+        if len(octets) < here + spelled + n:
+            refuse("Truncated", here)
+        body += octets[here + spelled : here + spelled + n]
+        here += spelled + n
+        pieces += form == "part"
+        forms.append(form)
+    return kind, forms[0], body, here
+
+
+def framed(blocks, limits):
+    """The packets of all blocks: the block, the place, the type, the form, the body and the number of octets."""
+    packets = []
+    for block, (_, octets) in enumerate(blocks):
+        at = 0
+        while at < len(octets):
+            kind, form, body, n = packet_of(octets[at:], block, at, limits)
+            packets.append((block, at, kind, form, body, n))
+            at += n
+    return packets
+
+
+# Bodies.
+
+
+class Fields:
+    """A body, field by field."""
+
+    def __init__(self, body):
+        self.body, self.at = body, 0
+
+    def take(self, n, begin=None, reason="Short"):
+        if len(self.body) - self.at < n:
+            raise Unfit(reason, self.at if begin is None else begin)
+        self.at += n
+        return self.body[self.at - n : self.at]
+
+    def integer(self, strict):
+        begin = self.at
+        bits = number(self.take(2))
+        octets = self.take((bits + 7) // 8, begin)
+        if strict and bits and octets[0] >> (bits - 1) % 8 != 1:
+            raise Unfit("MpiBits", begin)
+
+    def sized(self, reason):
+        begin = self.at
+        size = self.take(1)[0]
+        if size in (0, 255):
+            raise Unfit(reason, begin)
+        self.take(size, begin)
+
+    def area(self, width, signed):
+        begin = self.at
+        size = number(self.take(width))
+        octets = self.take(size, begin, "AreaShort")
+        return subpackets_of(octets, begin + width, signed)
+
+    def end(self):
+        if self.at < len(self.body):
+            raise Unfit("Trailing", self.at)
+
+
+def subpackets_of(octets, begin, signed):
+    """The type octet, the length and the octets of each subpacket of an area."""
+    found, at = [], 0
+    while at < len(octets):
+        first, here = octets[at], octets[at:]
+        if first < 192:
+            n, spelled = first, 1
+        elif first < 255:
+            n, spelled = (first - 192) * 256 + here[1] + 192 if len(here) > 1 else None, 2
+        else:
+            n, spelled = number(here[1:5]) if len(here) > 4 else None, 5
+        if n is None or (n > 0 and len(here) < spelled + n):
+            raise Unfit("SubShort", begin + at)
+        if n == 0:
+            raise Unfit("SubEmpty", begin + at)
+        found.append((here[spelled], n, here[spelled + 1 : spelled + n]))
+        at += spelled + n
+    return found
+
+
+def key_fields(body):
+    it = Fields(body)
+    version = it.take(1)[0]
+    if version not in (4, 6):
+        raise Unfit("KeyVersion", 0)
+    if version == 4 and len(body) > 65535:
+        raise Unfit("KeyTooLong", 0)
+    it.take(4)
+    algorithm = it.take(1)[0]
+    if version == 6:
+        begin = it.at
+        if number(it.take(4)) != len(body) - 10:
+            raise Unfit("Count", begin)
+    strict = version == 6
+    octets = {25: 32, 26: 56, 27: 32, 28: 57}
+    integers = {1: 2, 2: 2, 3: 2, 16: 3, 17: 4}
+    if algorithm in integers:
+        for _ in range(integers[algorithm]):
+            it.integer(strict)
+    elif algorithm in (18, 19, 22):
+        it.sized("OidSize")
+        it.integer(strict)
+        if algorithm == 18:
+            it.sized("KdfSize")
+    elif algorithm in octets:
+        it.take(octets[algorithm])
+    else:
+        return version, algorithm
+    it.end()
+    return version, algorithm
+
+
+def signature_material(it, algorithm, strict):
+    integers = {1: 1, 3: 1, 17: 2, 19: 2, 22: 2}
+    octets = {27: 64, 28: 114}
+    if algorithm in integers:
+        for _ in range(integers[algorithm]):
+            it.integer(strict)
+    elif algorithm in octets:
+        it.take(octets[algorithm])
+    else:
+        it.at = len(it.body)
+    it.end()
+
+
+def three_fits(body):
+    try:
+        it = Fields(body)
+        head = it.take(19)
+        if head[1] != 5 or head[15] not in (1, 3, 17):
+            return False
+        signature_material(it, head[15], False)
+    except Unfit:
+        return False
+    return True
+
+
+class Signature:
+    """A signature's body, read: its version is 0 where it is opaque."""
+
+    def __init__(self, body):
+        it = Fields(body)
+        self.body, self.version = body, it.take(1)[0]
+        self.hashed = self.unhashed = ()
+        if self.version == 3 and three_fits(body):
+            self.kind, self.algorithm, self.hash = body[2], body[15], body[16]
+            return
+        if self.version not in (4, 6):
+            self.version = 0
+            return
+        width = 2 if self.version == 4 else 4
+        self.kind, self.algorithm, self.hash = it.take(1)[0], it.take(1)[0], it.take(1)[0]
+        self.hashed = it.area(width, True)
+        self.front = body[: it.at]
+        self.unhashed = it.area(width, True)
+        self.left, self.salt = it.take(2), b""
+        if self.version == 6:
+            begin = it.at
+            size = it.take(1)[0]
+            if size != {8: 16, 9: 24, 10: 32, 11: 16, 12: 16, 14: 32}.get(self.hash, size):
+                raise Unfit("SaltSize", begin)
+            self.salt = it.take(size, begin)
+        signature_material(it, self.algorithm, self.version == 6)
+
+
+def literal_fields(body):
+    it = Fields(body)
+    it.take(1)
+    begin = it.at
+    it.take(it.take(1)[0], begin)
+    it.take(4)
+
+
+CHECKS = {
+    2: Signature,
+    6: key_fields,
+    14: key_fields,
+    11: literal_fields,
+    17: lambda body: subpackets_of(body, 0, False),
+}
+
+
+def check_bodies(packets):
+    for block, at, kind, _, body, _ in packets:
+        try:
+            CHECKS.get(kind, len)(body)
+        except Unfit as fault:
+            raise Refused("body", fault.args[0], block, at, fault.args[1]) from None
+
+
+# What subpackets mean.
+
+
+def signature_fits(octets):
+    try:
+        Signature(octets)
+    except Unfit:
+        return False
+    return True
+
+
+def meaning(kind, octets):
+    n = len(octets)
+    exact = {2: 4, 3: 4, 9: 4, 4: 1, 7: 1, 25: 1, 5: 2, 12: 22, 16: 8}
+    if kind in exact:
+        fits = n == exact[kind]
+    elif kind in (11, 21, 22, 23, 24, 26, 27, 28, 30):
+        fits = True
+    elif kind == 6:
+        fits = octets[-1:] == b"\0"
+    elif kind == 20:
+        fits = n >= 8 and n == 8 + number(octets[4:6]) + number(octets[6:8])
+    elif kind in (29, 31):
+        fits = n >= (1 if kind == 29 else 2)
+    elif kind == 32:
+        fits = signature_fits(octets)
+    elif kind in (33, 35):
+        fits = (octets[:1], n) in ((b"\4", 21), (b"\6", 33))
+    elif kind == 39:
+        fits = n % 2 == 0
+    else:
+        return "unknown"
+    return "typed" if fits else "unfit"
+
+
+# Keyrings.
+
+
+def compose(blocks, packets, limits):
+    """Certificates, each a list of parts, each a head and what hangs on it: indexes of packets. And the lead."""
+    lead, certificates = [], []
+    octets = 0
+    for block, (label, _) in enumerate(blocks):
+        if label != b"PUBLIC KEY BLOCK":
+            raise Refused("composition", "BlockLabel", block, 0, 0)
+        for index, (of, at, kind, _, _, n) in enumerate(packets):
+            if of != block:
+                continue
+
+            def refuse(reason, at=at, block=block):
+                raise Refused("composition", reason, block, at, 0)
+
+            if kind in (1, 3, 4, 5, 7, 9, 11, 18):
+                refuse("NotInKeyring")
+            if kind in (2, 13, 14, 17) and not certificates:
+                refuse("NoPrimary")
+            octets = n if kind == 6 else octets + n
+            if octets > limits.cert:
+                refuse("CertTooLong")
+            if kind == 6:
+                certificates.append([(index, [])])
+            elif kind in (13, 14, 17):
+                certificates[-1].append((index, []))
+            else:
+                (certificates[-1][-1][1] if certificates else lead).append(index)
+    return lead, certificates
+
+
+def fingerprint(body):
+    if body[0] == 6:
+        return hashlib.sha256(b"\x9b" + sized(4, body)).digest()
+    return hashlib.sha1(b"\x99" + sized(2, body)).digest()
+
+
+def key_id(body):
+    return fingerprint(body)[:8] if body[0] == 6 else fingerprint(body)[-8:]
+
+
+def listed(kind, body):
+    if kind in (6, 14):
+        names = f"{fingerprint(body).hex().upper()} {key_id(body).hex().upper()}"
+        return f"{'pub' if kind == 6 else 'sub'} v{body[0]} alg {body[5]} created {number(body[1:5])} {names}"
+    if kind == 13:
+        text = "".join(chr(it) if 32 <= it < 127 and it not in b'"\\' else f"\\x{it:02X}" for it in body)
+        return f'uid "{text}"'
+    if kind == 17:
+        return f"uat {len(subpackets_of(body, 0, False))}"
+    if kind == 2:
+        it = Signature(body)
+        return f"sig v{it.version} type {it.kind:02X} alg {it.algorithm} hash {it.hash}" if it.version else f"sig opaque {len(body)}"
+    return f"pkt {kind} {len(body)}"
+
+
+def shown(packets):
+    for block, at, kind, form, body, _ in packets:
+        yield f"block {block} at {at} type {kind} form {form} length {len(body)}"
+        if kind == 2:
+            it = Signature(body)
+            for area, subpackets in (("hashed", it.hashed), ("unhashed", it.unhashed)):
+                for octet, n, octets in subpackets:
+                    yield f"  {area} kind {octet & 127} critical {octet >> 7} length {n} {meaning(octet & 127, octets)}"
+
+
+# Reports.
+
+
+PLACES = {
+    None: (0x1F, 0x20),
+    13: (0x10, 0x11, 0x12, 0x13, 0x30),
+    17: (0x10, 0x11, 0x12, 0x13, 0x30),
+    14: (0x18, 0x28),
+    "embedded": (0x19,),
+    "literal": (0x00,),
+}
+HASHES = {2: "sha1", 8: "sha256", 9: "sha384", 10: "sha512", 11: "sha224"}
+
+
+def key_octets(body):
+    return b"\x99" + sized(2, body) if body[0] == 4 else b"\x9b" + sized(4, body)
+
+
+def signer_of(signature, keys):
+    """The key ID of the first key that the signature names."""
+    for octet, _, octets in signature.hashed:
+        if octet & 127 == 33 and meaning(33, octets) == "typed":
+            return next((key_id(it) for it in keys if it[:1] + fingerprint(it) == octets), None)
+    for octet, _, octets in (*signature.hashed, *signature.unhashed):
+        if octet & 127 == 16 and len(octets) == 8:
+            return next((key_id(it) for it in keys if key_id(it) == octets), None)
+    return None
+
+
+def asked(body, place, keys, behind):
+    """A signature, and the octets that it hashes where these keys, and what stands behind them, are what it is about; or why
+    it asks nothing."""
+    try:
+        it = Signature(body)
+    except Unfit:
+        return None, "opaque"
+    if it.version not in (4, 6):
+        return None, "opaque"
+    if it.kind not in sum(PLACES.values(), ()) or (it.kind == 0x30 and place is None):
+        return None, "kind"
+    if it.kind not in PLACES[place]:
+        return None, "misplaced"
+    if any(key[0] != it.version for key in keys):
+        return None, "version"
+    if it.hash not in HASHES or (it.hash == 2 and it.version == 6):
+        return None, "hash"
+    subject = b"".join(key_octets(key) for key in keys) + behind
+    return it, it.salt + subject + it.front + bytes([it.version, 255]) + len(it.front).to_bytes(4, "big")
+
+
+def asked_there(body, place, primary, head):
+    """The same, of a signature on the primary key or on the head of this body."""
+    keys = [primary] + [head] * (place in (14, "embedded"))
+    behind = (b"\xb4" if place == 13 else b"\xd1") + sized(4, head) if place in (13, 17) else b""
+    return asked(body, place, keys, behind)
+
+
+def found(body, place, primary, head, keys):
+    """What a row says of the signature, and the octets that it hashes, if it asks something."""
+    it, octets = asked_there(body, place, primary, head)
+    if it is None:
+        return f"none {octets}", None
+    digest = hashlib.new(HASHES[it.hash], octets).digest()[:2]
+    signer = signer_of(it, keys)
+    name = signer.hex().upper() if signer else "-"
+    verdict = "undecided" if digest == it.left else "bad"
+    line = f"asked type {it.kind:02X} hash {it.hash} signer {name} digest {digest.hex().upper()} verdict {verdict}"
+    return line, octets
+
+
+def reported(packets, certificates):
+    keys = [body for *_, kind, _, body, _ in packets if kind in (6, 14)]
+    rows = []
+    for c, parts in enumerate(certificates):
+        primary = packets[parts[0][0]][4]
+        for k, (head, hangs) in enumerate(parts):
+            place = packets[head][2] if k else None
+            body = packets[head][4]
+            for h, index in enumerate(hangs):
+                if packets[index][2] != 2:
+                    continue
+                signature = packets[index][4]
+                where = f"cert {c} part {k - 1 if k else '-'} hang {h} nested"
+                rows.append((f"{where} -", *found(signature, place, primary, body, keys)))
+                it = Signature(signature)
+                if place == 14 and it.version in (4, 6) and it.kind == 0x18:
+                    inside = [octets for octet, _, octets in (*it.hashed, *it.unhashed) if octet & 127 == 32]
+                    for e, octets in enumerate(inside):
+                        rows.append((f"{where} {e}", *found(octets, "embedded", primary, body, keys)))
+    return rows
+
+
+def signed(blocks, packets):
+    """The content and the bodies of the signatures of a signed literal."""
+    ones, literal, signatures = 0, None, []
+    for block, (label, _) in enumerate(blocks):
+        if label != b"MESSAGE":
+            raise Refused("composition", "BlockLabel", block, 0, 0)
+        for at, kind, _, body, _ in (it[1:] for it in packets if it[0] == block):
+            if kind in (10, 12, 21) or kind >= 40:
+                continue
+            if kind == 4 and literal is None:
+                ones += 1
+            elif kind == 11 and literal is None and ones:
+                literal = body[6 + body[1] :]
+            elif kind == 2 and literal is not None and len(signatures) < ones:
+                signatures.append(body)
+            else:
+                raise Refused("composition", "NotASignedLiteral", block, at, 0)
+    if literal is None or len(signatures) < ones:
+        raise Refused("composition", "NotASignedLiteral", len(blocks) - 1, len(blocks[-1][1]), 0)
+    return literal, signatures
+
+
+def hashed(rows, n):
+    if n >= len(rows) or rows[n] is None:
+        return 1, b"", b"opgp: no such row\n"
+    return 0, rows[n], b""
+
+
+def hashed_of_a_literal(literal, signatures):
+    """Of each signature of a signed literal the octets that it hashes, or None."""
+    for body in signatures:
+        it, octets = asked(body, "literal", [], literal)
+        yield octets if it else None
+
+
+def answer(command, octets, row=0, limits=USUAL):
+    """The status, the standard output and the standard error. The commands are list, show, check, octets and literal."""
+    wanted = b"MESSAGE" if command == "literal" else b"PUBLIC KEY BLOCK"
+    try:
+        binary = not octets or octets[0] >= 128
+        blocks = [(wanted, octets)] if binary else dearmored(octets, limits)
+        packets = framed(blocks, limits)
+        check_bodies(packets)
+        if command == "literal":
+            return hashed(list(hashed_of_a_literal(*signed(blocks, packets))), row)
+        certificates = compose(blocks, packets, limits)[1] if command != "show" else []
+    except Refused as refused:
+        return 1, b"", refused.args[0]
+    if command == "show":
+        lines = shown(packets)
+    elif command == "list":
+        lines = (listed(*it[2:5:2]) for it in packets)
+    else:
+        rows = reported(packets, certificates)
+        if command == "octets":
+            return hashed([it[2] for it in rows], row)
+        lines = (f"row {n} {where} : {line}" for n, (where, line, _) in enumerate(rows))
+    return 0, "".join(f"{it}\n" for it in lines).encode(), b""

@@ -1,6 +1,6 @@
 # Completion of opgp for fish.
 set -l commands show list check octets write normalise split join help
-complete -c opgp -n "not __fish_seen_subcommand_from $commands" -f
+complete -c opgp -f
 complete -c opgp -n "not __fish_seen_subcommand_from $commands" -a show -d "Lists every packet and every subpacket"
 complete -c opgp -n "not __fish_seen_subcommand_from $commands" -a list -d "Lists the packets of a keyring"
 complete -c opgp -n "not __fish_seen_subcommand_from $commands" -a check -d "Lists the signatures of a keyring"
@@ -10,6 +10,7 @@ complete -c opgp -n "not __fish_seen_subcommand_from $commands" -a normalise -d 
 complete -c opgp -n "not __fish_seen_subcommand_from $commands" -a split -d "Writes each certificate apart, or one of them"
 complete -c opgp -n "not __fish_seen_subcommand_from $commands" -a join -d "Writes all blocks of the input as one keyring"
 complete -c opgp -n "not __fish_seen_subcommand_from $commands" -a help -d "Prints the help of the program or of a command"
+complete -c opgp -n "__fish_seen_subcommand_from help" -a "$commands"
 complete -c opgp -l help -s h -d "Prints the help"
 complete -c opgp -l mode -x -a "auto armor binary" -d "How the input is read"
 complete -c opgp -l line -x -d "The most octets of an armored line"

@@ -5,8 +5,6 @@ mod command;
 mod ending;
 mod help;
 mod task;
-#[cfg(test)]
-mod tests;
 
 use ending::end_of;
 use opgp_stack::{RunFault, Task, Watched, run};

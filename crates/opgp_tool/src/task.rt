@@ -15,7 +15,7 @@ use std::alloc::Global;
 use std::convert::AsStr;
 
 /// Why words name no task.
-#[derive(Debug, Drop)]
+#[derive(Drop)]
 pub enum Usage {
     /// They are refused, or help was asked for: the text that says so.
     Text(String),

@@ -1,9 +1,12 @@
 -- What a parse by the program gives.
-use Rattle.std.proofs.Common.{◌≡◌, ap, subst, ◌∙◌, refl, true, List, Option, Some, None}
+use Rattle.std.proofs.Common.{◌≡◌, ◌⊎◌, inl, inr, ap, subst, ◌∙◌, refl, Bool, true, false, List, Option}
+use Rattle.std.proofs.Common.{Some, None}
 use Rattle.std.specs.Prelude.{IfSome, option_map}
-use Rattle.clap.specs.Words.{App, Row, Text, is_simple}
+use Rattle.clap.specs.Words.{App, Row, Text, is_simple, subcommand_of, takes}
 use Rattle.clap.proofs.OnLiterals.{clap_on_literals}
-use Rattle.opgp_tool.specs.Program.{Choice, IsProgram, program_of}
+use Rattle.opgp_stack.specs.declared.task.Task.{Task}
+use Rattle.opgp_tool.specs.Program.{Choice, IsProgram, SaysNone, program_of}
+use Rattle.opgp_tool.specs.Words.{IsTask}
 
 program_is_simple : (show list check octets write normalise split join tops : Choice)
     → (write_outs normalise_outs split_outs join_outs : Choice)
@@ -29,3 +32,28 @@ both (Some b) f g n rows named rowed = cc
 
 pub given : {A : Type 0} (P : A → Type 0) (o : Option A) (x : A) → o ≡ Some x → IfSome o P → P x
 given P o x is holds = subst (λ t. IfSome t P) is holds
+
+-- words that aren't taken say no task
+pub refused_or : (app : App) (words : List Text) (M : Type 0) → IsProgram app
+    → (takes app words ≡ true → M)
+    → M ⊎ ((program : App) × IsProgram program × SaysNone program words)
+refused_or app words M made memory = go (takes app words) refl
+  where
+    go : (b : Bool) → takes app words ≡ b
+        → M ⊎ ((program : App) × IsProgram program × SaysNone program words)
+    go true is = inl (memory is)
+    go false is = inr (app, made, λ taken task said. absurd (cc (is, taken)))
+
+-- words say only what their one command says
+pub none_said : (app : App) (words : List Text) (name : Text) (rows : List Row)
+    → subcommand_of app words ≡ Some (name, rows)
+    → ((task : Task) → IsTask name rows task → ⊥) → SaysNone app words
+none_said app words name rows entered none taken task said =
+    let same : (said.0, said.1) ≡ (name, rows) = cc (said.2, entered) in
+    none task (subst (λ (p : Text × List Row). IsTask p.0 p.1 task) same said.3)
+
+pub nothing_said : (app : App) (words : List Text) (o : Option (Text × List Row))
+    → o ≡ subcommand_of app words → None ≡ option_map (λ (p : Text × List Row). p.1) o
+    → SaysNone app words
+nothing_said app words None is none taken task said = absurd (cc (is, said.2))
+nothing_said app words (Some p) is none taken task said = absurd (cc none)

@@ -2,14 +2,12 @@
 use Rattle.std.specs.Prelude.{◌≡◌, ℕ, List, [], ◌∷◌, Some, true, false, codes, map}
 use Rattle.std.specs.Borrow.{Bor}
 use Rattle.std.specs.List.{AllByRecursion}
-use Rattle.clap.specs.Words.{App, Rule, Shape, Text, app_of, new_rule}
-use Rattle.clap.specs.Words.{subcommand_of, rows_of, found_of}
+use Rattle.clap.specs.Words.{App, Row, Rule, Shape, Text, app_of, new_rule, subcommand_of, takes}
 use Rattle.clap.specs.Simple.{new_shape}
 use Rattle.clap.specs.declared.builder.action.ArgAction.TheVariants.{Set, SetTrue}
 use Rattle.clap.specs.declared.builder.command.Command.{Command}
 use Rattle.clap.specs.declared.builder.value_parser.ValueParser.{ValueParser}
 use Rattle.clap.specs.declared.builder.value_parser.ValueParser.TheVariants as parser
-use Rattle.clap.specs.declared.parser.matches.ArgMatches.{ArgMatches}
 use Rattle.opgp_stack.specs.declared.task.Task.{Task}
 use Rattle.opgp_tool.specs.Words.{IsTask}
 
@@ -142,8 +140,11 @@ pub record IsProgram (program : App) : Type 0 where
   pub is : program ≡ program_of show_modes list_modes check_modes octets_modes write_modes
       normalise_modes split_modes join_modes tops write_outs normalise_outs split_outs join_outs
 
--- the words name a command, and the task is that of its name and its options
-abbrev pub SaysTask : List Text → Task → Type 0
-SaysTask words task = (program : App) × IsProgram program × (name : Text) × (options : ArgMatches)
-    × (subcommand_of program words ≡ Some (name, rows_of (found_of options)))
-    × IsTask name (found_of options) task
+-- by this program the words name a command, and the task is that of its name and its options
+abbrev pub SaysTask : App → List Text → Task → Type 0
+SaysTask program words task = (name : Text) × (options : List Row)
+    × (subcommand_of program words ≡ Some (name, options)) × IsTask name options task
+
+-- the program doesn't take the words as they stand, or they say no task
+abbrev pub SaysNone : App → List Text → Type 0
+SaysNone program words = takes program words ≡ true → (task : Task) → SaysTask program words task → ⊥

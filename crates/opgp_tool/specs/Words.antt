@@ -1,10 +1,10 @@
--- What the words of a command line say: the command's name, and its options as `clap` finds them.
-use Rattle.std.specs.Prelude.{◌≡◌, ℕ, Option, Some, None, true, false, codes, MatchOption}
-use Rattle.std.specs.Prelude.{if◌then◌else◌}
+-- What the words of a command line say: the command's name, and its options, a row each, as `clap`
+-- finds them.
+use Rattle.std.specs.Prelude.{◌≡◌, ℕ, ◌<◌, ◌^◌, List, Option, Some, None, true, false, codes}
+use Rattle.std.specs.Prelude.{MatchOption, if◌then◌else◌}
 use Rattle.std.specs.Str.{bytes_eq}
-use Rattle.std.specs.Str.Parse.{digits_value, without_leading_plus}
-use Rattle.clap.specs.Words.{Text, first_value, one_text}
-use Rattle.clap.specs.declared.parser.matches.Found.{Found}
+use Rattle.std.specs.Str.Parse.{IsNumeral, digits_value, without_leading_plus}
+use Rattle.clap.specs.Words.{Row, Text, first_of, one_of}
 use Rattle.opgp_octets.specs.declared.limits.Limits.{Limits}
 use Rattle.opgp_octets.specs.Limits.{line_limit, body_limit, cert_limit, input_limit, pieces_limit}
 use Rattle.opgp_stack.specs.declared.mode.Mode.{Mode}
@@ -17,14 +17,15 @@ use Rattle.opgp_stack.specs.declared.task.Action.{Action}
 use Rattle.opgp_stack.specs.declared.task.Action.TheVariants as action
 use Rattle.opgp_stack.specs.declared.task.Task.{Task}
 
--- the number that a text says, which may begin with a plus
-abbrev pub number_of : Text → ℕ
-number_of text = digits_value 10 (without_leading_plus text)
+-- the text says this number of 64 bits, in decimal digits, behind a plus or not
+pub record IsNumber (text : Text) (n : ℕ) : Type 0 where
+  pub digits : IsNumeral 10 (without_leading_plus text)
+  pub value : n ≡ digits_value 10 (without_leading_plus text)
+  pub fits : digits_value 10 (without_leading_plus text) < 2 ^ 64
 
 -- the option has a text that says this number
-abbrev pub HasNumber : Found → Text → ℕ → Type 0
-HasNumber options id n =
-    (text : Text) × (one_text options id ≡ Some text) × (n ≡ number_of text)
+abbrev pub HasNumber : List Row → Text → ℕ → Type 0
+HasNumber options id n = (text : Text) × (one_of id options ≡ Some text) × IsNumber text n
 
 -- `--mode`: `armor`, `binary`, or else `auto`
 abbrev pub mode_of : Option Text → Mode
@@ -43,7 +44,7 @@ top_of None = top.Ring
 top_of (Some word) = if bytes_eq word (codes "literal") then top.Literal else top.Ring
 
 -- each limit is the number of the option of its name
-pub record HasLimits (options : Found) (limits : Limits) : Type 0 where
+pub record HasLimits (options : List Row) (limits : Limits) : Type 0 where
   pub line : HasNumber options (codes "line") (line_limit limits)
   pub body : HasNumber options (codes "body") (body_limit limits)
   pub cert : HasNumber options (codes "cert") (cert_limit limits)
@@ -51,27 +52,27 @@ pub record HasLimits (options : Found) (limits : Limits) : Type 0 where
   pub pieces : HasNumber options (codes "pieces") (pieces_limit limits)
 
 -- the action of the command of this name with these options
-abbrev pub IsAction : Text → Found → Action → Type 0
+abbrev pub IsAction : Text → List Row → Action → Type 0
 IsAction name options action.Show = name ≡ codes "show"
 IsAction name options action.List = name ≡ codes "list"
 IsAction name options action.Check = name ≡ codes "check"
 IsAction name options (action.Octets row top) = (name ≡ codes "octets")
-    × HasNumber options (codes "row") row × (top ≡ top_of (first_value options (codes "of")))
+    × HasNumber options (codes "row") row × (top ≡ top_of (first_of (codes "of") options))
 IsAction name options (action.Write out) = (name ≡ codes "write")
-    × (out ≡ out_of (first_value options (codes "out")))
+    × (out ≡ out_of (first_of (codes "out") options))
 IsAction name options (action.Normalise out) = (name ≡ codes "normalise")
-    × (out ≡ out_of (first_value options (codes "out")))
+    × (out ≡ out_of (first_of (codes "out") options))
 IsAction name options (action.Split out nth) = (name ≡ codes "split")
-    × (out ≡ out_of (first_value options (codes "out")))
-    × ((one_text options (codes "nth") ≡ None → nth ≡ None)
+    × (out ≡ out_of (first_of (codes "out") options))
+    × ((one_of (codes "nth") options ≡ None → nth ≡ None)
     × MatchOption nth Unit (HasNumber options (codes "nth")))
 IsAction name options (action.Join out merge) = (name ≡ codes "join")
-    × (out ≡ out_of (first_value options (codes "out")))
-    × ((one_text options (codes "merge") ≡ Some (codes "true") → merge ≡ true)
-    × (one_text options (codes "merge") ≡ Some (codes "false") → merge ≡ false))
+    × (out ≡ out_of (first_of (codes "out") options))
+    × ((one_of (codes "merge") options ≡ Some (codes "true") → merge ≡ true)
+    × (one_of (codes "merge") options ≡ Some (codes "false") → merge ≡ false))
 
 -- the task of the command of this name with these options
-pub record IsTask (name : Text) (options : Found) (task : Task) : Type 0 where
-  pub mode : task.mode ≡ mode_of (first_value options (codes "mode"))
+pub record IsTask (name : Text) (options : List Row) (task : Task) : Type 0 where
+  pub mode : task.mode ≡ mode_of (first_of (codes "mode") options)
   pub limits : HasLimits options task.limits
   pub action : IsAction name options task.action

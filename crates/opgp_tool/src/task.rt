@@ -1,10 +1,16 @@
 //! The task that the words of a command line name.
 
-ghost use Rattle.std.specs.Prelude.{◌≡◌, None, IfSome, IfOk, codes, map};
-ghost use Rattle.clap.specs.Words.{found_of, first_value, one_text};
+ghost use Rattle.std.specs.Prelude.{◌≡◌, ◌⊎◌, ℕ, Some, IfSome, IfNone, IfOk, IfErr, true, false};
+ghost use Rattle.std.specs.Prelude.{codes, map, option_map};
+ghost use Rattle.clap.specs.Words.{App, first_of, found_of, kind_of, one_of, rows_of};
+ghost use Rattle.clap.specs.declared.error.kind.ErrorKind.TheVariants.{OutOfMemory};
+ghost use Rattle.opgp_stack.specs.declared.task.Action.{Action};
+ghost use Rattle.opgp_stack.specs.declared.task.Task.{Task};
+ghost use Rattle.opgp_octets.specs.declared.limits.Limits.{Limits};
 ghost use Rattle.opgp_tool.specs.Words.{mode_of, out_of, top_of, HasNumber, HasLimits};
 ghost use Rattle.opgp_tool.specs.Words.{IsAction, IsTask};
-ghost use Rattle.opgp_tool.specs.Program.{SaysTask};
+ghost use Rattle.opgp_tool.specs.Program.{IsProgram, SaysNone, SaysTask};
+ghost use Rattle.opgp_tool.specs.declared.task.Usage.TheVariants.{Memory};
 
 use crate::command::program;
 use clap::error::ErrorKind;
@@ -23,10 +29,18 @@ pub enum Usage {
     Memory,
 }
 
-fn mode_of(matches: &ArgMatches) -> Mode
-    ensures { result ≡ mode_of (first_value (found_of matches.now) (codes "mode")) }
+/// The word of an option, or None where it has none.
+fn word_of<'a>(matches: &ArgMatches<'a>, id: &str) -> Option<&'a str>
+    ensures { option_map (λ word. word.now) result
+        ≡ first_of id.now (rows_of (found_of matches.now)) }
 {
-    match matches.get_str("mode") {
+    matches.get_str(id)
+}
+
+fn mode_of(matches: &ArgMatches) -> Mode
+    ensures { result ≡ mode_of (first_of (codes "mode") (rows_of (found_of matches.now))) }
+{
+    match word_of(matches, "mode") {
         Some("armor") => Mode::Armor,
         Some("binary") => Mode::Binary,
         _ => Mode::Auto,
@@ -34,33 +48,45 @@ fn mode_of(matches: &ArgMatches) -> Mode
 }
 
 fn out_of(matches: &ArgMatches) -> Out
-    ensures { result ≡ out_of (first_value (found_of matches.now) (codes "out")) }
+    ensures { result ≡ out_of (first_of (codes "out") (rows_of (found_of matches.now))) }
 {
-    match matches.get_str("out") {
+    match word_of(matches, "out") {
         Some("binary") => Out::Binary,
         _ => Out::Armor,
     }
 }
 
 fn top_of(matches: &ArgMatches) -> Top
-    ensures { result ≡ top_of (first_value (found_of matches.now) (codes "of")) }
+    ensures { result ≡ top_of (first_of (codes "of") (rows_of (found_of matches.now))) }
 {
-    match matches.get_str("of") {
+    match word_of(matches, "of") {
         Some("literal") => Top::Literal,
         _ => Top::Ring,
     }
 }
 
-/// The number of an option, or None where it isn't given.
+/// The number of an option, or None where it has none.
 fn number_of(matches: &ArgMatches, id: &str) -> Option<u64>
-    ensures some { IfSome result (HasNumber (found_of matches.now) id.now) }
-    ensures none { one_text (found_of matches.now) id.now ≡ None → result ≡ None }
+    ensures some { IfSome result (HasNumber (rows_of (found_of matches.now)) id.now) }
+    ensures none { IfNone result ((n : ℕ) → HasNumber (rows_of (found_of matches.now)) id.now n → ⊥) }
 {
     matches.get_one::<u64>(id)
 }
 
+/// Whether a flag is given.
+fn flag_of(matches: &ArgMatches, id: &str) -> bool
+    ensures given { one_of id.now (rows_of (found_of matches.now)) ≡ Some (codes "true")
+        → result ≡ true }
+    ensures other { one_of id.now (rows_of (found_of matches.now)) ≡ Some (codes "false")
+        → result ≡ false }
+{
+    matches.get_flag(id)
+}
+
 fn limits_of(matches: &ArgMatches) -> Option<Limits>
-    ensures { IfSome result (HasLimits (found_of matches.now)) }
+    ensures some { IfSome result (HasLimits (rows_of (found_of matches.now))) }
+    ensures none { IfNone result ((limits : Limits)
+        → HasLimits (rows_of (found_of matches.now)) limits → ⊥) }
 {
     let line = number_of(matches, "line")?;
     let body = number_of(matches, "body")?;
@@ -71,7 +97,9 @@ fn limits_of(matches: &ArgMatches) -> Option<Limits>
 }
 
 fn action_of(name: &str, matches: &ArgMatches) -> Option<Action>
-    ensures { IfSome result (IsAction name.now (found_of matches.now)) }
+    ensures some { IfSome result (IsAction name.now (rows_of (found_of matches.now))) }
+    ensures none { IfNone result ((action : Action)
+        → IsAction name.now (rows_of (found_of matches.now)) action → ⊥) }
 {
     match name {
         "show" => Some(Action::Show),
@@ -93,7 +121,7 @@ fn action_of(name: &str, matches: &ArgMatches) -> Option<Action>
         }),
         "join" => Some(Action::Join {
             out: out_of(matches),
-            merge: matches.get_flag("merge"),
+            merge: flag_of(matches, "merge"),
         }),
         _ => None,
     }
@@ -101,7 +129,9 @@ fn action_of(name: &str, matches: &ArgMatches) -> Option<Action>
 
 /// The task of a command of this name with these options.
 fn task_from(name: &str, matches: &ArgMatches) -> Option<Task>
-    ensures { IfSome result (IsTask name.now (found_of matches.now)) }
+    ensures some { IfSome result (IsTask name.now (rows_of (found_of matches.now))) }
+    ensures none { IfNone result ((task : Task)
+        → IsTask name.now (rows_of (found_of matches.now)) task → ⊥) }
 {
     let limits = limits_of(matches)?;
     let action = action_of(name, matches)?;
@@ -112,7 +142,10 @@ fn task_from(name: &str, matches: &ArgMatches) -> Option<Task>
     })
 }
 
-fn usage_of(alloc: Global, error: &Error) -> Usage {
+/// What is said of a refusal of `clap`.
+fn usage_of(alloc: Global, error: &Error) -> Usage
+    ensures { kind_of error.now ≡ OutOfMemory → result ≡ Memory }
+{
     if let ErrorKind::OutOfMemory = error.kind() {
         return Usage::Memory;
     }
@@ -139,7 +172,11 @@ fn is_about_a_file(text: &str) -> bool {
 ///
 /// The refusals are the text of `clap`, for help too, and want of memory.
 pub fn task_of<'a, S: AsStr>(alloc: Global, words: &'a [S]) -> Result<Task, Usage>
-    ensures { IfOk result (SaysTask (map S.text words.entry.now)) }
+    ensures said { IfOk result (λ task. (program : App) × IsProgram program
+        × SaysTask program (map S.text words.entry.now) task) }
+    ensures refused { IfErr result (λ usage. (usage ≡ Memory)
+        ⊎ ((program : App) × IsProgram program
+        × SaysNone program (map S.text words.entry.now))) }
 {
     let program = match program(alloc) {
         Ok(program) => program,

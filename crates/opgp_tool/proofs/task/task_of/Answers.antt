@@ -1,11 +1,13 @@
-use Rattle.std.proofs.Common.{rules, ◌∙◌, sym, ◌≡◌, Some}
-use Rattle.clap.specs.Words.{app_of, subcommand_rows_of, rows_of, found_of}
-use Rattle.opgp_tool.proofs.Parsing.{simple, both, given}
+use Rattle.std.proofs.Common.{rules, ◌∙◌, sym, ◌≡◌, inr, List, map, Some, None}
+use Rattle.std.specs.Prelude.{option_map}
+use Rattle.clap.specs.Words.{Row, Text, app_of, subcommand_rows_of, rows_of, found_of}
+use Rattle.opgp_tool.proofs.Parsing.{simple, both, given, refused_or, none_said, nothing_said}
+use Rattle.opgp_tool.proofs.Reading.{where_none}
 use Rattle.opgp_tool.proofs.task.task_of.Goals as goal
 use Rattle.opgp_tool.proofs.task.task_of.Goals.{in-Some, in-None}
 
-pub returns-in-Some-task : goal.returns-in-Some-task
-returns-in-Some-task g c =
+pub returns-in-Some-task-clause-said : goal.returns-in-Some-task-clause-said
+returns-in-Some-task-clause-said g c =
     let made = c.in-Ok.ensures in
     let parsed = c.in-Ok-try_get_matches_from.ensures.matches (simple _ made) in
     elim c.match-subcommand.branch [
@@ -14,13 +16,43 @@ returns-in-Some-task g c =
           ≡ Some (w.in-Some.name.now, rows_of (found_of w.in-Some.options.now)) =
           both _ _ _ _ _ (sym w.in-Some.ensures.name) (sym w.in-Some.ensures.rows) in
           let task = given _ w.task_from-task.result c.in-Some-task.task
-          (sym w.task-is ∙ c.in-Some-task.is) w.task_from-task.ensures in (
+          (sym w.task-is ∙ c.in-Some-task.is) w.task_from-task.ensures.some in (
             app_of c.in-Ok.program,
             made,
-            w.in-Some.name.now,
-            w.in-Some.options.now,
-            sym parsed.1 ∙ entered,
-            task,
+            (
+              w.in-Some.name.now,
+              rows_of (found_of w.in-Some.options.now),
+              sym parsed.1 ∙ entered,
+              task,
+            ),
           )
       | in-None w ↦ absurd (search rules)
     ]
+
+pub returns-in-Err-try_get_matches_from-clause-refused :
+    goal.returns-in-Err-try_get_matches_from-clause-refused
+returns-in-Err-try_get_matches_from-clause-refused g c = refused_or _ _ _ c.in-Ok.ensures
+    (λ taken. c.usage_of.ensures (c.in-Err-try_get_matches_from.ensures.passes taken))
+
+pub returns-in-Ok-from_str-clause-refused : goal.returns-in-Ok-from_str-clause-refused
+returns-in-Ok-from_str-clause-refused g c =
+    let made = c.in-Ok.ensures in
+    let app = app_of c.in-Ok.program in
+    let words = map g.S.AsStr.text c.args.words.now in
+    let parsed = c.in-Ok-try_get_matches_from.ensures.matches (simple _ made) in
+    inr (
+      app_of c.in-Ok.program,
+      made,
+      elim c.match-subcommand.branch [
+        | in-Some w ↦
+            let entered : subcommand_rows_of c.in-Ok-try_get_matches_from.matches
+            ≡ Some (w.in-Some.name.now, rows_of (found_of w.in-Some.options.now)) =
+            both _ _ _ _ _ (sym w.in-Some.ensures.name) (sym w.in-Some.ensures.rows) in
+            let none = where_none _ (sym w.task-is ∙ c.in-None-task.is) w.task_from-task.ensures.none in
+            none_said app words _ _ (sym parsed.1 ∙ entered) none
+        | in-None w ↦
+            let rows : None ≡ option_map (λ (p : Text × List Row). p.1)
+            (subcommand_rows_of c.in-Ok-try_get_matches_from.matches) = search rules in
+            nothing_said app words _ parsed.1 rows
+      ],
+    )

@@ -1,0 +1,51 @@
+-- What an option's text says as a number, and limits that are said.
+use Rattle.std.proofs.Common.{◌≡◌, refl, ℕ, List, Option, Some, None, Result}
+use Rattle.std.specs.Prelude.{IfSome, IfNone, codes}
+use Rattle.std.specs.Str.Parse.{ParsesUnsigned}
+use Rattle.clap.specs.Words.{Row, Text, one_of}
+use Rattle.clap.specs.Matches.{ReadsOne}
+use Rattle.opgp_stack.specs.declared.task.Action.{Action}
+use Rattle.opgp_stack.specs.declared.task.Action.TheVariants as action
+use Rattle.opgp_tool.specs.Words.{HasNumber, IsAction}
+
+module _ (E : Type 0) (Gives : List ℕ → Result ℕ E → Type 0)
+    (parses : (t : List ℕ) (r : Result ℕ E) → Gives t r → ParsesUnsigned 64 10 t r)
+    (options : List Row) (id : Text) where
+  pub number_read : (r : Option ℕ) → (one_of id options ≡ None → r ≡ None)
+      → ((t : List ℕ) → one_of id options ≡ Some t → ReadsOne Gives t r)
+      → IfSome r (HasNumber options id)
+  number_read None none value = tt
+  number_read (Some n) none value = go (one_of id options) refl
+    where
+      go : (o : Option Text) → one_of id options ≡ o → HasNumber options id n
+      go None is = absurd (cc (none is))
+      go (Some t) is =
+          let read = parses _ _ (value t is) in (t, is, record { digits = read.0.0; value = read.1; fits = read.0.1 })
+
+  pub no_number_read : (r : Option ℕ)
+      → ((t : List ℕ) → one_of id options ≡ Some t → ReadsOne Gives t r)
+      → IfNone r ((n : ℕ) → HasNumber options id n → ⊥)
+  no_number_read (Some n) value = tt
+  no_number_read None value = λ n has.
+      let read = value has.0 has.1 in parses _ _ read.1 (has.2.digits, has.2.fits)
+
+pub always : {A P : Type 0} (o : Option A) → P → IfNone o P
+always None p = p
+always (Some a) p = tt
+
+pub where_none : {A P : Type 0} (o : Option A) → o ≡ None → IfNone o P → P
+where_none None is holds = holds
+where_none (Some a) is holds = absurd (cc is)
+
+-- octets without a row are no action
+pub no_action_without_row : (options : List Row) (name : Text) → name ≡ codes "octets"
+    → ((n : ℕ) → HasNumber options (codes "row") n → ⊥)
+    → (a : Action) → IsAction name options a → ⊥
+no_action_without_row options name is none action.Show said = absurd (cc (is, said))
+no_action_without_row options name is none action.List said = absurd (cc (is, said))
+no_action_without_row options name is none action.Check said = absurd (cc (is, said))
+no_action_without_row options name is none (action.Octets row top) said = none row said.1
+no_action_without_row options name is none (action.Write out) said = absurd (cc (is, said.0))
+no_action_without_row options name is none (action.Normalise out) said = absurd (cc (is, said.0))
+no_action_without_row options name is none (action.Split out nth) said = absurd (cc (is, said.0))
+no_action_without_row options name is none (action.Join out merge) said = absurd (cc (is, said.0))

@@ -20,6 +20,7 @@ use Rattle.opgp_octets.specs.declared.fault.Reason.TheVariants.{AreaShort, SaltS
 use Rattle.opgp_octets.specs.declared.fault.Reason.TheVariants.{NotInKeyring, CertTooLong}
 use Rattle.opgp_octets.specs.declared.fault.Reason.TheVariants.{NotASignedLiteral, BlockLabel}
 use Rattle.opgp_octets.specs.declared.fault.Fault.{Fault}
+use Rattle.opgp_octets.specs.declared.fault.BodyFault.{BodyFault}
 
 -- the name of a layer
 unfoldable pub layer_name : Layer → List ℕ
@@ -116,3 +117,7 @@ abbrev pub fault_text : Fault → List ℕ
 fault_text f =
     layer_name f.layer ++ codes ": " ++ reason_name f.reason ++ codes " block " ++ decimal f.block
     ++ codes " at " ++ decimal f.pos ++ codes " inner " ++ decimal f.inner
+
+-- the text of a body's fault, whose packet has no place yet
+abbrev pub body_fault_text : BodyFault → List ℕ
+body_fault_text f = reason_name f.reason ++ codes " inner " ++ decimal f.inner

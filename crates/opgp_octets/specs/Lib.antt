@@ -11,6 +11,7 @@ pub mod PacketType
 pub mod ParseFault
 pub mod Ranges
 pub mod Reading
+pub mod Refusal
 pub mod SignatureType
 pub mod SubLen
 pub mod SubpacketKind

@@ -123,6 +123,29 @@ pub struct BodyFault {
     pub inner: u64,
 }
 
+impl BodyFault {
+    ghost use Rattle.opgp_octets.specs.declared.fault.Layer.TheVariants as layer;
+
+    /// The fault of an input that has the packet of this body: with the packet's block and place.
+    pub fn placed(self, block: u64, pos: u64) -> Fault
+        ensures { result ≡ record {
+          layer = layer.Body;
+          reason = self.reason;
+          block = block;
+          pos = pos;
+          inner = self.inner;
+        } }
+    {
+        Fault {
+            layer: Layer::Body,
+            reason: self.reason,
+            block,
+            pos,
+            inner: self.inner,
+        }
+    }
+}
+
 impl Layer {
     #[tactic(auto, unfolding(crate::specs::Fault::layer_name))]
     /// The name in lower case, as a fault's line has it.

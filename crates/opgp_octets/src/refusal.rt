@@ -1,8 +1,11 @@
 //! Why a call gives no value, where the octets alone are not the reason.
 
-ghost use Rattle.std.specs.Prelude.{◌≡◌};
+ghost use Rattle.std.specs.Prelude.{◌≡◌, Some};
+ghost use Rattle.opgp_octets.specs.Refusal.{mpi_fault_text, parse_fault_text, push_fault_text};
 
-use crate::fault::BodyFault;
+use crate::fault::{BodyFault, Reason};
+use std::error::Error;
+use std::fmt;
 
 /// A growth was refused for want of memory.
 pub type OutOfMemory = std::alloc::AllocError;
@@ -65,3 +68,46 @@ impl From<OutOfMemory> for ParseFault {
         ParseFault::Memory
     }
 }
+
+/// The name of the reason, or `out of memory`.
+impl fmt::Display for MpiFault {
+    ghost output = { λ fault. Some (mpi_fault_text fault) };
+
+    fn fmt<W: fmt::Write>(&self, f: &mut fmt::Formatter<W>) -> fmt::Result {
+        match self {
+            MpiFault::Short => f.write_str(Reason::Short.name()),
+            MpiFault::MpiBits => f.write_str(Reason::MpiBits.name()),
+            MpiFault::Memory => f.write_str("out of memory"),
+        }
+    }
+}
+
+impl Error for MpiFault {}
+
+/// The text of the body's fault, or `out of memory`.
+impl fmt::Display for ParseFault {
+    ghost output = { λ fault. Some (parse_fault_text fault) };
+
+    fn fmt<W: fmt::Write>(&self, f: &mut fmt::Formatter<W>) -> fmt::Result {
+        match self {
+            ParseFault::Body(fault) => write!(f, "{fault}"),
+            ParseFault::Memory => f.write_str("out of memory"),
+        }
+    }
+}
+
+impl Error for ParseFault {}
+
+/// `out of memory`, or the name of [`Reason::Spent`].
+impl fmt::Display for PushFault {
+    ghost output = { λ fault. Some (push_fault_text fault) };
+
+    fn fmt<W: fmt::Write>(&self, f: &mut fmt::Formatter<W>) -> fmt::Result {
+        match self {
+            PushFault::Memory => f.write_str("out of memory"),
+            PushFault::Spent => f.write_str(Reason::Spent.name()),
+        }
+    }
+}
+
+impl Error for PushFault {}

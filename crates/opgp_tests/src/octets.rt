@@ -1,6 +1,7 @@
 use opgp_octets::{
-    Fault, Layer, Limits, Mpi, MpiFault, MpiView, PacketLen, Reason, SubLen, fault_line, read_len,
-    read_sub_len, shortest, write_len, write_sub_len,
+    BodyFault, Fault, Layer, Limits, Mpi, MpiFault, MpiView, PacketLen, ParseFault, PushFault,
+    Reason, SubLen, fault_line, read_len, read_sub_len, shortest, write_hexadecimal, write_len,
+    write_sub_len,
 };
 use std::test::Fail;
 
@@ -174,6 +175,52 @@ fn line_of_a_fault(rt: HostRuntime) -> Result<(), Fail> {
         "framing: Truncated block 1 at 100006 inner 98312"
     );
     Ok(())
+}
+
+#[test]
+fn texts_of_refusals(rt: HostRuntime) -> Result<(), Fail> {
+    let alloc = rt.alloc();
+    let body = BodyFault {
+        reason: Reason::Count,
+        inner: 6,
+    };
+    let place = body.placed(1, 20);
+    assert_eq!(rt;
+        place.to_string(alloc)?.as_str(),
+        "body: Count block 1 at 20 inner 6"
+    );
+    assert_eq!(rt; body.to_string(alloc)?.as_str(), "Count inner 6");
+    assert_eq!(rt;
+        ParseFault::Body(body).to_string(alloc)?.as_str(),
+        "Count inner 6"
+    );
+    assert_eq!(rt;
+        ParseFault::Memory.to_string(alloc)?.as_str(),
+        "out of memory"
+    );
+    assert_eq!(rt; MpiFault::MpiBits.to_string(alloc)?.as_str(), "MpiBits");
+    assert_eq!(rt;
+        MpiFault::Memory.to_string(alloc)?.as_str(),
+        "out of memory"
+    );
+    assert_eq!(rt; PushFault::Spent.to_string(alloc)?.as_str(), "Spent");
+    assert_eq!(rt;
+        PushFault::Memory.to_string(alloc)?.as_str(),
+        "out of memory"
+    );
+    let names = format!(in alloc; "{:>8}|{:<6}|", Layer::Armor, Reason::Short)?;
+    assert_eq!(rt; names.as_str(), "   armor|Short |");
+    Ok(())
+}
+
+#[test]
+fn digits_of_octets(rt: HostRuntime) {
+    let mut digits = [0; 6];
+    assert_eq!(rt;
+        write_hexadecimal(&[0x00, 0x9f, 0xff], &mut digits),
+        "009FFF"
+    );
+    assert_eq!(rt; write_hexadecimal(&[], &mut digits[..0]), "");
 }
 
 #[test]

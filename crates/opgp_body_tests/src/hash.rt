@@ -1,6 +1,6 @@
 //! Fingerprints and key IDs, by the keys of RFC 9580, A.1 and A.3.
 
-use opgp_hash::{Fingerprint, KeyId, fingerprint, key_id};
+use opgp_hash::{Digest, Fingerprint, KeyId, fingerprint, key_id};
 use opgp_key::Key;
 use std::test::Fail;
 
@@ -51,5 +51,33 @@ fn names_of_the_standard(rt: HostRuntime) -> Result<(), Fail> {
             Fingerprint::Six(octets) => assert!(rt; print.octets() == octets.as_slice()),
         }
     }
+    Ok(())
+}
+
+#[test]
+fn digits_of_the_standard(rt: HostRuntime) -> Result<(), Fail> {
+    let older = Fingerprint::Four(OLDER_PRINT);
+    let digits = "C959BDBAFA32A2F89A153B678CFDE12197965A9A";
+    assert_eq!(rt; older.to_string(rt.alloc())?.as_str(), digits);
+    assert_eq!(rt;
+        older.key_id().to_string(rt.alloc())?.as_str(),
+        "8CFDE12197965A9A"
+    );
+    assert_eq!(rt;
+        Digest::Sha1(OLDER_PRINT).to_string(rt.alloc())?.as_str(),
+        digits
+    );
+    let primary = Fingerprint::Six(PRIMARY_PRINT);
+    let digits = "CB186C4F0609A697E4D52DFA6C722B0C1F1E27C18A56708F6525EC27BAD9ACC9";
+    assert_eq!(rt; primary.to_string(rt.alloc())?.as_str(), digits);
+    assert_eq!(rt; primary.write_digits(&mut [0; 64]), digits);
+    assert_eq!(rt;
+        primary.key_id().write_digits(&mut [0; 16]),
+        "CB186C4F0609A697"
+    );
+    assert_eq!(rt;
+        Digest::Sha256(PRIMARY_PRINT).write_digits(&mut [0; 128]),
+        digits
+    );
     Ok(())
 }

@@ -1,6 +1,12 @@
 //! Digests of five lengths.
 
-ghost use Rattle.std.specs.Prelude.{◌≡◌, length};
+ghost use Rattle.std.specs.Prelude.{◌≡◌, length, Some};
+ghost use Rattle.std.specs.Fmt.{padded};
+ghost use Rattle.hex.specs.Hex.{encode_upper};
+ghost use Rattle.opgp_hash.specs.Digest.{digest_octets};
+
+use opgp_octets::write_hexadecimal;
+use std::fmt;
 
 /// A digest under one of the five hash algorithms that questions have (RFC 9580, 9.5).
 #[derive(Clone, Copy, PartialEq, Eq)]
@@ -18,7 +24,7 @@ pub enum Digest {
 }
 
 impl Digest {
-    ghost use Rattle.opgp_hash.specs.Digest.{digest_octets, digest_size};
+    ghost use Rattle.opgp_hash.specs.Digest.{digest_size};
 
     /// Its octets: 20, 32, 48, 64 or 28.
     pub fn octets(&self) -> &[u8]
@@ -32,5 +38,24 @@ impl Digest {
             Digest::Sha512(octets) => octets,
             Digest::Sha224(octets) => octets,
         }
+    }
+
+    /// Writes its digits, as it displays them, to the start of the room, and lends them as a text.
+    pub fn write_digits<'b>(&self, room: &'b mut [u8; 128]) -> &'b str
+        ensures { result.now ≡ encode_upper (digest_octets self.now) }
+    {
+        let octets = self.octets();
+        write_hexadecimal(octets, &mut room[..2 * octets.len()])
+    }
+}
+
+/// Its octets in upper-case hexadecimal, two digits an octet.
+impl fmt::Display for Digest {
+    ghost output = { λ d. Some (encode_upper (digest_octets d)) };
+
+    ghost styled_output = { λ d spec. Some (padded spec (encode_upper (digest_octets d))) };
+
+    fn fmt<W: fmt::Write>(&self, f: &mut fmt::Formatter<W>) -> fmt::Result {
+        f.pad(self.write_digits(&mut [0; 128]))
     }
 }

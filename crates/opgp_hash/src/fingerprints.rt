@@ -1,6 +1,12 @@
 //! Fingerprints and key IDs.
 
-ghost use Rattle.std.specs.Prelude.{◌≡◌, length};
+ghost use Rattle.std.specs.Prelude.{◌≡◌, length, Some};
+ghost use Rattle.std.specs.Fmt.{padded};
+ghost use Rattle.hex.specs.Hex.{encode_upper};
+ghost use Rattle.opgp_hash.specs.Fingerprint.{print_octets};
+
+use opgp_octets::write_hexadecimal;
+use std::fmt;
 
 /// The fingerprint of a key (RFC 9580, 5.5.4).
 #[derive(Clone, Copy, Debug, PartialEq, Eq)]
@@ -16,7 +22,7 @@ pub enum Fingerprint {
 pub struct KeyId(pub [u8; 8]);
 
 impl Fingerprint {
-    ghost use Rattle.opgp_hash.specs.Fingerprint.{print_octets, print_version, print_size};
+    ghost use Rattle.opgp_hash.specs.Fingerprint.{print_version, print_size};
     ghost use Rattle.opgp_hash.specs.KeyId.{id_of};
 
     /// Its octets: 20 in version 4, 32 in version 6.
@@ -51,5 +57,46 @@ impl Fingerprint {
             Fingerprint::Six(octets) => id.copy_from_slice(&octets[..8]),
         }
         KeyId(id)
+    }
+
+    /// Writes its digits, as it displays them, to the start of the room, and lends them as a text.
+    pub fn write_digits<'b>(&self, room: &'b mut [u8; 64]) -> &'b str
+        ensures { result.now ≡ encode_upper (print_octets self.now) }
+    {
+        match self {
+            Fingerprint::Four(octets) => write_hexadecimal(octets, &mut room[..40]),
+            Fingerprint::Six(octets) => write_hexadecimal(octets, room),
+        }
+    }
+}
+
+/// Its octets in upper-case hexadecimal: 40 digits in version 4, 64 in version 6.
+impl fmt::Display for Fingerprint {
+    ghost output = { λ print. Some (encode_upper (print_octets print)) };
+
+    ghost styled_output = { λ print spec. Some (padded spec (encode_upper (print_octets print))) };
+
+    fn fmt<W: fmt::Write>(&self, f: &mut fmt::Formatter<W>) -> fmt::Result {
+        f.pad(self.write_digits(&mut [0; 64]))
+    }
+}
+
+impl KeyId {
+    /// Writes its digits, as it displays them, into the room, and lends them as a text.
+    pub fn write_digits<'b>(&self, room: &'b mut [u8; 16]) -> &'b str
+        ensures { result.now ≡ encode_upper self.now.0 }
+    {
+        write_hexadecimal(&self.0, room)
+    }
+}
+
+/// Its octets in upper-case hexadecimal: 16 digits.
+impl fmt::Display for KeyId {
+    ghost output = { λ id. Some (encode_upper id.0) };
+
+    ghost styled_output = { λ id spec. Some (padded spec (encode_upper id.0)) };
+
+    fn fmt<W: fmt::Write>(&self, f: &mut fmt::Formatter<W>) -> fmt::Result {
+        f.pad(self.write_digits(&mut [0; 16]))
     }
 }

@@ -1,6 +1,6 @@
--- The numbers of what ends a run, which stay.
-use Rattle.std.specs.Prelude.{ℕ}
-use Rattle.opgp_octets.specs.Fault.{reason_number}
+-- The numbers of what ends a run, which stay, and its texts.
+use Rattle.std.specs.Prelude.{ℕ, List, codes}
+use Rattle.opgp_octets.specs.Fault.{fault_text, reason_number}
 use Rattle.opgp_stack.specs.declared.engine_error.EngineError.{EngineError}
 use Rattle.opgp_stack.specs.declared.engine_error.EngineError.TheVariants as engine
 use Rattle.opgp_stack.specs.declared.run_fault.RunFault.{RunFault}
@@ -19,3 +19,12 @@ run_number run.Write = 61
 run_number run.Memory = 62
 run_number run.NoSuchRow = 70
 run_number run.NoSuchCertificate = 71
+
+-- a refusal has its fault's line
+abbrev pub run_text : RunFault → List ℕ
+run_text (run.Refused fault) = fault_text fault
+run_text run.Read = codes "read failed"
+run_text run.Write = codes "write failed"
+run_text run.Memory = codes "out of memory"
+run_text run.NoSuchRow = codes "no such row"
+run_text run.NoSuchCertificate = codes "no such certificate"

@@ -1,10 +1,12 @@
 //! Why a run ends without its output.
 
-ghost use Rattle.std.specs.Prelude.{◌≡◌};
-ghost use Rattle.opgp_stack.specs.Faults.{engine_number, run_number};
+ghost use Rattle.std.specs.Prelude.{◌≡◌, Some};
+ghost use Rattle.opgp_stack.specs.Faults.{engine_number, run_number, run_text};
 
 use crate::engine_error::EngineError;
 use opgp_octets::Fault;
+use std::error::Error;
+use std::fmt;
 
 /// Why a run ends without its output. With any but [`RunFault::Write`] nothing was written.
 #[derive(Clone, Copy, Debug, PartialEq, Eq)]
@@ -38,6 +40,24 @@ impl RunFault {
         }
     }
 }
+
+/// The line of the fault, or what went wrong in a few words.
+impl fmt::Display for RunFault {
+    ghost output = { λ fault. Some (run_text fault) };
+
+    fn fmt<W: fmt::Write>(&self, f: &mut fmt::Formatter<W>) -> fmt::Result {
+        match self {
+            RunFault::Refused(fault) => write!(f, "{fault}"),
+            RunFault::Read => f.write_str("read failed"),
+            RunFault::Write => f.write_str("write failed"),
+            RunFault::Memory => f.write_str("out of memory"),
+            RunFault::NoSuchRow => f.write_str("no such row"),
+            RunFault::NoSuchCertificate => f.write_str("no such certificate"),
+        }
+    }
+}
+
+impl Error for RunFault {}
 
 impl EngineError {
     /// The number, which stays.

@@ -32,7 +32,7 @@ prefix_len n xs ys = take-append-le (min n (length xs)) xs ys (omega arith) ∙ 
 prefix_more : (old new : Option (List ℕ)) (xs ys : List ℕ) → AppendsPrefix old new xs → AppendsPrefix old new (xs ++ ys)
 prefix_more old new xs ys p = (min p.0 (length xs), subst (Appends old new) (sym (prefix_len p.0 xs ys)) p.1)
 
-take_past : (front xs : List ℕ) (n m : ℕ) → m ≡ length front + n → take m (front ++ xs) ≡ front ++ take n xs
+pub take_past : (front xs : List ℕ) (n m : ℕ) → m ≡ length front + n → take m (front ++ xs) ≡ front ++ take n xs
 take_past front xs n m e =
     ap (λ (v : ℕ). take v (front ++ xs)) e ∙ take-add (length front) n (front ++ xs)
     ∙ rw (take_at front xs (length front) refl, drop_at front xs (length front) refl) refl

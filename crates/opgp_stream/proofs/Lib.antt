@@ -1,5 +1,6 @@
 pub mod Added
 pub mod Loops
 pub mod Pieces
+pub mod Places
 pub mod Rows
 pub mod Texts

@@ -1,10 +1,8 @@
 -- Words in pieces.
-use Rattle.std.proofs.Common.{◌≡◌, ◌∙◌, ℕ, zero, suc, ◌+◌, ◌/◌, ◌%◌, ◌<◌, ◌==◌, ◌&&◌, inl, inr, Bool, true, false, List, [], ◌∷◌, ◌++◌, refl, sym, ap, arith, length, take, drop, map, slice_index, codes}
-use Rattle.std.specs.Char.{to_ascii_uppercase}
+use Rattle.std.proofs.Common.{◌≡◌, ◌∙◌, ℕ, ◌+◌, ◌/◌, ◌%◌, ◌<◌, true, false, List, [], ◌∷◌, ◌++◌, refl, sym, ap, arith, length, take, drop, slice_index, codes}
 use Rattle.std.proofs.lemmas.List.{take_more, take-append-drop, append-nil}
 use Rattle.std.proofs.lemmas.List.Concat.{flat_map-append}
-use Rattle.std.proofs.lemmas.Bool.{eqb-true, and_parts, cases_lt}
-use Rattle.hex.specs.Hex.{encode_with, encode_upper, encode_lower, upper_digits, lower_digits}
+use Rattle.hex.specs.Hex.{encode_with, encode_upper, upper_digits}
 use Rattle.opgp_stream.specs.Texts.{is_plain, escape, escaped}
 
 -- ---- hexadecimal
@@ -21,39 +19,6 @@ pub upper_split : (rest front back : List ℕ) (n : ℕ) → front ≡ take n re
 upper_split rest front back n e f =
     ap encode_upper (sym (take-append-drop n rest)) ∙ upper-append (take n rest) (drop n rest)
     ∙ ap (λ (v : List ℕ). encode_upper v ++ encode_upper (drop n rest)) (sym e) ∙ ap (λ (v : List ℕ). encode_upper front ++ encode_upper v) (sym f)
-
-same_digit : ℕ → Bool
-same_digit k = to_ascii_uppercase (slice_index lower_digits k) == slice_index upper_digits k
-
-same_below : ℕ → Bool
-same_below zero = true
-same_below (suc n) = same_digit n && same_below n
-
-same_at : (n k : ℕ) → same_below n ≡ true → k < n → same_digit k ≡ true
-unfolding same_below
-same_at zero k h l = absurd (omega arith)
-same_at (suc n) k h l =
-    let parts = and_parts (same_digit n) (same_below n) h in
-    elim (cases_lt k n) [
-      | inl below ↦ same_at n k parts.1 below
-      | inr top ↦
-          let e : k ≡ n = omega arith in
-          rw e parts.0
-    ]
-
-digit : (k : ℕ) → k < 16 → to_ascii_uppercase (slice_index lower_digits k) ≡ slice_index upper_digits k
-unfolding same_digit same_below
-digit k h = eqb-true _ _ (same_at 16 k refl h)
-
-two : (a b c d : ℕ) (xs ys : List ℕ) → a ≡ c → b ≡ d → xs ≡ ys → a ∷ b ∷ xs ≡ c ∷ d ∷ ys
-two a b c d xs ys e f g = cc
-
-pub upper_of_lower : (xs : List ℕ) → ((i : ℕ) → slice_index xs i < 256) → map to_ascii_uppercase (encode_lower xs) ≡ encode_upper xs
-unfolding encode_with
-upper_of_lower [] h = refl
-upper_of_lower (x ∷ xs) h =
-    let l : x < 256 = h 0 in
-    two _ _ _ _ _ _ (digit (x / 16) (omega arith)) (digit (x % 16) (omega arith)) (upper_of_lower xs (λ i. h (suc i)))
 
 -- ---- escapes
 pub escaped-nil : escaped [] ≡ []

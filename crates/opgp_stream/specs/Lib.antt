@@ -3,6 +3,7 @@ pub mod Armoring
 pub mod Block
 pub mod Line
 pub mod Output
+pub mod Place
 pub mod Rows
 pub mod Stream
 pub mod Texts

@@ -1,5 +1,5 @@
 -- What an output has put and what waits in it.
-use Rattle.std.specs.Prelude.{ℕ, Bool, List, Option}
+use Rattle.std.specs.Prelude.{ℕ, Bool, List, Option, take}
 use Rattle.std.specs.Borrow.{GName}
 use Rattle.opgp_stream.specs.declared.buffer.Buffer.{Buffer}
 use Rattle.opgp_stream.specs.declared.output.Output.{Output}
@@ -7,7 +7,7 @@ use Rattle.opgp_stream.specs.Added.{State}
 
 -- the octets in a buffer
 abbrev pub held_in : Buffer → List ℕ
-held_in b = b.octets.items
+held_in b = take b.filled b.octets.items
 
 -- the sink of an output
 abbrev pub sink_of : {W : Type 0} → Output W → W

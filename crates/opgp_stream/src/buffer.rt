@@ -1,7 +1,10 @@
 //! Room for the octets that wait.
 
-ghost use Rattle.std.specs.Prelude.{◌≡◌, ◌+◌, ◌≤◌, ◌++◌, [], length, vec_capacity, IfOk};
+ghost use Rattle.std.specs.Prelude.{◌≡◌, ◌+◌, ◌≤◌, ◌++◌, true, false, [], length, vec_len, IfOk};
+ghost use Rattle.opgp_stream.specs.Line.{line_text};
 
+use crate::line::Word;
+use crate::place::write_words;
 use opgp_octets::OutOfMemory;
 use std::alloc::Global;
 
@@ -12,8 +15,9 @@ pub(crate) const SIZE: usize = 65_536;
 #[derive(Drop)]
 pub struct Buffer {
     octets: Vec<u8>,
-    ghost sized: { 65536 ≤ vec_capacity octets },
-    ghost filled: { length octets.items ≤ 65536 },
+    filled: usize,
+    ghost sized: { vec_len octets ≡ 65536 },
+    ghost within: { filled ≤ 65536 },
 }
 
 impl Buffer {
@@ -23,22 +27,22 @@ impl Buffer {
     pub fn new(alloc: Global) -> Result<Self, OutOfMemory>
         ensures { IfOk result (λ b. held_in b ≡ []) }
     {
-        let octets = Vec::with_capacity(alloc, SIZE)?;
-        Ok(Buffer { octets })
+        let octets = vec![in alloc; 0u8; SIZE]?;
+        Ok(Buffer { octets, filled: 0 })
     }
 
     /// The octets that wait.
     pub(crate) fn octets(&self) -> &[u8]
         ensures { result.now ≡ held_in self.now }
     {
-        self.octets.as_slice()
+        &self.octets.as_slice()[..self.filled]
     }
 
     /// How many more octets may wait.
     pub(crate) fn room(&self) -> usize
         ensures { result + length (held_in self.now) ≡ 65536 }
     {
-        SIZE - self.octets.len()
+        SIZE - self.filled
     }
 
     /// Lets octets wait, where there is room for them.
@@ -46,8 +50,27 @@ impl Buffer {
         requires { length (held_in self.old) + length octets.now ≤ 65536 }
         ensures { held_in self.new ≡ held_in self.old ++ octets.now }
     {
-        if self.octets.extend_from_slice(octets).is_err() {
-            unreachable!();
+        let start = self.filled;
+        let end = start + octets.len();
+        let place = &mut self.octets.as_mut_slice()[start..end];
+        place.copy_from_slice(octets);
+        self.filled = end;
+    }
+
+    /// Lets words wait, one after the other, and answers true; or false, where nothing changes, as
+    /// there may be no room for them, or an escaped octet is among them.
+    pub(crate) fn hold_words(&mut self, words: &[Word<'_>]) -> bool
+        ensures held { result ≡ true → held_in self.new ≡ held_in self.old ++ line_text words.now }
+        ensures same { result ≡ false → held_in self.new ≡ held_in self.old }
+    {
+        let start = self.filled;
+        let place = &mut self.octets.as_mut_slice()[start..];
+        match write_words(place, words) {
+            Some(count) => {
+                self.filled = start + count;
+                true
+            }
+            None => false,
         }
     }
 
@@ -55,6 +78,6 @@ impl Buffer {
     pub(crate) fn clear(&mut self)
         ensures { held_in self.new ≡ [] }
     {
-        self.octets.clear();
+        self.filled = 0;
     }
 }

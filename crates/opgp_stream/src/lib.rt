@@ -11,6 +11,7 @@ mod buffer;
 pub mod laws;
 mod line;
 mod output;
+mod place;
 mod row;
 mod sink;
 mod source;

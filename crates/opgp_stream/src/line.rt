@@ -46,6 +46,20 @@ impl<'a, W: Sink> Output<'a, W> {
         ensures written { Writes (state_of W.held W.has_failed self.old)
             (state_of W.held W.has_failed self.new) result (line_text words.now) }
     {
+        if self.buffer.hold_words(words) {
+            return Ok(());
+        }
+        self.add_each(words)
+    }
+
+    /// Adds words, whatever room there is.
+    #[inline(never)]
+    fn add_each(&mut self, words: &[Word<'_>]) -> io::Result<()>
+        requires { W.has_failed (sink_of self.old) ≡ false }
+        ensures same { sink_name self.new ≡ sink_name self.old }
+        ensures written { Writes (state_of W.held W.has_failed self.old)
+            (state_of W.held W.has_failed self.new) result (line_text words.now) }
+    {
         for word in words {
             self.add_word(word)?;
         }

@@ -15,7 +15,7 @@ use std::io;
 #[derive(Drop)]
 pub struct Output<'a, W> {
     sink: &'a mut W,
-    buffer: &'a mut Buffer,
+    pub(crate) buffer: &'a mut Buffer,
 }
 
 impl<'a, W: Sink> Output<'a, W> {

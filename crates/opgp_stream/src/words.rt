@@ -14,6 +14,9 @@ use std::io;
 /// How many octets become digits at once.
 const PIECE: usize = 32;
 
+/// The digits of hexadecimal.
+const DIGITS: &[u8; 16] = b"0123456789ABCDEF";
+
 /// Printable ASCII other than `"` and `\`.
 fn is_plain(octet: u8) -> bool
     ensures { result ≡ is_plain octet }
@@ -22,7 +25,7 @@ fn is_plain(octet: u8) -> bool
 }
 
 /// How many plain octets there are before the first other one.
-fn plain_len(octets: &[u8]) -> usize
+pub(crate) fn plain_len(octets: &[u8]) -> usize
     ensures within { result ≤ length octets.now }
     ensures plain { escaped (take result octets.now) ≡ take result octets.now }
     ensures other { result < length octets.now
@@ -37,14 +40,15 @@ fn plain_len(octets: &[u8]) -> usize
 }
 
 /// Writes octets as upper-case digits.
-fn write_digits(octets: &[u8], digits: &mut [u8])
+pub(crate) fn write_digits(octets: &[u8], digits: &mut [u8])
     requires { length digits.old ≡ 2 * length octets.now }
     ensures { digits.new ≡ encode_upper octets.now }
 {
-    if hex::encode_to_slice(octets, &mut *digits).is_err() {
-        unreachable!();
+    'octets: for i in 0..octets.len() {
+        let octet = octets[i];
+        digits[2 * i] = DIGITS[(octet >> 4) as usize];
+        digits[2 * i + 1] = DIGITS[(octet & 0x0f) as usize];
     }
-    digits.make_ascii_uppercase();
 }
 
 impl<'a, W: Sink> Output<'a, W> {

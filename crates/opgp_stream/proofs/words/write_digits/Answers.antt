@@ -1,10 +1,13 @@
-use Rattle.std.proofs.Common.{◌≡◌, ◌∙◌, ap, map, arith, rules}
-use Rattle.std.specs.Char.{to_ascii_uppercase}
-use Rattle.hex.specs.Hex.{encode_lower}
-use Rattle.opgp_stream.proofs.Texts.{upper_of_lower}
+use Rattle.std.proofs.Common.{ℕ, arith, slice_index, refl, ap}
+use Rattle.std.proofs.lemmas.Nat.{and_mask}
+use Rattle.hex.specs.Hex.{upper_digits}
+use Rattle.hex.proofs.Pairs.{encode_step, encode_done}
 use Rattle.opgp_stream.proofs.words.write_digits.Goals as goal
 
+pub octets-preserved : goal.octets-preserved
+octets-preserved c =
+    let octet : ℕ = slice_index c.args.octets.now c.octets.i in
+    encode_step upper_digits c.args.octets.now c.octets.digits c.octets.i _ _ (omega arith) (omega arith) refl (ap (λ (k : ℕ). slice_index upper_digits k) (and_mask octet 4)) c.octets.invariant
+
 pub returns : goal.returns
-returns c =
-    let lower : c.encode_to_slice.new.output ≡ encode_lower c.args.octets.now = search rules in
-    c.make_ascii_uppercase.ensures.after ∙ ap (map to_ascii_uppercase) lower ∙ upper_of_lower c.args.octets.now (λ i. omega (arith, c.type_inv.octets i))
+returns c = encode_done _ _ _ c.octets.i (omega arith) (omega arith) c.octets.invariant

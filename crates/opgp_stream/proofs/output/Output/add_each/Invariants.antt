@@ -2,7 +2,7 @@ use Rattle.std.proofs.Common.{◌≡◌, false, take}
 use Rattle.opgp_stream.specs.Added.{Adds}
 use Rattle.opgp_stream.specs.Line.{line_text}
 use Rattle.opgp_stream.specs.Output.{sink_name, sink_of, state_of}
-use Rattle.opgp_stream.proofs.output.Output.add_words.Given as goal
+use Rattle.opgp_stream.proofs.output.Output.add_each.Given as goal
 
 abbrev pub invariant-loop-word : goal.invariant-loop-word
 invariant-loop-word g l = record {

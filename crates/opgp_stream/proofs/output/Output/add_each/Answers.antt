@@ -2,7 +2,7 @@ use Rattle.std.proofs.Common.{◌∙◌}
 use Rattle.opgp_stream.proofs.Added.{stop}
 use Rattle.opgp_stream.specs.Line.{word_text}
 use Rattle.opgp_stream.proofs.Loops.{more_of, broken_of}
-use Rattle.opgp_stream.proofs.output.Output.add_words.Goals as goal
+use Rattle.opgp_stream.proofs.output.Output.add_each.Goals as goal
 
 pub returns-in_err-add_word-clause-written : goal.returns-in_err-add_word-clause-written
 returns-in_err-add_word-clause-written g c =

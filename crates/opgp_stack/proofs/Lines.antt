@@ -36,3 +36,7 @@ stop front a b (Err x) xs ys e h = front a b xs ys h
 pub stop_behind : {T E : Type 0} → FailsBehind → FailsInFront → (a b c : State) (r : Result T E) (xs ys zs : List ℕ) → IsErr r → Adds a b xs → Breaks b c ys → Writes a c r (xs ++ (ys ++ zs))
 stop_behind behind front a b c (Ok x) xs ys zs e h k = cc
 stop_behind behind front a b c (Err x) xs ys zs e h k = behind a b c xs (ys ++ zs) h (front b c ys zs k)
+
+-- the same text, written otherwise
+pub lines_same : {T E : Type 0} (a b : State) (r : Result T E) (xs ys : List ℕ) → xs ≡ ys → Writes a b r xs → Writes a b r ys
+lines_same a b r xs ys e h = let P : List ℕ → Type 0 = λ v. Writes a b r v in subst P e h

@@ -1,6 +1,6 @@
 //! The lines of a keyring's report, without memory.
 
-ghost use Rattle.std.specs.Prelude.{◌≡◌, false, map};
+ghost use Rattle.std.specs.Prelude.{◌≡◌, ◌++◌, false, codes, map};
 ghost use Rattle.std.specs.Option.{option_map};
 ghost use Rattle.opgp_report.specs.Row.{finding_value, row_value};
 ghost use Rattle.opgp_stack.specs.Report.{asked_text, digest_text, finding_text, id_or_none};
@@ -38,13 +38,14 @@ fn why_name(why: Why) -> &'static [u8]
     }
 }
 
-fn verdict_name(verdict: Verdict) -> &'static [u8]
-    ensures { result.now ≡ verdict_name verdict }
+/// A verdict, and the line's end.
+fn verdict_end(verdict: Verdict) -> &'static [u8]
+    ensures { result.now ≡ codes " verdict " ++ verdict_name verdict ++ codes "\n" }
 {
     match verdict {
-        Verdict::Good => b"good",
-        Verdict::Bad => b"bad",
-        Verdict::Undecided => b"undecided",
+        Verdict::Good => b" verdict good\n",
+        Verdict::Bad => b" verdict bad\n",
+        Verdict::Undecided => b" verdict undecided\n",
     }
 }
 
@@ -70,62 +71,59 @@ fn add_place<W: Sink>(output: &mut Output<'_, W>, number: u64, place: Place) -> 
     ])
 }
 
-/// Adds a signature's type and hash algorithm.
-fn add_type<W: Sink>(output: &mut Output<'_, W>, kind: u8, hash: u8) -> io::Result<()>
-    requires { W.has_failed (sink_of output.old) ≡ false }
-    ensures same { sink_name output.new ≡ sink_name output.old }
-    ensures written { Writes (state_of W.held W.has_failed output.old)
-        (state_of W.held W.has_failed output.new) result (type_text kind hash) }
-{
-    output.add_words(&[
-        Word::Text(b"asked type "),
-        Word::Hex(&[kind]),
-        Word::Text(b" hash "),
-        Word::Decimal(hash as u64),
-        Word::Text(b" signer "),
-    ])
-}
-
-/// Adds a key ID, or `-` for none.
-fn add_signer<W: Sink>(output: &mut Output<'_, W>, signer: Option<KeyId>) -> io::Result<()>
+/// Adds a signature's type and hash algorithm, and its signer's key ID, or `-` for none.
+fn add_type<W: Sink>(
+    output: &mut Output<'_, W>,
+    kind: u8,
+    hash: u8,
+    signer: Option<KeyId>,
+) -> io::Result<()>
     requires { W.has_failed (sink_of output.old) ≡ false }
     ensures same { sink_name output.new ≡ sink_name output.old }
     ensures written { Writes (state_of W.held W.has_failed output.old)
         (state_of W.held W.has_failed output.new) result
-        (id_or_none (option_map (λ k. k.0) signer)) }
+        (type_text kind hash ++ id_or_none (option_map (λ k. k.0) signer)) }
 {
     match signer {
         Some(id) => {
             let KeyId(octets) = id;
-            output.add_hex(&octets)
+            output.add_words(&[
+                Word::Text(b"asked type "),
+                Word::Hex(&[kind]),
+                Word::Text(b" hash "),
+                Word::Decimal(hash as u64),
+                Word::Text(b" signer "),
+                Word::Hex(&octets),
+            ])
         }
-        None => output.add(b"-"),
+        None => output.add_words(&[
+            Word::Text(b"asked type "),
+            Word::Hex(&[kind]),
+            Word::Text(b" hash "),
+            Word::Decimal(hash as u64),
+            Word::Text(b" signer -"),
+        ]),
     }
 }
 
-/// Adds the first two octets of a digest.
-fn add_digest<W: Sink>(output: &mut Output<'_, W>, digest: &Digest) -> io::Result<()>
+/// Adds the first two octets of a digest, a verdict, and the line's end.
+fn add_digest<W: Sink>(
+    output: &mut Output<'_, W>,
+    digest: &Digest,
+    verdict: Verdict,
+) -> io::Result<()>
     requires { W.has_failed (sink_of output.old) ≡ false }
     ensures same { sink_name output.new ≡ sink_name output.old }
     ensures written { Writes (state_of W.held W.has_failed output.old)
-        (state_of W.held W.has_failed output.new) result (digest_text digest.now) }
+        (state_of W.held W.has_failed output.new) result
+        (digest_text digest.now ++ verdict_text verdict) }
 {
     let octets = digest.octets();
     output.add_words(&[
         Word::Text(b" digest "),
         Word::Hex(&octets[..2]),
-        Word::Text(b" verdict "),
+        Word::Text(verdict_end(verdict)),
     ])
-}
-
-/// Adds a verdict, and the line's end.
-fn add_verdict<W: Sink>(output: &mut Output<'_, W>, verdict: Verdict) -> io::Result<()>
-    requires { W.has_failed (sink_of output.old) ≡ false }
-    ensures same { sink_name output.new ≡ sink_name output.old }
-    ensures written { Writes (state_of W.held W.has_failed output.old)
-        (state_of W.held W.has_failed output.new) result (verdict_text verdict) }
-{
-    output.add_words(&[Word::Text(verdict_name(verdict)), Word::Text(b"\n")])
 }
 
 /// Adds what is found of a signature that asks a question.
@@ -146,10 +144,8 @@ fn add_asked<W: Sink>(
     adding_goes_on();
     a_failure_behind();
     a_failure_in_front();
-    add_type(output, kind, hash)?;
-    add_signer(output, signer)?;
-    add_digest(output, digest)?;
-    add_verdict(output, verdict)
+    add_type(output, kind, hash, signer)?;
+    add_digest(output, digest, verdict)
 }
 
 /// Adds why a signature asks no question.

@@ -1,6 +1,6 @@
 //! The lines that show packets as they are, without memory.
 
-ghost use Rattle.std.specs.Prelude.{◌≡◌, ◌++◌, false, map};
+ghost use Rattle.std.specs.Prelude.{◌≡◌, ◌++◌, false, codes, map};
 ghost use Rattle.opgp_octets.specs.Octets.{IsBodySized};
 ghost use Rattle.opgp_sig.specs.Subs.{subs_to_come};
 ghost use Rattle.opgp_sig.specs.SubView.{sub_shown};
@@ -8,8 +8,7 @@ ghost use Rattle.opgp_sig.specs.SubMeaning.{meaning_shown};
 ghost use Rattle.opgp_stack.specs.Packets.{block_value};
 ghost use Rattle.opgp_stack.specs.Showing.{area_lines, area_name, bit_name, content_lines};
 ghost use Rattle.opgp_stack.specs.Showing.{form_name, header_line, meaning_name, packet_lines};
-ghost use Rattle.opgp_stack.specs.Showing.{place_text, shape_text, shown, shown_blocks};
-ghost use Rattle.opgp_stack.specs.Showing.{signature_lines, subpacket_line};
+ghost use Rattle.opgp_stack.specs.Showing.{shown, shown_blocks, signature_lines, subpacket_line};
 ghost use Rattle.opgp_stream.specs.Added.{Writes};
 ghost use Rattle.opgp_stream.specs.Output.{sink_name, sink_of, state_of};
 
@@ -27,81 +26,51 @@ enum Area {
     Unhashed,
 }
 
-fn form_name(form: &Form) -> &'static [u8]
-    ensures { result.now ≡ form_name form.now }
+/// The form of a packet's header, between its type and its length.
+fn form_text(form: &Form) -> &'static [u8]
+    ensures { result.now ≡ codes " form " ++ form_name form.now ++ codes " length " }
 {
     match form {
-        Form::OldOne => b"old1",
-        Form::OldTwo => b"old2",
-        Form::OldFour => b"old4",
-        Form::NewOne => b"new1",
-        Form::NewTwo => b"new2",
-        Form::NewFive => b"new5",
-        Form::Partial(_) => b"part",
+        Form::OldOne => b" form old1 length ",
+        Form::OldTwo => b" form old2 length ",
+        Form::OldFour => b" form old4 length ",
+        Form::NewOne => b" form new1 length ",
+        Form::NewTwo => b" form new2 length ",
+        Form::NewFive => b" form new5 length ",
+        Form::Partial(_) => b" form part length ",
     }
 }
 
-fn area_name(area: Area) -> &'static [u8]
-    ensures { result.now ≡ area_name area }
+/// What the line of a subpacket begins with.
+fn area_text(area: Area) -> &'static [u8]
+    ensures { result.now ≡ codes "  " ++ area_name area ++ codes " kind " }
 {
     match area {
-        Area::Hashed => b"hashed",
-        Area::Unhashed => b"unhashed",
+        Area::Hashed => b"  hashed kind ",
+        Area::Unhashed => b"  unhashed kind ",
     }
 }
 
-fn meaning_name(meaning: SubMeaning<'_>) -> &'static [u8]
-    ensures { result.now ≡ meaning_name (meaning_shown meaning.entry) }
+/// Bit 7 of a subpacket's type, between its kind and its length.
+fn critical_text(bit: bool) -> &'static [u8]
+    ensures { result.now ≡ codes " critical " ++ bit_name bit ++ codes " length " }
+{
+    if bit {
+        b" critical 1 length "
+    } else {
+        b" critical 0 length "
+    }
+}
+
+/// What is known of a subpacket, and the line's end.
+fn meaning_text(meaning: SubMeaning<'_>) -> &'static [u8]
+    ensures { result.now ≡ codes " " ++ meaning_name (meaning_shown meaning.entry) ++ codes "\n" }
 {
     match meaning {
-        SubMeaning::Unfit => b"unfit",
-        SubMeaning::Unknown => b"unknown",
-        _ => b"typed",
+        SubMeaning::Unfit => b" unfit\n",
+        SubMeaning::Unknown => b" unknown\n",
+        _ => b" typed\n",
     }
-}
-
-fn bit_name(bit: bool) -> &'static [u8]
-    ensures { result.now ≡ bit_name bit }
-{
-    if bit { b"1" } else { b"0" }
-}
-
-/// Adds where a packet stands.
-fn add_place<W: Sink>(output: &mut Output<'_, W>, block: u64, pos: u64) -> io::Result<()>
-    requires { W.has_failed (sink_of output.old) ≡ false }
-    ensures same { sink_name output.new ≡ sink_name output.old }
-    ensures written { Writes (state_of W.held W.has_failed output.old)
-        (state_of W.held W.has_failed output.new) result (place_text block pos) }
-{
-    output.add_words(&[
-        Word::Text(b"block "),
-        Word::Decimal(block),
-        Word::Text(b" at "),
-        Word::Decimal(pos),
-    ])
-}
-
-/// Adds what a packet's header says, and the line's end.
-fn add_shape<W: Sink>(
-    output: &mut Output<'_, W>,
-    kind: u8,
-    form: &Form,
-    length: usize,
-) -> io::Result<()>
-    requires { W.has_failed (sink_of output.old) ≡ false }
-    ensures same { sink_name output.new ≡ sink_name output.old }
-    ensures written { Writes (state_of W.held W.has_failed output.old)
-        (state_of W.held W.has_failed output.new) result (shape_text kind form.now length) }
-{
-    output.add_words(&[
-        Word::Text(b" type "),
-        Word::Decimal(kind as u64),
-        Word::Text(b" form "),
-        Word::Text(form_name(form)),
-        Word::Text(b" length "),
-        Word::Decimal(length as u64),
-        Word::Text(b"\n"),
-    ])
 }
 
 /// Adds the line of a packet.
@@ -111,12 +80,21 @@ fn add_header<W: Sink>(output: &mut Output<'_, W>, placed: &Placed) -> io::Resul
     ensures written { Writes (state_of W.held W.has_failed output.old)
         (state_of W.held W.has_failed output.new) result (header_line placed.now) }
 {
-    adding_goes_on();
-    a_failure_behind();
-    a_failure_in_front();
     let packet = &placed.packet;
-    add_place(output, placed.block, placed.pos)?;
-    add_shape(output, packet.kind(), packet.form(), packet.body().len())
+    let kind = packet.kind() as u64;
+    let form = form_text(packet.form());
+    let length = packet.body().len() as u64;
+    output.add_words(&[
+        Word::Text(b"block "),
+        Word::Decimal(placed.block),
+        Word::Text(b" at "),
+        Word::Decimal(placed.pos),
+        Word::Text(b" type "),
+        Word::Decimal(kind),
+        Word::Text(form),
+        Word::Decimal(length),
+        Word::Text(b"\n"),
+    ])
 }
 
 /// Adds the line of a subpacket.
@@ -134,17 +112,11 @@ fn add_subpacket<W: Sink>(
     let kind = subpacket.kind() as u64;
     let amount = subpacket.len().amount() as u64;
     output.add_words(&[
-        Word::Text(b"  "),
-        Word::Text(area_name(area)),
-        Word::Text(b" kind "),
+        Word::Text(area_text(area)),
         Word::Decimal(kind),
-        Word::Text(b" critical "),
-        Word::Text(bit_name(subpacket.critical())),
-        Word::Text(b" length "),
+        Word::Text(critical_text(subpacket.critical())),
         Word::Decimal(amount),
-        Word::Text(b" "),
-        Word::Text(meaning_name(subpacket.meaning())),
-        Word::Text(b"\n"),
+        Word::Text(meaning_text(subpacket.meaning())),
     ])
 }
 

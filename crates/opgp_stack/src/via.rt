@@ -52,6 +52,9 @@ fn add_part<W: Sink>(
     rows_go_on();
     a_failure_in_rows_behind();
     a_failure_in_rows_in_front();
+    if armoring.is_none() {
+        return output.add_both(header, piece);
+    }
     add(output, armoring, header)?;
     add(output, armoring, piece)?;
     Ok(())

@@ -57,6 +57,22 @@ impl Buffer {
         self.filled = end;
     }
 
+    /// Lets octets wait, and behind them others, and answers true; or false, where nothing changes, as
+    /// there is no room for both.
+    pub(crate) fn hold_both(&mut self, front: &[u8], back: &[u8]) -> bool
+        ensures held { result ≡ true
+            → held_in self.new ≡ held_in self.old ++ (front.now ++ back.now) }
+        ensures same { result ≡ false → held_in self.new ≡ held_in self.old }
+    {
+        let room = self.room();
+        if front.len() > room || back.len() > room - front.len() {
+            return false;
+        }
+        self.hold(front);
+        self.hold(back);
+        true
+    }
+
     /// Lets words wait, one after the other, and answers true; or false, where nothing changes, as
     /// there may be no room for them, or an escaped octet is among them.
     pub(crate) fn hold_words(&mut self, words: &[Word<'_>]) -> bool

@@ -1,6 +1,6 @@
 //! A buffered writer that takes no memory.
 
-ghost use Rattle.std.specs.Prelude.{◌≡◌, [], false, OnOk};
+ghost use Rattle.std.specs.Prelude.{◌≡◌, ◌++◌, [], false, OnOk};
 ghost use Rattle.opgp_stream.specs.Added.{Writes};
 ghost use Rattle.opgp_stream.specs.Output.{sink_name, sink_of, state_of, waiting_in};
 
@@ -41,6 +41,31 @@ impl<'a, W: Sink> Output<'a, W> {
             return Ok(());
         }
         self.add_past_room(octets)
+    }
+
+    /// Adds octets, and behind them others, as two calls of [`Output::add`] do.
+    pub fn add_both(&mut self, front: &[u8], back: &[u8]) -> io::Result<()>
+        requires { W.has_failed (sink_of self.old) ≡ false }
+        ensures same { sink_name self.new ≡ sink_name self.old }
+        ensures written { Writes (state_of W.held W.has_failed self.old)
+            (state_of W.held W.has_failed self.new) result (front.now ++ back.now) }
+    {
+        if self.buffer.hold_both(front, back) {
+            return Ok(());
+        }
+        self.add_two(front, back)
+    }
+
+    /// Adds octets, and behind them others, whatever room there is.
+    #[inline(never)]
+    fn add_two(&mut self, front: &[u8], back: &[u8]) -> io::Result<()>
+        requires { W.has_failed (sink_of self.old) ≡ false }
+        ensures same { sink_name self.new ≡ sink_name self.old }
+        ensures written { Writes (state_of W.held W.has_failed self.old)
+            (state_of W.held W.has_failed self.new) result (front.now ++ back.now) }
+    {
+        self.add(front)?;
+        self.add(back)
     }
 
     /// Adds octets, whatever room there is.

@@ -45,7 +45,7 @@ pub use reading_packets::read_packets;
 pub use reading_signed::read_signed;
 pub use receiver::Receiver;
 pub use run_fault::RunFault;
-pub use running::run;
+pub use running::{run, run_last};
 pub use signed_answer::SignedAnswer;
 pub use task::{Action, Out, Task, Top};
 pub use writing_keyring::{write_certificate, write_certificates, write_keyring, write_listing};

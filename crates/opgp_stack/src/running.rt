@@ -29,6 +29,7 @@ use opgp_report::{LeftOctets, check, question_at};
 use opgp_ring::{Keyring, SignedLiteral, normalise};
 use opgp_stream::{Sink, Source};
 use std::alloc::Global;
+use std::mem;
 
 /// Does what a task asks: reads packets, a keyring or a signed literal, and writes what is made of
 /// it. The condition is that neither the source nor the sink has failed.
@@ -50,10 +51,67 @@ pub fn run<R: Source, W: Sink>(
         result (R.left reader.old) (R.has_failed reader.new ≡ true) (Makes task.now) }
     ensures sound { result ≢ Err RunFault.Read → R.has_failed reader.new ≡ false }
 {
+    run_and(alloc, task, reader, writer, After::Frees)
+}
+
+/// Does what a task asks, as [`run`] does, but leaves the memory of what it read to the end of the
+/// process, which spares the time to give it back. It is for a program that does nothing more.
+pub fn run_last<R: Source, W: Sink>(
+    alloc: Global,
+    task: &Task,
+    reader: &mut R,
+    writer: &mut W,
+) -> Result<(), RunFault>
+    requires reader { R.has_failed reader.old ≡ false }
+    requires writer { W.has_failed writer.old ≡ false }
+    ensures run { RunsOver W.held W.has_failed writer.old writer.new
+        result (R.left reader.old) (R.left reader.new) (R.has_failed reader.new ≡ true) task.now
+        (Makes task.now) }
+    ensures known { RunsKnown W.held W.has_failed writer.old writer.new
+        result (R.left reader.old) (R.has_failed reader.new ≡ true) (Makes task.now) }
+    ensures sound { result ≢ Err RunFault.Read → R.has_failed reader.new ≡ false }
+{
+    run_and(alloc, task, reader, writer, After::Leaves)
+}
+
+/// What becomes of the memory of what was read.
+#[derive(Clone, Copy)]
+enum After {
+    /// It is given back.
+    Frees,
+    /// It is left to the end of the process.
+    Leaves,
+}
+
+/// Lets go of what was read.
+fn let_go<T: Drop>(value: T, after: After) {
+    match after {
+        After::Frees => drop(value),
+        After::Leaves => mem::forget(value),
+    }
+}
+
+/// Does what a task asks, and lets go of what it read.
+fn run_and<R: Source, W: Sink>(
+    alloc: Global,
+    task: &Task,
+    reader: &mut R,
+    writer: &mut W,
+    after: After,
+) -> Result<(), RunFault>
+    requires reader { R.has_failed reader.old ≡ false }
+    requires writer { W.has_failed writer.old ≡ false }
+    ensures run { RunsOver W.held W.has_failed writer.old writer.new
+        result (R.left reader.old) (R.left reader.new) (R.has_failed reader.new ≡ true) task.now
+        (Makes task.now) }
+    ensures known { RunsKnown W.held W.has_failed writer.old writer.new
+        result (R.left reader.old) (R.has_failed reader.new ≡ true) (Makes task.now) }
+    ensures sound { result ≢ Err RunFault.Read → R.has_failed reader.new ≡ false }
+{
     match reads(&task.action) {
-        Reading::Packets => run_packets(alloc, task, reader, writer),
-        Reading::Keyring => run_keyring(alloc, task, reader, writer),
-        Reading::Message => run_message(alloc, task, reader, writer),
+        Reading::Packets => run_packets(alloc, task, reader, writer, after),
+        Reading::Keyring => run_keyring(alloc, task, reader, writer, after),
+        Reading::Message => run_message(alloc, task, reader, writer, after),
     }
 }
 
@@ -63,6 +121,7 @@ fn run_packets<R: Source, W: Sink>(
     task: &Task,
     reader: &mut R,
     writer: &mut W,
+    after: After,
 ) -> Result<(), RunFault>
     requires reader { R.has_failed reader.old ≡ false }
     requires writer { W.has_failed writer.old ≡ false }
@@ -74,7 +133,11 @@ fn run_packets<R: Source, W: Sink>(
     ensures sound { result ≢ Err RunFault.Read → R.has_failed reader.new ≡ false }
 {
     match read_packets(alloc, reader, task.mode, &task.limits) {
-        Ok(PacketsAnswer::Packets(blocks)) => end(write_shown(alloc, &blocks, writer)),
+        Ok(PacketsAnswer::Packets(blocks)) => {
+            let ended = end(write_shown(alloc, &blocks, writer));
+            let_go(blocks, after);
+            ended
+        }
         Ok(PacketsAnswer::Refused(fault)) => Err(RunFault::Refused(fault)),
         Err(EngineError::Read) => Err(RunFault::Read),
         Err(_) => Err(RunFault::Memory),
@@ -87,6 +150,7 @@ fn run_keyring<R: Source, W: Sink>(
     task: &Task,
     reader: &mut R,
     writer: &mut W,
+    after: After,
 ) -> Result<(), RunFault>
     requires reads { reads task.now.action ≡ Reading.Keyring }
     requires reader { R.has_failed reader.old ≡ false }
@@ -99,7 +163,7 @@ fn run_keyring<R: Source, W: Sink>(
     ensures sound { result ≢ Err RunFault.Read → R.has_failed reader.new ≡ false }
 {
     match read_keyring(alloc, reader, task.mode, &task.limits) {
-        Ok(Answer::Ring(keyring)) => make(alloc, task.action, keyring, writer),
+        Ok(Answer::Ring(keyring)) => make(alloc, task.action, keyring, writer, after),
         Ok(Answer::Refused(fault)) => Err(RunFault::Refused(fault)),
         Err(EngineError::Read) => Err(RunFault::Read),
         Err(_) => Err(RunFault::Memory),
@@ -112,6 +176,7 @@ fn run_message<R: Source, W: Sink>(
     task: &Task,
     reader: &mut R,
     writer: &mut W,
+    after: After,
 ) -> Result<(), RunFault>
     requires reads { reads task.now.action ≡ Reading.Message }
     requires reader { R.has_failed reader.old ≡ false }
@@ -125,7 +190,11 @@ fn run_message<R: Source, W: Sink>(
     ensures sound { result ≢ Err RunFault.Read → R.has_failed reader.new ≡ false }
 {
     match read_signed(alloc, reader, task.mode, &task.limits) {
-        Ok(SignedAnswer::Literal(message)) => make_of(alloc, task.action, &message, writer),
+        Ok(SignedAnswer::Literal(message)) => {
+            let ended = make_of(alloc, task.action, &message, writer);
+            let_go(message, after);
+            ended
+        }
         Ok(SignedAnswer::Refused(fault)) => Err(RunFault::Refused(fault)),
         Err(EngineError::Read) => Err(RunFault::Read),
         Err(_) => Err(RunFault::Memory),
@@ -183,24 +252,57 @@ fn make<W: Sink>(
     action: Action,
     keyring: Keyring,
     writer: &mut W,
+    after: After,
 ) -> Result<(), RunFault>
     requires keyring { reads action ≡ Reading.Keyring }
     requires writer { W.has_failed writer.old ≡ false }
     ensures { IsMade W.held W.has_failed writer.old writer.new result (made_of action keyring) }
 {
     match action {
-        Action::List => end(write_listing(alloc, &keyring, writer)),
-        Action::Write { out } => end(write_keyring(alloc, &keyring, out, writer)),
-        Action::Normalise { out } => end(write_keyring(alloc, &normalise(keyring), out, writer)),
-        Action::Split { out, nth } => split(alloc, out, nth, &keyring, writer),
-        Action::Join { out, merge: false } => end(write_keyring(alloc, &keyring, out, writer)),
-        Action::Join { out, merge: true } => join_merged(alloc, out, keyring, writer),
-        Action::Check => check_all(alloc, &keyring, writer),
+        Action::Normalise { out } => write_ring(alloc, out, normalise(keyring), writer, after),
+        Action::Join { out, merge: true } => join_merged(alloc, out, keyring, writer, after),
+        Action::Write { out } | Action::Join { out, merge: false } => {
+            write_ring(alloc, out, keyring, writer, after)
+        }
+        Action::List => {
+            let ended = end(write_listing(alloc, &keyring, writer));
+            let_go(keyring, after);
+            ended
+        }
+        Action::Split { out, nth } => {
+            let ended = split(alloc, out, nth, &keyring, writer);
+            let_go(keyring, after);
+            ended
+        }
+        Action::Check => {
+            let ended = check_all(alloc, &keyring, writer);
+            let_go(keyring, after);
+            ended
+        }
         Action::Octets { row, top: _ } => {
-            write_question(alloc, question_at(&keyring, row as usize), writer)
+            let ended = write_question(alloc, question_at(&keyring, row as usize), writer);
+            let_go(keyring, after);
+            ended
         }
         Action::Show => unreachable!(),
     }
+}
+
+/// Writes a keyring, and lets go of it.
+fn write_ring<W: Sink>(
+    alloc: Global,
+    out: Out,
+    keyring: Keyring,
+    writer: &mut W,
+    after: After,
+) -> Result<(), RunFault>
+    requires { W.has_failed writer.old ≡ false }
+    ensures { IsMade W.held W.has_failed writer.old writer.new result
+        (Made.Text (packets_text out (flat keyring))) }
+{
+    let ended = end(write_keyring(alloc, &keyring, out, writer));
+    let_go(keyring, after);
+    ended
 }
 
 /// Writes a keyring merged.
@@ -209,13 +311,14 @@ fn join_merged<W: Sink>(
     out: Out,
     keyring: Keyring,
     writer: &mut W,
+    after: After,
 ) -> Result<(), RunFault>
     requires { W.has_failed writer.old ≡ false }
     ensures { IsMade W.held W.has_failed writer.old writer.new result
         (Made.Text (packets_text out (flat (merged_of keyring)))) }
 {
     match merge(keyring) {
-        Ok(merged) => end(write_keyring(alloc, &merged, out, writer)),
+        Ok(merged) => write_ring(alloc, out, merged, writer, after),
         Err(_) => end(Err(EngineError::Memory)),
     }
 }

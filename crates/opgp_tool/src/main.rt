@@ -7,7 +7,7 @@ mod help;
 mod task;
 
 use ending::end_of;
-use opgp_stack::{RunFault, Task, Watched, run};
+use opgp_stack::{RunFault, Task, Watched, run_last};
 use std::process::ExitCode;
 use std::{env, io};
 use task::{Usage, task_of};
@@ -49,7 +49,7 @@ fn run_words(rt: &HostRuntime, words: &[String]) -> u8 {
 fn run_task(rt: &HostRuntime, task: &Task) -> u8 {
     let mut reader = Watched::new(rt.stdin());
     let mut writer = Watched::new(rt.stdout());
-    end(rt, &run(rt.alloc(), task, &mut reader, &mut writer))
+    end(rt, &run_last(rt.alloc(), task, &mut reader, &mut writer))
 }
 
 /// Prints the line of a run's end. A standard error that is closed or full changes no status.

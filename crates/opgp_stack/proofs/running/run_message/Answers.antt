@@ -10,17 +10,17 @@ returns-in-Ok-Literal-clause-run g c =
     let (octets, pulled, answer) = rw c.in-Ok-Literal.field-0-is at c.in-Ok-Literal.ensures.answer in
     let packets = signed_packets c.in-Ok-Literal.message in
     let made = message_made c.args.task.now.action packets in
-    runs g.W.Sink.held g.W.Sink.has_failed c.args.writer.now c.make_of.new.writer c.make_of.result made _ _
-    (message_is_other c.args.task.now.action packets) c.make_of.ensures
-    (octets, pulled, made, (Whole packets, answer, refl), c.make_of.ensures)
+    runs g.W.Sink.held g.W.Sink.has_failed c.args.writer.now c.make_of-ended.new.writer c.make_of-ended.result made _ _
+    (message_is_other c.args.task.now.action packets) c.make_of-ended.ensures
+    (octets, pulled, made, (Whole packets, answer, refl), c.make_of-ended.ensures)
 
 pub returns-in-Ok-Literal-clause-known : goal.returns-in-Ok-Literal-clause-known
 returns-in-Ok-Literal-clause-known g c =
     let packets = signed_packets c.in-Ok-Literal.message in
     let made = message_made c.args.task.now.action packets in
-    runs g.W.Sink.held g.W.Sink.has_failed c.args.writer.now c.make_of.new.writer c.make_of.result made _ _
-    (message_is_other c.args.task.now.action packets) c.make_of.ensures
-    (map_some (g.R.Source.left c.args.reader.now) (λ octets answer. (made, (Whole packets, answer, refl), c.make_of.ensures)) (rw c.in-Ok-Literal.field-0-is at c.in-Ok-Literal.ensures.known))
+    runs g.W.Sink.held g.W.Sink.has_failed c.args.writer.now c.make_of-ended.new.writer c.make_of-ended.result made _ _
+    (message_is_other c.args.task.now.action packets) c.make_of-ended.ensures
+    (map_some (g.R.Source.left c.args.reader.now) (λ octets answer. (made, (Whole packets, answer, refl), c.make_of-ended.ensures)) (rw c.in-Ok-Literal.field-0-is at c.in-Ok-Literal.ensures.known))
 
 pub returns-in-Ok-Refused-clause-run : goal.returns-in-Ok-Refused-clause-run
 returns-in-Ok-Refused-clause-run g c =

@@ -1,7 +1,7 @@
 use Rattle.std.proofs.Common.{◌≡◌, ◌∙◌, true, sym, subst}
 use Rattle.opgp_stack.specs.declared.running.Reading.{Reading}
 use Rattle.opgp_stack.specs.Running.{MakesBy, RunsKnown}
-use Rattle.opgp_stack.proofs.running.run.Goals as goal
+use Rattle.opgp_stack.proofs.running.run_and.Goals as goal
 
 pub returns-in-Packets-clause-known : goal.returns-in-Packets-clause-known
 returns-in-Packets-clause-known g c =

@@ -23,8 +23,7 @@ fn add_line<W: Sink>(output: &mut Output<'_, W>, line: &[u8]) -> io::Result<()>
     ensures written { Writes (state_of W.held W.has_failed output.old)
         (state_of W.held W.has_failed output.new) result (line.now ++ 10 ∷ []) }
 {
-    output.add(line)?;
-    output.add(b"\n")
+    output.add_both(line, b"\n")
 }
 
 /// Adds the data line of a row.

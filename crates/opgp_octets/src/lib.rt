@@ -22,7 +22,7 @@ mod subpacket_kind;
 pub use fault::{BodyFault, Fault, Layer, Reason};
 pub use fault_text::fault_line;
 pub use hash_algorithm::HashAlgorithm;
-pub use hexadecimal::write_hexadecimal;
+pub use hexadecimal::{write_digits, write_hexadecimal};
 pub use key_algorithm::KeyAlgorithm;
 pub use limits::Limits;
 pub use mpi::Mpi;

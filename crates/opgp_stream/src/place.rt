@@ -8,7 +8,8 @@ ghost use Rattle.opgp_stream.specs.Place.{Wrote};
 ghost use Rattle.opgp_stream.specs.Texts.{escaped};
 
 use crate::line::Word;
-use crate::words::{plain_len, write_digits};
+use crate::words::plain_len;
+use opgp_octets::write_digits;
 
 /// How many digits a number of 64 bits has at most.
 const LONGEST: usize = 20;

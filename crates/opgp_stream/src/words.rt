@@ -9,13 +9,11 @@ ghost use Rattle.opgp_stream.specs.Texts.{escape, escaped, is_plain};
 
 use crate::output::Output;
 use crate::sink::Sink;
+use opgp_octets::write_digits;
 use std::io;
 
 /// How many octets become digits at once.
 const PIECE: usize = 32;
-
-/// The digits of hexadecimal.
-const DIGITS: &[u8; 16] = b"0123456789ABCDEF";
 
 /// Printable ASCII other than `"` and `\`.
 fn is_plain(octet: u8) -> bool
@@ -37,18 +35,6 @@ pub(crate) fn plain_len(octets: &[u8]) -> usize
         }
     }
     octets.len()
-}
-
-/// Writes octets as upper-case digits.
-pub(crate) fn write_digits(octets: &[u8], digits: &mut [u8])
-    requires { length digits.old ≡ 2 * length octets.now }
-    ensures { digits.new ≡ encode_upper octets.now }
-{
-    'octets: for i in 0..octets.len() {
-        let octet = octets[i];
-        digits[2 * i] = DIGITS[(octet >> 4) as usize];
-        digits[2 * i + 1] = DIGITS[(octet & 0x0f) as usize];
-    }
 }
 
 impl<'a, W: Sink> Output<'a, W> {

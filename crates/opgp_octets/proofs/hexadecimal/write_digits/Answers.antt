@@ -2,7 +2,7 @@ use Rattle.std.proofs.Common.{ℕ, arith, slice_index, refl, ap}
 use Rattle.std.proofs.lemmas.Nat.{and_mask}
 use Rattle.hex.specs.Hex.{upper_digits}
 use Rattle.hex.proofs.Pairs.{encode_step, encode_done}
-use Rattle.opgp_stream.proofs.words.write_digits.Goals as goal
+use Rattle.opgp_octets.proofs.hexadecimal.write_digits.Goals as goal
 
 pub octets-preserved : goal.octets-preserved
 octets-preserved c =

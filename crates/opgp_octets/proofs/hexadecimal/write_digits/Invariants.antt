@@ -1,6 +1,6 @@
 use Rattle.std.proofs.Common.{◌≡◌, ◌*◌, ◌++◌, take, drop}
 use Rattle.hex.specs.Hex.{encode_upper}
-use Rattle.opgp_stream.proofs.words.write_digits.Given as goal
+use Rattle.opgp_octets.proofs.hexadecimal.write_digits.Given as goal
 
 abbrev pub invariant-octets : goal.invariant-octets
 invariant-octets l =

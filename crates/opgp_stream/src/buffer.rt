@@ -57,8 +57,8 @@ impl Buffer {
         self.filled = end;
     }
 
-    /// Lets octets wait, and behind them others, and answers true; or false, where nothing changes, as
-    /// there is no room for both.
+    /// Lets octets wait, and behind them others, and answers true; or false, where nothing changes,
+    /// as there is no room for both.
     pub(crate) fn hold_both(&mut self, front: &[u8], back: &[u8]) -> bool
         ensures held { result ≡ true
             → held_in self.new ≡ held_in self.old ++ (front.now ++ back.now) }

@@ -85,8 +85,8 @@ fn write_hex(place: &mut [u8], at: usize, octets: &[u8]) -> Option<usize>
     Some(end)
 }
 
-/// Writes plain octets as a text. Answers where they end, or None where one isn't plain, or there is
-/// no room for them.
+/// Writes plain octets as a text. Answers where they end, or None where one isn't plain, or there
+/// is no room for them.
 fn write_escaped(place: &mut [u8], at: usize, octets: &[u8]) -> Option<usize>
     requires { at ≤ length place.old }
     ensures { IfSome result (λ end. Wrote place.old place.new at end (escaped octets.now)) }
@@ -111,8 +111,8 @@ fn write_word(place: &mut [u8], at: usize, word: &Word<'_>) -> Option<usize>
     }
 }
 
-/// Writes words, one after the other, at the front of a place. Answers where they end, or None where
-/// there may be no room for them, or octets of an escaped one aren't plain.
+/// Writes words, one after the other, at the front of a place. Answers where they end, or None
+/// where there may be no room for them, or octets of an escaped one aren't plain.
 pub(crate) fn write_words(place: &mut [u8], words: &[Word<'_>]) -> Option<usize>
     ensures { IfSome result (λ end. Wrote place.old place.new 0 end (line_text words.now)) }
 {

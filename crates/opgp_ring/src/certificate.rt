@@ -1,6 +1,6 @@
 //! A certificate.
 
-ghost use Rattle.std.specs.Prelude.{◌≡◌, ◌++◌, ◌∷◌, [], All, OnOk, IfOk};
+ghost use Rattle.std.specs.Prelude.{◌≡◌, ◌++◌, ◌∷◌, [], All, OnOk, OnErr, IfOk};
 ghost use Rattle.std.specs.List.{flat_map};
 ghost use Rattle.opgp_ring.specs.Keyring.{CertificateValue, IsCertificate, certificate_packets};
 ghost use Rattle.opgp_ring.specs.Keyring.{component_packets, IsPrimary, IsHead, IsHung, IsFiller};
@@ -100,17 +100,20 @@ impl Certificate {
     /// Adds what another certificate holds, but for its primary key: what hangs on that behind what
     /// hangs on this one's, and its components behind this one's. Nothing is copied.
     ///
-    /// An error is want of memory.
+    /// An error is want of memory; this certificate is then as it was.
     pub fn absorb(&mut self, other: Certificate) -> Result<(), OutOfMemory>
-        ensures { OnOk result (self.new ≡ record {
+        ensures ok { OnOk result (self.new ≡ record {
           primary = self.old.primary;
           hangs = self.old.hangs ++ other.hangs;
           components = self.old.components ++ other.components;
         }) }
+        ensures err { OnErr result (self.new ≡ self.old) }
     {
         let (_, mut hangs, mut components) = other.into_parts();
-        self.hangs.append(&mut hangs)?;
+        // room first, so that the last step can't fail behind the other
+        self.hangs.reserve(hangs.len())?;
         self.components.append(&mut components)?;
+        self.hangs.append(&mut hangs)?;
         Ok(())
     }
 

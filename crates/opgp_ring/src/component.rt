@@ -1,6 +1,6 @@
 //! A component of a certificate.
 
-ghost use Rattle.std.specs.Prelude.{◌≡◌, ◌++◌, ◌∷◌, [], All, OnOk, IfOk};
+ghost use Rattle.std.specs.Prelude.{◌≡◌, ◌++◌, ◌∷◌, [], All, OnOk, OnErr, IfOk};
 ghost use Rattle.opgp_ring.specs.Keyring.{ComponentValue, IsComponent, component_packets, IsHead};
 ghost use Rattle.opgp_ring.specs.Keyring.{IsHung};
 ghost use Rattle.opgp_ring.specs.Normal.{normal_component};
@@ -75,12 +75,13 @@ impl Component {
 
     /// Hangs what hangs on another component on this one too, behind its own. Nothing is copied.
     ///
-    /// An error is want of memory.
+    /// An error is want of memory; this component is then as it was.
     pub fn absorb(&mut self, other: Component) -> Result<(), OutOfMemory>
-        ensures { OnOk result (self.new ≡ record {
+        ensures ok { OnOk result (self.new ≡ record {
           head = self.old.head;
           hangs = self.old.hangs ++ other.hangs;
         }) }
+        ensures err { OnErr result (self.new ≡ self.old) }
     {
         let (_, mut hangs) = other.into_parts();
         self.hangs.append(&mut hangs)?;

@@ -10,7 +10,7 @@ returns-in_ok-absorb-in-Some c =
     let first = c.in-Some.first.now in
     let count : kept.len ≡ length kept.items = kept.ok.0 in
     let within : c.args.slot < length kept.items = omega (arith, c.in-Some.ensures.variant.0 refl) in
-    ap (slice_set kept.items c.args.slot) (c.in_ok-absorb-in-Some.ensures ∙ ap (λ f. with_parts f c.args.certificate) c.in-Some.ensures.value)
+    ap (slice_set kept.items c.args.slot) (c.in_ok-absorb-in-Some.ensures.ok ∙ ap (λ f. with_parts f c.args.certificate) c.in-Some.ensures.value)
     ∙ sym (placed_old primary_name with_parts (λ k x. refl) kept.items c.args.certificate first c.args.slot c.requires within)
 
 pub returns-in_ok-push-in-None : goal.returns-in_ok-push-in-None

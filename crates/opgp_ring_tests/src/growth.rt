@@ -2,6 +2,7 @@
 
 use crate::reading::{KEY, SIGNATURE};
 use opgp_frame::{Form, Packet, Placed};
+use opgp_merge::merge;
 use opgp_octets::{Fault, Layer, Limits, PushFault, Reason};
 use opgp_report::{LeftOctets, check};
 use opgp_ring::{
@@ -80,11 +81,13 @@ fn composing_moves_bodies_in_5_growths(rt: HostRuntime) {
     }
 }
 
-/// The keyring of the bodies; None where memory runs out.
-fn ring(rt: &impl Abort, alloc: Global) -> Option<Keyring> {
+/// The keyring of the bodies, this many times; None where memory runs out.
+fn ring(rt: &impl Abort, alloc: Global, times: usize) -> Option<Keyring> {
     let mut packets = Vec::new(alloc);
-    for (kind, body) in bodies() {
-        packets.push(packet(alloc, kind, body)?).ok()?;
+    for _ in 0..times {
+        for (kind, body) in bodies() {
+            packets.push(packet(alloc, kind, body)?).ok()?;
+        }
     }
     let mut blocks = Vec::new(alloc);
     blocks
@@ -145,7 +148,7 @@ fn refused_growth(rt: HostRuntime) {
     if let Some(certificate) = certificate(&rt, alloc) {
         assert_eq!(rt; certificate.components().len(), 1);
     }
-    if let Some(ring) = ring(&rt, alloc) {
+    if let Some(ring) = ring(&rt, alloc, 1) {
         assert_eq!(rt; ring.certificates().len(), 1);
         if let Ok(packets) = flatten(alloc, &ring) {
             assert_eq!(rt; packets.len(), 3);
@@ -162,6 +165,19 @@ fn refused_growth(rt: HostRuntime) {
         assert_eq!(rt; literal.literal().content(), b"a".as_slice());
         if let Ok(copy) = literal.copy(alloc) {
             assert_eq!(rt; copy.flat().len(), 3);
+        }
+    }
+}
+
+#[test]
+fn merging_refused_growth(rt: HostRuntime) {
+    if let Some(ring) = ring(&rt, rt.alloc(), 2) {
+        assert_eq!(rt; ring.certificates().len(), 2);
+        if let Ok(merged) = merge(ring) {
+            assert_eq!(rt; merged.certificates().len(), 1);
+            let certificate = &merged.certificates()[0];
+            assert_eq!(rt; certificate.components().len(), 1);
+            assert_eq!(rt; certificate.components()[0].hangs().len(), 1);
         }
     }
 }

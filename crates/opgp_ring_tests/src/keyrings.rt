@@ -4,6 +4,7 @@ use crate::reading::{KEY, SIGNATURE, answer, blocks_of, joined, octets_of, ring_
 use opgp_octets::{Limits, fault_line};
 use opgp_ring::check_bodies;
 use std::alloc::Global;
+use std::process::Abort;
 use std::test::Fail;
 
 // A packet of a type that isn't critical; a user ID; a literal; a literal and a key at fault.
@@ -13,9 +14,16 @@ const NAME: &[u8] = b"\xCD\x01\x61";
 
 const LITERAL: &[u8] = b"\xCB\x06\x62\x00\x00\x00\x00\x00";
 
-const SHORT_LITERAL: &[u8] = b"\xCB\x01\x62";
+const CUT_LITERAL: &[u8] = b"\xCB\x01\x62";
 
 const OLD_KEY: &[u8] = b"\xC6\x01\x03";
+
+// A secret key, a signature and an attribute with nothing in them.
+const SECRET: &[u8] = b"\xC5\x00";
+
+const NO_SIGNATURE: &[u8] = b"\xC2\x00";
+
+const NO_IMAGE: &[u8] = b"\xD1\x02\x00\x61";
 
 /// The answer of parts of two blocks, the second with a label that fits or not.
 fn answer_of(alloc: Global, first: &[&[u8]], fits: bool, second: &[&[u8]]) -> Result<String, Fail> {
@@ -66,114 +74,47 @@ fn keyrings(rt: HostRuntime) -> Result<(), Fail> {
     Ok(())
 }
 
-#[test]
-fn faults_of_the_order(rt: HostRuntime) -> Result<(), Fail> {
-    let alloc = rt.alloc();
-    for (first, fits, second, wanted) in [
-        (
-            [NAME, KEY],
-            true,
-            [b"".as_slice(), b""],
-            "composition: NoPrimary block 0 at 0 inner 0",
-        ),
-        (
-            [FILLER, SIGNATURE],
-            true,
-            [b"", b""],
-            "composition: NoPrimary block 0 at 2 inner 0",
-        ),
-        (
-            [KEY, LITERAL],
-            true,
-            [b"", b""],
-            "composition: NotInKeyring block 0 at 53 inner 0",
-        ),
-        (
-            [KEY, b""],
-            true,
-            [NAME, b"\xC5\x00"],
-            "composition: NotInKeyring block 1 at 3 inner 0",
-        ),
-        (
-            [LITERAL, NAME],
-            true,
-            [b"", b""],
-            "composition: NotInKeyring block 0 at 0 inner 0",
-        ),
-        (
-            [KEY, b""],
-            false,
-            [b"", b""],
-            "composition: BlockLabel block 1 at 0 inner 0",
-        ),
-        (
-            [KEY, b""],
-            false,
-            [LITERAL, b""],
-            "composition: BlockLabel block 1 at 0 inner 0",
-        ),
-        (
-            [NAME, b""],
-            false,
-            [b"", b""],
-            "composition: NoPrimary block 0 at 0 inner 0",
-        ),
-    ] {
-        assert_eq!(rt;
-            answer_of(alloc, first.as_slice(), fits, second.as_slice())?.as_str(),
-            wanted
-        );
+/// The parts of the first block, whether the second's label fits, and its parts; the fault's reason,
+/// and its block, place and place in the body.
+type Case<'a> = (&'a [&'a [u8]], bool, &'a [&'a [u8]], &'a str, [u64; 3]);
+
+/// Whether each case has its fault, in this layer.
+fn has_faults(rt: &impl Abort, alloc: Global, layer: &str, cases: &[Case<'_>]) -> Result<(), Fail> {
+    for case in cases {
+        let (first, fits, second, reason, [block, pos, inner]) = *case;
+        let said = answer_of(alloc, first, fits, second)?;
+        let wanted = format!(in alloc; "{layer}: {reason} block {block} at {pos} inner {inner}")?;
+        assert_eq!(rt; said.as_str(), wanted.as_str());
     }
     Ok(())
 }
 
 #[test]
+fn faults_of_the_order(rt: HostRuntime) -> Result<(), Fail> {
+    let cases: &[Case<'_>] = &[
+        (&[NAME, KEY], true, &[], "NoPrimary", [0, 0, 0]),
+        (&[FILLER, SIGNATURE], true, &[], "NoPrimary", [0, 2, 0]),
+        (&[KEY, LITERAL], true, &[], "NotInKeyring", [0, 53, 0]),
+        (&[KEY], true, &[NAME, SECRET], "NotInKeyring", [1, 3, 0]),
+        (&[LITERAL, NAME], true, &[], "NotInKeyring", [0, 0, 0]),
+        (&[KEY], false, &[], "BlockLabel", [1, 0, 0]),
+        (&[KEY], false, &[LITERAL], "BlockLabel", [1, 0, 0]),
+        (&[NAME], false, &[], "NoPrimary", [0, 0, 0]),
+    ];
+    has_faults(&rt, rt.alloc(), "composition", cases)
+}
+
+#[test]
 fn faults_of_bodies_come_first(rt: HostRuntime) -> Result<(), Fail> {
-    let alloc = rt.alloc();
-    for (first, fits, second, wanted) in [
-        (
-            [NAME, OLD_KEY],
-            true,
-            [b"".as_slice(), b""],
-            "body: KeyVersion block 0 at 3 inner 0",
-        ),
-        (
-            [LITERAL, OLD_KEY],
-            true,
-            [b"", b""],
-            "body: KeyVersion block 0 at 8 inner 0",
-        ),
-        (
-            [NAME, b""],
-            false,
-            [NAME, OLD_KEY],
-            "body: KeyVersion block 1 at 3 inner 0",
-        ),
-        (
-            [KEY, SHORT_LITERAL],
-            true,
-            [OLD_KEY, b""],
-            "body: Short block 0 at 53 inner 1",
-        ),
-        (
-            [KEY, b"\xC2\x00"],
-            true,
-            [OLD_KEY, b""],
-            "body: Short block 0 at 53 inner 0",
-        ),
-        (
-            [b"\xD1\x02\x00\x61", b""],
-            true,
-            [b"", b""],
-            "body: SubEmpty block 0 at 0 inner 0",
-        ),
-    ] {
-        assert_eq!(rt;
-            answer_of(alloc, first.as_slice(), fits, second.as_slice())?.as_str(),
-            wanted
-        );
-    }
-    Ok(())
+    let cases: &[Case<'_>] = &[
+        (&[NAME, OLD_KEY], true, &[], "KeyVersion", [0, 3, 0]),
+        (&[LITERAL, OLD_KEY], true, &[], "KeyVersion", [0, 8, 0]),
+        (&[NAME], false, &[NAME, OLD_KEY], "KeyVersion", [1, 3, 0]),
+        (&[KEY, CUT_LITERAL], true, &[OLD_KEY], "Short", [0, 53, 1]),
+        (&[KEY, NO_SIGNATURE], true, &[OLD_KEY], "Short", [0, 53, 0]),
+        (&[NO_IMAGE], true, &[], "SubEmpty", [0, 0, 0]),
+    ];
+    has_faults(&rt, rt.alloc(), "body", cases)
 }
 
 #[test]
@@ -183,12 +124,12 @@ fn bodies_checked(rt: HostRuntime) -> Result<(), Fail> {
         ([KEY, NAME], [LITERAL, b"\xC1\x00"], ""),
         (
             [NAME, OLD_KEY],
-            [SHORT_LITERAL, b""],
+            [CUT_LITERAL, b""],
             "body: KeyVersion block 0 at 3 inner 0",
         ),
         (
             [KEY, NAME],
-            [LITERAL, SHORT_LITERAL],
+            [LITERAL, CUT_LITERAL],
             "body: Short block 1 at 8 inner 1",
         ),
     ] {

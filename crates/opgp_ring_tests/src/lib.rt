@@ -1,5 +1,5 @@
-//! The tests of the crate of keyrings, in a crate of their own, since a crate with tests is proved
-//! twice.
+//! The tests of keyrings, their reports and merging, in a crate of their own, since a crate with
+//! tests is proved twice.
 #![tactic(auto)]
 
 #[cfg(test)]
@@ -10,6 +10,8 @@ mod growth;
 mod keyrings;
 #[cfg(test)]
 mod making;
+#[cfg(test)]
+mod merging;
 #[cfg(test)]
 mod parts;
 #[cfg(test)]

@@ -1,9 +1,15 @@
 //! Keyrings merged.
 
-use crate::reading::{KEY, KEY_BODY, SIGNATURE, joined, octets_of, ring_of};
+use crate::reading::{KEY, SIGNATURE, joined, octets_of, ring_of};
 use opgp_merge::merge;
 use std::alloc::Global;
 use std::test::Fail;
+
+// The body of the key.
+const KEY_BODY: &[u8] =
+    b"\x04\x53\xF3\x5F\x0B\x16\x09\x2B\x06\x01\x04\x01\xDA\x47\x0F\x01\x01\x07\x40\x3F\
+    \x09\x89\x94\xBD\xD9\x16\xED\x40\x53\x19\x79\x34\xE4\xA8\x7C\x80\x73\x3A\x12\x80\xD6\x2F\
+    \x80\x10\x99\x2E\x43\xEE\x3B\x24\x06";
 
 // The same key with another creation time.
 const OTHER_KEY: &[u8] =

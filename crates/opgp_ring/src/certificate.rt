@@ -109,7 +109,8 @@ impl Certificate {
         }) }
         ensures err { OnErr result (self.new ≡ self.old) }
     {
-        let (_, mut hangs, mut components) = other.into_parts();
+        let (primary, mut hangs, mut components) = other.into_parts();
+        drop(primary);
         // room first, so that the last step can't fail behind the other
         self.hangs.reserve(hangs.len())?;
         self.components.append(&mut components)?;
@@ -226,9 +227,9 @@ impl Certificate {
         ensures value { IfOk result (λ c. c ≡ self.now) }
         ensures certificate { IsCertificate self.now }
     {
-        let primary = self.primary.copy(alloc)?;
-        let hangs = copy_members(alloc, &self.hangs)?;
         let components = copy_components(alloc, &self.components)?;
+        let hangs = copy_members(alloc, &self.hangs)?;
+        let primary = self.primary.copy(alloc)?;
         Ok(Certificate {
             primary,
             hangs,

@@ -83,7 +83,8 @@ impl Component {
         }) }
         ensures err { OnErr result (self.new ≡ self.old) }
     {
-        let (_, mut hangs) = other.into_parts();
+        let (head, mut hangs) = other.into_parts();
+        drop(head);
         self.hangs.append(&mut hangs)?;
         Ok(())
     }
@@ -121,8 +122,8 @@ impl Component {
     pub fn copy(&self, alloc: Global) -> Result<Component, OutOfMemory>
         ensures { IfOk result (λ c. c ≡ self.now) }
     {
-        let head = self.head.copy(alloc)?;
         let hangs = copy_members(alloc, &self.hangs)?;
+        let head = self.head.copy(alloc)?;
         Ok(Component { head, hangs })
     }
 

@@ -131,8 +131,9 @@ impl Composer {
             limits: _,
             state,
             size: _,
-            ready: _,
+            ready,
         } = self;
+        drop(ready);
         match state {
             State::Leading(lead) => Ok(lead_part(lead)),
             State::Growing(certificate) => Ok(Some(Ready::Certificate(certificate))),
@@ -299,6 +300,7 @@ impl Composer {
         ensures limits { limits_of self.new ≡ limits_of self.old }
     {
         if !self.is_open() {
+            drop(sorted);
             return Ok(());
         }
         match sorted {
@@ -309,7 +311,8 @@ impl Composer {
             Sorted::Head(head) => self.add_head(head, octets, block, pos),
             Sorted::Signature(signature) => self.add_signature(signature, octets, block, pos),
             Sorted::Filler(filler) => self.add_filler(filler, octets, block, pos),
-            Sorted::Stray(_) => {
+            Sorted::Stray(stray) => {
+                drop(stray);
                 self.refuse(Reason::NotInKeyring, block, pos);
                 Ok(())
             }
@@ -331,6 +334,7 @@ impl Composer {
         ensures limits { limits_of self.new ≡ limits_of self.old }
     {
         if octets > self.limits.cert() {
+            drop(primary);
             self.refuse(Reason::CertTooLong, block, pos);
             return;
         }
@@ -338,11 +342,12 @@ impl Composer {
         match mem::replace(&mut self.state, next) {
             State::Leading(lead) => {
                 let ready = lead_part(lead);
-                self.ready = ready;
+                drop(mem::replace(&mut self.ready, ready));
                 self.size = octets;
             }
             State::Growing(certificate) => {
-                self.ready = Some(Ready::Certificate(certificate));
+                let ready = Some(Ready::Certificate(certificate));
+                drop(mem::replace(&mut self.ready, ready));
                 self.size = octets;
             }
             _ => unreachable!(),
@@ -371,8 +376,14 @@ impl Composer {
         let alloc = self.alloc;
         let room = self.limits.cert() - self.size;
         match &mut self.state {
-            State::Leading(_) => self.refuse(Reason::NoPrimary, block, pos),
-            State::Growing(_) if octets > room => self.refuse(Reason::CertTooLong, block, pos),
+            State::Leading(_) => {
+                drop(head);
+                self.refuse(Reason::NoPrimary, block, pos);
+            }
+            State::Growing(_) if octets > room => {
+                drop(head);
+                self.refuse(Reason::CertTooLong, block, pos);
+            }
             State::Growing(certificate) => {
                 match certificate.begin(alloc, head) {
                     Ok(()) => self.size += octets,
@@ -409,8 +420,14 @@ impl Composer {
     {
         let room = self.limits.cert() - self.size;
         match &mut self.state {
-            State::Leading(_) => self.refuse(Reason::NoPrimary, block, pos),
-            State::Growing(_) if octets > room => self.refuse(Reason::CertTooLong, block, pos),
+            State::Leading(_) => {
+                drop(signature);
+                self.refuse(Reason::NoPrimary, block, pos);
+            }
+            State::Growing(_) if octets > room => {
+                drop(signature);
+                self.refuse(Reason::CertTooLong, block, pos);
+            }
             State::Growing(certificate) => {
                 match certificate.hang(signature) {
                     Ok(()) => self.size += octets,
@@ -447,8 +464,14 @@ impl Composer {
     {
         let room = self.limits.cert() - self.size;
         match &mut self.state {
-            State::Leading(_) if octets > room => self.refuse(Reason::CertTooLong, block, pos),
-            State::Growing(_) if octets > room => self.refuse(Reason::CertTooLong, block, pos),
+            State::Leading(_) if octets > room => {
+                drop(filler);
+                self.refuse(Reason::CertTooLong, block, pos);
+            }
+            State::Growing(_) if octets > room => {
+                drop(filler);
+                self.refuse(Reason::CertTooLong, block, pos);
+            }
             State::Leading(lead) => {
                 lead.push(filler)?;
                 self.size += octets;

@@ -184,7 +184,7 @@ impl Member {
         ensures { self.new ≡ reframed self.old }
     {
         let member = mem::replace(self, Member::filler(blank(alloc)));
-        *self = member.reframed();
+        drop(mem::replace(self, member.reframed()));
     }
 
     fn reframed(self) -> Member

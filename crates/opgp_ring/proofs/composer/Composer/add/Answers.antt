@@ -10,7 +10,7 @@ pub returns-then-not-is_open-clause-fed : goal.returns-then-not-is_open-clause-f
 returns-then-not-is_open-clause-fed c limits given taken f =
     record { limits_kept = f.limits_kept; shape = f.shape; state = behind limits c.args.self.now.state given _ (of_packet (record { packet = sorted_packet c.args.sorted; block = c.args.block; pos = c.args.pos })) f.state c.requires.sound (sym c.if-not-is_open.ensures) }
 
-pub returns-clause-fed : goal.returns-clause-fed
-returns-clause-fed c limits given taken f =
+pub returns-in-Stray-clause-fed : goal.returns-in-Stray-clause-fed
+returns-in-Stray-clause-fed c limits given taken f =
     c.refuse.ensures.fed limits given taken (of_packet (record { packet = sorted_packet c.args.sorted; block = c.args.block; pos = c.args.pos })) f c.requires.sound
-    (λ _. stray_fault limits (packets_in given) (record { packet = sorted_packet c.args.sorted; block = c.args.block; pos = c.args.pos }) (strayed c.args.sorted c.in-Stray.field-0 c.in-Stray.is c.requires.sorted))
+    (λ _. stray_fault limits (packets_in given) (record { packet = sorted_packet c.args.sorted; block = c.args.block; pos = c.args.pos }) (strayed c.args.sorted c.in-Stray.stray c.in-Stray.is c.requires.sorted))

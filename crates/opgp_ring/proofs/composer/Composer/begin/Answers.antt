@@ -5,7 +5,7 @@ use Rattle.opgp_ring.specs.Composition.{of_packet}
 use Rattle.opgp_ring.specs.Fed.{IsIn, IsLeading, IsGrowing}
 use Rattle.opgp_ring.specs.Keyring.{CertificateValue, certificate_packets, octets_of}
 use Rattle.opgp_ring.specs.declared.composer.State.{State}
-use Rattle.opgp_ring.specs.State.{open_octets, ready_octets}
+use Rattle.opgp_ring.specs.State.{open_octets, ready_octets, ready_parts}
 use Rattle.opgp_ring.proofs.Adding.{keyring}
 use Rattle.opgp_ring.proofs.Parts.{parts_push}
 use Rattle.opgp_ring.proofs.Feeding.{begun_octets}
@@ -22,7 +22,7 @@ pub invariant_of-self : goal.invariant_of-self
 invariant_of-self c =
     let size = c.args.self.now.size in
     let own : octets_of (certificate_packets c.new.result) ≡ c.args.octets = ap (λ (x : CertificateValue). octets_of (certificate_packets x)) c.new.ensures ∙ begun_octets c.args.primary ∙ sym c.requires.octets in
-    let lead : ready_octets c.lead_part-ready.result ≡ size = c.lead_part-ready.ensures.octets ∙ ap open_octets c.in-Leading.ensures.value ∙ c.args.self.now.counted in
+    let lead : ready_octets c.replace-in-Leading.new.dest ≡ size = ap ready_octets c.replace-in-Leading.ensures.after ∙ c.lead_part-ready.ensures.octets ∙ ap open_octets c.in-Leading.ensures.value ∙ c.args.self.now.counted in
     record {
       short = omega (arith, c.if-octets-cert.false, c.cert.ensures.value);
       counted = rw c.replace.ensures.after own;
@@ -33,7 +33,7 @@ pub invariant_of-self-in-Growing : goal.invariant_of-self-in-Growing
 invariant_of-self-in-Growing c =
     let size = c.args.self.now.size in
     let own : octets_of (certificate_packets c.new.result) ≡ c.args.octets = ap (λ (x : CertificateValue). octets_of (certificate_packets x)) c.new.ensures ∙ begun_octets c.args.primary ∙ sym c.requires.octets in
-    let before : octets_of (certificate_packets c.in-Growing.certificate) ≡ size = ap open_octets c.in-Growing.ensures.value ∙ c.args.self.now.counted in
+    let before : ready_octets c.replace-in-Growing.new.dest ≡ size = ap ready_octets c.replace-in-Growing.ensures.after ∙ ap open_octets c.in-Growing.ensures.value ∙ c.args.self.now.counted in
     record {
       short = omega (arith, c.if-octets-cert.false, c.cert.ensures.value);
       counted = rw c.replace.ensures.after own;
@@ -46,10 +46,11 @@ returns-in-Leading-clause-fed c limits given taken f =
     let limit : c.cert.result ≡ cert_limit limits = c.cert.ensures.value ∙ ap cert_limit f.limits_kept in
     let is = subst (λ (ps : List PartValue). IsIn limits s given ps) (none_ready taken c.args.self.now.ready c.requires.free) f.state in
     let k : IsLeading limits c.in-Leading.lead.items given taken = subst (λ (t : State). IsIn limits t given taken) (sym c.in-Leading.ensures.value) is in
+    let parts : ready_parts c.replace-in-Leading.new.dest ≡ lead_parts c.in-Leading.lead.items = ap ready_parts c.replace-in-Leading.ensures.after ∙ c.lead_part-ready.ensures.part in
     record {
       limits_kept = f.limits_kept;
-      shape = (keyring c.in-Leading.lead.items [], ap (λ (ps : List PartValue). taken ++ ps) c.lead_part-ready.ensures.part ∙ ap (λ (ps : List PartValue). ps ++ lead_parts c.in-Leading.lead.items) k.none ∙ sym (append-nil (lead_parts c.in-Leading.lead.items)));
-      state = rw (c.replace.ensures.after, c.new.ensures, c.lead_part-ready.ensures.part)
+      shape = (keyring c.in-Leading.lead.items [], ap (λ (ps : List PartValue). taken ++ ps) parts ∙ ap (λ (ps : List PartValue). ps ++ lead_parts c.in-Leading.lead.items) k.none ∙ sym (append-nil (lead_parts c.in-Leading.lead.items)));
+      state = rw (c.replace.ensures.after, c.new.ensures, parts)
           (first_more limits s c.in-Leading.lead given taken (record { packet = c.args.primary; block = c.args.block; pos = c.args.pos }) is (sym c.in-Leading.ensures.value) c.requires.sound c.requires.primary (omega (arith, limit, c.if-octets-cert.false, c.requires.octets)));
     }
 
@@ -59,9 +60,10 @@ returns-in-Growing-clause-fed c limits given taken f =
     let limit : c.cert.result ≡ cert_limit limits = c.cert.ensures.value ∙ ap cert_limit f.limits_kept in
     let is = subst (λ (ps : List PartValue). IsIn limits s given ps) (none_ready taken c.args.self.now.ready c.requires.free) f.state in
     let k : IsGrowing limits c.in-Growing.certificate given taken = subst (λ (t : State). IsIn limits t given taken) (sym c.in-Growing.ensures.value) is in
+    let parts : ready_parts c.replace-in-Growing.new.dest ≡ of_certificate c.in-Growing.certificate ∷ [] = ap ready_parts c.replace-in-Growing.ensures.after in
     record {
       limits_kept = f.limits_kept;
-      shape = (keyring k.lead (k.done ++ c.in-Growing.certificate ∷ []), ap (λ (ps : List PartValue). ps ++ of_certificate c.in-Growing.certificate ∷ []) k.so_far ∙ parts_push k.lead k.done c.in-Growing.certificate);
-      state = rw (c.replace.ensures.after, c.new.ensures)
+      shape = (keyring k.lead (k.done ++ c.in-Growing.certificate ∷ []), ap (λ (ps : List PartValue). taken ++ ps) parts ∙ ap (λ (ps : List PartValue). ps ++ of_certificate c.in-Growing.certificate ∷ []) k.so_far ∙ parts_push k.lead k.done c.in-Growing.certificate);
+      state = rw (c.replace.ensures.after, c.new.ensures, parts)
           (next_more limits s c.in-Growing.certificate given taken (record { packet = c.args.primary; block = c.args.block; pos = c.args.pos }) is (sym c.in-Growing.ensures.value) c.requires.sound c.requires.primary (omega (arith, limit, c.if-octets-cert.false, c.requires.octets)));
     }

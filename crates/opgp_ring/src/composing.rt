@@ -34,7 +34,10 @@ fn gather(alloc: Global, blocks: Vec<BlockOf>, limits: Limits) -> Result<Gatheri
 {
     let mut gathering = Gathering::new(alloc, limits);
     for block in blocks {
-        gathering.add_block(block)?;
+        if let Err(refused) = gathering.add_block(block) {
+            drop(gathering);
+            return Err(refused);
+        }
     }
     Ok(gathering)
 }

@@ -28,10 +28,9 @@ fn follow(ring: Keyring, mut fillers: Vec<Packet>) -> Result<Keyring, OutOfMemor
     ensures { IfOk result (λ r. flat r ≡ flat ring ++ fillers.items) }
 {
     let (mut lead, mut certificates, alloc) = ring.into_parts();
-    match certificates.pop() {
-        Some(mut last) => {
+    match certificates.last_mut() {
+        Some(last) => {
             last.hang_all(fillers)?;
-            certificates.push(last)?;
             Ok(Keyring::new(alloc, lead, certificates))
         }
         None => {

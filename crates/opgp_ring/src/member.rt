@@ -148,28 +148,28 @@ impl Member {
     {
         match &self.content {
             Content::Primary(form, key) => {
-                let form = form.copy(alloc)?;
                 let key = key.copy(alloc)?;
+                let form = form.copy(alloc)?;
                 Ok(Member::new(Content::Primary(form, key)))
             }
             Content::Subkey(form, key) => {
-                let form = form.copy(alloc)?;
                 let key = key.copy(alloc)?;
+                let form = form.copy(alloc)?;
                 Ok(Member::new(Content::Subkey(form, key)))
             }
             Content::UserId(form, id) => {
-                let form = form.copy(alloc)?;
                 let id = id.copy(alloc)?;
+                let form = form.copy(alloc)?;
                 Ok(Member::new(Content::UserId(form, id)))
             }
             Content::Attribute(form, attribute) => {
-                let form = form.copy(alloc)?;
                 let attribute = attribute.copy(alloc)?;
+                let form = form.copy(alloc)?;
                 Ok(Member::new(Content::Attribute(form, attribute)))
             }
             Content::Signature(form, signature) => {
-                let form = form.copy(alloc)?;
                 let signature = signature.copy(alloc)?;
+                let form = form.copy(alloc)?;
                 Ok(Member::new(Content::Signature(form, signature)))
             }
             Content::Filler(packet) => {

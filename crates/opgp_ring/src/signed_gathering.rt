@@ -93,6 +93,7 @@ impl SignedGathering {
         self.end = placed.pos.saturating_add(placed.packet.spelled_len());
         match check_packets(slice::from_ref(&placed)) {
             Some(fault) => {
+                drop(placed);
                 self.break_off(fault);
                 Ok(())
             }
@@ -142,6 +143,7 @@ impl SignedGathering {
         ensures end { self.new.end ≡ self.old.end }
     {
         let SignedState::Open(shape) = self.state else {
+            drop(placed);
             return Ok(());
         };
         let Placed { packet, block, pos } = placed;
@@ -150,7 +152,10 @@ impl SignedGathering {
                 self.flat.push(packet)?;
                 self.state = SignedState::Open(next);
             }
-            None => self.refuse(Reason::NotASignedLiteral, block, pos),
+            None => {
+                drop(packet);
+                self.refuse(Reason::NotASignedLiteral, block, pos);
+            }
         }
         Ok(())
     }

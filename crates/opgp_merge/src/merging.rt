@@ -65,9 +65,20 @@ fn unite_certificate(alloc: Global, certificate: Certificate) -> Result<Certific
     ensures certificate { IfOk result (λ c. IsCertificate c) }
 {
     let (primary, hangs, components) = certificate.into_parts();
-    let hangs = unite_members(alloc, hangs)?;
-    let components = unite_components(alloc, components)?;
-    Ok(Certificate::from_parts(primary, hangs, components))
+    let hangs = match unite_members(alloc, hangs) {
+        Ok(hangs) => hangs,
+        Err(refused) => {
+            drop(primary);
+            return Err(refused);
+        }
+    };
+    match unite_components(alloc, components) {
+        Ok(components) => Ok(Certificate::from_parts(primary, hangs, components)),
+        Err(refused) => {
+            drop(primary);
+            Err(refused)
+        }
+    }
 }
 
 /// One component for each head, in the place of the first.
@@ -115,8 +126,13 @@ fn unite_component(alloc: Global, component: Component) -> Result<Component, Out
     ensures component { IfOk result (λ c. IsComponent c) }
 {
     let (head, hangs) = component.into_parts();
-    let hangs = unite_members(alloc, hangs)?;
-    Ok(Component::from_parts(head, hangs))
+    match unite_members(alloc, hangs) {
+        Ok(hangs) => Ok(Component::from_parts(head, hangs)),
+        Err(refused) => {
+            drop(head);
+            Err(refused)
+        }
+    }
 }
 
 /// The packets that aren't the same as an earlier one.

@@ -9,4 +9,4 @@ pub from_parts-requires-clause-hangs : goal.from_parts-requires-clause-hangs
 from_parts-requires-clause-hangs c =
     let P : List PacketValue → Type 0 = λ l. All IsHung l in
     let parts = c.into_parts-primary.ensures in
-    subst P (sym (c.in_ok-hangs.ensures ∙ ap (firsts same_packet) parts.hangs)) (firsts_all IsHung c.args.certificate.hangs parts.certificate.hangs)
+    subst P (sym (c.in-Ok.ensures ∙ ap (firsts same_packet) parts.hangs)) (firsts_all IsHung c.args.certificate.hangs parts.certificate.hangs)

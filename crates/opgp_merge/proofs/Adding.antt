@@ -1,7 +1,12 @@
 -- A list with one more item, by the place of its name.
 use Rattle.std.proofs.Common.{◌≡◌, ◌∙◌, ℕ, ◌<◌, ◌≤◌, Bool, true, false, cond, List, [], ◌∷◌, ◌++◌, length, get_or, map, refl, sym, ap, arith}
 use Rattle.std.specs.Prelude.{suc, slice_set}
-use Rattle.opgp_merge.specs.Slots.{Name, same_name, added, gathered, grown, place, slots_from}
+use Rattle.opgp_merge.specs.Slots.{Name, same_name, added, grown, place, slots_from}
+
+-- the list with more items, one after the other
+abbrev pub gathered : {X : Type 0} → (X → X → Bool) → (X → X → X) → List X → List X → List X
+gathered same absorb kept [] = kept
+gathered same absorb kept (x ∷ xs) = gathered same absorb (added same absorb kept x) xs
 
 module _ {X : Type 0} (name : X → Name) (absorb : X → X → X) (keeps : (k x : X) → name (absorb k x) ≡ name k) where
   abbrev same : X → X → Bool

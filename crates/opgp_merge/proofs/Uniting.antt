@@ -1,7 +1,7 @@
 -- Items gathered one after the other are, for each of the firsts, all that are like it.
 use Rattle.std.proofs.Common.{◌≡◌, ◌∙◌, ℕ, ◌<◌, ◌≤◌, Bool, true, false, cond, List, [], ◌∷◌, ◌++◌, length, map, refl, sym, ap, append-nil, append_assoc, arith}
-use Rattle.std.specs.Prelude.{not, zero, suc, All, ◌&&◌, ◌==◌}
-use Rattle.std.specs.List.{filter, flat_map}
+use Rattle.std.specs.Prelude.{not, zero, suc, All, ◌&&◌, ◌==◌, drop}
+use Rattle.std.specs.List.{filter, flat_map, fold}
 use Rattle.std.specs.Str.{bytes_eq}
 use Rattle.std.proofs.lemmas.Bool.{eq-eqb}
 use Rattle.std.proofs.lemmas.List.Elements.{All-cons, All-head, All-tail, All-filter}
@@ -9,7 +9,8 @@ use Rattle.std.proofs.lemmas.Slice.Eq.{bytes_eq-Decides}
 use Rattle.opgp_frame.specs.Packet.{PacketValue}
 use Rattle.opgp_ring.specs.Keyring.{CertificateValue, ComponentValue}
 use Rattle.opgp_merge.specs.Merged.{firsts, like, same_packet, same_head, same_primary, united_components, united_certificate}
-use Rattle.opgp_merge.specs.Slots.{Name, same_name, packet_name, head_name, primary_name, added, gathered, stays, with_hangs, with_parts, gathered_packets, gathered_components, gathered_certificates, once_component, once_certificate}
+use Rattle.opgp_merge.specs.Slots.{Name, same_name, same_by, packet_name, head_name, primary_name, added, stays, with_hangs, with_parts, joined_all, once_component, once_certificate}
+use Rattle.opgp_merge.proofs.Adding.{gathered}
 use Rattle.opgp_merge.proofs.Indexing.{same_is}
 
 is_no : (b : Bool) → (b ≡ true → ⊥) → b ≡ false
@@ -18,11 +19,6 @@ is_no false other = refl
 
 apart : {b : Bool} → b ≡ true → b ≡ false → ⊥
 apart e f = let g : true ≡ false = sym e ∙ f in cc
-
--- an item with all that it absorbs
-abbrev pub absorb_all : {X : Type 0} → (X → X → X) → X → List X → X
-absorb_all absorb k [] = k
-absorb_all absorb k (x ∷ xs) = absorb_all absorb (absorb k x) xs
 
 module _ {X : Type 0} where
   -- ---- filters
@@ -112,19 +108,19 @@ module _ {X : Type 0} (same : X → X → Bool) (itself : (x : X) → same x x �
 
   module _ (absorb : X → X → X) (keeps : (k x : X) → same (absorb k x) ≡ same k) (whole : X → List X → X) where
     head_step : (a x : X) (b : Bool) (acc xs : List X)
-        → gathered same absorb (absorb a x ∷ acc) xs ≡ absorb_all absorb (absorb a x) (like same (absorb a x) xs) ∷ gathered same absorb acc (filter (others (absorb a x)) xs)
-        → gathered same absorb (a ∷ added same absorb acc x) xs ≡ absorb_all absorb a (like same a xs) ∷ gathered same absorb (added same absorb acc x) (filter (others a) xs)
+        → gathered same absorb (absorb a x ∷ acc) xs ≡ fold absorb (absorb a x) (like same (absorb a x) xs) ∷ gathered same absorb acc (filter (others (absorb a x)) xs)
+        → gathered same absorb (a ∷ added same absorb acc x) xs ≡ fold absorb a (like same a xs) ∷ gathered same absorb (added same absorb acc x) (filter (others a) xs)
         → gathered same absorb (cond b (absorb a x ∷ acc) (a ∷ added same absorb acc x)) xs
-        ≡ absorb_all absorb a (cond b (x ∷ like same a xs) (like same a xs)) ∷ gathered same absorb acc (cond (not b) (x ∷ filter (others a) xs) (filter (others a) xs))
-    head_step a x true acc xs f g = f ∙ ap (λ (s : X → Bool). absorb_all absorb (absorb a x) (filter s xs) ∷ gathered same absorb acc (filter (λ y. not (s y)) xs)) (keeps a x)
+        ≡ fold absorb a (cond b (x ∷ like same a xs) (like same a xs)) ∷ gathered same absorb acc (cond (not b) (x ∷ filter (others a) xs) (filter (others a) xs))
+    head_step a x true acc xs f g = f ∙ ap (λ (s : X → Bool). fold absorb (absorb a x) (filter s xs) ∷ gathered same absorb acc (filter (λ y. not (s y)) xs)) (keeps a x)
     head_step a x false acc xs f g = g
 
     -- what is like the first of the list is absorbed by it
-    head_apart : (a : X) (acc xs : List X) → gathered same absorb (a ∷ acc) xs ≡ absorb_all absorb a (like same a xs) ∷ gathered same absorb acc (filter (others a) xs)
+    head_apart : (a : X) (acc xs : List X) → gathered same absorb (a ∷ acc) xs ≡ fold absorb a (like same a xs) ∷ gathered same absorb acc (filter (others a) xs)
     head_apart a acc [] = refl
     head_apart a acc (x ∷ xs) = head_step a x (same a x) acc xs (head_apart (absorb a x) acc xs) (head_apart a (added same absorb acc x) xs)
 
-    module _ (is_whole : (k : X) (xs : List X) → absorb_all absorb k xs ≡ whole k (k ∷ xs)) where
+    module _ (is_whole : (k : X) (xs : List X) → fold absorb k xs ≡ whole k (k ∷ xs)) where
       abbrev united : List X → X → X
       united all c = whole c (like same c all)
 
@@ -134,7 +130,7 @@ module _ {X : Type 0} (same : X → X → Bool) (itself : (x : X) → same x x �
       within_bound (suc n) (x ∷ xs) le =
           let rest : List X = filter (others x) xs in
           let bound : length rest ≤ n = omega (arith, filter_shorter (others x) xs) in
-          let first : absorb_all absorb x (like same x xs) ≡ united (x ∷ xs) x =
+          let first : fold absorb x (like same x xs) ≡ united (x ∷ xs) x =
           is_whole x (like same x xs) ∙ sym (ap (λ (b : Bool). whole x (cond b (x ∷ like same x xs) (like same x xs))) (itself x)) in
           let later : gathered same absorb [] rest ≡ map (united (x ∷ xs)) (filter (others x) (firsts same xs)) =
           within_bound n rest bound ∙ ap (map (united rest)) (firsts_others x xs)
@@ -163,18 +159,25 @@ map_same : {X : Type 0} (xs : List X) → map (λ (x : X). x) xs ≡ xs
 map_same [] = refl
 map_same {X} (x ∷ xs) = ap (λ (l : List X). x ∷ l) (map_same xs)
 
+module _ {X : Type 0} (name : X → Name) (both : X → X → X) (keeps : (k x : X) → name (both k x) ≡ name k) where
+  same_kept : (k x : X) → ◌≡◌ {A = X → Bool} (same_by name (both k x)) (same_by name k)
+  same_kept k x = ap {B = X → Bool} (λ (n : Name) (z : X). same_name n (name z)) (keeps k x)
+
+  pub joined_is : (xs : List X) → gathered (same_by name) both [] xs ≡ joined_all name both xs
+  joined_is xs = gathered_is (same_by name) (λ x. itself (name x)) (alike name) both same_kept (λ k l. fold both k (drop 1 l)) (λ k l. refl) xs
+
+  pub joined_short : (xs : List X) → length xs < 2 → xs ≡ joined_all name both xs
+  joined_short [] lt = joined_is []
+  joined_short (x ∷ []) lt = joined_is (x ∷ [])
+  joined_short (x ∷ y ∷ xs) lt = absurd (omega arith)
+
 -- ---- packets
-packet_whole : (k : PacketValue) (xs : List PacketValue) → absorb_all stays k xs ≡ k
+packet_whole : (k : PacketValue) (xs : List PacketValue) → fold stays k xs ≡ k
 packet_whole k [] = refl
 packet_whole k (x ∷ xs) = packet_whole k xs
 
-pub packets_gathered : (ps : List PacketValue) → gathered_packets ps ≡ firsts same_packet ps
-packets_gathered ps = gathered_is same_packet (λ p. itself (packet_name p)) (alike packet_name) stays (λ k x. refl) (λ k l. k) packet_whole ps ∙ map_same (firsts same_packet ps)
-
-pub packets_short : (ps : List PacketValue) → length ps < 2 → ps ≡ firsts same_packet ps
-packets_short [] lt = refl
-packets_short (p ∷ []) lt = refl
-packets_short (p ∷ q ∷ ps) lt = absurd (omega arith)
+pub packets_joined : (ps : List PacketValue) → joined_all packet_name stays ps ≡ firsts same_packet ps
+packets_joined ps = sym (joined_is packet_name stays (λ k x. refl) ps) ∙ gathered_is same_packet (λ p. itself (packet_name p)) (alike packet_name) stays (λ k x. refl) (λ k l. k) packet_whole ps ∙ map_same (firsts same_packet ps)
 
 pub firsts_all : (P : PacketValue → Type 0) (ps : List PacketValue) → All P ps → All P (firsts same_packet ps)
 firsts_all P [] all = all
@@ -188,19 +191,14 @@ whole_component c all = record { head = c.head; hangs = flat_map (λ d. d.hangs)
 abbrev with_these : ComponentValue → List PacketValue → ComponentValue
 with_these k l = record { head = k.head; hangs = l }
 
-component_whole : (k : ComponentValue) (xs : List ComponentValue) → absorb_all with_hangs k xs ≡ whole_component k (k ∷ xs)
+component_whole : (k : ComponentValue) (xs : List ComponentValue) → fold with_hangs k xs ≡ whole_component k (k ∷ xs)
 component_whole k [] = ap (λ (l : List PacketValue). with_these k l) (sym (append-nil k.hangs))
 component_whole k (x ∷ xs) = component_whole (with_hangs k x) xs ∙ ap (λ (l : List PacketValue). with_these k l) (append_assoc k.hangs x.hangs (flat_map (λ d. d.hangs) xs))
 
-pub components_united : (cs : List ComponentValue) → map once_component (gathered_components cs) ≡ united_components cs
+pub components_united : (cs : List ComponentValue) → map once_component (joined_all head_name with_hangs cs) ≡ united_components cs
 components_united cs =
-    ap (map once_component) (gathered_is same_head (λ c. itself (head_name c)) (alike head_name) with_hangs (λ k x. refl) whole_component component_whole cs)
+    ap (map once_component) (sym (joined_is head_name with_hangs (λ k x. refl) cs) ∙ gathered_is same_head (λ c. itself (head_name c)) (alike head_name) with_hangs (λ k x. refl) whole_component component_whole cs)
     ∙ map_map (λ c. whole_component c (like same_head c cs)) once_component (firsts same_head cs)
-
-pub components_short : (cs : List ComponentValue) → length cs < 2 → cs ≡ gathered_components cs
-components_short [] lt = refl
-components_short (c ∷ []) lt = refl
-components_short (c ∷ d ∷ cs) lt = absurd (omega arith)
 
 -- ---- certificates
 abbrev whole_certificate : CertificateValue → List CertificateValue → CertificateValue
@@ -213,7 +211,7 @@ whole_certificate c all = record {
 abbrev with_both : CertificateValue → List PacketValue → List ComponentValue → CertificateValue
 with_both k hs cs = record { primary = k.primary; hangs = hs; components = cs }
 
-certificate_whole : (k : CertificateValue) (xs : List CertificateValue) → absorb_all with_parts k xs ≡ whole_certificate k (k ∷ xs)
+certificate_whole : (k : CertificateValue) (xs : List CertificateValue) → fold with_parts k xs ≡ whole_certificate k (k ∷ xs)
 certificate_whole k [] =
     ap (λ (l : List PacketValue). with_both k l k.components) (sym (append-nil k.hangs))
     ∙ ap (λ (l : List ComponentValue). with_both k (k.hangs ++ []) l) (sym (append-nil k.components))
@@ -224,12 +222,7 @@ certificate_whole k (x ∷ xs) =
     ∙ ap (λ (l : List PacketValue). with_both k l ((k.components ++ x.components) ++ components)) (append_assoc k.hangs x.hangs hangs)
     ∙ ap (λ (l : List ComponentValue). with_both k (k.hangs ++ (x.hangs ++ hangs)) l) (append_assoc k.components x.components components)
 
-pub certificates_united : (cs : List CertificateValue) → map once_certificate (gathered_certificates cs) ≡ map (united_certificate cs) (firsts same_primary cs)
+pub certificates_united : (cs : List CertificateValue) → map once_certificate (joined_all primary_name with_parts cs) ≡ map (united_certificate cs) (firsts same_primary cs)
 certificates_united cs =
-    ap (map once_certificate) (gathered_is same_primary (λ c. itself (primary_name c)) (alike primary_name) with_parts (λ k x. refl) whole_certificate certificate_whole cs)
+    ap (map once_certificate) (sym (joined_is primary_name with_parts (λ k x. refl) cs) ∙ gathered_is same_primary (λ c. itself (primary_name c)) (alike primary_name) with_parts (λ k x. refl) whole_certificate certificate_whole cs)
     ∙ map_map (λ c. whole_certificate c (like same_primary c cs)) once_certificate (firsts same_primary cs)
-
-pub certificates_short : (cs : List CertificateValue) → length cs < 2 → cs ≡ gathered_certificates cs
-certificates_short [] lt = refl
-certificates_short (c ∷ []) lt = refl
-certificates_short (c ∷ d ∷ cs) lt = absurd (omega arith)

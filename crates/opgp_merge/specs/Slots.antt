@@ -1,16 +1,16 @@
--- Which of a list's items are the same, by their places among the firsts.
+-- Items joined by their names, and the places of names among the firsts.
 use denote.Ref.{Bor}
 use Rattle.std.specs.Prelude.{◌≡◌, ℕ, suc, Bool, ◌&&◌, ◌==◌, if◌then◌else◌}
-use Rattle.std.specs.Prelude.{List, [], ◌∷◌, ◌++◌, length}
+use Rattle.std.specs.Prelude.{List, [], ◌∷◌, ◌++◌, length, map, drop}
 use Rattle.std.specs.BTreeMap.{BTreeMap, get_by, btree_map_len}
 use Rattle.std.specs.Cmp.Lexicographic.{slice_cmp}
-use Rattle.std.specs.List.{position_from}
+use Rattle.std.specs.List.{fold, position_from}
 use Rattle.std.specs.declared.cmp.Ordering.{Ordering}
 use Rattle.std.specs.Ordering.{nat_cmp, ordering_then}
 use Rattle.std.specs.Str.{bytes_eq}
 use Rattle.opgp_frame.specs.Packet.{PacketValue}
 use Rattle.opgp_ring.specs.Keyring.{CertificateValue, ComponentValue}
-use Rattle.opgp_merge.specs.Merged.{firsts, same_packet, same_head, same_primary}
+use Rattle.opgp_merge.specs.Merged.{firsts, like, same_packet}
 use Rattle.opgp_merge.specs.Merged.{united_components}
 
 -- a type and a body
@@ -19,6 +19,9 @@ Name = ℕ × List ℕ
 
 abbrev pub same_name : Name → Name → Bool
 same_name m n = (m.0 == n.0) && bytes_eq m.1 n.1
+
+abbrev pub same_by : {X : Type 0} → (X → Name) → X → X → Bool
+same_by name x y = same_name (name x) (name y)
 
 abbrev pub packet_name : PacketValue → Name
 packet_name p = (p.kind, p.body)
@@ -29,16 +32,6 @@ head_name c = packet_name c.head
 -- primary keys are all of one type
 abbrev pub primary_name : CertificateValue → Name
 primary_name c = (6, c.primary.body)
-
--- the list with one more item, which the first that is the same absorbs, if there is one
-abbrev pub added : {X : Type 0} → (X → X → Bool) → (X → X → X) → List X → X → List X
-added same absorb [] x = x ∷ []
-added same absorb (k ∷ ks) x = if same k x then absorb k x ∷ ks else k ∷ added same absorb ks x
-
--- the list with more items, one after the other
-abbrev pub gathered : {X : Type 0} → (X → X → Bool) → (X → X → X) → List X → List X → List X
-gathered same absorb kept [] = kept
-gathered same absorb kept (x ∷ xs) = gathered same absorb (added same absorb kept x) xs
 
 -- the first stays as it is
 abbrev pub stays : {X : Type 0} → X → X → X
@@ -54,14 +47,13 @@ with_parts c d = record {
   components = c.components ++ d.components;
 }
 
-abbrev pub gathered_packets : List PacketValue → List PacketValue
-gathered_packets ps = gathered same_packet stays [] ps
+-- an item with what the later ones of its name hold
+abbrev pub joined : {X : Type 0} → (X → Name) → (X → X → X) → List X → X → X
+joined name both all x = fold both x (drop 1 (like (same_by name) x all))
 
-abbrev pub gathered_components : List ComponentValue → List ComponentValue
-gathered_components cs = gathered same_head with_hangs [] cs
-
-abbrev pub gathered_certificates : List CertificateValue → List CertificateValue
-gathered_certificates cs = gathered same_primary with_parts [] cs
+-- one item for each name, in the place of the first
+abbrev pub joined_all : {X : Type 0} → (X → Name) → (X → X → X) → List X → List X
+joined_all name both all = map (joined name both all) (firsts (same_by name) all)
 
 -- a component, or a certificate, on which the same packet hangs once
 abbrev pub once_component : ComponentValue → ComponentValue
@@ -73,6 +65,12 @@ once_certificate c = record {
   hangs = firsts same_packet c.hangs;
   components = united_components c.components;
 }
+
+-- ---- the places of names
+-- the list with one more item, which the first that is the same takes in, if there is one
+abbrev pub added : {X : Type 0} → (X → X → Bool) → (X → X → X) → List X → X → List X
+added same both [] x = x ∷ []
+added same both (k ∷ ks) x = if same k x then both k x ∷ ks else k ∷ added same both ks x
 
 -- where the first of this name stands, or how many there are
 abbrev pub place : List Name → Name → ℕ

@@ -2,6 +2,7 @@
 #![tactic(auto)]
 
 mod gathering;
+mod joining;
 pub mod laws;
 mod merging;
 mod slots;

@@ -4,11 +4,9 @@ ghost use Rattle.std.specs.Prelude.{◌≡◌, map, All, IfOk};
 ghost use Rattle.opgp_ring.specs.Keyring.{IsCertificate, IsComponent};
 ghost use Rattle.opgp_merge.specs.Merged.{firsts, merged_of, same_packet, same_primary};
 ghost use Rattle.opgp_merge.specs.Merged.{united_certificate, united_components};
-ghost use Rattle.opgp_merge.specs.Slots.{gathered_certificates, gathered_components};
 ghost use Rattle.opgp_merge.specs.Slots.{once_certificate, once_component};
 
-use crate::gathering::{gather_certificates, gather_components, gather_members};
-use crate::slots::{certificate_slots, component_slots, member_slots};
+use crate::gathering::join;
 use opgp_octets::OutOfMemory;
 use opgp_ring::{Certificate, Component, Keyring, Member};
 use std::alloc::Global;
@@ -24,23 +22,9 @@ pub fn merge(ring: Keyring) -> Result<Keyring, OutOfMemory>
     ensures { IfOk result (λ r. r ≡ merged_of ring) }
 {
     let (lead, certificates, alloc) = ring.into_parts();
-    let gathered = join_certificates(alloc, certificates)?;
+    let gathered = join(alloc, certificates)?;
     let merged = unite_each_certificate(alloc, gathered)?;
     Ok(Keyring::new(alloc, lead, merged))
-}
-
-/// The certificates, those of one primary key joined.
-fn join_certificates(
-    alloc: Global,
-    certificates: Vec<Certificate>,
-) -> Result<Vec<Certificate>, OutOfMemory>
-    ensures { IfOk result (λ v. v.items ≡ gathered_certificates certificates.items) }
-{
-    if certificates.len() < 2 {
-        return Ok(certificates);
-    }
-    let slots = certificate_slots(alloc, &certificates)?;
-    gather_certificates(alloc, certificates, &slots)
 }
 
 /// The certificates, each with the same component and the same packet once.
@@ -89,19 +73,8 @@ fn unite_components(
     ensures value { IfOk result (λ v. v.items ≡ united_components components.items) }
     ensures components { IfOk result (λ v. All IsComponent v.items) }
 {
-    let gathered = join_components(alloc, components)?;
+    let gathered = join(alloc, components)?;
     unite_each_component(alloc, gathered)
-}
-
-/// The components, those of one head joined.
-fn join_components(alloc: Global, components: Vec<Component>) -> Result<Vec<Component>, OutOfMemory>
-    ensures { IfOk result (λ v. v.items ≡ gathered_components components.items) }
-{
-    if components.len() < 2 {
-        return Ok(components);
-    }
-    let slots = component_slots(alloc, &components)?;
-    gather_components(alloc, components, &slots)
 }
 
 /// The components, each with the same packet once.
@@ -139,9 +112,5 @@ fn unite_component(alloc: Global, component: Component) -> Result<Component, Out
 fn unite_members(alloc: Global, members: Vec<Member>) -> Result<Vec<Member>, OutOfMemory>
     ensures { IfOk result (λ v. v.items ≡ firsts same_packet members.items) }
 {
-    if members.len() < 2 {
-        return Ok(members);
-    }
-    let slots = member_slots(alloc, &members)?;
-    gather_members(alloc, members, &slots)
+    join(alloc, members)
 }

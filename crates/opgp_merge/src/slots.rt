@@ -2,10 +2,9 @@
 
 ghost use Rattle.std.specs.Prelude.{◌≡◌, [], List, map, IfOk};
 ghost use Rattle.opgp_merge.specs.Slots.{IsIndex, Name, grown, place, slots_from};
-ghost use Rattle.opgp_merge.specs.Slots.{head_name, packet_name, primary_name};
 
+use crate::joining::Joining;
 use opgp_octets::OutOfMemory;
-use opgp_ring::{Certificate, Component, Member};
 use std::alloc::Global;
 use std::collections::BTreeMap;
 
@@ -27,53 +26,17 @@ fn slot_of<'a>(
     Ok(slot)
 }
 
-/// The place of each packet among those that aren't the same as an earlier one.
+/// The place of each item among those that aren't the same as an earlier one.
 ///
 /// An error is want of memory.
-pub(crate) fn member_slots(alloc: Global, members: &[Member]) -> Result<Vec<usize>, OutOfMemory>
-    ensures { IfOk result (λ v. v.items ≡ slots_from [] (map packet_name members.now)) }
+pub(crate) fn slots_of<T: Joining>(alloc: Global, items: &[T]) -> Result<Vec<usize>, OutOfMemory>
+    ensures { IfOk result (λ v. v.items ≡ slots_from [] (map T.name items.now)) }
 {
     let mut index = BTreeMap::new(alloc);
     let mut slots = Vec::new(alloc);
-    for member in members {
-        let slot = slot_of(&mut index, member.kind(), member.body())?;
-        slots.push(slot)?;
-    }
-    Ok(slots)
-}
-
-/// The place of each component among those whose head isn't the same as an earlier one's.
-///
-/// An error is want of memory.
-pub(crate) fn component_slots(
-    alloc: Global,
-    components: &[Component],
-) -> Result<Vec<usize>, OutOfMemory>
-    ensures { IfOk result (λ v. v.items ≡ slots_from [] (map head_name components.now)) }
-{
-    let mut index = BTreeMap::new(alloc);
-    let mut slots = Vec::new(alloc);
-    for component in components {
-        let head = component.head();
-        let slot = slot_of(&mut index, head.kind(), head.body())?;
-        slots.push(slot)?;
-    }
-    Ok(slots)
-}
-
-/// The place of each certificate among those whose primary key isn't the same as an earlier one's.
-///
-/// An error is want of memory.
-pub(crate) fn certificate_slots(
-    alloc: Global,
-    certificates: &[Certificate],
-) -> Result<Vec<usize>, OutOfMemory>
-    ensures { IfOk result (λ v. v.items ≡ slots_from [] (map primary_name certificates.now)) }
-{
-    let mut index = BTreeMap::new(alloc);
-    let mut slots = Vec::new(alloc);
-    for certificate in certificates {
-        let slot = slot_of(&mut index, 6, certificate.primary().body())?;
+    for item in items {
+        let (kind, body) = item.name();
+        let slot = slot_of(&mut index, kind, body)?;
         slots.push(slot)?;
     }
     Ok(slots)

@@ -1,10 +1,10 @@
 use Rattle.std.proofs.Common.{◌≡◌, ◌<◌, length, arith}
-use Rattle.opgp_merge.proofs.Uniting.{components_short}
-use Rattle.opgp_merge.proofs.merging.join_components.Goals as goal
+use Rattle.opgp_merge.proofs.Uniting.{joined_short}
+use Rattle.opgp_merge.proofs.gathering.join.Goals as goal
 
 pub returns-then-len-lt2 : goal.returns-then-len-lt2
-returns-then-len-lt2 c =
-    let v = c.args.components in
+returns-then-len-lt2 g c =
+    let v = c.args.items in
     let count : v.len ≡ length v.items = v.ok.0 in
     let short : length v.items < 2 = omega (arith, c.if-len-lt2.true, c.len.ensures) in
-    components_short v.items short
+    joined_short g.T.Joining.name g.T.Joining.both g.met.T.Joining.keeps v.items short

@@ -1,0 +1,79 @@
+//! Items that are joined with those of their type and body.
+
+ghost use Rattle.std.specs.Prelude.{◌≡◌, refl, OnOk};
+ghost use Rattle.opgp_merge.specs.Slots.{Name, head_name, packet_name, primary_name};
+ghost use Rattle.opgp_merge.specs.Slots.{stays, with_hangs, with_parts};
+
+use opgp_octets::OutOfMemory;
+use opgp_ring::{Certificate, Component, Member};
+
+/// An item that is the same as others of its type and body, and takes what they hold.
+pub(crate) trait Joining: Drop {
+    // The type and the body.
+    ghost name: { Self → Name };
+
+    // The item with what another holds.
+    ghost both: { Self → Self → Self };
+
+    /// The type and the body.
+    fn name(&self) -> (u8, &[u8])
+        ensures kind { result.0 ≡ (name self.now).0 }
+        ensures body { result.1.now ≡ (name self.now).1 };
+
+    /// Takes what another holds. An error is want of memory.
+    fn take_in(&mut self, other: Self) -> Result<(), OutOfMemory>
+        ensures { OnOk result (self.new ≡ both self.old other) };
+
+    // That changes no name.
+    ghost keeps: { (x y : Self) → name (both x y) ≡ name x };
+}
+
+impl Joining for Member {
+    ghost name = { packet_name };
+
+    ghost both = { stays };
+
+    ghost keeps = { λ x y. refl };
+
+    fn name(&self) -> (u8, &[u8]) {
+        (self.kind(), self.body())
+    }
+
+    fn take_in(&mut self, member: Member) -> Result<(), OutOfMemory> {
+        drop(member);
+        Ok(())
+    }
+}
+
+impl Joining for Component {
+    ghost name = { head_name };
+
+    ghost both = { with_hangs };
+
+    ghost keeps = { λ x y. refl };
+
+    fn name(&self) -> (u8, &[u8]) {
+        let head = self.head();
+        (head.kind(), head.body())
+    }
+
+    fn take_in(&mut self, component: Component) -> Result<(), OutOfMemory> {
+        self.absorb(component)
+    }
+}
+
+impl Joining for Certificate {
+    ghost name = { primary_name };
+
+    ghost both = { with_parts };
+
+    ghost keeps = { λ x y. refl };
+
+    fn name(&self) -> (u8, &[u8]) {
+        (6, self.primary().body())
+    }
+
+    fn take_in(&mut self, certificate: Certificate) -> Result<(), OutOfMemory> {
+        self.absorb(certificate)
+    }
+}

@@ -1,12 +1,17 @@
 -- A list with one more item, by the place of its name.
 use Rattle.std.proofs.Common.{◌≡◌, ◌∙◌, ℕ, ◌<◌, ◌≤◌, Bool, true, false, cond, List, [], ◌∷◌, ◌++◌, length, get_or, map, refl, sym, ap, arith}
 use Rattle.std.specs.Prelude.{suc, slice_set}
-use Rattle.opgp_merge.specs.Slots.{Name, same_name, added, grown, place, slots_from}
+use Rattle.opgp_merge.specs.Slots.{Name, same_name, added, grown, place}
 
 -- the list with more items, one after the other
 abbrev pub gathered : {X : Type 0} → (X → X → Bool) → (X → X → X) → List X → List X → List X
 gathered same absorb kept [] = kept
 gathered same absorb kept (x ∷ xs) = gathered same absorb (added same absorb kept x) xs
+
+-- the place of each name among the firsts, behind those that were seen
+abbrev pub slots_from : List Name → List Name → List ℕ
+slots_from seen [] = []
+slots_from seen (n ∷ ns) = place seen n ∷ slots_from (grown seen n) ns
 
 module _ {X : Type 0} (name : X → Name) (absorb : X → X → X) (keeps : (k x : X) → name (absorb k x) ≡ name k) where
   abbrev same : X → X → Bool

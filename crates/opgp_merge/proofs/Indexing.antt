@@ -14,7 +14,8 @@ use borrow.Author.Tests.{ltb-true}
 use Rattle.std.proofs.lemmas.Bool.{eqb-true}
 use Rattle.std.proofs.lemmas.Map.Text.{is_eq-slice_cmp}
 use Rattle.std.proofs.lemmas.Slice.Eq.{bytes_eq-Decides}
-use Rattle.opgp_merge.specs.Slots.{Name, same_name, grown, place, slots_from, name_cmp, IsIndex}
+use Rattle.opgp_merge.specs.Slots.{Name, same_name, grown, place, name_cmp, IsIndex}
+use Rattle.opgp_merge.proofs.Adding.{slots_from}
 
 abbrev at : List Name → Name → ℕ → Option ℕ
 at seen n j = position_from (λ s. same_name s n) j seen

@@ -5,4 +5,5 @@ mod Twice
 mod Within
 pub mod Adding
 pub mod Indexing
+pub mod Placing
 pub mod Uniting

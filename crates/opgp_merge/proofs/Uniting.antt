@@ -145,17 +145,17 @@ both_true : (a b : Bool) → a ≡ true → b ≡ true → (a && b) ≡ true
 both_true true b e f = f
 both_true false b e f = e
 
-itself : (n : Name) → same_name n n ≡ true
+pub itself : (n : Name) → same_name n n ≡ true
 itself n = both_true (n.0 == n.0) (bytes_eq n.1 n.1) (eq-eqb n.0 n.0 refl) ((bytes_eq-Decides n.1 n.1).1 refl)
 
-alike : {X : Type 0} (name : X → Name) (x y : X) → same_name (name x) (name y) ≡ true → ◌≡◌ {A = X → Bool} (λ z. same_name (name x) (name z)) (λ z. same_name (name y) (name z))
+pub alike : {X : Type 0} (name : X → Name) (x y : X) → same_name (name x) (name y) ≡ true → ◌≡◌ {A = X → Bool} (λ z. same_name (name x) (name z)) (λ z. same_name (name y) (name z))
 alike {X} name x y e = ap {B = X → Bool} (λ (n : Name) (z : X). same_name n (name z)) (same_is (name x) (name y) e)
 
 map_map : {X Y Z : Type 0} (f : X → Y) (g : Y → Z) (xs : List X) → map g (map f xs) ≡ map (λ x. g (f x)) xs
 map_map f g [] = refl
 map_map f g (x ∷ xs) = ap (λ (l : List _). g (f x) ∷ l) (map_map f g xs)
 
-map_same : {X : Type 0} (xs : List X) → map (λ (x : X). x) xs ≡ xs
+pub map_same : {X : Type 0} (xs : List X) → map (λ (x : X). x) xs ≡ xs
 map_same [] = refl
 map_same {X} (x ∷ xs) = ap (λ (l : List X). x ∷ l) (map_same xs)
 

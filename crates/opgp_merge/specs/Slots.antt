@@ -80,10 +80,9 @@ place (s ∷ ss) n = if same_name s n then 0 else suc (place ss n)
 abbrev pub grown : List Name → Name → List Name
 grown seen n = added same_name stays seen n
 
--- the place of each name among the firsts, behind those that were seen
-abbrev pub slots_from : List Name → List Name → List ℕ
-slots_from seen [] = []
-slots_from seen (n ∷ ns) = place seen n ∷ slots_from (grown seen n) ns
+-- the place of each name among the firsts of them all
+abbrev pub places_of : List Name → List ℕ
+places_of ns = map (place (firsts same_name ns)) ns
 
 -- ---- what an index keeps: at each name the place of the first that has it, and how many there are
 abbrev pub name_cmp : Name → ℕ × Bor (List ℕ) → Ordering

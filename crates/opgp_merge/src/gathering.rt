@@ -1,7 +1,7 @@
 //! Items that are the same, joined in the place of the first.
 
 ghost use Rattle.std.specs.Prelude.{◌≡◌, [], map, IfOk, OnOk};
-ghost use Rattle.opgp_merge.specs.Slots.{added, joined_all, place, same_by, slots_from};
+ghost use Rattle.opgp_merge.specs.Slots.{added, joined_all, place, places_of, same_by};
 
 use crate::joining::Joining;
 use crate::slots::slots_of;
@@ -23,7 +23,7 @@ pub(crate) fn join<T: Joining>(alloc: Global, items: Vec<T>) -> Result<Vec<T>, O
 
 /// The same, by the slots of all items.
 fn gather<T: Joining>(alloc: Global, items: Vec<T>, slots: &[usize]) -> Result<Vec<T>, OutOfMemory>
-    requires { slots.now ≡ slots_from [] (map T.name items.items) }
+    requires { slots.now ≡ places_of (map T.name items.items) }
     ensures { IfOk result (λ v. v.items ≡ joined_all T.name T.both items.items) }
 {
     let mut kept = Vec::new(alloc);

@@ -1,7 +1,7 @@
 //! Which of a list's items are the same, by their places among the firsts.
 
-ghost use Rattle.std.specs.Prelude.{◌≡◌, [], List, map, IfOk};
-ghost use Rattle.opgp_merge.specs.Slots.{IsIndex, Name, grown, place, slots_from};
+ghost use Rattle.std.specs.Prelude.{◌≡◌, List, map, IfOk};
+ghost use Rattle.opgp_merge.specs.Slots.{IsIndex, Name, grown, place, places_of};
 
 use crate::joining::Joining;
 use opgp_octets::OutOfMemory;
@@ -30,7 +30,7 @@ fn slot_of<'a>(
 ///
 /// An error is want of memory.
 pub(crate) fn slots_of<T: Joining>(alloc: Global, items: &[T]) -> Result<Vec<usize>, OutOfMemory>
-    ensures { IfOk result (λ v. v.items ≡ slots_from [] (map T.name items.now)) }
+    ensures { IfOk result (λ v. v.items ≡ places_of (map T.name items.now)) }
 {
     let mut index = BTreeMap::new(alloc);
     let mut slots = Vec::new(alloc);

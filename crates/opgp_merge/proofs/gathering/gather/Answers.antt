@@ -1,8 +1,12 @@
-use Rattle.std.proofs.Common.{rules, ◌≡◌, ◌∙◌, List, [], ◌∷◌, length, refl, ap, sym, arith}
+use Rattle.std.proofs.Common.{rules, ◌≡◌, ◌∙◌, List, [], ◌∷◌, length, map, refl, ap, sym, arith}
 use Rattle.opgp_merge.specs.Slots.{same_by}
 use Rattle.opgp_merge.proofs.Adding.{gathered, kept_more, slots_left, slot_is}
+use Rattle.opgp_merge.proofs.Placing.{slots_are}
 use Rattle.opgp_merge.proofs.Uniting.{joined_is}
 use Rattle.opgp_merge.proofs.gathering.gather.Goals as goal
+
+pub loop-item-init : goal.loop-item-init
+loop-item-init g c = record { kept = search rules; slots = search (rules, sym (slots_are (map g.T.Joining.name c.args.items.items))) }
 
 pub keep-requires : goal.keep-requires
 keep-requires g c =

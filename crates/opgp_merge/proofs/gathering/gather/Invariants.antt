@@ -1,6 +1,6 @@
 use Rattle.std.proofs.Common.{◌≡◌, [], map}
-use Rattle.opgp_merge.specs.Slots.{same_by, slots_from}
-use Rattle.opgp_merge.proofs.Adding.{gathered}
+use Rattle.opgp_merge.specs.Slots.{same_by}
+use Rattle.opgp_merge.proofs.Adding.{gathered, slots_from}
 use Rattle.opgp_merge.proofs.gathering.gather.Given as goal
 
 abbrev pub invariant-loop-item : goal.invariant-loop-item

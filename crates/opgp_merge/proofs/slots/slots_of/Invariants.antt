@@ -1,5 +1,6 @@
 use Rattle.std.proofs.Common.{◌≡◌, [], ◌++◌, List, map, drop}
-use Rattle.opgp_merge.specs.Slots.{IsIndex, Name, slots_from}
+use Rattle.opgp_merge.specs.Slots.{IsIndex, Name}
+use Rattle.opgp_merge.proofs.Adding.{slots_from}
 use Rattle.opgp_merge.proofs.slots.slots_of.Given as goal
 
 abbrev pub invariant-loop-item : goal.invariant-loop-item

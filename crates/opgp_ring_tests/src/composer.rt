@@ -9,25 +9,47 @@ use std::test::Fail;
 
 /// What became ready: a letter for the lead, for a certificate, or for nothing.
 fn letter(ready: Option<Ready>) -> char {
-    match ready {
+    let letter = match &ready {
         Some(Ready::Lead(_)) => 'l',
         Some(Ready::Certificate(_)) => 'c',
         None => '-',
-    }
+    };
+    drop(ready);
+    letter
 }
 
 /// Pushes the packet, and takes what became ready.
 fn push(composer: &mut Composer, placed: Placed) -> Result<char, Fail> {
     if composer.ready() {
+        drop(placed);
         return Err("not taken".into());
     }
     composer.push(placed)?;
     Ok(letter(composer.take()))
 }
 
-/// What is answered at the end.
-fn finish(composer: Composer) -> Result<Result<char, Fault>, Fail> {
+/// Pushes the packets of a block's octets, and adds what became ready with each.
+fn feed(
+    alloc: Global,
+    composer: &mut Composer,
+    block: u64,
+    octets: &[u8],
+    said: &mut String,
+) -> Result<(), Fail> {
+    for placed in packets_of(alloc, block, octets)? {
+        said.push(push(composer, placed)?)?;
+    }
+    Ok(())
+}
+
+/// What is answered at the end, unless the packets weren't taken.
+fn finish(composer: Composer, fed: Result<(), Fail>) -> Result<Result<char, Fault>, Fail> {
+    if let Err(fail) = fed {
+        drop(composer);
+        return Err(fail);
+    }
     if composer.ready() {
+        drop(composer);
         return Err("not taken".into());
     }
     match composer.finish() {
@@ -40,10 +62,8 @@ fn finish(composer: Composer) -> Result<Result<char, Fault>, Fail> {
 fn run(alloc: Global, octets: &[u8]) -> Result<String, Fail> {
     let mut composer = Composer::new(alloc, Limits::usual());
     let mut said = String::new(alloc);
-    for placed in packets_of(alloc, 0, octets)? {
-        said.push(push(&mut composer, placed)?)?;
-    }
-    match finish(composer)? {
+    let fed = feed(alloc, &mut composer, 0, octets, &mut said);
+    match finish(composer, fed)? {
         Ok(last) => said.push(last)?,
         Err(fault) => said.push_str(fault_line(alloc, &fault)?.as_str())?,
     }
@@ -92,11 +112,12 @@ fn labels(rt: HostRuntime) -> Result<(), Fail> {
         let mut composer = Composer::new(alloc, Limits::usual());
         composer.begin_block(0, true);
         composer.begin_block(1, second);
-        for placed in packets_of(alloc, 1, SIGNATURE)? {
-            assert_eq!(rt; push(&mut composer, placed)?, '-');
-        }
+        let mut said = String::new(alloc);
+        let fed = feed(alloc, &mut composer, 1, SIGNATURE, &mut said);
         composer.begin_block(2, false);
-        match finish(composer)? {
+        let ended = finish(composer, fed)?;
+        assert_eq!(rt; said.as_str(), "-");
+        match ended {
             Ok(_) => panic!(rt; "no fault"),
             Err(fault) => assert_eq!(rt; fault_line(alloc, &fault)?.as_str(), wanted),
         }

@@ -28,11 +28,18 @@ fn packet(alloc: Global, kind: u8, body: &[u8]) -> Option<Placed> {
     })
 }
 
+/// Whether nothing was ready.
+fn is_nothing(ready: Option<Ready>) -> bool {
+    let nothing = ready.is_none();
+    drop(ready);
+    nothing
+}
+
 /// After want of memory nothing more is taken or given.
 fn is_spent(rt: &impl Abort, mut composer: Composer, placed: Placed) {
     assert!(rt; !composer.ready());
     assert!(rt; composer.push(placed) == Err(PushFault::Spent));
-    assert!(rt; composer.take().is_none());
+    assert!(rt; is_nothing(composer.take()));
     assert!(rt; !composer.ready());
     let spent = Fault {
         layer: Layer::Composition,
@@ -47,23 +54,44 @@ fn is_spent(rt: &impl Abort, mut composer: Composer, placed: Placed) {
     }
 }
 
-/// The certificate of the bodies; None where memory runs out.
-fn certificate(rt: &impl Abort, alloc: Global) -> Option<Certificate> {
-    let mut composer = Composer::new(alloc, Limits::usual());
+/// Whether the composer took the bodies; None where memory ran out before a packet was made.
+fn takes(rt: &impl Abort, alloc: Global, composer: &mut Composer) -> Option<bool> {
     for (kind, body) in bodies() {
         let placed = packet(alloc, kind, body)?;
         assert!(rt; !composer.ready());
         match composer.push(placed) {
-            Ok(()) => assert!(rt; composer.take().is_none()),
+            Ok(()) => assert!(rt; is_nothing(composer.take())),
             Err(fault) => {
                 assert!(rt; fault == PushFault::Memory);
-                if let Some(placed) = packet(alloc, 13, b"a") {
-                    is_spent(rt, composer, placed);
-                }
-                return None;
+                return Some(false);
             }
         }
     }
+    assert!(rt; !composer.ready());
+    Some(true)
+}
+
+/// The certificate of the bodies; None where memory runs out.
+fn certificate(rt: &impl Abort, alloc: Global) -> Option<Certificate> {
+    let mut composer = Composer::new(alloc, Limits::usual());
+    match takes(rt, alloc, &mut composer) {
+        Some(true) => certificate_of(rt, composer),
+        Some(false) => {
+            match packet(alloc, 13, b"a") {
+                Some(placed) => is_spent(rt, composer, placed),
+                None => drop(composer),
+            }
+            None
+        }
+        None => {
+            drop(composer);
+            None
+        }
+    }
+}
+
+/// The certificate that ends what the composer took.
+fn certificate_of(rt: &impl Abort, composer: Composer) -> Option<Certificate> {
     assert!(rt; !composer.ready());
     match composer.finish() {
         Ok(Some(Ready::Certificate(certificate))) => Some(certificate),
@@ -78,6 +106,7 @@ fn composing_moves_bodies_in_5_growths(rt: HostRuntime) {
     if let Some(certificate) = certificate(&rt, rt.alloc()) {
         assert_eq!(rt; certificate.key().created(), 1_408_458_507);
         assert_eq!(rt; certificate.components().len(), 1);
+        drop(certificate);
     }
 }
 
@@ -147,6 +176,7 @@ fn refused_growth(rt: HostRuntime) {
     let alloc = rt.alloc();
     if let Some(certificate) = certificate(&rt, alloc) {
         assert_eq!(rt; certificate.components().len(), 1);
+        drop(certificate);
     }
     if let Some(ring) = ring(&rt, alloc, 1) {
         assert_eq!(rt; ring.certificates().len(), 1);
@@ -155,9 +185,11 @@ fn refused_growth(rt: HostRuntime) {
         }
         if let Ok(one) = nth(alloc, &ring, 0) {
             assert!(rt; one.is_some());
+            drop(one);
         }
         if let Ok(report) = check(alloc, &ring, &LeftOctets) {
             assert_eq!(rt; report.rows().len(), 1);
+            drop(report);
         }
         joins(&rt, alloc, ring);
     }
@@ -165,7 +197,9 @@ fn refused_growth(rt: HostRuntime) {
         assert_eq!(rt; literal.literal().content(), b"a".as_slice());
         if let Ok(copy) = literal.copy(alloc) {
             assert_eq!(rt; copy.flat().len(), 3);
+            drop(copy);
         }
+        drop(literal);
     }
 }
 

@@ -103,28 +103,57 @@ fn parts_of_a_keyring(rt: HostRuntime) -> Result<(), Fail> {
     Ok(())
 }
 
+/// A certificate's copy, and those of its primary key and its components.
+fn certificate_copied(
+    rt: &impl Abort,
+    alloc: Global,
+    certificate: &Certificate,
+) -> Result<(), Fail> {
+    let copy = certificate.copy(alloc)?;
+    certificate_there(rt, &copy);
+    drop(copy);
+    let primary = certificate.primary().copy(alloc)?;
+    is_packet(rt, &primary, 6, 4, 53);
+    drop(primary);
+    for component in certificate.components() {
+        let copy = component.copy(alloc)?;
+        component_there(rt, &copy);
+        drop(copy);
+    }
+    Ok(())
+}
+
+/// A keyring's copy, and those of its parts.
+fn keyring_copied(rt: &impl Abort, alloc: Global, ring: &Keyring) -> Result<(), Fail> {
+    let copy = ring.copy(alloc)?;
+    let octets = octets_of(alloc, &copy);
+    drop(copy);
+    let octets = octets?;
+    assert_eq!(rt; octets.as_slice(), octets_of(alloc, ring)?.as_slice());
+    for certificate in ring.certificates() {
+        certificate_copied(rt, alloc, certificate)?;
+    }
+    Ok(())
+}
+
 #[test]
 fn copies(rt: HostRuntime) -> Result<(), Fail> {
+    let ring = ring(rt.alloc())?;
+    let copied = keyring_copied(&rt, rt.alloc(), &ring);
+    drop(ring);
+    copied
+}
+
+#[test]
+fn copies_of_blocks(rt: HostRuntime) -> Result<(), Fail> {
     let alloc = rt.alloc();
-    let ring = ring(alloc)?;
-    let octets = octets_of(alloc, &ring)?;
-    assert_eq!(rt;
-        octets_of(alloc, &ring.copy(alloc)?)?.as_slice(),
-        octets.as_slice()
-    );
-    for certificate in ring.certificates() {
-        certificate_there(&rt, &certificate.copy(alloc)?);
-        is_packet(&rt, &certificate.primary().copy(alloc)?, 6, 4, 53);
-        for component in certificate.components() {
-            component_there(&rt, &component.copy(alloc)?);
-        }
-    }
     for block in &blocks_of(alloc, &[(false, KEY)])? {
         let copy = block.copy(alloc)?;
         assert_eq!(rt;
             (copy.block, copy.label_fits, copy.packets.len()),
             (0, false, 1)
         );
+        drop(copy);
     }
     Ok(())
 }

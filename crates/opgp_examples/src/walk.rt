@@ -1,44 +1,20 @@
-//! Walks an armored text of standard input: blocks, packets, keys, signatures and their hashed subpackets.
-#![tactic(auto)]
+//! Walks an armored text: blocks, packets, keys, signatures and their hashed subpackets.
 
 ghost use Rattle.std.specs.Prelude.{◌≡◌, option_map};
-ghost use Rattle.opgp_octets.specs.declared.fault.Layer.TheVariants as layer;
 ghost use Rattle.opgp_sig.specs.Subs.{subs_to_come};
-ghost use Rattle.opgp_walk.specs.Hashed.{hashed_subs};
+ghost use Rattle.opgp_examples.specs.Hashed.{hashed_subs};
 
-use anyhow::{Error, Result, anyhow};
+use anyhow::Result;
 use opgp_armor::dearmor;
 use opgp_frame::{Deframe, Placed};
 use opgp_hash::fingerprint;
 use opgp_key::Key;
-use opgp_octets::{
-    BodyFault, Fault, HashAlgorithm, KeyAlgorithm, Layer, Limits, PacketType, SignatureType,
-    SubpacketKind, fault_line,
-};
+use opgp_octets::{HashAlgorithm, KeyAlgorithm, Limits, PacketType, SignatureType, SubpacketKind};
 use opgp_sig::{SigView, Signature, SubMeaning, SubView, Subs};
-use std::alloc::{AllocError, Global};
-use std::io::Read;
-
-fn main(rt: HostRuntime) -> Result<()> {
-    let mut text = Vec::new(rt.alloc());
-    rt.stdin().read_to_end(&mut text)?;
-    walk_text(&rt, &text)
-}
-
-/// A fault as an error, which is its line.
-fn error_of(alloc: Global, fault: Fault) -> Error {
-    match fault_line(alloc, &fault) {
-        Ok(line) => anyhow!("{line}"),
-        Err(refused) => Error::from(refused),
-    }
-}
 
 /// The armored blocks of a text, or its fault and no block.
-fn walk_text(rt: &(impl Print + AllocGlobal), text: &[u8]) -> Result<()> {
-    let blocks = match dearmor(rt.alloc(), text, &Limits::usual())? {
-        Ok(blocks) => blocks,
-        Err(fault) => return Err(error_of(rt.alloc(), fault)),
-    };
+pub(crate) fn walk(rt: &(impl Print + AllocGlobal), text: &[u8]) -> Result<()> {
+    let blocks = dearmor(rt.alloc(), text, &Limits::usual())??;
     for (number, block) in blocks.iter().enumerate() {
         println!(rt; "block {number}")?;
         walk_block(rt, number as u64, &block.octets)?;
@@ -51,18 +27,13 @@ fn walk_block(rt: &(impl Print + AllocGlobal), block: u64, octets: &[u8]) -> Res
     let mut reader = Deframe::new(rt.alloc(), block, Limits::usual());
     let mut at = 0;
     'pushes: while at < octets.len() {
-        let Ok(count) = reader.push(&octets[at..]) else {
-            return Err(Error::from(AllocError));
-        };
-        at += count;
+        at += reader.push(&octets[at..])?;
         if let Some(placed) = reader.take() {
             walk_packet(rt, placed)?;
         }
     }
-    match reader.finish() {
-        Ok(()) => Ok(()),
-        Err(fault) => Err(error_of(rt.alloc(), fault)),
-    }
+    reader.finish()?;
+    Ok(())
 }
 
 /// A packet, whose body moves into its key or signature.
@@ -72,36 +43,16 @@ fn walk_packet(rt: &(impl Print + AllocGlobal), placed: Placed) -> Result<()> {
     let kind = PacketType::from(kind);
     let name = kind.name();
     println!(rt; "packet at {pos}: {name}")?;
-    let fault = match kind {
-        PacketType::PublicKey | PacketType::PublicSubkey => match Key::from_body(body) {
-            Ok(key) => return walk_key(rt, &key),
-            Err(fault) => fault,
-        },
-        PacketType::Signature => match Signature::from_body(body) {
-            Ok(signature) => return walk_signature(rt, signature.view()),
-            Err(fault) => fault,
-        },
-        _ => return Ok(()),
-    };
-    Err(error_of(rt.alloc(), placed_fault(fault, block, pos)))
-}
-
-/// The fault of a packet's body, with the packet's place.
-fn placed_fault(fault: BodyFault, block: u64, pos: u64) -> Fault
-    ensures { result ≡ record {
-      layer = layer.Body;
-      reason = fault.reason;
-      block = block;
-      pos = pos;
-      inner = fault.inner;
-    } }
-{
-    Fault {
-        layer: Layer::Body,
-        reason: fault.reason,
-        block,
-        pos,
-        inner: fault.inner,
+    match kind {
+        PacketType::PublicKey | PacketType::PublicSubkey => {
+            let key = Key::from_body(body).map_err(|fault| fault.placed(block, pos))?;
+            walk_key(rt, &key)
+        }
+        PacketType::Signature => {
+            let signature = Signature::from_body(body).map_err(|fault| fault.placed(block, pos))?;
+            walk_signature(rt, signature.view())
+        }
+        _ => Ok(()),
     }
 }
 
@@ -112,9 +63,8 @@ fn walk_key(rt: &(impl Print + AllocGlobal), key: &Key) -> Result<()> {
     let created = key.created();
     println!(rt; "  version {version}, {algorithm}, created {created}")?;
     let print = fingerprint(key);
-    let octets = hex::encode_upper(rt.alloc(), print.octets())?;
-    let id = hex::encode_upper(rt.alloc(), &print.key_id().0)?;
-    println!(rt; "  fingerprint {octets}")?;
+    let id = print.key_id();
+    println!(rt; "  fingerprint {print}")?;
     println!(rt; "  key ID {id}")?;
     Ok(())
 }

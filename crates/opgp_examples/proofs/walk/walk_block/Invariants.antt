@@ -1,6 +1,6 @@
 use Rattle.std.proofs.Common.{◌-◌, ◌≡◌, ◌≤◌, false, length}
 use Rattle.opgp_frame.specs.Fed.{count_of, is_ready}
-use Rattle.opgp_walk.proofs.walk_block.Given as goal
+use Rattle.opgp_examples.proofs.walk.walk_block.Given as goal
 
 -- what the reader was given, it has handed out
 abbrev pub invariant-pushes : goal.invariant-pushes

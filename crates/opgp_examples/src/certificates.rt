@@ -1,0 +1,132 @@
+//! The certificates of an armored text, each as soon as it is whole.
+
+ghost use Rattle.std.specs.Prelude.{◌≡◌, ◌≤◌, OnOk, false, length};
+ghost use Rattle.opgp_octets.specs.declared.limits.Limits.{Limits};
+ghost use Rattle.opgp_octets.specs.Limits.{body_limit};
+ghost use Rattle.opgp_ring.specs.Fed.{is_ready};
+ghost use Rattle.opgp_examples.specs.Feeding.{IsComposing, IsReading};
+
+use crate::text::{Text, has_room, too_long};
+use anyhow::Result;
+use opgp_armor::{ArmorEvent, Label};
+use opgp_frame::{Deframe, Placed};
+use opgp_hash::fingerprint;
+use opgp_octets::{Fault, Limits};
+use opgp_ring::{Composer, Head, Ready};
+use std::io::BufRead;
+
+/// The certificates of an armored text of keys: a line for each as soon as it is whole, and in the
+/// end the fault of the lowest layer, if there is one.
+pub(crate) fn certificates<R: BufRead + Drop>(
+    rt: &(impl Print + AllocGlobal),
+    source: R,
+) -> Result<()> {
+    let limits = Limits::usual();
+    let mut text = Text::new(rt.alloc(), limits, source);
+    let mut composer = Composer::new(rt.alloc(), limits);
+    let mut fault = None;
+    for block in 0..u64::MAX {
+        let Some(event) = text.next()? else {
+            break;
+        };
+        if let ArmorEvent::Begin(label) = event {
+            composer.begin_block(block, label == Label::PublicKeyBlock);
+        }
+        fault = read_block(rt, block, limits, &mut text, &mut composer)?;
+        if fault.is_some() {
+            break;
+        }
+    }
+    text.finish()?;
+    if let Some(fault) = fault {
+        return Err(fault.into());
+    }
+    match composer.finish()? {
+        Some(part) => show(rt, part),
+        None => Ok(()),
+    }
+}
+
+/// Reads the rest of a block, and answers the fault of its framing.
+fn read_block<R: BufRead + Drop>(
+    rt: &(impl Print + AllocGlobal),
+    block: u64,
+    limits: Limits,
+    text: &mut Text<R>,
+    composer: &mut Composer,
+) -> Result<Option<Fault>>
+    requires { IsComposing limits composer.old }
+    ensures { OnOk result (IsComposing limits composer.new) }
+{
+    let mut deframe = Deframe::new(rt.alloc(), block, limits);
+    for _ in 0..u64::MAX {
+        match text.next()? {
+            Some(ArmorEvent::Octets(octets)) => {
+                feed(rt, limits, &mut deframe, composer, &octets)?;
+            }
+            Some(ArmorEvent::Begin(_label)) => {}
+            Some(ArmorEvent::Header(_key, _value)) => {}
+            Some(ArmorEvent::End) | None => break,
+        }
+    }
+    Ok(deframe.finish().err())
+}
+
+/// Takes octets of a block, and shows the certificates that become whole. However many have come,
+/// the readers hold a packet and a certificate at most.
+fn feed(
+    rt: &(impl Print + AllocGlobal),
+    limits: Limits,
+    deframe: &mut Deframe,
+    composer: &mut Composer,
+    octets: &[u8],
+) -> Result<()>
+    requires reading { IsReading limits deframe.old }
+    requires composing { IsComposing limits composer.old }
+    ensures reading { OnOk result (IsReading limits deframe.new) }
+    ensures composing { OnOk result (IsComposing limits composer.new) }
+{
+    if !has_room(limits, deframe.given(), octets.len()) {
+        return Err(too_long(limits).into());
+    }
+    let mut at = 0;
+    'pushes: while at < octets.len() {
+        at += deframe.push(&octets[at..])?;
+        if let Some(packet) = deframe.take() {
+            compose(rt, composer, packet)?;
+        }
+    }
+    Ok(())
+}
+
+/// Takes a packet, and shows the certificate that it makes whole.
+fn compose(rt: &(impl Print + AllocGlobal), composer: &mut Composer, packet: Placed) -> Result<()>
+    requires { is_ready composer.old ≡ false }
+    ensures { (limits : Limits) → IsComposing limits composer.old
+        → length packet.packet.body ≤ body_limit limits
+        → OnOk result (IsComposing limits composer.new) }
+{
+    composer.push(packet)?;
+    match composer.take() {
+        Some(part) => show(rt, part),
+        None => Ok(()),
+    }
+}
+
+/// A line for a certificate: its fingerprint and its user IDs.
+fn show(rt: &(impl Print + AllocGlobal), part: Ready) -> Result<()> {
+    let Ready::Certificate(certificate) = part else {
+        return Ok(());
+    };
+    let print = fingerprint(certificate.key());
+    print!(rt; "{print}")?;
+    for component in certificate.components() {
+        if let Head::UserId(_, id) = component.head().head() {
+            let text = String::from_utf8_lossy(rt.alloc(), id.octets())?;
+            let text = text.as_str();
+            print!(rt; " {text:?}")?;
+        }
+    }
+    println!(rt)?;
+    Ok(())
+}

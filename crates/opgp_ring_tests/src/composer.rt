@@ -7,6 +7,15 @@ use opgp_ring::{Composer, Ready};
 use std::alloc::Global;
 use std::test::Fail;
 
+// A filler, a user ID, a key at fault, and a packet that stands in no keyring.
+const FILLER: &[u8] = b"\xE8\x00";
+
+const NAME: &[u8] = b"\xCD\x01\x61";
+
+const OLD_KEY: &[u8] = b"\xC6\x01\x03";
+
+const SESSION_KEY: &[u8] = b"\xC1\x00";
+
 /// What became ready: a letter for the lead, for a certificate, or for nothing.
 fn letter(ready: Option<Ready>) -> char {
     let letter = match &ready {
@@ -73,30 +82,29 @@ fn run(alloc: Global, octets: &[u8]) -> Result<String, Fail> {
 #[test]
 fn parts_as_they_become_ready(rt: HostRuntime) -> Result<(), Fail> {
     let alloc = rt.alloc();
-    let filler = b"\xE8\x00".as_slice();
-    let name = b"\xCD\x01\x61".as_slice();
-    let old = b"\xC6\x01\x03".as_slice();
-    for (parts, wanted) in [
-        ([b"".as_slice(), b"", b"", b""], "-"),
-        ([filler, filler, b"", b""], "--l"),
-        ([KEY, name, b"", b""], "--c"),
-        ([filler, KEY, b"", b""], "-lc"),
-        ([KEY, name, KEY, KEY], "--ccc"),
-        ([filler, KEY, SIGNATURE, KEY], "-l-cc"),
+    let cases: &[(&[&[u8]], &str)] = &[
+        (&[], "-"),
+        (&[FILLER, FILLER], "--l"),
+        (&[KEY, NAME], "--c"),
+        (&[FILLER, KEY], "-lc"),
+        (&[KEY, NAME, KEY, KEY], "--ccc"),
+        (&[FILLER, KEY, SIGNATURE, KEY], "-l-cc"),
         (
-            [name, KEY, KEY, b""],
+            &[NAME, KEY, KEY],
             "---composition: NoPrimary block 0 at 0 inner 0",
         ),
         (
-            [KEY, KEY, b"\xC1\x00", KEY],
+            &[KEY, KEY, SESSION_KEY, KEY],
             "-c--composition: NotInKeyring block 0 at 106 inner 0",
         ),
         (
-            [name, old, KEY, old],
+            &[NAME, OLD_KEY, KEY, OLD_KEY],
             "----body: KeyVersion block 0 at 3 inner 0",
         ),
-    ] {
-        let octets = joined(alloc, parts.as_slice())?;
+    ];
+    for case in cases {
+        let (parts, wanted) = *case;
+        let octets = joined(alloc, parts)?;
         assert_eq!(rt; run(alloc, &octets)?.as_str(), wanted);
     }
     Ok(())

@@ -18,6 +18,23 @@ const CUT_LITERAL: &[u8] = b"\xCB\x01\x62";
 
 const OLD_KEY: &[u8] = b"\xC6\x01\x03";
 
+// A marker and a padding packet.
+const MARKER: &[u8] = b"\xCA\x03PGP";
+
+const PADDING: &[u8] = b"\xD5\x00";
+
+// A packet that stands in no keyring, of a type that is critical.
+const SESSION_KEY: &[u8] = b"\xC1\x00";
+
+// User IDs: empty; with a length of four octets; of the legacy format; and a trust packet of that.
+const NO_NAME: &[u8] = b"\xCD\x00";
+
+const LONG_NAME: &[u8] = b"\xCD\xFF\x00\x00\x00\x01\x61";
+
+const OLD_NAME: &[u8] = b"\xB5\x00\x01\x61";
+
+const OLD_TRUST: &[u8] = b"\xB0\x01\x00";
+
 // A secret key, a signature and an attribute with nothing in them.
 const SECRET: &[u8] = b"\xC5\x00";
 
@@ -36,40 +53,32 @@ fn answer_of(alloc: Global, first: &[&[u8]], fits: bool, second: &[&[u8]]) -> Re
     )
 }
 
+/// Whether the keyring of the parts of two blocks has so many fillers before so many certificates.
+fn has_parts(
+    rt: &impl Abort,
+    alloc: Global,
+    first: &[&[u8]],
+    second: &[&[u8]],
+    [lead, certificates]: [u64; 2],
+) -> Result<(), Fail> {
+    let said = answer_of(alloc, first, true, second)?;
+    let wanted = format!(in alloc; "lead {lead} certificates {certificates}")?;
+    assert_eq!(rt; said.as_str(), wanted.as_str());
+    Ok(())
+}
+
 #[test]
 fn keyrings(rt: HostRuntime) -> Result<(), Fail> {
-    let alloc = rt.alloc();
-    for (first, second, wanted) in [
-        (
-            [b"".as_slice(), b"", b""],
-            [b"".as_slice(), b""],
-            "lead 0 certificates 0",
-        ),
-        (
-            [FILLER, FILLER, b""],
-            [FILLER, b""],
-            "lead 3 certificates 0",
-        ),
-        (
-            [FILLER, KEY, NAME],
-            [SIGNATURE, FILLER],
-            "lead 1 certificates 1",
-        ),
-        (
-            [KEY, FILLER, SIGNATURE],
-            [NAME, KEY],
-            "lead 0 certificates 2",
-        ),
-        (
-            [KEY, KEY, KEY],
-            [b"\xCA\x03PGP", b"\xD5\x00"],
-            "lead 0 certificates 3",
-        ),
-    ] {
-        assert_eq!(rt;
-            answer_of(alloc, first.as_slice(), true, second.as_slice())?.as_str(),
-            wanted
-        );
+    let cases: &[(&[&[u8]], &[&[u8]], [u64; 2])] = &[
+        (&[], &[], [0, 0]),
+        (&[FILLER, FILLER], &[FILLER], [3, 0]),
+        (&[FILLER, KEY, NAME], &[SIGNATURE, FILLER], [1, 1]),
+        (&[KEY, FILLER, SIGNATURE], &[NAME, KEY], [0, 2]),
+        (&[KEY, KEY, KEY], &[MARKER, PADDING], [0, 3]),
+    ];
+    for case in cases {
+        let (first, second, counts) = *case;
+        has_parts(&rt, rt.alloc(), first, second, counts)?;
     }
     Ok(())
 }
@@ -117,94 +126,89 @@ fn faults_of_bodies_come_first(rt: HostRuntime) -> Result<(), Fail> {
     has_faults(&rt, rt.alloc(), "body", cases)
 }
 
+/// The fault of the first body of two blocks that has one.
+fn body_fault(alloc: Global, first: &[&[u8]], second: &[&[u8]]) -> Result<String, Fail> {
+    let first = joined(alloc, first)?;
+    let second = joined(alloc, second)?;
+    let octets = [(false, first.as_slice()), (true, second.as_slice())];
+    match check_bodies(&blocks_of(alloc, &octets)?) {
+        Some(fault) => Ok(fault_line(alloc, &fault)?),
+        None => Ok(String::new(alloc)),
+    }
+}
+
 #[test]
 fn bodies_checked(rt: HostRuntime) -> Result<(), Fail> {
-    let alloc = rt.alloc();
-    for (first, second, wanted) in [
-        ([KEY, NAME], [LITERAL, b"\xC1\x00"], ""),
-        (
-            [NAME, OLD_KEY],
-            [CUT_LITERAL, b""],
-            "body: KeyVersion block 0 at 3 inner 0",
-        ),
-        (
-            [KEY, NAME],
-            [LITERAL, CUT_LITERAL],
-            "body: Short block 1 at 8 inner 1",
-        ),
-    ] {
-        let first = joined(alloc, first.as_slice())?;
-        let second = joined(alloc, second.as_slice())?;
-        let blocks = blocks_of(
-            alloc,
-            &[(false, first.as_slice()), (true, second.as_slice())],
-        )?;
-        match check_bodies(&blocks) {
-            Some(fault) => assert_eq!(rt; fault_line(alloc, &fault)?.as_str(), wanted),
-            None => assert_eq!(rt; "", wanted),
-        }
+    let old = "body: KeyVersion block 0 at 3 inner 0";
+    let short = "body: Short block 1 at 8 inner 1";
+    let cases: &[(&[&[u8]], &[&[u8]], &str)] = &[
+        (&[KEY, NAME], &[LITERAL, SESSION_KEY], ""),
+        (&[NAME, OLD_KEY], &[CUT_LITERAL], old),
+        (&[KEY, NAME], &[LITERAL, CUT_LITERAL], short),
+    ];
+    for case in cases {
+        let (first, second, wanted) = *case;
+        assert_eq!(rt; body_fault(rt.alloc(), first, second)?.as_str(), wanted);
     }
     Ok(())
+}
+
+/// Whether this is the answer of the parts of one block, where a certificate has up to 512 octets.
+fn has_answer(rt: &impl Abort, alloc: Global, parts: &[&[u8]], wanted: &str) -> Result<(), Fail> {
+    let limits = Limits::new(8_192, 512, 512, 1 << 40, 1).ok_or("limits")?;
+    let octets = joined(alloc, parts)?;
+    let said = answer(alloc, &[(true, octets.as_slice())], &limits)?;
+    assert_eq!(rt; said.as_str(), wanted);
+    Ok(())
+}
+
+/// Whether certificates of 512 octets stand, and longer ones are refused. The user ID and the filler
+/// have 459 and 512.
+fn is_limited<'a>(
+    rt: &impl Abort,
+    alloc: Global,
+    name: &'a [u8],
+    filler: &'a [u8],
+) -> Result<(), Fail> {
+    let one = "lead 0 certificates 1";
+    let two = "lead 1 certificates 2";
+    let within = "composition: CertTooLong block 0 at 53 inner 0";
+    let behind = "composition: CertTooLong block 0 at 512 inner 0";
+    has_answer(rt, alloc, &[KEY, name], one)?;
+    has_answer(rt, alloc, &[KEY, name, NO_NAME], behind)?;
+    has_answer(rt, alloc, &[filler, KEY, name, KEY], two)?;
+    has_answer(rt, alloc, &[filler, FILLER, KEY], behind)?;
+    has_answer(rt, alloc, &[KEY, filler, KEY], within)
 }
 
 #[test]
 fn certificates_up_to_the_limit(rt: HostRuntime) -> Result<(), Fail> {
     let alloc = rt.alloc();
-    let limits = Limits::new(8_192, 512, 512, 1 << 40, 1).ok_or("limits")?;
     let letters = vec![in alloc; 0x61u8; 509]?;
     assert!(rt; letters.len() == 509);
-    // 53 octets and 459, 3 and 509.
     let name = joined(alloc, &[b"\xCD\xC1\x08".as_slice(), &letters[..456]])?;
     let filler = joined(alloc, &[b"\xE8\xC1\x3D".as_slice(), letters.as_slice()])?;
-    for (parts, wanted) in [
-        (
-            [b"".as_slice(), KEY, name.as_slice(), b""],
-            "lead 0 certificates 1",
-        ),
-        (
-            [b"", KEY, name.as_slice(), b"\xCD\x00"],
-            "composition: CertTooLong block 0 at 512 inner 0",
-        ),
-        (
-            [filler.as_slice(), KEY, name.as_slice(), KEY],
-            "lead 1 certificates 2",
-        ),
-        (
-            [filler.as_slice(), FILLER, KEY, b""],
-            "composition: CertTooLong block 0 at 512 inner 0",
-        ),
-        (
-            [KEY, filler.as_slice(), KEY, b""],
-            "composition: CertTooLong block 0 at 53 inner 0",
-        ),
-    ] {
-        let octets = joined(alloc, parts.as_slice())?;
-        assert_eq!(rt;
-            answer(alloc, &[(true, octets.as_slice())], &limits)?.as_str(),
-            wanted
-        );
-    }
+    is_limited(&rt, alloc, &name, &filler)
+}
+
+/// Whether the octets of the parts are those of their keyring.
+fn stays(rt: &impl Abort, alloc: Global, parts: &[&[u8]]) -> Result<(), Fail> {
+    let octets = joined(alloc, parts)?;
+    let ring = ring_of(alloc, &octets)?;
+    assert_eq!(rt; octets_of(alloc, &ring)?.as_slice(), octets.as_slice());
     Ok(())
 }
 
 #[test]
 fn keyrings_are_their_packets(rt: HostRuntime) -> Result<(), Fail> {
-    let alloc = rt.alloc();
-    for parts in [
-        [b"".as_slice(), b"", b"", b"", b""],
-        [FILLER, KEY, SIGNATURE, NAME, SIGNATURE],
-        [KEY, NAME, FILLER, SIGNATURE, KEY],
-        [
-            KEY,
-            b"\xB0\x01\x00",
-            b"\xCD\xFF\x00\x00\x00\x01\x61",
-            SIGNATURE,
-            b"\xB5\x00\x01\x61",
-        ],
-    ] {
-        let octets = joined(alloc, parts.as_slice())?;
-        let ring = ring_of(alloc, &octets)?;
-        assert_eq!(rt; octets_of(alloc, &ring)?.as_slice(), octets.as_slice());
+    let cases: &[&[&[u8]]] = &[
+        &[],
+        &[FILLER, KEY, SIGNATURE, NAME, SIGNATURE],
+        &[KEY, NAME, FILLER, SIGNATURE, KEY],
+        &[KEY, OLD_TRUST, LONG_NAME, SIGNATURE, OLD_NAME],
+    ];
+    for parts in cases {
+        stays(&rt, rt.alloc(), parts)?;
     }
     Ok(())
 }

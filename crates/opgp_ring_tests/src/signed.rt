@@ -4,6 +4,7 @@ use crate::reading::{blocks_of, joined, packets_of, written};
 use opgp_octets::{Fault, fault_line};
 use opgp_ring::{SignedLiteral, compose_signed, end_fits};
 use std::alloc::Global;
+use std::process::Abort;
 use std::test::Fail;
 
 // A one-pass signature, a literal of `a`, a signature of it, a literal at fault, and a packet of a
@@ -59,49 +60,60 @@ fn answer(alloc: Global, blocks: &[(bool, &[&[u8]])]) -> Result<String, Fail> {
     }
 }
 
+/// Whether this is the answer of blocks.
+fn has_answer(
+    rt: &impl Abort,
+    alloc: Global,
+    blocks: &[(bool, &[&[u8]])],
+    wanted: &str,
+) -> Result<(), Fail> {
+    assert_eq!(rt; answer(alloc, blocks)?.as_str(), wanted);
+    Ok(())
+}
+
 #[test]
 fn one_block(rt: HostRuntime) -> Result<(), Fail> {
-    let alloc = rt.alloc();
-    for (parts, wanted) in [
+    let cases: &[(&[&[u8]], &str)] = &[
         (
-            [ONE_PASS, LITERAL, SIGNATURE, b"".as_slice(), b""],
+            &[ONE_PASS, LITERAL, SIGNATURE],
             "packets 3 signatures 1 content 1",
         ),
         (
-            [ONE_PASS, ONE_PASS, LITERAL, SIGNATURE, SIGNATURE],
+            &[ONE_PASS, ONE_PASS, LITERAL, SIGNATURE, SIGNATURE],
             "packets 5 signatures 2 content 1",
         ),
         (
-            [FILLER, ONE_PASS, LITERAL, FILLER, SIGNATURE],
+            &[FILLER, ONE_PASS, LITERAL, FILLER, SIGNATURE],
             "packets 5 signatures 1 content 1",
         ),
         (
-            [ONE_PASS, LITERAL, b"", b"", b""],
+            &[ONE_PASS, LITERAL],
             "composition: NotASignedLiteral block 0 at 24 inner 0",
         ),
         (
-            [ONE_PASS, ONE_PASS, LITERAL, SIGNATURE, b""],
+            &[ONE_PASS, ONE_PASS, LITERAL, SIGNATURE],
             "composition: NotASignedLiteral block 0 at 55 inner 0",
         ),
         (
-            [ONE_PASS, LITERAL, LITERAL, SIGNATURE, b""],
+            &[ONE_PASS, LITERAL, LITERAL, SIGNATURE],
             "composition: NotASignedLiteral block 0 at 24 inner 0",
         ),
         (
-            [ONE_PASS, LITERAL, SIGNATURE, SIGNATURE, b""],
+            &[ONE_PASS, LITERAL, SIGNATURE, SIGNATURE],
             "composition: NotASignedLiteral block 0 at 40 inner 0",
         ),
         (
-            [LITERAL, SIGNATURE, b"", b"", b""],
+            &[LITERAL, SIGNATURE],
             "composition: NotASignedLiteral block 0 at 0 inner 0",
         ),
         (
-            [SIGNATURE, SHORT_LITERAL, b"", b"", b""],
+            &[SIGNATURE, SHORT_LITERAL],
             "body: Short block 0 at 16 inner 1",
         ),
-    ] {
-        let said = answer(alloc, &[(true, parts.as_slice())])?;
-        assert_eq!(rt; said.as_str(), wanted);
+    ];
+    for case in cases {
+        let (parts, wanted) = *case;
+        has_answer(&rt, rt.alloc(), &[(true, parts)], wanted)?;
     }
     Ok(())
 }
@@ -110,44 +122,42 @@ fn one_block(rt: HostRuntime) -> Result<(), Fail> {
 fn ends_of_blocks(rt: HostRuntime) -> Result<(), Fail> {
     let alloc = rt.alloc();
     let none = "composition: NotASignedLiteral block 0 at 0 inner 0";
-    assert_eq!(rt; answer(alloc, &[])?.as_str(), none);
-    for (first, fits, second, wanted) in [
+    has_answer(&rt, alloc, &[], none)?;
+    let cases: &[(&[&[u8]], bool, &[&[u8]], &str)] = &[
         (
-            [ONE_PASS, LITERAL],
+            &[ONE_PASS, LITERAL],
             true,
-            [b"".as_slice(), b""],
+            &[],
             "composition: NotASignedLiteral block 1 at 0 inner 0",
         ),
         (
-            [ONE_PASS, b""],
+            &[ONE_PASS],
             true,
-            [LITERAL, FILLER],
+            &[LITERAL, FILLER],
             "composition: NotASignedLiteral block 1 at 11 inner 0",
         ),
         (
-            [ONE_PASS, LITERAL],
+            &[ONE_PASS, LITERAL],
             true,
-            [FILLER, SIGNATURE],
+            &[FILLER, SIGNATURE],
             "packets 4 signatures 1 content 1",
         ),
         (
-            [ONE_PASS, LITERAL],
+            &[ONE_PASS, LITERAL],
             false,
-            [SIGNATURE, b""],
+            &[SIGNATURE],
             "composition: BlockLabel block 1 at 0 inner 0",
         ),
         (
-            [LITERAL, b""],
+            &[LITERAL],
             false,
-            [SHORT_LITERAL, b""],
+            &[SHORT_LITERAL],
             "body: Short block 1 at 0 inner 1",
         ),
-    ] {
-        let said = answer(
-            alloc,
-            &[(true, first.as_slice()), (fits, second.as_slice())],
-        )?;
-        assert_eq!(rt; said.as_str(), wanted);
+    ];
+    for case in cases {
+        let (first, fits, second, wanted) = *case;
+        has_answer(&rt, alloc, &[(true, first), (fits, second)], wanted)?;
     }
     Ok(())
 }

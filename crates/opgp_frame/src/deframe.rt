@@ -360,6 +360,7 @@ impl Deframe {
     }
 
     /// Takes so many octets, with which a length header is whole.
+    #[inline(always)]
     fn end_length(&mut self, header: u8, seen: [u8; 5], count: usize, announced: Length, size: u64)
         requires in_length { self.old.state ≡ State.InLength header seen count }
         requires fits { LengthFits announced }
@@ -436,6 +437,7 @@ impl Deframe {
     }
 
     /// Ends a packet of which the last piece has come.
+    #[inline(always)]
     fn end_packet(&mut self, header: u8, last: Length)
         requires in_length { IsInLength self.old.state }
         requires free { is_ready self.old ≡ false }

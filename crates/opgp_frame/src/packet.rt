@@ -49,6 +49,7 @@ impl Packet {
     /// - the form spells the body's length, which is at most 4,294,967,295.
     ///
     /// Takes no memory.
+    #[inline(always)]
     pub fn new(form: Form, kind: u8, body: Vec<u8>) -> Option<Packet>
         ensures some { IsSome result
             ↔ IsPacket (record { form = form; kind = kind; body = body.items }) }
@@ -120,6 +121,7 @@ impl Packet {
     ///
     /// Takes no memory.
     #[tactic(auto, using(crate::proofs::Cuts::cut_body_size))]
+    #[inline(always)]
     pub fn spelled_len(&self) -> u64
         ensures { result ≡ length (spelling self.now) }
     {

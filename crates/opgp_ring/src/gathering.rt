@@ -88,8 +88,8 @@ impl Gathering {
     }
 
     /// The keyring of what was added, or the one fault: that of the first body that has one, else
-    /// the first of the order, a block's label before its packets. The condition is that nothing was
-    /// refused.
+    /// the first of the order, a block's label before its packets. The condition is that nothing
+    /// was refused.
     ///
     /// An error is want of memory.
     pub fn finish(self) -> Result<Composed, OutOfMemory>

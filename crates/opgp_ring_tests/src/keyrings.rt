@@ -83,8 +83,8 @@ fn keyrings(rt: HostRuntime) -> Result<(), Fail> {
     Ok(())
 }
 
-/// The parts of the first block, whether the second's label fits, and its parts; the fault's reason,
-/// and its block, place and place in the body.
+/// The parts of the first block, whether the second's label fits, and its parts; the fault's
+/// reason, and its block, place and place in the body.
 type Case<'a> = (&'a [&'a [u8]], bool, &'a [&'a [u8]], &'a str, [u64; 3]);
 
 /// Whether each case has its fault, in this layer.
@@ -162,8 +162,8 @@ fn has_answer(rt: &impl Abort, alloc: Global, parts: &[&[u8]], wanted: &str) -> 
     Ok(())
 }
 
-/// Whether certificates of 512 octets stand, and longer ones are refused. The user ID and the filler
-/// have 459 and 512.
+/// Whether certificates of 512 octets stand, and longer ones are refused. The user ID has 459, and
+/// the filler 512.
 fn is_limited<'a>(
     rt: &impl Abort,
     alloc: Global,

@@ -26,8 +26,8 @@ fn octets_joined(
     Ok((ring.lead().len(), ring.certificates().len(), octets))
 }
 
-/// Whether joining the keyrings of the parts joins their octets, with so many fillers before so many
-/// certificates.
+/// Whether joining the keyrings of the parts joins their octets, with so many fillers before so
+/// many certificates.
 fn joins(
     rt: &impl Abort,
     alloc: Global,

@@ -71,6 +71,13 @@ fn has_answer(
     Ok(())
 }
 
+/// Whether the parts of one block are no signed literal, by the packet at this place.
+fn is_none(rt: &impl Abort, alloc: Global, parts: &[&[u8]], pos: u64) -> Result<(), Fail> {
+    let none = "composition: NotASignedLiteral";
+    let wanted = format!(in alloc; "{none} block 0 at {pos} inner 0")?;
+    has_answer(rt, alloc, &[(true, parts)], wanted.as_str())
+}
+
 #[test]
 fn one_block(rt: HostRuntime) -> Result<(), Fail> {
     let cases: &[(&[&[u8]], &str)] = &[
@@ -87,26 +94,6 @@ fn one_block(rt: HostRuntime) -> Result<(), Fail> {
             "packets 5 signatures 1 content 1",
         ),
         (
-            &[ONE_PASS, LITERAL],
-            "composition: NotASignedLiteral block 0 at 24 inner 0",
-        ),
-        (
-            &[ONE_PASS, ONE_PASS, LITERAL, SIGNATURE],
-            "composition: NotASignedLiteral block 0 at 55 inner 0",
-        ),
-        (
-            &[ONE_PASS, LITERAL, LITERAL, SIGNATURE],
-            "composition: NotASignedLiteral block 0 at 24 inner 0",
-        ),
-        (
-            &[ONE_PASS, LITERAL, SIGNATURE, SIGNATURE],
-            "composition: NotASignedLiteral block 0 at 40 inner 0",
-        ),
-        (
-            &[LITERAL, SIGNATURE],
-            "composition: NotASignedLiteral block 0 at 0 inner 0",
-        ),
-        (
             &[SIGNATURE, SHORT_LITERAL],
             "body: Short block 0 at 16 inner 1",
         ),
@@ -119,10 +106,26 @@ fn one_block(rt: HostRuntime) -> Result<(), Fail> {
 }
 
 #[test]
+fn no_signed_literal(rt: HostRuntime) -> Result<(), Fail> {
+    let cases: &[(&[&[u8]], u64)] = &[
+        (&[], 0),
+        (&[ONE_PASS, LITERAL], 24),
+        (&[ONE_PASS, ONE_PASS, LITERAL, SIGNATURE], 55),
+        (&[ONE_PASS, LITERAL, LITERAL, SIGNATURE], 24),
+        (&[ONE_PASS, LITERAL, SIGNATURE, SIGNATURE], 40),
+        (&[LITERAL, SIGNATURE], 0),
+    ];
+    for case in cases {
+        let (parts, pos) = *case;
+        is_none(&rt, rt.alloc(), parts, pos)?;
+    }
+    let none = "composition: NotASignedLiteral block 0 at 0 inner 0";
+    has_answer(&rt, rt.alloc(), &[], none)
+}
+
+#[test]
 fn ends_of_blocks(rt: HostRuntime) -> Result<(), Fail> {
     let alloc = rt.alloc();
-    let none = "composition: NotASignedLiteral block 0 at 0 inner 0";
-    has_answer(&rt, alloc, &[], none)?;
     let cases: &[(&[&[u8]], bool, &[&[u8]], &str)] = &[
         (
             &[ONE_PASS, LITERAL],

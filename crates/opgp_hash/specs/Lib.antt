@@ -20,3 +20,4 @@ pub mod SignedValue
 pub mod Site
 pub mod Subject
 pub mod SubjectValue
+pub mod Why

@@ -61,7 +61,7 @@ pub(crate) fn verify<R: Read + Drop>(
                 ..
             } => println!(rt; ": {digest} good")?,
             Finding::Asked { digest, .. } => println!(rt; ": {digest} unknown")?,
-            Finding::NotAsked(_) => println!(rt; ": asks nothing")?,
+            Finding::NotAsked(why) => println!(rt; ": asks nothing, {why}")?,
         }
     }
     Ok(())

@@ -5,7 +5,7 @@ use Rattle.std.specs.List.{flat_map}
 use Rattle.hex.specs.Hex.{encode_upper}
 use Rattle.opgp_hash.specs.declared.digests.Digest.{Digest}
 use Rattle.opgp_hash.specs.declared.why.Why.{Why}
-use Rattle.opgp_hash.specs.declared.why.Why.TheVariants.{Opaque, Kind, Misplaced, Version, Hash}
+use Rattle.opgp_hash.specs.Why.{why_text}
 use Rattle.opgp_hash.specs.Digest.{digest_octets}
 use Rattle.opgp_report.specs.declared.place.Place.{Place}
 use Rattle.opgp_report.specs.declared.verifier.Verdict.{Verdict}
@@ -26,13 +26,6 @@ number_or_none None = codes "-"
 abbrev pub id_or_none : Option (List ℕ) → List ℕ
 id_or_none (Some id) = encode_upper id
 id_or_none None = codes "-"
-
-abbrev pub why_name : Why → List ℕ
-why_name Opaque = codes "opaque"
-why_name Kind = codes "kind"
-why_name Misplaced = codes "misplaced"
-why_name Version = codes "version"
-why_name Hash = codes "hash"
 
 abbrev pub verdict_name : Verdict → List ℕ
 verdict_name Good = codes "good"
@@ -66,7 +59,7 @@ asked_text kind hash signer digest verdict = type_text kind hash
 
 -- `none <why>`
 abbrev pub none_text : Why → List ℕ
-none_text why = joined (codes "none " ∷ why_name why ∷ codes "\n" ∷ [])
+none_text why = joined (codes "none " ∷ why_text why ∷ codes "\n" ∷ [])
 
 abbrev pub finding_text : FindingValue → List ℕ
 finding_text (not_asked why) = none_text why

@@ -6,7 +6,6 @@ ghost use Rattle.opgp_report.specs.Row.{finding_value, row_value};
 ghost use Rattle.opgp_stack.specs.Report.{asked_text, digest_text, finding_text, id_or_none};
 ghost use Rattle.opgp_stack.specs.Report.{none_text, number_or_none, place_text, report_lines};
 ghost use Rattle.opgp_stack.specs.Report.{row_line, type_text, verdict_name, verdict_text};
-ghost use Rattle.opgp_stack.specs.Report.{why_name};
 ghost use Rattle.opgp_stream.specs.Added.{Writes};
 ghost use Rattle.opgp_stream.specs.Line.{word_text};
 ghost use Rattle.opgp_stream.specs.Output.{sink_name, sink_of, state_of};
@@ -23,18 +22,6 @@ fn number_or_none(number: Option<usize>) -> Word<'static>
     match number {
         Some(n) => Word::Decimal(n as u64),
         None => Word::Text(b"-"),
-    }
-}
-
-fn why_name(why: Why) -> &'static [u8]
-    ensures { result.now ≡ why_name why }
-{
-    match why {
-        Why::Opaque => b"opaque",
-        Why::Kind => b"kind",
-        Why::Misplaced => b"misplaced",
-        Why::Version => b"version",
-        Why::Hash => b"hash",
     }
 }
 
@@ -157,7 +144,7 @@ fn add_none<W: Sink>(output: &mut Output<'_, W>, why: Why) -> io::Result<()>
 {
     output.add_words(&[
         Word::Text(b"none "),
-        Word::Text(why_name(why)),
+        Word::Text(why.name().as_bytes()),
         Word::Text(b"\n"),
     ])
 }

@@ -1,12 +1,11 @@
 -- An index of names, with one more.
 use denote.Ref.{Bor}
-use Rattle.std.proofs.Common.{◌≡◌, ◌∙◌, ℕ, ◌+◌, ◌<◌, Bool, true, false, cond, List, [], ◌∷◌, ◌++◌, length, length-append, Option, Ordering, Some, None, map, append_assoc, refl, sym, ap, subst, arith}
+use Rattle.std.proofs.Common.{◌≡◌, ◌∙◌, ℕ, ◌+◌, ◌<◌, Bool, true, false, cond, List, [], ◌∷◌, ◌++◌, length, length-append, Option, Some, None, refl, sym, ap, subst, arith}
 use Rattle.std.specs.Prelude.{suc, ◌&&◌, ◌==◌, nat_lt}
-use Rattle.std.specs.BTreeMap.{BTreeMap, get_by, is_at, btree_map_len}
+use Rattle.std.specs.BTreeMap.{BTreeMap, get_by, btree_map_len}
 use Rattle.std.specs.Cmp.{both_tied}
 use Rattle.std.specs.Cmp.Lexicographic.{slice_cmp}
 use Rattle.std.specs.List.{position_from}
-use Rattle.std.specs.Map.{lookup}
 use Rattle.std.specs.declared.cmp.Ordering.TheVariants.{Less, Equal, Greater}
 use Rattle.std.specs.Ordering.{is_eq, nat_cmp, ordering_then}
 use Rattle.std.specs.Str.{bytes_eq}
@@ -15,7 +14,6 @@ use Rattle.std.proofs.lemmas.Bool.{eqb-true}
 use Rattle.std.proofs.lemmas.Map.Text.{is_eq-slice_cmp}
 use Rattle.std.proofs.lemmas.Slice.Eq.{bytes_eq-Decides}
 use Rattle.opgp_merge.specs.Slots.{Name, same_name, grown, place, name_cmp, IsIndex}
-use Rattle.opgp_merge.proofs.Adding.{slots_from}
 
 abbrev at : List Name → Name → ℕ → Option ℕ
 at seen n j = position_from (λ s. same_name s n) j seen
@@ -87,19 +85,10 @@ tied_step false false h = refl
 number_tied : (a b : ℕ) → (a == b) ≡ is_eq (nat_cmp a b)
 number_tied a b = tied_step (nat_lt a b) (a == b) (λ e f. let lt : a < b = ltb-true a b e in let eq : a ≡ b = eqb-true a b f in absurd (omega arith))
 
-abbrev key_cmp : ℕ × Bor (List ℕ) → ℕ × Bor (List ℕ) → Ordering
-key_cmp x y = ordering_then (nat_cmp x.0 y.0) (slice_cmp nat_cmp x.1.now y.1.now)
-
 names_tied : (m n : Name) → is_eq (ordering_then (nat_cmp m.0 n.0) (slice_cmp nat_cmp m.1 n.1)) ≡ same_name m n
 names_tied m n = sym (both_tied (m.0 == n.0) (bytes_eq m.1 n.1) (nat_cmp m.0 n.0) (slice_cmp nat_cmp m.1 n.1) (number_tied m.0 n.0) (sym (is_eq-slice_cmp m.1 n.1)))
 
 -- ---- what the calls leave
-pub empty_index : (m : BTreeMap (ℕ × Bor (List ℕ)) ℕ) → m.entries ≡ [] → IsIndex m []
-empty_index m e = record {
-  places = λ q. ap (λ (es : List ((ℕ × Bor (List ℕ)) × ℕ)). lookup (is_at (name_cmp q)) es) e;
-  count = ap (λ (es : List ((ℕ × Bor (List ℕ)) × ℕ)). length es) e;
-}
-
 module _ (m : BTreeMap (ℕ × Bor (List ℕ)) ℕ) (seen : List Name) (index : IsIndex m seen) (n : Name) where
   pub found : (slot : ℕ) → get_by (name_cmp n) m ≡ Some slot → (slot ≡ place seen n) × IsIndex m (grown seen n)
   found slot e =
@@ -131,12 +120,3 @@ module _ (m : BTreeMap (ℕ × Bor (List ℕ)) ℕ) (seen : List Name) (index : 
           count = len ∙ ap (λ (k : ℕ). k + 1) index.count ∙ sym (length_more seen n);
         }),
       )
-
--- ---- the slots of a list
-pub slots_more : {X : Type 0} (name : X → Name) (all slots : List ℕ) (slot : ℕ) (seen : List Name) (x : X) (old more : List X)
-    → all ≡ slots ++ slots_from seen (map name old) → old ≡ x ∷ more → slot ≡ place seen (name x)
-    → all ≡ (slots ++ slot ∷ []) ++ slots_from (grown seen (name x)) (map name more)
-slots_more name all slots slot seen x old more e is this =
-    e ∙ ap (λ l. slots ++ slots_from seen (map name l)) is
-    ∙ ap (λ (k : ℕ). slots ++ (k ∷ slots_from (grown seen (name x)) (map name more))) (sym this)
-    ∙ sym (append_assoc slots (slot ∷ []) (slots_from (grown seen (name x)) (map name more)))

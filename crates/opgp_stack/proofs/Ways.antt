@@ -1,5 +1,5 @@
 -- Octets added in steps, bare or in rows.
-use Rattle.std.proofs.Common.{◌≡◌, ℕ, false, List, [], ◌++◌, sym, ap, subst, ◌∙◌, Option, Some, None, Result, Ok, Err, IsErr, append_assoc, append-nil}
+use Rattle.std.proofs.Common.{◌≡◌, ℕ, List, ◌++◌, sym, ap, subst, ◌∙◌, Option, Some, None, Result, Ok, Err, IsErr, append_assoc}
 use Rattle.opgp_stream.specs.Added.{State, Adds, Breaks, Writes}
 use Rattle.opgp_stream.specs.Rows.{Rows, AddsRows, BreaksRows}
 use Rattle.opgp_stack.specs.Via.{Way, AddsBy, BreaksBy, AddsVia, BreaksVia, WritesVia, rows}
@@ -20,13 +20,6 @@ pub record AllBut (a b : Way) (all left : List ℕ) : Type 0 where
   pub done : List ℕ
   pub added : AddsVia a b done
   pub whole : all ≡ done ++ left
-
-none_by : ((a : State) → a.failed ≡ false → Adds a a []) → ((a : Rows) → a.output.failed ≡ false → AddsRows a a []) → (s : State) (r : Option (List ℕ)) → s.failed ≡ false → AddsBy s s r r []
-none_by bare in_rows s None sound = bare s sound
-none_by bare in_rows s (Some r) sound = in_rows (rows s r) sound
-
-pub via_none : ((a : State) → a.failed ≡ false → Adds a a []) → ((a : Rows) → a.output.failed ≡ false → AddsRows a a []) → (a : Way) → a.output.failed ≡ false → AddsVia a a []
-via_none bare in_rows a sound = none_by bare in_rows a.output a.row sound
 
 module _ (bare : Bare) (in_rows : InRows) where
   then_by : (a b c : State) (q r s : Option (List ℕ)) (xs ys : List ℕ) → AddsBy a b q r xs → AddsBy b c r s ys → AddsBy a c q s (xs ++ ys)
@@ -72,49 +65,16 @@ module _ (bare : Bare) (in_rows : InRows) where
   broken_in a b c all left part more h cut k =
       subst (BreaksVia a c) (append_assoc h.done part more ∙ ap (λ (l : List ℕ). h.done ++ l) (sym cut) ∙ sym h.whole) (via_front a c (h.done ++ part) more (via_behind a b c h.done part h.added k))
 
-sound_by : (a b : State) (q r : Option (List ℕ)) (xs : List ℕ) → AddsBy a b q r xs → b.failed ≡ false
-sound_by a b None None xs h = h.sound
-sound_by a b None (Some r) xs h = absurd h
-sound_by a b (Some q) None xs h = absurd h
-sound_by a b (Some q) (Some r) xs h = h.added.sound
-
-pub via_sound : (a b : Way) (xs : List ℕ) → AddsVia a b xs → b.output.failed ≡ false
-via_sound a b xs h = sound_by a.output b.output a.row b.row xs h
-
--- nothing is left
-pub all_added : (a b : Way) (all left : List ℕ) (h : AllBut a b all left) → left ≡ [] → AddsVia a b all
-all_added a b all left h none = subst (AddsVia a b) (sym (h.whole ∙ ap (λ (l : List ℕ). h.done ++ l) none ∙ append-nil h.done)) h.added
-
 pub fails : {T E : Type 0} (a b : Way) (r : Result T E) (xs : List ℕ) → IsErr r → BreaksVia a b xs → WritesVia a b r xs
 fails a b (Ok x) xs e h = cc
 fails a b (Err x) xs e h = h
 
 -- ---- a way without a block
-bare_adds : (a b : State) (r : Option (List ℕ)) (xs : List ℕ) → AddsBy a b None r xs → Adds a b xs
-bare_adds a b None xs h = h
-bare_adds a b (Some r) xs h = absurd h
-
-bare_breaks : (a b : State) (r : Option (List ℕ)) (xs : List ℕ) → BreaksBy a b None r xs → Breaks a b xs
-bare_breaks a b None xs h = h
-bare_breaks a b (Some r) xs h = absurd h
-
-pub via_bare : {T E : Type 0} (a b : State) (r : Option (List ℕ)) (result : Result T E) (xs : List ℕ) → WritesVia (record { output = a; row = None }) (record { output = b; row = r }) result xs → Writes a b result xs
-via_bare a b r (Ok x) xs h = bare_adds a b r xs h
-via_bare a b r (Err x) xs h = bare_breaks a b r xs h
-
 -- ---- a way in a block
 pub rows_breaks : (a b : State) (q r : Option (List ℕ)) (row : List ℕ) (xs : List ℕ) → q ≡ Some row → BreaksBy a b q r xs → (rest : List ℕ) × BreaksRows (rows a row) (rows b rest) xs
 rows_breaks a b None r row xs e h = cc
 rows_breaks a b (Some q) None row xs e h = absurd h
 rows_breaks a b (Some q) (Some r) row xs e h = let same : q ≡ row = cc in (r, subst (λ (l : List ℕ). BreaksRows (rows a l) (rows b r) xs) same h)
-
-pub rows_adds : (a b : State) (q r : Option (List ℕ)) (row rest : List ℕ) (xs : List ℕ) → q ≡ Some row → r ≡ Some rest → AddsBy a b q r xs → AddsRows (rows a row) (rows b rest) xs
-rows_adds a b None r row rest xs e f h = cc
-rows_adds a b (Some q) None row rest xs e f h = absurd h
-rows_adds a b (Some q) (Some r) row rest xs e f h =
-    let one : q ≡ row = cc in
-    let two : r ≡ rest = cc in
-    subst (λ (l : List ℕ). AddsRows (rows a row) (rows b l) xs) two (subst (λ (l : List ℕ). AddsRows (rows a l) (rows b r) xs) one h)
 
 pub stops : {T E : Type 0} (a b : State) (r : Result T E) (xs : List ℕ) → IsErr r → Breaks a b xs → Writes a b r xs
 stops a b (Ok x) xs e h = cc

@@ -1,14 +1,14 @@
 -- A body that is read is the concatenation of its fields, such a concatenation is read, and a fault is the first.
-use Rattle.std.proofs.Common.{◌≡◌, ℕ, ◌+◌, ◌-◌, eqb, ◌≤◌, List, [], ◌∷◌, ◌++◌, length, drop, Result, Ok, Err, refl, sym, ap, subst, ◌∙◌, append_assoc, arith, inl, inr, ◌⊎◌}
+use Rattle.std.proofs.Common.{◌≡◌, ℕ, ◌+◌, ◌-◌, eqb, List, [], ◌∷◌, ◌++◌, length, Result, Ok, Err, refl, sym, ap, subst, ◌∙◌, append_assoc, arith, inl, inr, ◌⊎◌}
 use Rattle.std.specs.Prelude.{IfOk, IfErr, IfSome, IfNone, Option, Some, None}
 use Rattle.std.proofs.lemmas.Bool.{eqb-true, eqb-false, ne_eqb}
-use Rattle.std.proofs.lemmas.List.{length-append, length-drop, append-nil, nil_from_length}
+use Rattle.std.proofs.lemmas.List.{length-append, append-nil, nil_from_length}
 use Rattle.opgp_octets.specs.declared.fault.Reason.{Reason}
 use Rattle.opgp_octets.specs.declared.fault.Reason.TheVariants.{Trailing}
 use Rattle.opgp_octets.specs.declared.fault.BodyFault.{BodyFault}
 use Rattle.opgp_octets.specs.Octets.{IsOctets}
 use Rattle.opgp_octets.specs.Reading.{◌>>=◌, Reads}
-use Rattle.opgp_octets.proofs.Bytes.{IsOctets-drop, chosen, bind_ok, same_some, Takes, Takes-then}
+use Rattle.opgp_octets.proofs.Bytes.{chosen, bind_ok, same_some, Takes, Takes-then}
 use Rattle.opgp_body.specs.Subpackets.{Sub, AreaFault}
 use Rattle.opgp_body.specs.Fields.{Extent, Field, subpackets, field_octets, octets_of, Stands, StandsAsArea, Grammar, done, field, area, Follows, Body, fault_at, FirstFault}
 use Rattle.opgp_body.specs.AreaReading.{placed, area_at, fault_of}
@@ -72,15 +72,6 @@ grammar_again total (area extent next) (x ∷ xs) rest h =
     ap (read_at total (area extent next)) regrouped
     ∙ ap (λ (r : Result (Field × List ℕ) BodyFault). r >>= λ y. read_at total next y.1 >>= λ z. Ok (y.0 ∷ z.0, z.1)) step
     ∙ ap (λ (r : Result (List Field × List ℕ) BodyFault). r >>= λ z. Ok (x ∷ z.0, z.1)) (grammar_again total next xs rest h.1)
-
--- fields that are read are as many octets as lie between the places
-pub size_read : {X : Type 0} (total at end : ℕ) (grammar : Grammar) (body : List ℕ) (shown : X → List Field) (r : Result X BodyFault)
-    → IsOctets body → at ≤ length body → end ≤ length body → Reads (λ x. (shown x, drop end body)) r (read_at total grammar (drop at body))
-    → IfOk r (λ x. at + length (octets_of (shown x)) ≡ end)
-size_read total at end grammar body shown (Err f) fits low high e = tt
-size_read total at end grammar body shown (Ok x) fits low high e =
-    let t = grammar_takes total grammar (drop at body) (shown x, drop end body) (IsOctets-drop at body fits) e in
-    omega (arith, ap length t.takes.parts, length-append (octets_of (shown x)) (drop end body), length-drop at body, length-drop end body)
 
 -- ---- what is read is spelled so
 

@@ -164,10 +164,6 @@ some_err n o d e =
       | inr p ↦ absurd (let q = p.1 in cc)
     ]
 
-octet_err : (o : List ℕ) (d : Reason) → octet_at o ≡ Err d → (o ≡ []) × (d ≡ Short)
-octet_err [] d e = (refl, cc)
-octet_err (n ∷ o) d e = absurd cc
-
 version_err : (n : ℕ) (o : List ℕ) (d : Reason) → version_as n o ≡ Err d → d ≡ cond (eqb n 4) KeyTooLong KeyVersion
 version_err n o d e =
     elim (chosen (eqb n 4) (cond (ltb 65534 (length o)) (Err KeyTooLong) (Ok (small n, o))) (cond (eqb n 6) (Ok (small n, o)) (Err KeyVersion)) (Err d) e) [

@@ -137,14 +137,6 @@ same_kept (Faulty own place) exponents body block pos fault reason inner e why =
     ap (λ (f : Fault). Err f) (ap by_reason (sym parts.0) ∙ ap by_inner (sym parts.1) ∙ kept)
 same_kept Spent exponents body block pos fault reason inner e why = absurd cc
 
--- a fault is kept where there is one where the octets end
-pub none_kept : (state : State) (exponents body block pos : ℕ) (fault : Fault) → state_fault state exponents body ≡ None → fault_of_state state block pos ≡ Some fault → ⊥
-none_kept Between exponents body block pos fault none e = cc
-none_kept (InLength header seen count) exponents body block pos fault none e = cc
-none_kept (InPiece header l from until) exponents body block pos fault none e = cc
-none_kept (Faulty reason inner) exponents body block pos fault none e = cc
-none_kept Spent exponents body block pos fault none e = cc
-
 -- after want of memory no fault is kept
 pub state_fault-spent : (state : State) (exponents body : ℕ) (why : Reason × ℕ) → is_spent_state state ≡ true → state_fault state exponents body ≡ Some why → ⊥
 state_fault-spent Spent exponents body why spent e = cc

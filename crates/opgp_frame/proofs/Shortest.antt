@@ -1,13 +1,11 @@
 -- The shortest form of a length in the current format.
-use Rattle.std.proofs.Common.{◌≡◌, ℕ, ◌<◌, ◌≤◌, List, [], length, refl, ap, subst, arith, inl, inr}
+use Rattle.std.proofs.Common.{◌≡◌, ℕ, ◌<◌, ◌≤◌, [], length, refl, arith, inl, inr}
 use Rattle.std.proofs.lemmas.Bool.{cases_lt, lt-ltb, le-ltb}
 use Rattle.opgp_frame.specs.declared.form.Form.{Form}
 use Rattle.opgp_frame.specs.declared.form.Form.TheVariants.{OldOne, OldTwo, OldFour, NewOne, NewTwo, NewFive, Partial}
 use Rattle.opgp_frame.specs.Form.{last_length, exponents_of}
 use Rattle.opgp_frame.specs.Length.{LengthFits, length_octets}
-use Rattle.opgp_frame.specs.Packet.{PacketValue, IsPacket, spelling}
-use Rattle.opgp_frame.specs.Reframed.{IsCurrent, shortest_form, reframed}
-use Rattle.opgp_frame.proofs.Cuts.{cut_body_size}
+use Rattle.opgp_frame.specs.Reframed.{IsCurrent, shortest_form}
 
 -- the length octets of each form
 one_octet : (n : ℕ) → n < 192 → length (length_octets (last_length (shortest_form n) n)) ≡ 1
@@ -30,13 +28,6 @@ at_most_two : (n : ℕ) → n < 8384 → length (length_octets (last_length (sho
 at_most_two n below =
     elim (cases_lt n 192) [ inl lt ↦ omega (arith, one_octet n lt) | inr le ↦ omega (arith, two_octets n le below) ]
 
-no_pieces : (n : ℕ) → exponents_of (shortest_form n) ≡ []
-no_pieces n =
-    elim (cases_lt n 192) [
-      | inl lt ↦ rw (lt-ltb n 192 lt) refl
-      | inr le ↦ elim (cases_lt n 8384) [ inl lt ↦ rw (le-ltb n 192 le, lt-ltb n 8384 lt) refl | inr high ↦ rw (le-ltb n 192 le, le-ltb n 8384 high) refl ]
-    ]
-
 -- no other form of the current format, not partial, spells the length in fewer octets
 pub shortest_form-least : (form : Form) (n : ℕ) → IsCurrent form → LengthFits (last_length form n) → (exponents_of form ≡ []) × (length (length_octets (last_length (shortest_form n) n)) ≤ length (length_octets (last_length form n)))
 shortest_form-least NewOne n current fits = (refl, omega (arith, one_octet n (omega arith)))
@@ -46,14 +37,3 @@ shortest_form-least OldOne n current fits = absurd current
 shortest_form-least OldTwo n current fits = absurd current
 shortest_form-least OldFour n current fits = absurd current
 shortest_form-least (Partial p) n current fits = absurd current
-
-pub reframed-least : (p other : PacketValue) → IsPacket other → IsCurrent other.form → other.body ≡ p.body → length (spelling (reframed p)) ≤ length (spelling other)
-reframed-least p other stands current same =
-    let n : ℕ = length other.body in
-    let least = shortest_form-least other.form n current stands.spells.rest in
-    let mine = cut_body_size (exponents_of (shortest_form n)) (length_octets (last_length (shortest_form n) n)) other.body in
-    let its = cut_body_size (exponents_of other.form) (length_octets (last_length other.form n)) other.body in
-    let none : length (exponents_of (shortest_form n)) ≡ 0 = ap length (no_pieces n) in
-    let in_place : List ℕ → PacketValue = λ b. record { form = shortest_form (length b); kind = p.kind; body = b } in
-    let short : length (spelling (in_place other.body)) ≤ length (spelling other) = omega (arith, least.1, mine, its, none, ap (length {A = ℕ}) least.0) in
-    subst (λ (b : List ℕ). length (spelling (in_place b)) ≤ length (spelling other)) same short

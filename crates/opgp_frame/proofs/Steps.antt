@@ -1,5 +1,5 @@
 -- What each step of a reader does to the octets that its state stands for.
-use Rattle.std.proofs.Common.{◌≡◌, ℕ, ◌+◌, ◌%◌, ◌^◌, ◌<◌, ◌≤◌, true, false, not, ◌&&◌, cond, leb, eqb, ltb, List, [], ◌∷◌, ◌++◌, length, take, get_or, Option, Some, None, refl, sym, ap, subst, ◌∙◌, arith, inl, inr, length-append}
+use Rattle.std.proofs.Common.{◌≡◌, ℕ, ◌+◌, ◌%◌, ◌^◌, ◌<◌, ◌≤◌, true, false, not, ◌&&◌, cond, leb, eqb, ltb, List, [], ◌∷◌, ◌++◌, length, get_or, Option, Some, None, refl, sym, ap, subst, ◌∙◌, arith, inl, inr, length-append}
 use Rattle.std.proofs.lemmas.Bool.{cases_lt, cases_eq, cases_Bool, leb-false, ltb-false, lt-ltb, and_from, eq-eqb, not-false}
 use Rattle.std.proofs.lemmas.List.{nil_from_length, get_or_append_left, length_push}
 use Rattle.std.proofs.lemmas.List.Elements.{All-push}
@@ -72,10 +72,6 @@ more_of_length limits header octet seen ks body rest at e =
 pub ends_with_octet : (limits : Limits) (header octet : ℕ) (seen ks body rest : List ℕ) (l : Length) (count : ℕ) → IsAtLength limits header seen ks body rest → LengthBegins header (seen ++ octet ∷ []) l count → EndsLength header seen (octet ∷ []) l
 ends_with_octet limits header octet seen ks body rest l count at begins =
     record { fits = begins.fits; under = begins.under; whole = length_completes header seen octet (l, count) begins at.unread }
-
--- it begins the piece
-pub ends_at_once : (header : ℕ) (piece : List ℕ) (l : Length) (count : ℕ) → LengthBegins header piece l count → EndsLength header [] (take count piece) l
-ends_at_once header piece l count begins = record { fits = begins.fits; under = begins.under; whole = begins.spelled }
 
 -- the octets up to a whole length header
 whole_length : (limits : Limits) (header : ℕ) (seen octets ks body rest : List ℕ) (l : Length) → IsAtLength limits header seen ks body rest → EndsLength header seen octets l → rest ++ octets ≡ header ∷ cut_body ks (length_octets l) body

@@ -25,10 +25,6 @@ last_is {X} xs i x at e =
 ends_at : List Placed → ℕ
 ends_at ps = last_of 0 (map end_of (map of_packet ps))
 
-pub no_blocks : (bs : List BlockOf) → length bs ≡ 0 → end_pos (items_of bs) ≡ 0
-no_blocks [] e = refl
-no_blocks (b ∷ bs) e = absurd (omega arith)
-
 in_last_block : (bs : List BlockOf) (i : ℕ) (b : BlockOf) → i + 1 ≡ length bs → b ≡ get_or bs i b → end_pos (items_of bs) ≡ ends_at b.packets.items
 unfolding ends_at
 in_last_block bs i b at e =
@@ -63,9 +59,6 @@ none_had [] e = refl
 none_had {X} (x ∷ xs) e =
     let within : length xs < suc (length xs) = omega arith in
     absurd (let some : None ≡ Some (get_or (x ∷ xs) (length (x ∷ xs) - 1) x) = e ∙ slice_get-get_or (x ∷ xs) (length (x ∷ xs) - 1) x (omega arith) in cc)
-
-pub no_block_ends : (bs : List BlockOf) → None ≡ slice_get bs (length bs - 1) → end_pos (items_of bs) ≡ 0
-no_block_ends bs e = no_blocks bs (none_had bs e)
 
 pub empty_end : (bs : List BlockOf) (b : BlockOf) (ps : List Placed) → Some b ≡ slice_get bs (length bs - 1) → ps ≡ b.packets.items → None ≡ slice_get ps (length ps - 1) → end_pos (items_of bs) ≡ 0
 empty_end bs b ps e same none =

@@ -1,6 +1,6 @@
 -- The first fault of bodies, in parts of a list.
-use Rattle.std.proofs.Common.{◌≡◌, ℕ, ◌<◌, ◌+◌, List, [], ◌∷◌, ◌++◌, length, take, drop, get_or, All, refl, sym, ap, subst, ◌∙◌, append_assoc, append-nil, drop-cons, suc}
-use Rattle.std.proofs.lemmas.List.{take-append-drop, take_more}
+use Rattle.std.proofs.Common.{◌≡◌, ℕ, ◌<◌, List, ◌∷◌, ◌++◌, length, take, drop, get_or, All, refl, sym, ap, subst, ◌∙◌, append_assoc, drop-cons, suc}
+use Rattle.std.proofs.lemmas.List.{take-append-drop}
 use Rattle.std.proofs.lemmas.List.Concat.{flat_map-append}
 use Rattle.std.proofs.lemmas.List.Elements.{All-append}
 use Rattle.opgp_octets.specs.Octets.{IsOctets}
@@ -52,12 +52,3 @@ first_block blocks i b f h e sound here =
     let whole : placed_of blocks ≡ placed_of (take i blocks) ++ (b.packets.items ++ placed_of (drop (suc i) blocks)) =
     ap placed_of (at_place blocks i b h e) ∙ flat_map-append (λ (x : BlockOf). x.packets.items) (take i blocks) (b ∷ drop (suc i) blocks) in
     subst (λ (l : List Placed). IsFirstBodyFault l f) (sym whole) (behind_sound (placed_of (take i blocks)) b.packets.items (placed_of (drop (suc i) blocks)) f sound here)
-
-placed_more : (blocks : List BlockOf) (i : ℕ) (b : BlockOf) → i < length blocks → b ≡ get_or blocks i b → placed_of (take (i + 1) blocks) ≡ placed_of (take i blocks) ++ b.packets.items
-placed_more blocks i b h e =
-    ap placed_of (take_more blocks i b h) ∙ flat_map-append (λ (x : BlockOf). x.packets.items) (take i blocks) (get_or blocks i b ∷ [])
-    ∙ ap (λ (l : List Placed). placed_of (take i blocks) ++ l) (append-nil (get_or blocks i b).packets.items) ∙ ap (λ (x : BlockOf). placed_of (take i blocks) ++ x.packets.items) (sym e)
-
-pub sound_block : (blocks : List BlockOf) (i : ℕ) (b : BlockOf) → i < length blocks → b ≡ get_or blocks i b → All IsSound (placed_of (take i blocks)) → All IsSound b.packets.items → All IsSound (placed_of (take (i + 1) blocks))
-sound_block blocks i b h e sound own =
-    subst (All IsSound) (sym (placed_more blocks i b h e)) (All-append IsSound (placed_of (take i blocks)) b.packets.items sound own)

@@ -1,5 +1,5 @@
 -- What a composer keeps: what it was given, and its fault.
-use Rattle.std.proofs.Common.{◌≡◌, false, List, [], ◌∷◌, ◌++◌, Some, IsSome, refl, sym, ap, subst, ◌∙◌, append-nil, inl, inr}
+use Rattle.std.proofs.Common.{◌≡◌, false, List, [], ◌∷◌, ◌++◌, Some, IsSome, refl, sym, ap, subst, ◌∙◌, append-nil, inl}
 use Rattle.opgp_octets.specs.declared.limits.Limits.{Limits}
 use Rattle.opgp_octets.specs.declared.fault.Fault.{Fault}
 use Rattle.opgp_ring.specs.declared.composer.Composer.{Composer}
@@ -7,8 +7,8 @@ use Rattle.opgp_ring.specs.declared.composer.State.{State}
 use Rattle.opgp_ring.specs.declared.composer.State.TheVariants.{Leading, Growing, Disordered, Broken, Spent}
 use Rattle.opgp_ring.specs.Composed.{PartValue}
 use Rattle.opgp_ring.specs.Composition.{Item}
-use Rattle.opgp_ring.specs.Fed.{Fed, KeepsFed, TakesIn, StaysFaulty, is_broken}
-use Rattle.opgp_ring.specs.State.{is_open, is_broken_state, fault_of_state}
+use Rattle.opgp_ring.specs.Fed.{Fed, KeepsFed, TakesIn, StaysFaulty}
+use Rattle.opgp_ring.specs.State.{is_open, fault_of_state}
 
 -- one item more, and nothing handed out
 pub kept_one : (old new : Composer) (i : Item) → TakesIn old new i → KeepsFed old new (i ∷ []) []
@@ -39,6 +39,3 @@ closed_by Spent h = refl
 
 pub same_stays : (old new : Composer) → (is_open old.state ≡ false → new.state ≡ old.state) → StaysFaulty old new
 same_stays old new h fault e = inl (ap fault_of_state (h (closed_at old.state fault e)) ∙ e)
-
-pub broken_stays : (old new : Composer) (f : Fault) → is_broken old ≡ false → new.state ≡ Broken f → StaysFaulty old new
-broken_stays old new f none now fault e = inr (none, ap is_broken_state now)

@@ -1,7 +1,6 @@
 pub mod Adding
 pub mod AllButLast
 pub mod FirstBodyFaults
-pub mod Contents
 pub mod BlockEnds
 pub mod Faults
 pub mod Feeding

@@ -1,5 +1,5 @@
 -- What the gathering of a signed literal says, with one more item.
-use Rattle.std.proofs.Common.{◌≡◌, ℕ, ◌+◌, ◌-◌, ◌<◌, ◌^◌, min, Bool, true, false, inl, inr, List, [], ◌∷◌, ◌++◌, All, length, map, refl, sym, ap, subst, ◌∙◌, append_assoc, append-nil, arith}
+use Rattle.std.proofs.Common.{◌≡◌, ℕ, ◌+◌, ◌-◌, ◌<◌, ◌^◌, min, Bool, true, false, inr, List, [], ◌∷◌, ◌++◌, All, length, map, refl, sym, ap, subst, ◌∙◌, append_assoc, append-nil, arith}
 use Rattle.std.proofs.lemmas.List.{map-append}
 use Rattle.std.proofs.lemmas.List.Elements.{All-append, All-cons, All-head, All-nil, All-tail}
 use Rattle.opgp_octets.specs.declared.fault.Fault.{Fault}
@@ -137,11 +137,6 @@ early shape items kept block pos e o number end =
         is = ap (λ (n : ℕ). fault_at NotASignedLiteral n pos) number ∙ ap (λ (n : ℕ). fault_at NotASignedLiteral (end_block items) n) end;
       }),
     )
-
-pub fault_stands : (s : SignedState) (items : List Item) (kept : List PacketValue) (f : Fault) → (s ≡ Disordered f) → IsSignedIn s items kept → IsSignedFault items f
-fault_stands s items kept f e is =
-    let k : All IsSound (placed_in items) × StopsAt items f = subst (λ (t : SignedState). IsSignedIn t items kept) e is in
-    inr (k.0, inl k.1)
 
 pub not_open : (s : SignedState) → ((shape : Shape) → s ≡ Open shape → ⊥) → is_open s ≡ false
 not_open (Open shape) none = absurd (none shape refl)

@@ -59,9 +59,6 @@ stray t k of signature key user_id subkey attribute filler =
     let hung : is_hung k ≡ false = or_false (k == 2) (is_filler k) (another t Signature k 2 of is_signature signature) filler in
     or_false (is_primary k) (is_head k || is_hung k) (another t PublicKey k 6 of is_key key) (or_false (is_head k) (is_hung k) head hung)
 
-pub literals_stray : (k : ℕ) → 11 ≡ k → stands_in_keyring k ≡ false
-literals_stray k e = ap stands_in_keyring (sym e)
-
 -- ---- what a body's type says of its faults
 
 pub typed : (p : PacketValue) (k : ℕ) (t : PacketType) (f : BodyFault) → k ≡ p.kind → t ≡ packet_type_of k → HasFault p f → HasBodyFault t p.body f

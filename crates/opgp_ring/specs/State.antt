@@ -6,7 +6,7 @@ use Rattle.opgp_ring.specs.declared.composer.State.TheVariants.{Leading, Growing
 use Rattle.opgp_ring.specs.declared.composer.State.TheVariants.{Broken, Spent}
 use Rattle.opgp_ring.specs.declared.ready.Ready.{Ready}
 use Rattle.opgp_ring.specs.declared.ready.Ready.TheVariants.{Lead, Certificate}
-use Rattle.opgp_ring.specs.Composed.{PartValue, of_lead, of_certificate, lead_parts}
+use Rattle.opgp_ring.specs.Composed.{PartValue, of_lead, of_certificate}
 use Rattle.opgp_ring.specs.Keyring.{certificate_packets, octets_of}
 
 -- a part that became ready
@@ -24,14 +24,6 @@ is_spent_state (Leading lead) = false
 is_spent_state (Growing c) = false
 is_spent_state (Disordered f) = false
 is_spent_state (Broken f) = false
-
--- the part that isn't finished
-abbrev pub open_parts : State → List PartValue
-open_parts (Leading lead) = lead_parts lead.items
-open_parts (Growing c) = of_certificate c ∷ []
-open_parts (Disordered f) = []
-open_parts (Broken f) = []
-open_parts Spent = []
 
 -- the octets of the part that isn't finished
 abbrev pub open_octets : State → ℕ

@@ -74,10 +74,6 @@ sized_so : (size : Option ℕ) (salt : List ℕ) (after n : ℕ) → Stands (sal
 sized_so None salt after n stands e = absurd cc
 sized_so (Some m) salt after n stands e = let same : m ≡ n = cc in omega (arith, stands.1, stands.2, same)
 
--- the fields of version 6
-abbrev six_fields : AreasValue → List Field
-six_fields v = areas_fields (record v { version = 6 })
-
 -- a salt has the size of its hash algorithm
 pub salt_sized : (v : AreasValue) (o : List ℕ) (n : ℕ) → v.version ≡ 6 → Body (with_areas v.version) (areas_fields v) o → salt_size (hash_algorithm_of v.hash) ≡ Some n → length v.salt ≡ n
 unfolding with_areas

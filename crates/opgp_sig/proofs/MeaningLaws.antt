@@ -304,36 +304,6 @@ read_written (Other n) o fits listed = absurd listed
 
 -- ---- meanings
 
-written_listed : (k : SubpacketKind) (o : List ℕ) (m : Meaning) → Writes k o m → IsListed k
-written_listed k o (created n) h = rw h.0 tt
-written_listed k o (expires n) h = rw h.0 tt
-written_listed k o (exportable n) h = rw h.0 tt
-written_listed k o (trust level amount) h = rw h.0 tt
-written_listed k o (regular_expression text) h = rw h.0 tt
-written_listed k o (revocable n) h = rw h.0 tt
-written_listed k o (key_expires n) h = rw h.0 tt
-written_listed k o (preferred_symmetric list) h = rw h.0 tt
-written_listed k o (revocation_key class algorithm fingerprint) h = rw h.0 tt
-written_listed k o (issuer id) h = rw h.0 tt
-written_listed k o (notation flags name value) h = rw h.0 tt
-written_listed k o (preferred_hash list) h = rw h.0 tt
-written_listed k o (preferred_compression list) h = rw h.0 tt
-written_listed k o (key_server_preferences flags) h = rw h.0 tt
-written_listed k o (preferred_key_server text) h = rw h.0 tt
-written_listed k o (primary_user_id n) h = rw h.0 tt
-written_listed k o (policy_uri text) h = rw h.0 tt
-written_listed k o (key_flags flags) h = rw h.0 tt
-written_listed k o (signers_user_id text) h = rw h.0 tt
-written_listed k o (revocation_reason code text) h = rw h.0 tt
-written_listed k o (features flags) h = rw h.0 tt
-written_listed k o (signature_target algorithm hash digest) h = rw h.0 tt
-written_listed k o (embedded_signature body) h = rw h.0 tt
-written_listed k o (issuer_fingerprint version fingerprint) h = rw h.0 tt
-written_listed k o (intended_recipient version fingerprint) h = rw h.0 tt
-written_listed k o (preferred_aead pairs) h = rw h.0 tt
-written_listed k o unfit h = absurd h
-written_listed k o unknown h = absurd h
-
 -- a form that is written means itself
 means_written : (k : SubpacketKind) (o : List ℕ) (m : Meaning) → IsOctets o → Writes k o m → Means k o m
 means_written k o (created n) fits h = (fits, h)

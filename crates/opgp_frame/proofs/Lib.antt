@@ -15,3 +15,4 @@ pub mod Packets
 pub mod Shortest
 pub mod Steps
 pub mod Unique
+pub mod Wholes

@@ -12,6 +12,7 @@ pub mod ReaderState
 pub mod Reframed
 pub mod Spelling
 pub mod Unfinished
+pub mod Whole
 pub use Rattle.opgp_octets.specs.Limits
 pub use Rattle.opgp_octets.specs.Octets
 pub use Rattle.opgp_octets.specs.PacketLen

@@ -15,6 +15,7 @@ use crate::header::{header_fault, kind_in};
 use crate::length::{Length, length_fault, read_length};
 use crate::packet::Placed;
 use crate::parts::placed;
+use crate::whole::{Whole, whole_in};
 use opgp_octets::{Fault, Layer, Limits, OutOfMemory, PushFault, Reason};
 use std::alloc::Global;
 use std::mem;
@@ -73,6 +74,7 @@ impl Deframe {
     ghost use Rattle.opgp_frame.specs.Length.{LengthFits, is_partial};
     ghost use Rattle.opgp_frame.specs.ReaderState.{IsInLength};
     ghost use Rattle.opgp_frame.specs.Unfinished.{EndsLength, IsInPiece, IsWhole};
+    ghost use Rattle.opgp_frame.specs.Whole.{BeginsWith};
     ghost use Rattle.opgp_frame.specs.declared.packet.Placed.{Placed};
 
     /// A reader of a block's packets that was given nothing.
@@ -232,8 +234,8 @@ impl Deframe {
         Ok(at)
     }
 
-    /// One step of a push: a packet's first octet, a length header or an octet of it, what there is
-    /// of a piece, or all after a fault.
+    /// One step of a push: a whole packet, its first octet, a length header or an octet of it, what
+    /// there is of a piece, or all after a fault.
     fn step(&mut self, piece: &[u8]) -> Result<usize, OutOfMemory>
         requires some { 0 < length piece.now }
         requires free { is_ready self.old ≡ false }
@@ -250,10 +252,13 @@ impl Deframe {
         ensures limits { limits_of self.new ≡ limits_of self.old }
     {
         match self.state {
-            State::Between => {
-                self.begin(piece[0]);
-                Ok(1)
-            }
+            State::Between => match whole_in(self.limits, piece) {
+                Some(whole) => self.step_whole(whole, piece),
+                None => {
+                    self.begin(piece[0]);
+                    Ok(1)
+                }
+            },
             State::InLength {
                 header,
                 seen,
@@ -287,6 +292,33 @@ impl Deframe {
         self.exponents = Vec::new(self.alloc);
         self.body = Vec::new(self.alloc);
         self.state = state;
+    }
+
+    /// Takes the whole packet with which the piece begins.
+    fn step_whole(&mut self, whole: Whole, piece: &[u8]) -> Result<usize, OutOfMemory>
+        requires between { self.old.state ≡ State.Between }
+        requires whole { BeginsWith self.old.limits whole piece.now }
+        requires free { is_ready self.old ≡ false }
+        requires room { count_of self.old + length piece.now < 2 ^ 63 }
+        ensures fed { IfOk result (λ n. KeepsFed self.old self.new (take n piece.now) []) }
+        ensures moves { IfOk result (λ n. (0 < n) × (n ≤ length piece.now)) }
+        ensures count { IfOk result (λ n. count_of self.new ≡ count_of self.old + n) }
+        ensures sound { is_spent self.new ≡ false }
+        ensures free { OnErr result (is_ready self.new ≡ false) }
+        ensures limits { limits_of self.new ≡ limits_of self.old }
+    {
+        let Whole {
+            header,
+            last,
+            from,
+            until,
+        } = whole;
+        let body = Vec::from_slice(self.alloc, &piece[from..until])?;
+        let exponents = Vec::new(self.alloc);
+        self.ready = placed(header, exponents, last, body, self.block, self.start);
+        self.given += until as u64;
+        self.start = self.given;
+        Ok(until)
     }
 
     /// Takes the octet that begins a packet.

@@ -10,6 +10,7 @@ mod packet;
 mod parts;
 mod pieces;
 mod spelling;
+mod whole;
 mod writing;
 
 pub use deframe::Deframe;

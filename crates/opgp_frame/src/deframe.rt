@@ -220,22 +220,71 @@ impl Deframe {
             return Err(PushFault::Spent);
         }
         let before = self.given;
+        match self.advance(piece) {
+            Ok(n) => Ok(n),
+            Err(_) => {
+                self.stop(State::Spent);
+                self.given = before;
+                Err(PushFault::Memory)
+            }
+        }
+    }
+
+    /// Takes the first octets of the piece, up to the one that makes a packet ready, or all of it.
+    fn advance(&mut self, piece: &[u8]) -> Result<usize, OutOfMemory>
+        requires free { is_ready self.old ≡ false }
+        requires sound { is_spent self.old ≡ false }
+        requires room { count_of self.old + length piece.now < 2 ^ 63 }
+        ensures fed { IfOk result (λ n. KeepsFed self.old self.new (take n piece.now) []) }
+        ensures within { IfOk result (λ n. n ≤ length piece.now) }
+        ensures moves { IfOk result (λ n. 0 < length piece.now → 0 < n) }
+        ensures stops { IfOk result (λ n. n < length piece.now → is_ready self.new ≡ true) }
+        ensures count { IfOk result (λ n. count_of self.new ≡ count_of self.old + n) }
+        ensures faulty { (fault : Fault) → fault_of self.old ≡ Some fault
+            → (result ≡ Ok (length piece.now)) × (fault_of self.new ≡ Some fault)
+            × (is_ready self.new ≡ false) }
+        ensures sound { OnOk result (is_spent self.new ≡ false) }
+        ensures free { OnErr result (is_ready self.new ≡ false) }
+        ensures limits { limits_of self.new ≡ limits_of self.old }
+    {
+        // Nearly always a whole packet is there.
+        if let State::Between = self.state {
+            if let Some(whole) = whole_in(self.limits, piece) {
+                return self.step_whole(whole, piece);
+            }
+        }
+        self.steps(piece)
+    }
+
+    /// Takes the first octets of the piece, up to the one that makes a packet ready, or all of it,
+    /// step by step.
+    #[inline(never)]
+    fn steps(&mut self, piece: &[u8]) -> Result<usize, OutOfMemory>
+        requires free { is_ready self.old ≡ false }
+        requires sound { is_spent self.old ≡ false }
+        requires room { count_of self.old + length piece.now < 2 ^ 63 }
+        ensures fed { IfOk result (λ n. KeepsFed self.old self.new (take n piece.now) []) }
+        ensures within { IfOk result (λ n. n ≤ length piece.now) }
+        ensures moves { IfOk result (λ n. 0 < length piece.now → 0 < n) }
+        ensures stops { IfOk result (λ n. n < length piece.now → is_ready self.new ≡ true) }
+        ensures count { IfOk result (λ n. count_of self.new ≡ count_of self.old + n) }
+        ensures faulty { (fault : Fault) → fault_of self.old ≡ Some fault
+            → (result ≡ Ok (length piece.now)) × (fault_of self.new ≡ Some fault)
+            × (is_ready self.new ≡ false) }
+        ensures sound { OnOk result (is_spent self.new ≡ false) }
+        ensures free { OnErr result (is_ready self.new ≡ false) }
+        ensures limits { limits_of self.new ≡ limits_of self.old }
+    {
         let mut at = 0;
         'steps: while at < piece.len() && self.ready.is_none() {
-            match self.step(&piece[at..]) {
-                Ok(n) => at += n,
-                Err(_) => {
-                    self.stop(State::Spent);
-                    self.given = before;
-                    return Err(PushFault::Memory);
-                }
-            }
+            let n = self.step(&piece[at..])?;
+            at += n;
         }
         Ok(at)
     }
 
-    /// One step of a push: a whole packet, its first octet, a length header or an octet of it, what
-    /// there is of a piece, or all after a fault.
+    /// One step of a push: a packet's first octet, a length header or an octet of it, what there is
+    /// of a piece, or all after a fault.
     fn step(&mut self, piece: &[u8]) -> Result<usize, OutOfMemory>
         requires some { 0 < length piece.now }
         requires free { is_ready self.old ≡ false }
@@ -252,13 +301,10 @@ impl Deframe {
         ensures limits { limits_of self.new ≡ limits_of self.old }
     {
         match self.state {
-            State::Between => match whole_in(self.limits, piece) {
-                Some(whole) => self.step_whole(whole, piece),
-                None => {
-                    self.begin(piece[0]);
-                    Ok(1)
-                }
-            },
+            State::Between => {
+                self.begin(piece[0]);
+                Ok(1)
+            }
             State::InLength {
                 header,
                 seen,
@@ -302,6 +348,7 @@ impl Deframe {
         requires room { count_of self.old + length piece.now < 2 ^ 63 }
         ensures fed { IfOk result (λ n. KeepsFed self.old self.new (take n piece.now) []) }
         ensures moves { IfOk result (λ n. (0 < n) × (n ≤ length piece.now)) }
+        ensures ready { OnOk result (is_ready self.new ≡ true) }
         ensures count { IfOk result (λ n. count_of self.new ≡ count_of self.old + n) }
         ensures sound { is_spent self.new ≡ false }
         ensures free { OnErr result (is_ready self.new ≡ false) }

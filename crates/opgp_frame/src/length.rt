@@ -27,6 +27,7 @@ pub(crate) enum Length {
 
 impl Length {
     /// How many octets of the body it announces.
+    #[inline(always)]
     pub(crate) fn amount(self) -> u64
         requires { LengthFits self }
         ensures value { result ≡ length_amount self }

@@ -17,6 +17,7 @@ use crate::pieces::{LastForm, Pieces};
 use opgp_octets::PacketLen;
 
 /// The packet with this first octet, these pieces, this last length and this body, in its place.
+#[inline(always)]
 pub(crate) fn placed(
     header: u8,
     exponents: Vec<u8>,

@@ -1,6 +1,6 @@
 //! Packets in one piece, all of whose octets are there.
 
-ghost use Rattle.std.specs.Prelude.{◌<◌, IfSome, length};
+ghost use Rattle.std.specs.Prelude.{IfSome};
 ghost use Rattle.opgp_frame.specs.Whole.{BeginsWith};
 
 use crate::header::header_fault;
@@ -20,14 +20,15 @@ pub(crate) struct Whole {
 /// The allowed packet of one piece with which the octets begin, if all of it is there.
 #[inline(always)]
 pub(crate) fn whole_in(limits: Limits, octets: &[u8]) -> Option<Whole>
-    requires { 0 < length octets.now }
     ensures { IfSome result (λ whole. BeginsWith limits whole octets.now) }
 {
-    let header = octets[0];
-    if header_fault(header).is_some() {
+    let [header, behind @ ..] = octets else {
+        return None;
+    };
+    if header_fault(*header).is_some() {
         return None;
     }
-    let (last, size) = read_length(header, &octets[1..])?;
+    let (last, size) = read_length(*header, behind)?;
     if last.is_partial() || last.amount() > limits.body() {
         return None;
     }
@@ -36,11 +37,10 @@ pub(crate) fn whole_in(limits: Limits, octets: &[u8]) -> Option<Whole>
     if amount > octets.len() - from {
         return None;
     }
-    let until = from + amount;
     Some(Whole {
-        header,
+        header: *header,
         last,
         from,
-        until,
+        until: from + amount,
     })
 }

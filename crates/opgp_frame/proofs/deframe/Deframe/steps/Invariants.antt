@@ -1,7 +1,7 @@
 use Rattle.std.proofs.Common.{length, take, ◌-◌, ◌+◌, ◌≡◌, ◌≤◌, [], Some, false}
 use Rattle.opgp_octets.specs.declared.fault.Fault.{Fault}
 use Rattle.opgp_frame.specs.Fed.{KeepsFed, is_spent, fault_of, is_ready, count_of, limits_of}
-use Rattle.opgp_frame.proofs.deframe.Deframe.push.Given as goal
+use Rattle.opgp_frame.proofs.deframe.Deframe.steps.Given as goal
 
 -- the octets before `at` are taken
 abbrev pub invariant-steps : goal.invariant-steps

@@ -3,9 +3,11 @@ use Rattle.std.specs.Prelude.{◌≡◌, ℕ, Bool, ◌&&◌, List, length, Opti
 use Rattle.std.specs.Prelude.{◌==◌, if◌then◌else◌}
 use Rattle.std.specs.BTreeMap.{BTreeMap, get}
 use Rattle.std.specs.Cmp.Lexicographic.{slice_cmp}
+use Rattle.std.specs.Int.{w64, from_be_bytes}
 use Rattle.std.specs.List.{position_from}
 use Rattle.std.specs.Ordering.{nat_cmp}
 use Rattle.std.specs.Str.{bytes_eq}
+use Rattle.opgp_octets.specs.Octets.{IsOctets}
 use Rattle.opgp_hash.specs.Fingerprint.{fingerprint_of}
 use Rattle.opgp_hash.specs.KeyId.{id_of}
 use Rattle.opgp_hash.specs.SubjectValue.{version_of}
@@ -48,3 +50,12 @@ abbrev pub HasFirsts : BTreeMap (List ℕ) ℕ → (List ℕ → Fingerprint →
     → Type 0
 HasFirsts m test prints = (o : List ℕ)
     → get (slice_cmp nat_cmp) m o ≡ position_from (test o) 0 prints
+
+-- eight octets, as a key ID has
+abbrev pub IsId : List ℕ → Type 0
+IsId o = (length o ≡ 8) × IsOctets o
+
+-- the map has, at the number that a key ID spells, the place of the first that has this key ID
+abbrev pub HasFirstIds : BTreeMap ℕ ℕ → List Fingerprint → Type 0
+HasFirstIds m prints = (o : List ℕ) → IsId o
+    → get nat_cmp m (from_be_bytes w64 o) ≡ position_from (has_id o) 0 prints

@@ -3,12 +3,13 @@
 ghost use Rattle.std.specs.Prelude.{◌≡◌, ◌++◌, ◌∷◌, [], ℕ, List, true, OnOk, IfOk};
 ghost use Rattle.std.specs.BTreeMap.{get};
 ghost use Rattle.std.specs.Cmp.Lexicographic.{slice_cmp};
+ghost use Rattle.std.specs.Int.{w64, from_be_bytes};
 ghost use Rattle.std.specs.List.{list_all};
 ghost use Rattle.std.specs.Ordering.{nat_cmp};
 ghost use Rattle.std.specs.Str.{bytes_eq};
 ghost use Rattle.std.proofs.Props.{props};
-ghost use Rattle.opgp_report.specs.First.{has_id, has_print, first_by_id, first_by_print};
-ghost use Rattle.opgp_report.specs.First.{is_sized, first_or, HasFirsts};
+ghost use Rattle.opgp_report.specs.First.{has_print, first_by_id, first_by_print};
+ghost use Rattle.opgp_report.specs.First.{is_sized, first_or, HasFirsts, HasFirstIds, IsId};
 
 use opgp_hash::Fingerprint;
 use opgp_octets::OutOfMemory;
@@ -23,11 +24,12 @@ pub struct Names {
     prints: Vec<Fingerprint>,
     four: BTreeMap<[u8; 20], usize>,
     six: BTreeMap<[u8; 32], usize>,
-    ids: BTreeMap<[u8; 8], usize>,
+    // At the number that a key ID's octets spell: a number is compared at once.
+    ids: BTreeMap<u64, usize>,
     ghost sized: { list_all is_sized prints.items ≡ true },
     ghost fours: { HasFirsts four (has_print 4) prints.items } by { Prim.hlevel props },
     ghost sixes: { HasFirsts six (has_print 6) prints.items } by { Prim.hlevel props },
-    ghost by_id: { HasFirsts ids has_id prints.items } by { Prim.hlevel props },
+    ghost by_id: { HasFirstIds ids prints.items } by { Prim.hlevel props },
 }
 
 impl Names {
@@ -59,7 +61,7 @@ impl Names {
         } = self;
         let at = prints.len();
         prints.push(print)?;
-        note(&mut ids, print.key_id().0, at)?;
+        note_id(&mut ids, print.key_id().0, at)?;
         match print {
             Fingerprint::Four(octets) => {
                 note(&mut four, octets, at)?;
@@ -86,7 +88,7 @@ impl Names {
     pub fn first_by_key_id(&self, id: [u8; 8]) -> Option<usize>
         ensures { result ≡ first_by_id id (prints_shown self.now) }
     {
-        self.ids.get(&id).copied()
+        self.ids.get(&u64::from_be_bytes(id)).copied()
     }
 
     /// The place of the first key of this version with this fingerprint.
@@ -122,5 +124,18 @@ fn note<const N: usize>(
         return Ok(());
     }
     map.insert(key, at)?;
+    Ok(())
+}
+
+/// Notes where a key of this key ID stands, if no place is noted for it yet.
+fn note_id(ids: &mut BTreeMap<u64, usize>, id: [u8; 8], at: usize) -> Result<(), OutOfMemory>
+    ensures { OnOk result ((o : List ℕ) → IsId o → get nat_cmp ids.new (from_be_bytes w64 o)
+        ≡ first_or (get nat_cmp ids.old (from_be_bytes w64 o)) (bytes_eq id o) at) }
+{
+    let number = u64::from_be_bytes(id);
+    if ids.get(&number).is_some() {
+        return Ok(());
+    }
+    ids.insert(number, at)?;
     Ok(())
 }

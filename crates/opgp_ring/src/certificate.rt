@@ -131,6 +131,7 @@ impl Certificate {
 
     /// Hangs a packet on the last component, or on the primary key where there is none. An error is
     /// want of memory.
+    #[inline(always)]
     pub(crate) fn hang(&mut self, packet: Member) -> Result<(), OutOfMemory>
         requires { IsHung packet }
         ensures ok { OnOk result

@@ -43,6 +43,7 @@ impl Component {
     }
 
     /// Hangs a packet on it. An error is want of memory.
+    #[inline(always)]
     pub(crate) fn hang(&mut self, packet: Member) -> Result<(), OutOfMemory>
         requires { IsHung packet }
         ensures head { self.new.head ≡ self.old.head }

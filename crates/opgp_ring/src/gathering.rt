@@ -2,9 +2,9 @@
 
 ghost use Rattle.std.specs.Prelude.{◌≡◌, ◌++◌, ◌∷◌, [], List, map, false, IfOk, OnOk};
 ghost use Rattle.opgp_octets.specs.declared.limits.Limits.{Limits};
-ghost use Rattle.opgp_ring.specs.Composed.{IsFault, IsKeyringOf};
+ghost use Rattle.opgp_ring.specs.Composed.{IsFault, IsKeyringOf, parts_of};
 ghost use Rattle.opgp_ring.specs.Composition.{Item, of_label, of_packet};
-ghost use Rattle.opgp_ring.specs.Fed.{is_ready};
+ghost use Rattle.opgp_ring.specs.Fed.{Fed, is_ready, is_spent};
 
 use crate::block_of::BlockOf;
 use crate::certificate::Certificate;
@@ -79,11 +79,10 @@ impl Gathering {
             Ok(()) => {}
             Err(_) => return Err(AllocError),
         }
-        match self.composer.take() {
-            Some(Ready::Lead(lead)) => self.lead = lead,
-            Some(Ready::Certificate(certificate)) => self.certificates.push(certificate)?,
-            None => {}
+        if !self.composer.ready() {
+            return Ok(());
         }
+        keep(&mut self.composer, &mut self.lead, &mut self.certificates)?;
         Ok(())
     }
 
@@ -116,4 +115,27 @@ impl Gathering {
             Err(fault) => Ok(Composed::Refused(fault)),
         }
     }
+}
+
+/// Keeps the part that is ready. Most packets make none ready, so that this stands apart.
+#[inline(never)]
+fn keep(
+    composer: &mut Composer,
+    lead: &mut Vec<Packet>,
+    certificates: &mut Vec<Certificate>,
+) -> Result<(), OutOfMemory>
+    ensures kept { OnOk result ((limits : Limits) (given : List Item)
+        → Fed limits composer.old given
+        (parts_of (record { lead = lead.old.items; certificates = certificates.old.items }))
+        → Fed limits composer.new given
+        (parts_of (record { lead = lead.new.items; certificates = certificates.new.items }))) }
+    ensures free { is_ready composer.new ≡ false }
+    ensures spent { is_spent composer.new ≡ is_spent composer.old }
+{
+    match composer.take() {
+        Some(Ready::Lead(first)) => *lead = first,
+        Some(Ready::Certificate(certificate)) => certificates.push(certificate)?,
+        None => {}
+    }
+    Ok(())
 }

@@ -1,10 +1,11 @@
 //! Packets on their way to an output, bare or as armor, without memory.
 
-ghost use Rattle.std.specs.Prelude.{◌≡◌, ◌++◌, false};
+ghost use Rattle.std.specs.Prelude.{◌≡◌, ◌++◌, true, false};
 ghost use Rattle.opgp_frame.specs.Packet.{IsPacket, packets_octets, spelling};
 ghost use Rattle.opgp_ring.specs.Packets.{packets_left, part_packet};
-ghost use Rattle.opgp_stack.specs.Via.{WritesVia, label_in, way_of};
-ghost use Rattle.opgp_stream.specs.Output.{sink_name, sink_of};
+ghost use Rattle.opgp_stack.specs.Via.{AddsVia, WritesVia, label_in, way_of};
+ghost use Rattle.opgp_stream.specs.Added.{Adds};
+ghost use Rattle.opgp_stream.specs.Output.{sink_name, sink_of, state_of};
 
 use opgp_frame::{Form, Spelling};
 use opgp_ring::{Packets, Part};
@@ -92,6 +93,55 @@ fn add_packet<W: Sink>(
     Ok(())
 }
 
+/// Adds the packet of this form, type and body where it has one header and the output has room for
+/// it, and answers true; or false, where nothing changes.
+fn hold_packet<W: Sink>(
+    output: &mut Output<'_, W>,
+    form: &Form,
+    kind: u8,
+    body: &[u8],
+) -> bool
+    requires packet { IsPacket (record { form = form.now; kind = kind; body = body.now }) }
+    requires sound { W.has_failed (sink_of output.old) ≡ false }
+    ensures same { sink_name output.new ≡ sink_name output.old }
+    ensures held { result ≡ true → Adds (state_of W.held W.has_failed output.old)
+        (state_of W.held W.has_failed output.new)
+        (spelling (record { form = form.now; kind = kind; body = body.now })) }
+    ensures left { result ≡ false → state_of W.held W.has_failed output.new
+        ≡ state_of W.held W.has_failed output.old }
+{
+    let mut spelling = Spelling::new(form, kind, body);
+    match (spelling.next(), spelling.next()) {
+        (Some((header, piece)), None) => output.hold_both(header.as_slice(), piece),
+        _ => false,
+    }
+}
+
+/// Adds a packet of a keyring where the output is bare and has room for it, and answers true; or
+/// false, where nothing changes. So nearly all packets are added without an `io::Result`, which is
+/// large and would be moved from call to call.
+fn hold_one<W: Sink>(
+    output: &mut Output<'_, W>,
+    armoring: &Option<Armoring>,
+    part: Part<'_>,
+) -> bool
+    requires { W.has_failed (sink_of output.old) ≡ false }
+    ensures same { sink_name output.new ≡ sink_name output.old }
+    ensures held { result ≡ true
+        → AddsVia (way_of W.held W.has_failed output.old armoring.now)
+        (way_of W.held W.has_failed output.new armoring.now) (spelling (part_packet part.entry)) }
+    ensures left { result ≡ false → state_of W.held W.has_failed output.new
+        ≡ state_of W.held W.has_failed output.old }
+{
+    if armoring.is_some() {
+        return false;
+    }
+    match part {
+        Part::Lead(packet) => hold_packet(output, packet.form(), packet.kind(), packet.body()),
+        Part::Member(member) => hold_packet(output, member.form(), member.kind(), member.body()),
+    }
+}
+
 /// Adds a packet of a keyring.
 fn add_one<W: Sink>(
     output: &mut Output<'_, W>,
@@ -149,7 +199,9 @@ pub(crate) fn add_packets<W: Sink>(
     a_failure_in_rows_behind();
     a_failure_in_rows_in_front();
     'packets: while let Some(part) = packets.next() {
-        add_one(output, armoring, part)?;
+        if !hold_one(output, armoring, part) {
+            add_one(output, armoring, part)?;
+        }
     }
     Ok(())
 }

@@ -1,7 +1,7 @@
 //! A buffered writer that takes no memory.
 
-ghost use Rattle.std.specs.Prelude.{◌≡◌, ◌++◌, [], false, OnOk};
-ghost use Rattle.opgp_stream.specs.Added.{Writes};
+ghost use Rattle.std.specs.Prelude.{◌≡◌, ◌++◌, [], true, false, OnOk};
+ghost use Rattle.opgp_stream.specs.Added.{Adds, Writes};
 ghost use Rattle.opgp_stream.specs.Output.{sink_name, sink_of, state_of, waiting_in};
 
 use crate::buffer::{Buffer, SIZE};
@@ -50,10 +50,24 @@ impl<'a, W: Sink> Output<'a, W> {
         ensures written { Writes (state_of W.held W.has_failed self.old)
             (state_of W.held W.has_failed self.new) result (front.now ++ back.now) }
     {
-        if self.buffer.hold_both(front, back) {
+        if self.hold_both(front, back) {
             return Ok(());
         }
         self.add_two(front, back)
+    }
+
+    /// Adds octets, and behind them others, and answers true; or false, where nothing changes, as
+    /// there is no room for both to wait. Nothing is put into the sink.
+    #[inline]
+    pub fn hold_both(&mut self, front: &[u8], back: &[u8]) -> bool
+        requires { W.has_failed (sink_of self.old) ≡ false }
+        ensures same { sink_name self.new ≡ sink_name self.old }
+        ensures held { result ≡ true → Adds (state_of W.held W.has_failed self.old)
+            (state_of W.held W.has_failed self.new) (front.now ++ back.now) }
+        ensures left { result ≡ false → state_of W.held W.has_failed self.new
+            ≡ state_of W.held W.has_failed self.old }
+    {
+        self.buffer.hold_both(front, back)
     }
 
     /// Adds octets, and behind them others, whatever room there is.

@@ -1,7 +1,8 @@
 //! An armored text, read from a source as far as it is asked for.
 
-ghost use Rattle.std.specs.Prelude.{◌≡◌, ◌≤◌, ◌+◌, ◌<◌, ◌^◌, true, false};
+ghost use Rattle.std.specs.Prelude.{◌≡◌, ◌≤◌, ◌+◌, ◌↔◌, IsTrue, false};
 ghost use Rattle.opgp_armor.specs.Fed.{has_ended, held_of, is_ready, line_limit_of};
+ghost use Rattle.opgp_octets.specs.Limits.{input_limit};
 
 use anyhow::{Result, bail};
 use opgp_armor::{ArmorEvent, Dearmor};
@@ -21,7 +22,7 @@ pub(crate) struct Text<R> {
 
 /// Whether so many octets more are within the limit of the input.
 pub(crate) fn has_room(limits: Limits, given: u64, more: usize) -> bool
-    ensures { result ≡ true → given + more < 2 ^ 63 }
+    ensures { IsTrue result ↔ (given + more ≤ input_limit limits) }
 {
     given <= limits.input() && more as u64 <= limits.input() - given
 }

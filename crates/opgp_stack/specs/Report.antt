@@ -33,41 +33,23 @@ verdict_name Bad = codes "bad"
 verdict_name Undecided = codes "undecided"
 
 -- ---- lines
--- `row <n> cert <n> part <n or -> hang <n> nested <n or -> : `
-abbrev pub place_text : ℕ → Place → List ℕ
-place_text number place = joined (codes "row " ∷ decimal number ∷ codes " cert "
+-- behind its place: `none <why>`, or
+-- `asked type <T> hash <n> signer <key ID or -> digest <its first two octets> verdict <..>`
+abbrev pub finding_words : FindingValue → List (List ℕ)
+finding_words (not_asked why) = codes " : none " ∷ why_text why ∷ codes "\n" ∷ []
+finding_words (asked_with kind hash signer digest verdict) = codes " : asked type "
+    ∷ encode_upper (kind ∷ []) ∷ codes " hash " ∷ decimal hash ∷ codes " signer "
+    ∷ id_or_none signer ∷ codes " digest " ∷ encode_upper (take 2 (digest_octets digest))
+    ∷ (codes " verdict " ++ verdict_name verdict ++ codes "\n") ∷ []
+
+-- `row <n> cert <n> part <n or -> hang <n> nested <n or -> : <..>`
+abbrev pub line_at : ℕ → Place → List (List ℕ) → List ℕ
+line_at number place words = joined (codes "row " ∷ decimal number ∷ codes " cert "
     ∷ decimal place.certificate ∷ codes " part " ∷ number_or_none place.component ∷ codes " hang "
-    ∷ decimal place.hang ∷ codes " nested " ∷ number_or_none place.nested ∷ codes " : " ∷ [])
-
--- `asked type <T> hash <n> signer `
-abbrev pub type_text : ℕ → ℕ → List ℕ
-type_text kind hash = joined (codes "asked type " ∷ encode_upper (kind ∷ []) ∷ codes " hash "
-    ∷ decimal hash ∷ codes " signer " ∷ [])
-
--- ` digest <its first two octets> verdict `
-abbrev pub digest_text : Digest → List ℕ
-digest_text digest = joined (codes " digest " ∷ encode_upper (take 2 (digest_octets digest))
-    ∷ codes " verdict " ∷ [])
-
-abbrev pub verdict_text : Verdict → List ℕ
-verdict_text verdict = joined (verdict_name verdict ∷ codes "\n" ∷ [])
-
--- `asked type <T> hash <n> signer <key ID or -> digest <DDDD> verdict <..>`
-abbrev pub asked_text : ℕ → ℕ → Option (List ℕ) → Digest → Verdict → List ℕ
-asked_text kind hash signer digest verdict = type_text kind hash
-    ++ (id_or_none signer ++ (digest_text digest ++ verdict_text verdict))
-
--- `none <why>`
-abbrev pub none_text : Why → List ℕ
-none_text why = joined (codes "none " ∷ why_text why ∷ codes "\n" ∷ [])
-
-abbrev pub finding_text : FindingValue → List ℕ
-finding_text (not_asked why) = none_text why
-finding_text (asked_with kind hash signer digest verdict) =
-    asked_text kind hash signer digest verdict
+    ∷ decimal place.hang ∷ codes " nested " ∷ number_or_none place.nested ∷ words)
 
 abbrev pub row_line : ℕ → RowValue → List ℕ
-row_line number row = place_text number row.place ++ finding_text row.finding
+row_line number row = line_at number row.place (finding_words row.finding)
 
 -- of rows, numbered from here
 abbrev pub report_lines : ℕ → List RowValue → List ℕ

@@ -1,11 +1,12 @@
 //! The lines of a keyring's report, without memory.
 
-ghost use Rattle.std.specs.Prelude.{◌≡◌, ◌++◌, false, codes, map};
+ghost use Rattle.std.specs.Prelude.{◌≡◌, ◌++◌, false, codes, map, take};
 ghost use Rattle.std.specs.Option.{option_map};
-ghost use Rattle.opgp_report.specs.Row.{finding_value, row_value};
-ghost use Rattle.opgp_stack.specs.Report.{asked_text, digest_text, finding_text, id_or_none};
-ghost use Rattle.opgp_stack.specs.Report.{none_text, number_or_none, place_text, report_lines};
-ghost use Rattle.opgp_stack.specs.Report.{row_line, type_text, verdict_name, verdict_text};
+ghost use Rattle.opgp_hash.specs.Digest.{digest_octets};
+ghost use Rattle.opgp_report.specs.Row.{row_value};
+ghost use Rattle.opgp_report.specs.RowValue.{asked_with, not_asked};
+ghost use Rattle.opgp_stack.specs.Report.{finding_words, id_or_none, line_at, number_or_none};
+ghost use Rattle.opgp_stack.specs.Report.{report_lines, row_line, verdict_name};
 ghost use Rattle.opgp_stream.specs.Added.{Writes};
 ghost use Rattle.opgp_stream.specs.Line.{word_text};
 ghost use Rattle.opgp_stream.specs.Output.{sink_name, sink_of, state_of};
@@ -36,12 +37,79 @@ fn verdict_end(verdict: Verdict) -> &'static [u8]
     }
 }
 
-/// Adds where a signature stands.
-fn add_place<W: Sink>(output: &mut Output<'_, W>, number: u64, place: Place) -> io::Result<()>
+/// A key ID's digits in hexadecimal, or `-` for none.
+fn id_or_none(id: &Option<KeyId>) -> Word<'_>
+    ensures { word_text result ≡ id_or_none (option_map (λ k. k.0) id.now) }
+{
+    match id {
+        Some(id) => Word::Hex(id.0.as_slice()),
+        None => Word::Text(b"-"),
+    }
+}
+
+/// The first two octets of a digest.
+fn left_of(digest: &Digest) -> [u8; 2]
+    ensures { result ≡ take 2 (digest_octets digest.now) }
+{
+    match digest.octets() {
+        [first, second, ..] => [*first, *second],
+        _ => unreachable!(),
+    }
+}
+
+/// Adds the line of a signature that asks a question.
+fn add_asked<W: Sink>(
+    output: &mut Output<'_, W>,
+    number: u64,
+    place: Place,
+    kind: u8,
+    hash: u8,
+    signer: Option<KeyId>,
+    digest: &Digest,
+    verdict: Verdict,
+) -> io::Result<()>
     requires { W.has_failed (sink_of output.old) ≡ false }
     ensures same { sink_name output.new ≡ sink_name output.old }
     ensures written { Writes (state_of W.held W.has_failed output.old)
-        (state_of W.held W.has_failed output.new) result (place_text number place) }
+        (state_of W.held W.has_failed output.new) result (line_at number place (finding_words
+        (asked_with kind hash (option_map (λ k. k.0) signer) digest.now verdict))) }
+{
+    let left = left_of(digest);
+    output.add_words(&[
+        Word::Text(b"row "),
+        Word::Decimal(number),
+        Word::Text(b" cert "),
+        Word::Decimal(place.certificate as u64),
+        Word::Text(b" part "),
+        number_or_none(place.component),
+        Word::Text(b" hang "),
+        Word::Decimal(place.hang as u64),
+        Word::Text(b" nested "),
+        number_or_none(place.nested),
+        Word::Text(b" : asked type "),
+        Word::Hex(&[kind]),
+        Word::Text(b" hash "),
+        Word::Decimal(hash as u64),
+        Word::Text(b" signer "),
+        id_or_none(&signer),
+        Word::Text(b" digest "),
+        Word::Hex(&left),
+        Word::Text(verdict_end(verdict)),
+    ])
+}
+
+/// Adds the line of a signature that asks no question.
+fn add_none<W: Sink>(
+    output: &mut Output<'_, W>,
+    number: u64,
+    place: Place,
+    why: Why,
+) -> io::Result<()>
+    requires { W.has_failed (sink_of output.old) ≡ false }
+    ensures same { sink_name output.new ≡ sink_name output.old }
+    ensures written { Writes (state_of W.held W.has_failed output.old)
+        (state_of W.held W.has_failed output.new) result
+        (line_at number place (finding_words (not_asked why))) }
 {
     output.add_words(&[
         Word::Text(b"row "),
@@ -54,118 +122,10 @@ fn add_place<W: Sink>(output: &mut Output<'_, W>, number: u64, place: Place) -> 
         Word::Decimal(place.hang as u64),
         Word::Text(b" nested "),
         number_or_none(place.nested),
-        Word::Text(b" : "),
-    ])
-}
-
-/// Adds a signature's type and hash algorithm, and its signer's key ID, or `-` for none.
-fn add_type<W: Sink>(
-    output: &mut Output<'_, W>,
-    kind: u8,
-    hash: u8,
-    signer: Option<KeyId>,
-) -> io::Result<()>
-    requires { W.has_failed (sink_of output.old) ≡ false }
-    ensures same { sink_name output.new ≡ sink_name output.old }
-    ensures written { Writes (state_of W.held W.has_failed output.old)
-        (state_of W.held W.has_failed output.new) result
-        (type_text kind hash ++ id_or_none (option_map (λ k. k.0) signer)) }
-{
-    match signer {
-        Some(id) => {
-            let KeyId(octets) = id;
-            output.add_words(&[
-                Word::Text(b"asked type "),
-                Word::Hex(&[kind]),
-                Word::Text(b" hash "),
-                Word::Decimal(hash as u64),
-                Word::Text(b" signer "),
-                Word::Hex(&octets),
-            ])
-        }
-        None => output.add_words(&[
-            Word::Text(b"asked type "),
-            Word::Hex(&[kind]),
-            Word::Text(b" hash "),
-            Word::Decimal(hash as u64),
-            Word::Text(b" signer -"),
-        ]),
-    }
-}
-
-/// Adds the first two octets of a digest, a verdict, and the line's end.
-fn add_digest<W: Sink>(
-    output: &mut Output<'_, W>,
-    digest: &Digest,
-    verdict: Verdict,
-) -> io::Result<()>
-    requires { W.has_failed (sink_of output.old) ≡ false }
-    ensures same { sink_name output.new ≡ sink_name output.old }
-    ensures written { Writes (state_of W.held W.has_failed output.old)
-        (state_of W.held W.has_failed output.new) result
-        (digest_text digest.now ++ verdict_text verdict) }
-{
-    let octets = digest.octets();
-    output.add_words(&[
-        Word::Text(b" digest "),
-        Word::Hex(&octets[..2]),
-        Word::Text(verdict_end(verdict)),
-    ])
-}
-
-/// Adds what is found of a signature that asks a question.
-fn add_asked<W: Sink>(
-    output: &mut Output<'_, W>,
-    kind: u8,
-    hash: u8,
-    signer: Option<KeyId>,
-    digest: &Digest,
-    verdict: Verdict,
-) -> io::Result<()>
-    requires { W.has_failed (sink_of output.old) ≡ false }
-    ensures same { sink_name output.new ≡ sink_name output.old }
-    ensures written { Writes (state_of W.held W.has_failed output.old)
-        (state_of W.held W.has_failed output.new) result
-        (asked_text kind hash (option_map (λ k. k.0) signer) digest.now verdict) }
-{
-    adding_goes_on();
-    a_failure_behind();
-    a_failure_in_front();
-    add_type(output, kind, hash, signer)?;
-    add_digest(output, digest, verdict)
-}
-
-/// Adds why a signature asks no question.
-fn add_none<W: Sink>(output: &mut Output<'_, W>, why: Why) -> io::Result<()>
-    requires { W.has_failed (sink_of output.old) ≡ false }
-    ensures same { sink_name output.new ≡ sink_name output.old }
-    ensures written { Writes (state_of W.held W.has_failed output.old)
-        (state_of W.held W.has_failed output.new) result (none_text why) }
-{
-    output.add_words(&[
-        Word::Text(b"none "),
+        Word::Text(b" : none "),
         Word::Text(why.name().as_bytes()),
         Word::Text(b"\n"),
     ])
-}
-
-/// Adds what is found of a signature.
-fn add_finding<W: Sink>(output: &mut Output<'_, W>, finding: &Finding) -> io::Result<()>
-    requires { W.has_failed (sink_of output.old) ≡ false }
-    ensures same { sink_name output.new ≡ sink_name output.old }
-    ensures written { Writes (state_of W.held W.has_failed output.old)
-        (state_of W.held W.has_failed output.new) result (finding_text (finding_value finding.now)) }
-{
-    match finding {
-        Finding::Asked {
-            kind,
-            hash,
-            signer,
-            digest,
-            verdict,
-        } => add_asked(output, *kind, *hash, *signer, digest, *verdict),
-        Finding::NotAsked(why) => add_none(output, *why),
-    }
 }
 
 /// Adds the line of a row.
@@ -175,11 +135,16 @@ fn add_row<W: Sink>(output: &mut Output<'_, W>, number: u64, row: &Row) -> io::R
     ensures written { Writes (state_of W.held W.has_failed output.old)
         (state_of W.held W.has_failed output.new) result (row_line number (row_value row.now)) }
 {
-    adding_goes_on();
-    a_failure_behind();
-    a_failure_in_front();
-    add_place(output, number, row.place)?;
-    add_finding(output, &row.finding)
+    match &row.finding {
+        Finding::Asked {
+            kind,
+            hash,
+            signer,
+            digest,
+            verdict,
+        } => add_asked(output, number, row.place, *kind, *hash, *signer, digest, *verdict),
+        Finding::NotAsked(why) => add_none(output, number, row.place, *why),
+    }
 }
 
 /// Adds the lines of rows.

@@ -72,6 +72,7 @@ pub fn ask_view<'a>(signature: SigView<'a>, subject: Subject<'a>) -> Result<Ques
 /// It is what [`ask_view`] answers, but that a subkey's own binding to the primary key is asked
 /// embedded alone, and nothing else there. The condition is that the subject fits, which
 /// [`Subject::fits`] tells.
+#[inline(always)]
 pub fn ask_at<'a>(
     site: Site,
     signature: SigView<'a>,
@@ -133,7 +134,8 @@ fn signed<'a>(signature: SigView<'a>) -> Option<Signed<'a>>
 }
 
 /// The question, or the first reason why there is none, where the signature's type is asked about
-/// the subject or isn't.
+/// the subject or isn't. In line, so that the question isn't copied from place to place.
+#[inline(always)]
 fn asked<'a>(signed: Signed<'a>, subject: Subject<'a>, stands: bool) -> Result<Question<'a>, Why>
     requires within { is_within (subject_value subject) ≡ true }
     requires about { stands ≡ true → is_about signed.kind (subject_value subject) ≡ true }

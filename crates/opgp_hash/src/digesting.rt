@@ -49,5 +49,7 @@ pub(crate) fn feed<D: sha2::Digest>(part: &Part<'_>, hasher: &mut D)
     ensures { (m : List ℕ) → D.holds hasher.old m → D.holds hasher.new (m ++ part_octets part.now) }
 {
     hasher.update(part.head.octets());
-    hasher.update(part.body);
+    if !part.body.is_empty() {
+        hasher.update(part.body);
+    }
 }

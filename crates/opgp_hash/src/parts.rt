@@ -24,6 +24,7 @@ pub(crate) struct Parts<'a> {
 
 impl<'a> Parts<'a> {
     /// Those of the question.
+    #[inline(always)]
     pub(crate) fn of(question: &Question<'a>) -> Parts<'a>
         ensures value { parts_octets result ≡ hashed (question_value question.now) }
         // Version 4 has no salt: its parts begin with the subject, and that with its first key.

@@ -319,6 +319,7 @@ impl<'a> Cursor<'a> {
 
     /// An area of subpackets behind its length: [`Reason::Short`], [`Reason::AreaShort`], and
     /// [`Reason::SubEmpty`] and [`Reason::SubShort`] at a subpacket of it (RFC 9580, 5.2.3.7).
+    #[inline(always)]
     pub fn area(&mut self, width: AreaLength) -> Result<Span, BodyFault>
         ensures reads { Reads
             (λ p. (

@@ -40,6 +40,7 @@ pub(crate) fn placed(
 }
 
 /// The form of a packet with these pieces and this last length.
+#[inline(always)]
 fn form_of(exponents: Vec<u8>, last: Length) -> Option<Form>
     ensures kept { IfSome result (λ f. length (exponents_of f) ≤ length exponents.items) }
     ensures exact { (0 < length exponents.items → ArePieces exponents.items)

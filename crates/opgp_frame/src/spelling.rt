@@ -77,6 +77,7 @@ impl<'a> Spelling<'a> {
     /// The octets of the packet with this form, type and body.
     ///
     /// Takes no memory.
+    #[inline(always)]
     pub fn new(form: &'a Form, kind: u8, body: &'a [u8]) -> Spelling<'a>
         requires { IsPacket (record { form = form.now; kind = kind; body = body.now }) }
         ensures { octets_left result

@@ -58,6 +58,7 @@ pub fn spelled_len_of(form: &Form, n: u64) -> u64
 }
 
 /// How many octets its first octet, its length headers and a body of `n` octets are.
+#[inline(always)]
 pub(crate) fn size_in(form: &Form, n: u64) -> u64
     requires { FormSpells form.now n }
     ensures { result ≡ 1 + length (exponents_of form.now)

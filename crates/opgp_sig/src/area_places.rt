@@ -46,6 +46,7 @@ impl AreaPlaces {
 
     /// The signature of a version that the octets spell, all of them.
     #[tactic(auto, unfolding(opgp_body::specs::FieldReading::body_at, crate::specs::SignatureBody::with_areas))]
+    #[inline(always)]
     pub(crate) fn read(o: &[u8], version: u8) -> Result<AreaPlaces, BodyFault>
         requires { IsBodySized o.now }
         ensures exact { Reads (λ p. areas_fields (areas_in version p o.now)) result

@@ -32,6 +32,7 @@ pub(crate) fn salt_at(cursor: &mut Cursor<'_>, hash: u8) -> Result<Span, BodyFau
 }
 
 /// The material of the algorithm that comes next, its integers strict or not.
+#[inline(always)]
 pub(crate) fn material_at(
     cursor: &mut Cursor<'_>,
     strict: bool,

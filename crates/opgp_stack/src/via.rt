@@ -95,6 +95,7 @@ fn add_packet<W: Sink>(
 
 /// Adds the packet of this form, type and body where it has one header and the output has room for
 /// it, and answers true; or false, where nothing changes.
+#[inline(always)]
 fn hold_packet<W: Sink>(
     output: &mut Output<'_, W>,
     form: &Form,
@@ -120,6 +121,7 @@ fn hold_packet<W: Sink>(
 /// Adds a packet of a keyring where the output is bare and has room for it, and answers true; or
 /// false, where nothing changes. So nearly all packets are added without an `io::Result`, which is
 /// large and would be moved from call to call.
+#[inline(always)]
 fn hold_one<W: Sink>(
     output: &mut Output<'_, W>,
     armoring: &Option<Armoring>,

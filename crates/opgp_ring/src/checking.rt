@@ -7,7 +7,7 @@ ghost use Rattle.opgp_ring.specs.Block.{placed_of};
 use crate::block_of::BlockOf;
 use opgp_frame::Placed;
 use opgp_hash::body_fault;
-use opgp_octets::{Fault, Layer, PacketType};
+use opgp_octets::{Fault, PacketType};
 
 /// The fault of the first packet whose body has one, in order of blocks (RFC 9580, 5). Takes no
 /// memory.
@@ -32,13 +32,7 @@ pub(crate) fn check_packets(packets: &[Placed]) -> Option<Fault>
     for placed in packets {
         let packet = &placed.packet;
         if let Some(fault) = body_fault(PacketType::from(packet.kind()), packet.body()) {
-            return Some(Fault {
-                layer: Layer::Body,
-                reason: fault.reason,
-                block: placed.block,
-                pos: placed.pos,
-                inner: fault.inner,
-            });
+            return Some(fault.placed(placed.block, placed.pos));
         }
     }
     None

@@ -269,13 +269,7 @@ impl Composer {
         ensures limits { limits_of self.new ≡ limits_of self.old }
     {
         if !self.is_broken() {
-            let fault = Fault {
-                layer: Layer::Body,
-                reason: fault.reason,
-                block,
-                pos,
-                inner: fault.inner,
-            };
+            let fault = fault.placed(block, pos);
             drop(mem::replace(&mut self.state, State::Broken(fault)));
             self.size = 0;
         }

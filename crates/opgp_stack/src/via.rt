@@ -96,12 +96,7 @@ fn add_packet<W: Sink>(
 /// Adds the packet of this form, type and body where it has one header and the output has room for
 /// it, and answers true; or false, where nothing changes.
 #[inline(always)]
-fn hold_packet<W: Sink>(
-    output: &mut Output<'_, W>,
-    form: &Form,
-    kind: u8,
-    body: &[u8],
-) -> bool
+fn hold_packet<W: Sink>(output: &mut Output<'_, W>, form: &Form, kind: u8, body: &[u8]) -> bool
     requires packet { IsPacket (record { form = form.now; kind = kind; body = body.now }) }
     requires sound { W.has_failed (sink_of output.old) ≡ false }
     ensures same { sink_name output.new ≡ sink_name output.old }

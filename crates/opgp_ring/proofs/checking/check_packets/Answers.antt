@@ -11,7 +11,7 @@ returns-in-Some c =
     let ps = c.args.packets.now in
     let p = c.placed-item.result in
     let here = untyped p.packet c.kind.result c.from.result c.body.result.now c.in-Some.fault c.kind.ensures.value c.from.ensures.0 c.body.ensures.value c.in-Some.ensures.fault in
-    first_at ps c.loop-placed.placed-index p c.in-Some.fault (omega arith) c.placed-item.is c.loop-placed.invariant c.kind.ensures.packet.octets here
+    rw c.placed.ensures (first_at ps c.loop-placed.placed-index p c.in-Some.fault (omega arith) c.placed-item.is c.loop-placed.invariant c.kind.ensures.packet.octets here)
 
 pub returns : goal.returns
 returns c =

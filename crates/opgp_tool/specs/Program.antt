@@ -102,6 +102,13 @@ AllModes = AllByRecursion AreModes
 abbrev pub AllOuts : List Choice → Type 0
 AllOuts = AllByRecursion AreOuts
 
+-- the program without its commands
+abbrev pub bare_program : App
+bare_program = record {
+  top = record (new_shape (codes "opgp")) { subcommand_required = true };
+  subs = [];
+}
+
 -- the eight commands, in order, each with its own words for `--mode`, `--of` and `--out`
 abbrev pub program_of : (show list check octets write normalise split join tops : Choice)
     → (write_outs normalise_outs split_outs join_outs : Choice) → App

@@ -1,11 +1,11 @@
 //! The program's commands and their options, as `clap` reads them.
 
-ghost use Rattle.std.specs.Prelude.{◌≡◌, true, false, IfOk, [], ◌∷◌, codes};
+ghost use Rattle.std.specs.Prelude.{◌≡◌, true, false, IfOk, IsOkAnd, [], ◌∷◌, codes};
 ghost use Rattle.clap.specs.Words.{rule_of, app_of, shape_of, with_rule, with_subcommand};
 ghost use Rattle.opgp_tool.specs.Program.{Choice, AreModes, AreOuts, AreTops, mode_rule, out_rule};
 ghost use Rattle.opgp_tool.specs.Program.{of_rule, line_rule, body_rule, cert_rule, input_rule};
 ghost use Rattle.opgp_tool.specs.Program.{pieces_rule, row_rule, nth_rule, merge_rule};
-ghost use Rattle.opgp_tool.specs.Program.{IsCommand, IsProgram};
+ghost use Rattle.opgp_tool.specs.Program.{IsCommand, IsProgram, bare_program};
 
 use crate::help::{
     CHECK_HELP, JOIN_HELP, LIST_HELP, NORMALISE_HELP, OCTETS_HELP, PROGRAM_HELP, SHOW_HELP,
@@ -180,13 +180,15 @@ fn with_option<'a>(command: Command<'a>, option: Arg<'a>) -> Result<Command<'a>,
     command.arg(option)
 }
 
-/// The program with a command more, its last.
-fn with_command<'a>(tool: Command<'a>, command: Command<'a>) -> Result<Command<'a>, OutOfMemory>
-    requires plain { (app_of command).top.is_plain ≡ true }
-    ensures { IfOk result (λ r. app_of r ≡ with_subcommand (app_of tool.entry)
-        (shape_of command.entry)) }
+/// The program with a command more, its last, if that was made.
+fn with_command<'a>(
+    tool: Command<'a>,
+    command: Result<Command<'a>, OutOfMemory>,
+) -> Result<Command<'a>, OutOfMemory>
+    ensures { IfOk result (λ r. IsOkAnd command.entry (λ c. (app_of c).top.is_plain ≡ true
+        → app_of r ≡ with_subcommand (app_of tool.entry) (shape_of c))) }
 {
-    tool.subcommand(command)
+    tool.subcommand(command?)
 }
 
 /// A command with the options that every command takes. Its help begins with `about`, and ends with
@@ -249,29 +251,36 @@ fn join_command<'a>(alloc: Global) -> Result<Command<'a>, OutOfMemory>
     with_option(command, merge_option(alloc))
 }
 
+/// The program without its commands.
+fn bare_program<'a>(alloc: Global) -> Result<Command<'a>, OutOfMemory>
+    ensures { IfOk result (λ c. app_of c ≡ bare_program) }
+{
+    Command::new(alloc, "opgp")
+        .about("Reads OpenPGP keyrings from standard input")
+        .after_help(PROGRAM_HELP)
+        .subcommand_required(true)
+        .bin_name("opgp")
+}
+
 /// The program and its eight commands.
 pub fn program<'a>(alloc: Global) -> Result<Command<'a>, OutOfMemory>
     ensures { IfOk result (λ c. IsProgram (app_of c)) }
 {
-    let tool = Command::new(alloc, "opgp")
-        .about("Reads OpenPGP keyrings from standard input")
-        .after_help(PROGRAM_HELP)
-        .subcommand_required(true)
-        .bin_name("opgp")?;
+    let tool = bare_program(alloc)?;
     let about = "Lists every packet and every subpacket";
-    let show = new_command(alloc, "show", about, SHOW_HELP)?;
-    let list = new_command(alloc, "list", "Lists the packets of a keyring", LIST_HELP)?;
+    let tool = with_command(tool, new_command(alloc, "show", about, SHOW_HELP))?;
+    let about = "Lists the packets of a keyring";
+    let tool = with_command(tool, new_command(alloc, "list", about, LIST_HELP))?;
     let about = "Lists the signatures of a keyring";
-    let check = new_command(alloc, "check", about, CHECK_HELP)?;
+    let tool = with_command(tool, new_command(alloc, "check", about, CHECK_HELP))?;
+    let tool = with_command(tool, octets_command(alloc))?;
     let about = "Writes a keyring, its framing kept";
-    let write = writing_command(alloc, "write", about, WRITE_HELP)?;
+    let tool = with_command(tool, writing_command(alloc, "write", about, WRITE_HELP))?;
     let about = "Writes a keyring in the current format";
-    let normalise = writing_command(alloc, "normalise", about, NORMALISE_HELP)?;
-    let tool = with_command(with_command(tool, show)?, list)?;
-    let tool = with_command(with_command(tool, check)?, octets_command(alloc)?)?;
-    let tool = with_command(with_command(tool, write)?, normalise)?;
-    with_command(
-        with_command(tool, split_command(alloc)?)?,
-        join_command(alloc)?,
-    )
+    let tool = with_command(
+        tool,
+        writing_command(alloc, "normalise", about, NORMALISE_HELP),
+    )?;
+    let tool = with_command(tool, split_command(alloc))?;
+    with_command(tool, join_command(alloc))
 }

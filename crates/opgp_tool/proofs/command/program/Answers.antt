@@ -1,80 +1,83 @@
-use Rattle.std.proofs.Common.{ap, ap₂, ◌∙◌, ◌≡◌, [], true, codes}
+use Rattle.std.proofs.Common.{Bool, ap, ap₂, ◌∙◌, Result, Ok, Err, IfOk, IsOkAnd}
 use Rattle.std.proofs.lemmas.Result.{IfOk-weaker}
-use Rattle.clap.specs.Words.{App, Shape, app_of, with_subcommand}
-use Rattle.clap.specs.Simple.{app_of_fields, new_shape}
+use Rattle.clap.specs.Words.{App, Shape, with_subcommand}
+use Rattle.clap.specs.declared.builder.command.Command.{Command}
 use Rattle.opgp_tool.proofs.command.program.Goals as goal
 
 abbrev top_of : App → Shape
 top_of a = a.top
 
--- the program without its commands
-abbrev bare : App
-bare = record { top = record (new_shape (codes "opgp")) { subcommand_required = true }; subs = [] }
+abbrev plain_of : App → Bool
+plain_of a = a.top.is_plain
 
--- a program that wants a command
-abbrev required : App → App
-required a = record { top = record a.top { subcommand_required = true }; subs = a.subs }
+-- a command that was made: what is known of it, and of the program that it is added to
+both : {E : Type 0} (made : Result Command E) (P Q : Command → Type 0)
+    → IfOk made P → IsOkAnd made Q → (command : Command) × P command × Q command
+both (Ok command) P Q p q = (command, p, q)
+both (Err e) P Q p q = absurd q
 
 pub returns : goal.returns
-returns c =
-    let show = c.in_ok-show.ensures in
-    let list = c.in_ok-list.ensures in
-    let check = c.in_ok-check.ensures in
-    let octets = c.in_ok-octets_command.ensures in
-    let write = c.in_ok-write.ensures in
-    let normalise = c.in_ok-normalise.ensures in
-    let split = c.in_ok-split_command.ensures in
-    let join = c.in_ok-join_command.ensures in
-    let start : app_of c.in_ok-tool.tool ≡ bare = ap app_of_fields c.in_ok-tool.ensures.0
-    ∙ (ap app_of_fields c.subcommand_required.ensures
-    ∙ ap required (ap app_of_fields c.after_help.ensures ∙ (ap app_of_fields c.about.ensures ∙ c.new.ensures.app))) in
-    let one = c.in_ok-with_command.ensures ∙ ap₂ with_subcommand start (ap top_of show.app) in
-    let two = c.in_ok-tool-2.ensures
-    ∙ ap₂ with_subcommand one (ap top_of list.app) in
-    let three = c.in_ok-with_command-2.ensures
-    ∙ ap₂ with_subcommand two (ap top_of check.app) in
-    let four = c.in_ok-tool-3.ensures
-    ∙ ap₂ with_subcommand three (ap top_of octets.2.app) in
-    let five = c.in_ok-with_command-3.ensures
-    ∙ ap₂ with_subcommand four (ap top_of write.2.app) in
-    let six = c.in_ok-tool-4.ensures
-    ∙ ap₂ with_subcommand five (ap top_of normalise.2.app) in
-    let seven = c.in_ok-with_command-4.ensures
-    ∙ ap₂ with_subcommand six (ap top_of split.2.app) in
-    IfOk-weaker c.with_command-8.result _ _ (λ r last. record {
-      show_modes = show.modes;
-      list_modes = list.modes;
-      check_modes = check.modes;
-      octets_modes = octets.2.modes;
-      write_modes = write.2.modes;
-      normalise_modes = normalise.2.modes;
-      split_modes = split.2.modes;
-      join_modes = join.2.modes;
+returns c = IfOk-weaker c.with_command-8.result _ _ (λ r last.
+    let show = both c.new_command.result _ _ c.new_command.ensures c.in_ok-tool-2.ensures in
+    let list = both c.new_command-2.result _ _ c.new_command-2.ensures c.in_ok-tool-3.ensures in
+    let check = both c.new_command-3.result _ _ c.new_command-3.ensures c.in_ok-tool-4.ensures in
+    let octets = both c.octets_command.result _ _ c.octets_command.ensures c.in_ok-tool-5.ensures in
+    let write = both c.writing_command.result _ _ c.writing_command.ensures
+    c.in_ok-tool-6.ensures in
+    let normalise = both c.writing_command-2.result _ _ c.writing_command-2.ensures
+    c.in_ok-tool-7.ensures in
+    let split = both c.split_command.result _ _ c.split_command.ensures c.in_ok-tool-8.ensures in
+    let join = both c.join_command.result _ _ c.join_command.ensures last in
+    let one = show.2 (ap plain_of show.1.app)
+    ∙ ap₂ with_subcommand c.in_ok-tool.ensures (ap top_of show.1.app) in
+    let two = list.2 (ap plain_of list.1.app)
+    ∙ ap₂ with_subcommand one (ap top_of list.1.app) in
+    let three = check.2 (ap plain_of check.1.app)
+    ∙ ap₂ with_subcommand two (ap top_of check.1.app) in
+    let four = octets.2 (ap plain_of octets.1.2.app)
+    ∙ ap₂ with_subcommand three (ap top_of octets.1.2.app) in
+    let five = write.2 (ap plain_of write.1.2.app)
+    ∙ ap₂ with_subcommand four (ap top_of write.1.2.app) in
+    let six = normalise.2 (ap plain_of normalise.1.2.app)
+    ∙ ap₂ with_subcommand five (ap top_of normalise.1.2.app) in
+    let seven = split.2 (ap plain_of split.1.2.app)
+    ∙ ap₂ with_subcommand six (ap top_of split.1.2.app) in
+    let eight = join.2 (ap plain_of join.1.2.app)
+    ∙ ap₂ with_subcommand seven (ap top_of join.1.2.app) in
+    record {
+      show_modes = show.1.modes;
+      list_modes = list.1.modes;
+      check_modes = check.1.modes;
+      octets_modes = octets.1.2.modes;
+      write_modes = write.1.2.modes;
+      normalise_modes = normalise.1.2.modes;
+      split_modes = split.1.2.modes;
+      join_modes = join.1.2.modes;
       are_modes = (
-        show.are_modes,
+        show.1.are_modes,
         (
-          list.are_modes,
+          list.1.are_modes,
           (
-            check.are_modes,
+            check.1.are_modes,
             (
-              octets.2.are_modes,
+              octets.1.2.are_modes,
               (
-                write.2.are_modes,
+                write.1.2.are_modes,
                 (
-                  normalise.2.are_modes,
-                  (split.2.are_modes, (join.2.are_modes, tt)),
+                  normalise.1.2.are_modes,
+                  (split.1.2.are_modes, (join.1.2.are_modes, tt)),
                 ),
               ),
             ),
           ),
         ),
       );
-      tops = octets.0;
-      are_tops = octets.1;
-      write_outs = write.0;
-      normalise_outs = normalise.0;
-      split_outs = split.0;
-      join_outs = join.0;
-      are_outs = (write.1, (normalise.1, (split.1, (join.1, tt))));
-      is = last ∙ ap₂ with_subcommand seven (ap top_of join.2.app);
+      tops = octets.1.0;
+      are_tops = octets.1.1;
+      write_outs = write.1.0;
+      normalise_outs = normalise.1.0;
+      split_outs = split.1.0;
+      join_outs = join.1.0;
+      are_outs = (write.1.1, (normalise.1.1, (split.1.1, (join.1.1, tt))));
+      is = eight;
     }) c.with_command-8.ensures

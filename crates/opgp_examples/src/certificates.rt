@@ -12,7 +12,7 @@ use opgp_armor::{ArmorEvent, Label};
 use opgp_frame::{Deframe, Placed};
 use opgp_hash::fingerprint;
 use opgp_octets::{Fault, Limits};
-use opgp_ring::{Composer, Head, Ready};
+use opgp_ring::{Certificate, Composer, Head, Ready};
 use std::io::BufRead;
 
 /// The certificates of an armored text of keys: a line for each as soon as it is whole, and in the
@@ -22,9 +22,46 @@ pub(crate) fn certificates<R: BufRead + Drop>(
     source: R,
 ) -> Result<()> {
     let limits = Limits::usual();
-    let mut text = Text::new(rt.alloc(), limits, source);
     let mut composer = Composer::new(rt.alloc(), limits);
-    let mut fault = None;
+    if let Err(error) = read_text(rt, limits, source, &mut composer) {
+        drop(composer);
+        return Err(error);
+    }
+    match composer.finish()? {
+        Some(part) => show(rt, part),
+        None => Ok(()),
+    }
+}
+
+/// Reads all of a text, and tells the fault of its armor, or else that of its framing.
+fn read_text<R: BufRead + Drop>(
+    rt: &(impl Print + AllocGlobal),
+    limits: Limits,
+    source: R,
+    composer: &mut Composer,
+) -> Result<()>
+    requires { IsComposing limits composer.old }
+    ensures { OnOk result (IsComposing limits composer.new) }
+{
+    let mut text = Text::new(rt.alloc(), limits, source);
+    let fault = read_blocks(rt, limits, &mut text, composer)?;
+    text.finish()?;
+    match fault {
+        Some(fault) => Err(fault.into()),
+        None => Ok(()),
+    }
+}
+
+/// Reads blocks up to the first that isn't framed, and answers that block's fault.
+fn read_blocks<R: BufRead + Drop>(
+    rt: &(impl Print + AllocGlobal),
+    limits: Limits,
+    text: &mut Text<R>,
+    composer: &mut Composer,
+) -> Result<Option<Fault>>
+    requires { IsComposing limits composer.old }
+    ensures { OnOk result (IsComposing limits composer.new) }
+{
     for block in 0..u64::MAX {
         let Some(event) = text.next()? else {
             break;
@@ -32,19 +69,13 @@ pub(crate) fn certificates<R: BufRead + Drop>(
         if let ArmorEvent::Begin(label) = event {
             composer.begin_block(block, label == Label::PublicKeyBlock);
         }
-        fault = read_block(rt, block, limits, &mut text, &mut composer)?;
+        drop(event);
+        let fault = read_block(rt, block, limits, text, composer)?;
         if fault.is_some() {
-            break;
+            return Ok(fault);
         }
     }
-    text.finish()?;
-    if let Some(fault) = fault {
-        return Err(fault.into());
-    }
-    match composer.finish()? {
-        Some(part) => show(rt, part),
-        None => Ok(()),
-    }
+    Ok(None)
 }
 
 /// Reads the rest of a block, and answers the fault of its framing.
@@ -113,11 +144,18 @@ fn compose(rt: &(impl Print + AllocGlobal), composer: &mut Composer, packet: Pla
     }
 }
 
-/// A line for a certificate: its fingerprint and its user IDs.
+/// A line for a part that is a certificate; the part is let go.
 fn show(rt: &(impl Print + AllocGlobal), part: Ready) -> Result<()> {
-    let Ready::Certificate(certificate) = part else {
-        return Ok(());
+    let shown = match &part {
+        Ready::Certificate(certificate) => show_certificate(rt, certificate),
+        Ready::Lead(_) => Ok(()),
     };
+    drop(part);
+    shown
+}
+
+/// A line for a certificate: its fingerprint and its user IDs.
+fn show_certificate(rt: &(impl Print + AllocGlobal), certificate: &Certificate) -> Result<()> {
     let print = fingerprint(certificate.key());
     print!(rt; "{print}")?;
     for component in certificate.components() {

@@ -4,7 +4,7 @@ ghost use Rattle.opgp_examples.specs.Table.{says_listed};
 
 use anyhow::Result;
 use opgp_octets::Limits;
-use opgp_report::{Finding, Job, Place, Verdict, Verifier, check};
+use opgp_report::{Finding, Job, Place, Row, Verdict, Verifier, check};
 use opgp_stack::{Answer, Mode, Watched, read_keyring};
 use std::alloc::Global;
 use std::io::Read;
@@ -52,7 +52,12 @@ pub(crate) fn verify<R: Read + Drop>(
         Answer::Ring(keyring) => keyring,
         Answer::Refused(fault) => return Err(fault.into()),
     };
-    for row in check(rt.alloc(), &keyring, &table)?.rows() {
+    show_rows(rt, check(rt.alloc(), &keyring, &table)?.rows())
+}
+
+/// A line for each row of a report.
+fn show_rows(rt: &impl Print, rows: &[Row]) -> Result<()> {
+    for row in rows {
         show_place(rt, &row.place)?;
         match row.finding {
             Finding::Asked {

@@ -142,7 +142,9 @@ fn add_row<W: Sink>(output: &mut Output<'_, W>, number: u64, row: &Row) -> io::R
             signer,
             digest,
             verdict,
-        } => add_asked(output, number, row.place, *kind, *hash, *signer, digest, *verdict),
+        } => add_asked(
+            output, number, row.place, *kind, *hash, *signer, digest, *verdict,
+        ),
         Finding::NotAsked(why) => add_none(output, number, row.place, *why),
     }
 }

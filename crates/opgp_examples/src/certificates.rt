@@ -23,10 +23,7 @@ pub(crate) fn certificates<R: BufRead + Drop>(
 ) -> Result<()> {
     let limits = Limits::usual();
     let mut composer = Composer::new(rt.alloc(), limits);
-    if let Err(error) = read_text(rt, limits, source, &mut composer) {
-        drop(composer);
-        return Err(error);
-    }
+    read_text(rt, limits, source, &mut composer)?;
     match composer.finish()? {
         Some(part) => show(rt, part),
         None => Ok(()),

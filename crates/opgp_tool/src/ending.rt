@@ -3,7 +3,7 @@
 ghost use Rattle.std.specs.Prelude.{◌≡◌, IfOk, string_bytes};
 ghost use Rattle.opgp_tool.specs.Ending.{status_of, line_of};
 
-use opgp_octets::OutOfMemory;
+use opgp_octets::{OutOfMemory, fault_line};
 use opgp_stack::RunFault;
 use std::alloc::Global;
 
@@ -14,16 +14,20 @@ pub fn end_of(alloc: Global, outcome: &Result<(), RunFault>) -> Result<(u8, Stri
     ensures status { IfOk result (λ end. end.0 ≡ status_of outcome.now) }
     ensures line { IfOk result (λ end. string_bytes end.1 ≡ line_of outcome.now) }
 {
-    let Err(fault) = outcome else {
-        return Ok((0, String::new(alloc)));
+    let (status, line) = match outcome {
+        Ok(()) => (0, String::new(alloc)),
+        Err(RunFault::Refused(fault)) => {
+            let mut line = fault_line(alloc, fault)?;
+            line.push('\n')?;
+            (1, line)
+        }
+        Err(RunFault::NoSuchRow) => (1, String::from_str(alloc, "opgp: no such row\n")?),
+        Err(RunFault::NoSuchCertificate) => {
+            (1, String::from_str(alloc, "opgp: no such certificate\n")?)
+        }
+        Err(RunFault::Read) => (3, String::from_str(alloc, "opgp: read failed\n")?),
+        Err(RunFault::Write) => (3, String::from_str(alloc, "opgp: write failed\n")?),
+        Err(RunFault::Memory) => (3, String::from_str(alloc, "opgp: out of memory\n")?),
     };
-    match fault {
-        RunFault::Refused(fault) => Ok((1, format!(in alloc; "{fault}\n")?)),
-        RunFault::NoSuchRow | RunFault::NoSuchCertificate => {
-            Ok((1, format!(in alloc; "opgp: {fault}\n")?))
-        }
-        RunFault::Read | RunFault::Write | RunFault::Memory => {
-            Ok((3, format!(in alloc; "opgp: {fault}\n")?))
-        }
-    }
+    Ok((status, line))
 }

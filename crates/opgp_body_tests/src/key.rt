@@ -1,5 +1,6 @@
 //! Keys, user IDs, attributes and literals, by the bodies of RFC 9580 and by bodies at fault.
 
+use byteorder::{BigEndian, WriteBytesExt};
 use opgp_key::{Attribute, AttributeView, Key, KeyView, Literal, Material, MaterialView, UserId};
 use opgp_octets::{BodyFault, ParseFault, Reason, SubLen};
 use std::alloc::Global;
@@ -32,8 +33,7 @@ fn body_of(alloc: Global, version: u8, algorithm: u8, material: &[u8]) -> Result
     let mut body = Vec::new(alloc);
     body.extend_from_slice(&[version, 0x53, 0xF3, 0x5F, 0x0B, algorithm])?;
     if version == 6 {
-        let count = u32::try_from(material.len())?;
-        body.extend_from_slice(&count.to_be_bytes())?;
+        body.write_u32::<BigEndian>(u32::try_from(material.len())?)?;
     }
     body.extend_from_slice(material)?;
     Ok(body)

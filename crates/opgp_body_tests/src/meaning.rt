@@ -1,5 +1,6 @@
 //! The meaning of each kind of subpacket, by the tables of RFC 9580, 5.2.3.11 to 5.2.3.36.
 
+use byteorder::{BigEndian, WriteBytesExt};
 use opgp_sig::SigView;
 use std::alloc::Global;
 use std::process::Abort;
@@ -9,7 +10,9 @@ use std::test::Fail;
 fn meaning_of(rt: &impl Abort, alloc: Global, kind: u8, octets: &[u8]) -> Result<String, Fail> {
     assert!(rt; octets.len() < 100);
     let size = octets.len() as u8 + 1;
-    let mut body = [4, 0x18, 22, 8, 0, size + 1, size, kind].to_vec(alloc)?;
+    let mut body = b"\x04\x18\x16\x08".to_vec(alloc)?;
+    body.write_u16::<BigEndian>(u16::from(size) + 1)?;
+    body.extend_from_slice(&[size, kind])?;
     body.extend_from_slice(octets)?;
     body.extend_from_slice(b"\x00\x00\xAB\xCD\x00\x00\x00\x00")?;
     let mut printed = String::new(alloc);

@@ -1,5 +1,6 @@
 //! Signatures, by the certificate of RFC 9580, A.3 and by bodies at fault.
 
+use byteorder::{BigEndian, WriteBytesExt};
 use opgp_key::{Key, KeyView};
 use opgp_octets::{BodyFault, ParseFault, Reason, SubLen};
 use opgp_sig::{SigView, Signature, SignatureMaterial, SignatureMaterialView, SubMeaning, SubView};
@@ -413,12 +414,10 @@ fn areas_are_apart(rt: HostRuntime) -> Result<(), Fail> {
 
 /// A version 4 body whose only subpacket holds this one.
 fn around(alloc: Global, inside: &[u8]) -> Result<Vec<u8>, Fail> {
-    let amount = u32::try_from(inside.len())?.wrapping_add(1);
-    let area = u16::try_from(inside.len())?.wrapping_add(6);
     let mut body = b"\x04\x18\x16\x08".to_vec(alloc)?;
-    body.extend_from_slice(&area.to_be_bytes())?;
+    body.write_u16::<BigEndian>(u16::try_from(inside.len())?.wrapping_add(6))?;
     body.push(255)?;
-    body.extend_from_slice(&amount.to_be_bytes())?;
+    body.write_u32::<BigEndian>(u32::try_from(inside.len())?.wrapping_add(1))?;
     body.push(32)?;
     body.extend_from_slice(inside)?;
     body.extend_from_slice(b"\x00\x00\xAB\xCD\x00\x00\x00\x00")?;

@@ -4,4 +4,5 @@ mod Looking
 mod NamedKeys
 mod Rewriting
 mod Scanning
+mod Standing
 mod Telling

@@ -1,5 +1,5 @@
--- Rewritten keyrings ask what they asked.
-use Rattle.std.proofs.Common.{◌≡◌, ◌∙◌, ℕ, List, [], ◌∷◌, ◌++◌, map, Option, Some, None, refl, ap, append-nil, slice_get}
+-- Rewritten keyrings ask what they asked, and have the report that they had.
+use Rattle.std.proofs.Common.{◌≡◌, ◌∙◌, ℕ, ◌+◌, List, [], ◌∷◌, ◌++◌, map, Option, Some, None, refl, ap, append-nil, slice_get}
 use Rattle.std.specs.List.{flat_map}
 use Rattle.std.specs.Option.{option_map}
 use Rattle.opgp_frame.specs.Packet.{PacketValue}
@@ -9,7 +9,8 @@ use Rattle.opgp_ring.specs.Joining.{nth_of}
 use Rattle.opgp_ring.specs.Keyring.{CertificateValue, ComponentValue, KeyringValue}
 use Rattle.opgp_ring.specs.Normal.{normal_certificate, normal_component, normal_of}
 use Rattle.opgp_report.specs.Asked.{Asked, hang_asked, hangs_asked, component_asked, components_asked, certificate_asked, asked_of}
-use Rattle.opgp_report.specs.Report.{certificate_keys, keys_in, on_head, on_primary, subkey_bodies}
+use Rattle.opgp_report.specs.Report.{Says, certificate_keys, certificate_rows, certificates_rows, components_rows, hang_rows, hangs_rows, keys_in, on_head, on_primary, report_of, subkey_bodies}
+use Rattle.opgp_report.specs.RowValue.{RowValue}
 
 -- ---- in the current format
 hangs : (subject : SubjectValue) (ps : List PacketValue) → hangs_asked subject (map reframed ps) ≡ hangs_asked subject ps
@@ -48,6 +49,34 @@ normal_asks r = certificates r.certificates
 
 pub normal_keys : (r : KeyringValue) → keys_in (normal_of r) ≡ keys_in r
 normal_keys r = keys r.certificates
+
+-- ---- its rows
+module _ (says : Says) (all : List (List ℕ)) where
+  hangs_same : (subject : SubjectValue) (n : ℕ) (component : Option ℕ) (m : ℕ) (ps : List PacketValue) → hangs_rows says all subject n component m (map reframed ps) ≡ hangs_rows says all subject n component m ps
+  hangs_same subject n component m [] = refl
+  hangs_same subject n component m (p ∷ ps) =
+      ap (λ (l : List RowValue). hang_rows says all subject (record { certificate = n; component = component; hang = m; nested = None }) p ++ l) (hangs_same subject n component (m + 1) ps)
+
+  components_same : (primary : List ℕ) (n m : ℕ) (cs : List ComponentValue) → components_rows says all primary n m (map normal_component cs) ≡ components_rows says all primary n m cs
+  components_same primary n m [] = refl
+  components_same primary n m (c ∷ cs) =
+      ap (λ (l : List RowValue). l ++ components_rows says all primary n (m + 1) (map normal_component cs)) (hangs_same (on_head primary c.head) n (Some m) 0 c.hangs)
+      ∙ ap (λ (l : List RowValue). hangs_rows says all (on_head primary c.head) n (Some m) 0 c.hangs ++ l) (components_same primary n (m + 1) cs)
+
+  certificate_same : (n : ℕ) (c : CertificateValue) → certificate_rows says all n (normal_certificate c) ≡ certificate_rows says all n c
+  certificate_same n c =
+      ap (λ (l : List RowValue). l ++ components_rows says all c.primary.body n 0 (map normal_component c.components)) (hangs_same (on_primary c.primary.body) n None 0 c.hangs)
+      ∙ ap (λ (l : List RowValue). hangs_rows says all (on_primary c.primary.body) n None 0 c.hangs ++ l) (components_same c.primary.body n 0 c.components)
+
+  certificates_same : (n : ℕ) (cs : List CertificateValue) → certificates_rows says all n (map normal_certificate cs) ≡ certificates_rows says all n cs
+  certificates_same n [] = refl
+  certificates_same n (c ∷ cs) =
+      ap (λ (l : List RowValue). l ++ certificates_rows says all (n + 1) (map normal_certificate cs)) (certificate_same n c)
+      ∙ ap (λ (l : List RowValue). certificate_rows says all n c ++ l) (certificates_same (n + 1) cs)
+
+pub normal_rows : (says : Says) (r : KeyringValue) → report_of says (normal_of r) ≡ report_of says r
+normal_rows says r = ap (λ (l : List (List ℕ)). certificates_rows says l 0 (map normal_certificate r.certificates)) (normal_keys r)
+    ∙ certificates_same says (keys_in r) 0 r.certificates
 
 -- ---- one certificate
 alone : CertificateValue → KeyringValue

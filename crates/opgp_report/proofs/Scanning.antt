@@ -1,6 +1,6 @@
 -- What a keyring asks, packet by packet: so that of joined keyrings is that of both.
-use Rattle.std.proofs.Common.{◌≡◌, ◌∙◌, ℕ, Bool, true, false, List, [], ◌∷◌, ◌++◌, All, refl, sym, ap, subst, append_assoc, append-nil, get_or}
-use Rattle.std.specs.Prelude.{◌==◌, ◌||◌, if◌then◌else◌}
+use Rattle.std.proofs.Common.{◌≡◌, ◌∙◌, ℕ, Bool, true, false, List, [], ◌∷◌, ◌++◌, All, refl, sym, ap, subst, append_assoc, append-nil, get_or, cond, map}
+use Rattle.std.specs.Prelude.{◌==◌, ◌||◌, if◌then◌else◌, filter}
 use Rattle.std.specs.List.{flat_map}
 use Rattle.std.proofs.lemmas.Bool.{eqb-true}
 use Rattle.std.proofs.lemmas.List.Concat.{flat_map-append}
@@ -10,6 +10,7 @@ use Rattle.opgp_hash.specs.SubjectValue.{SubjectValue}
 use Rattle.opgp_ring.specs.Keyring.{CertificateValue, ComponentValue, KeyringValue, IsComponent, IsCertificate, IsKeyring, IsHung, IsHead, IsFiller, IsPrimary, is_primary, is_hung, is_filler, component_packets, certificate_packets, flat}
 use Rattle.opgp_report.specs.Asked.{Asked, hang_asked, hangs_asked, component_asked, components_asked, certificate_asked, asked_of}
 use Rattle.opgp_report.specs.Report.{certificate_keys, keys_in, on_head, on_primary, subkey_bodies}
+use Rattle.opgp_report.specs.Standing.{is_key}
 
 -- where packets stand: before all certificates, or within one, about a subject
 data Spot : Type 0 where
@@ -46,10 +47,10 @@ filler_is_hung p e = ap (λ (b : Bool). (p.kind == 2) || b) e ∙ or_true (p.kin
 false_true : false ≡ true → ⊥
 false_true e = cc
 
-filler_signs_nothing : (p : PacketValue) → IsFiller p → (p.kind == 2) ≡ false
+pub filler_signs_nothing : (p : PacketValue) → IsFiller p → (p.kind == 2) ≡ false
 filler_signs_nothing p e = is_no (p.kind == 2) (λ t. false_true (subst (λ (k : ℕ). is_filler k ≡ true) (eqb-true p.kind 2 t) e))
 
-primary_kind : (p : PacketValue) → IsPrimary p → p.kind ≡ 6
+pub primary_kind : (p : PacketValue) → IsPrimary p → p.kind ≡ 6
 primary_kind p e = eqb-true p.kind 6 e
 
 -- what is true of the types of heads
@@ -59,7 +60,7 @@ heads P x y z k false true c n e f g h = subst P (sym (eqb-true n 17 f)) y
 heads P x y z k false false true n e f g h = subst P (sym (eqb-true n 14 g)) z
 heads P x y z k false false false n e f g h = absurd (false_true h)
 
-head_kind : (P : ℕ → Type 0) → P 13 → P 17 → P 14 → (p : PacketValue) → IsHead p → P p.kind
+pub head_kind : (P : ℕ → Type 0) → P 13 → P 17 → P 14 → (p : PacketValue) → IsHead p → P p.kind
 head_kind P x y z p e = heads P x y z true (p.kind == 13) (p.kind == 17) (p.kind == 14) p.kind refl refl refl e
 
 -- ---- one packet more
@@ -207,6 +208,18 @@ ring_keys r is =
     flat_map-append keys_here r.lead (flat_map certificate_packets r.certificates)
     ∙ ap (λ (l : List (List ℕ)). l ++ flat_map keys_here (flat_map certificate_packets r.certificates)) (no_keys r.lead (hung_of r.lead is.lead))
     ∙ all_keys r.certificates is.certificates
+
+one_key : (six sub : Bool) (p : PacketValue) (ps : List PacketValue) → (if six then p.body ∷ [] else (if sub then p.body ∷ [] else [])) ++ map (λ q. q.body) ps ≡ map (λ q. q.body) (cond (six || sub) (p ∷ ps) ps)
+one_key true sub p ps = refl
+one_key false true p ps = refl
+one_key false false p ps = refl
+
+keys_of : (ps : List PacketValue) → flat_map keys_here ps ≡ map (λ p. p.body) (filter is_key ps)
+keys_of [] = refl
+keys_of (p ∷ ps) = ap (λ (l : List (List ℕ)). keys_here p ++ l) (keys_of ps) ∙ one_key (p.kind == 6) (p.kind == 14) p (filter is_key ps)
+
+pub packet_keys : (r : KeyringValue) → IsKeyring r → keys_in r ≡ map (λ p. p.body) (filter is_key (flat r))
+packet_keys r is = sym (ring_keys r is) ∙ keys_of (flat r)
 
 pub joined_keys : (a b r : KeyringValue) → IsKeyring a → IsKeyring b → IsKeyring r → flat r ≡ flat a ++ flat b → keys_in r ≡ keys_in a ++ keys_in b
 joined_keys a b r x y z e = sym (ring_keys r z) ∙ ap (λ (l : List PacketValue). flat_map keys_here l) e ∙ flat_map-append keys_here (flat a) (flat b)

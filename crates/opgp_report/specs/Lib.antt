@@ -8,4 +8,5 @@ pub mod Row
 pub mod RowValue
 pub mod Signer
 pub mod Signers
+pub mod Standing
 pub mod Told

@@ -1,12 +1,13 @@
 //! What the definitions imply.
 
-ghost use Rattle.std.specs.Prelude.{◌≡◌, ◌++◌, ℕ, map, Some};
+ghost use Rattle.std.specs.Prelude.{◌≡◌, ◌++◌, ℕ, filter, map, Some};
 ghost use Rattle.std.specs.List.{slice_get};
 ghost use Rattle.opgp_ring.specs.Joining.{nth_of};
 ghost use Rattle.opgp_ring.specs.Keyring.{CertificateValue, KeyringValue, IsKeyring, flat};
 ghost use Rattle.opgp_ring.specs.Normal.{normal_of};
 ghost use Rattle.opgp_report.specs.Asked.{asked_of, certificate_asked};
 ghost use Rattle.opgp_report.specs.Report.{Says, certificate_keys, keys_in, report_of};
+ghost use Rattle.opgp_report.specs.Standing.{hang_at, is_key, is_outer, is_signature};
 ghost use Rattle.opgp_report.specs.Told.{asked_told, row_told};
 
 /// The rows of a keyring's report, whoever the verifier is, are those of what its signatures ask, in
@@ -14,6 +15,25 @@ ghost use Rattle.opgp_report.specs.Told.{asked_told, row_told};
 pub fn rows_are_those_of_questions()
     ensures { (says : Says) (r : KeyringValue)
         → map row_told (report_of says r) ≡ map asked_told (asked_of r) }
+{}
+
+/// The rows of a keyring's report that aren't of embedded signatures stand for its signature packets,
+/// in their order: each packet has one row, and hangs in that row's place.
+pub fn rows_stand_where_signatures_hang()
+    ensures { (says : Says) (r : KeyringValue) → IsKeyring r
+        → map (λ row. hang_at r row.place) (filter is_outer (report_of says r))
+        ≡ map Some (filter is_signature (flat r)) }
+{}
+
+/// The keys of a keyring are those of its key and subkey packets, in their order.
+pub fn keys_of_a_keyring_are_those_of_its_packets()
+    ensures { (r : KeyringValue) → IsKeyring r
+        → keys_in r ≡ map (λ p. p.body) (filter is_key (flat r)) }
+{}
+
+/// In the current format a keyring has the report that it had, whoever the verifier is.
+pub fn normal_keyrings_have_the_same_report()
+    ensures { (says : Says) (r : KeyringValue) → report_of says (normal_of r) ≡ report_of says r }
 {}
 
 /// In the current format a keyring asks what it asked, and has the keys that it had.

@@ -127,7 +127,7 @@ certificate_first lead c cs k =
     has_primary-append lead (c.primary ∷ behind) ∙ or_right (has_primary lead) (is_primary c.primary.kind || has_primary behind) (or_left (is_primary c.primary.kind) (has_primary behind) k.primary)
 
 -- a signature or a component with no primary key before it
-lacks_in : (lead : List PacketValue) (cs : List CertificateValue) (ps : List PacketValue) (p : PacketValue) → IsKeyring (keyring lead cs) → flat (keyring lead cs) ≡ ps ++ p ∷ []
+pub lacks_in : (lead : List PacketValue) (cs : List CertificateValue) (ps : List PacketValue) (p : PacketValue) → IsKeyring (keyring lead cs) → flat (keyring lead cs) ≡ ps ++ p ∷ []
     → needs_primary p.kind ≡ true → has_primary ps ≡ false → ⊥
 lacks_in lead [] ps p k whole needs none =
     let filler : IsFiller p = last_of IsFiller ps p (subst (All IsFiller) (sym (append-nil lead) ∙ whole) k.lead) in

@@ -13,8 +13,8 @@ use Rattle.opgp_octets.specs.Octets.{IsOctets}
 use Rattle.opgp_ring.specs.Bodies.{IsSound, IsFirstBodyFault, HasFault, HasNoFault, placed_fault}
 use Rattle.opgp_ring.specs.Composed.{IsKeyringOf, PartValue, of_certificate, lead_parts}
 use Rattle.opgp_ring.specs.Composition.{Item, of_label, of_packet, placed_in, packets_in, labels_fit, FitsLimits, AreKeyring, IsOrderFault, IsFaultAt, fault_at, stands_in_keyring, needs_primary, has_primary}
-use Rattle.opgp_ring.specs.Fed.{IsLeading, IsGrowing}
 use Rattle.opgp_ring.specs.Keyring.{KeyringValue, CertificateValue, IsKeyring, IsCertificate, certificate_packets, flat, octets_of, IsComponent, IsHung, IsFiller, IsPrimary}
+use Rattle.opgp_ring.proofs.Standing.{IsLeading, IsGrowing}
 use Rattle.opgp_ring.proofs.Adding.{keyring, IsShort, octets_of-push, lead_whole, lead_is, grown_whole, begun_whole, certificates_push, certificates_front, passes_limit, strays, lacks_primary}
 
 -- ---- items, one after the other

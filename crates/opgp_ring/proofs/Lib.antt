@@ -1,14 +1,15 @@
 pub mod Adding
-pub mod AllButLast
 pub mod FirstBodyFaults
 pub mod BlockEnds
 pub mod Faults
 pub mod Feeding
+pub mod HandedOut
 pub mod Hanging
 pub mod Holding
 pub mod Joined
 pub mod Keeping
 pub mod KindTests
+pub mod Longer
 pub mod Normalised
 pub mod OneFault
 pub mod Parts
@@ -16,6 +17,7 @@ pub mod Prefixes
 pub mod SomeAnswer
 pub mod Sorting
 pub mod Split
+pub mod Standing
 pub mod Starting
 pub mod States
 pub mod Stepping

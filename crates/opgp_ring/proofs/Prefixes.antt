@@ -25,7 +25,7 @@ front_of P (y ∷ xs) x a =
     (All-cons P y xs (All-head P y (xs ++ x ∷ []) a) again.0, again.1)
 
 -- lists that end in one element each, and are equal, are equal before it
-same_front : {X : Type 0} (xs ys : List X) (x y : X) → xs ++ x ∷ [] ≡ ys ++ y ∷ [] → xs ≡ ys
+pub same_front : {X : Type 0} (xs ys : List X) (x y : X) → xs ++ x ∷ [] ≡ ys ++ y ∷ [] → xs ≡ ys
 same_front [] [] x y e = refl
 same_front [] (b ∷ []) x y e = absurd cc
 same_front [] (b ∷ c ∷ ys) x y e = absurd cc
@@ -35,6 +35,14 @@ same_front {X} (a ∷ xs) (b ∷ ys) x y e =
     let head : a ≡ b = cc in
     let tail : xs ++ x ∷ [] ≡ ys ++ y ∷ [] = cc in
     ap (λ (z : X). z ∷ xs) head ∙ ap (λ (l : List X). b ∷ l) (same_front xs ys x y tail)
+
+pub same_last : {X : Type 0} (xs ys : List X) (x y : X) → xs ++ x ∷ [] ≡ ys ++ y ∷ [] → x ≡ y
+same_last [] [] x y e = cc
+same_last [] (b ∷ []) x y e = absurd cc
+same_last [] (b ∷ c ∷ ys) x y e = absurd cc
+same_last (a ∷ []) [] x y e = absurd cc
+same_last (a ∷ c ∷ xs) [] x y e = absurd cc
+same_last (a ∷ xs) (b ∷ ys) x y e = same_last xs ys x y (let tail : xs ++ x ∷ [] ≡ ys ++ y ∷ [] = cc in tail)
 
 -- a certificate without its last packet, or one that has no more
 record OneLess (c : CertificateValue) : Type 0 where

@@ -61,7 +61,7 @@ stop_by items f g o q (before more e) =
 stop_by items f g o q (behind more e) =
     absurd (at_fails q.before more q.at g (subst (λ (l : List Item). BeginsSigned (packets_in l)) e o.begins) (subst (λ (l : List Item). labels_fit l ≡ true) e o.labels) q.here)
 
-one_order : (items : List Item) (f g : Fault) → StopsAt items f ⊎ EndsEarly items f → StopsAt items g ⊎ EndsEarly items g → f ≡ g
+one_order : (items : List Item) (f g : Fault) → StopsAt items f ⊎ EndsEarly (end_pos items) items f → StopsAt items g ⊎ EndsEarly (end_pos items) items g → f ≡ g
 one_order items f g (inl o) (inl q) = stop_by items f g o q (two o.before q.before o.after q.after o.at q.at (sym o.whole ∙ q.whole))
 one_order items f g (inl o) (inr q) = absurd (stop_fails items f q.begins q.labels o)
 one_order items f g (inr o) (inl q) = absurd (stop_fails items g o.begins o.labels q)
@@ -75,7 +75,7 @@ one_signed_fault one items f g (inr o) (inr q) = one_order items f g o.1 q.1
 
 -- ---- no fault
 
-order_fails : (items : List Item) (ps : List PacketValue) (f : Fault) → IsSignedOf items ps → StopsAt items f ⊎ EndsEarly items f → ⊥
+order_fails : (items : List Item) (ps : List PacketValue) (f : Fault) → IsSignedOf items ps → StopsAt items f ⊎ EndsEarly (end_pos items) items f → ⊥
 order_fails items ps f k (inl o) = stop_fails items f (whole_begins (packets_in items) (subst IsSigned k.flat k.signed)) k.labels o
 order_fails items ps f k (inr e) = e.lacks (subst IsSigned k.flat k.signed)
 
@@ -184,7 +184,7 @@ ended : (items : List Item) (s : SignedState) → IsSignedIn s items (packets_in
 ended items (Open shape) o =
     elim (bool_cases (is_whole shape)) [
       | inl e ↦ inl (packets_in items, closed shape items (packets_in items) e o)
-      | inr e ↦ inr (fault_at NotASignedLiteral (end_block items) (end_pos items), early shape items (packets_in items) (end_block items) (end_pos items) e o refl refl)
+      | inr e ↦ inr (fault_at NotASignedLiteral (end_block items) (end_pos items), early shape items (packets_in items) (end_block items) (end_pos items) (end_pos items) e o refl refl)
     ]
 ended items (Disordered f) is = inr (f, inr (is.0, inl is.1))
 ended items (Broken f) is = inr (f, inl is)

@@ -13,7 +13,7 @@ use Rattle.opgp_ring.specs.Bodies.{HasNoFault, IsSound, IsFirstBodyFault}
 use Rattle.opgp_ring.specs.Composed.{IsSoundItem}
 use Rattle.opgp_ring.specs.Composition.{Item, of_label, of_packet, placed_in, packets_in, labels_fit, fault_at}
 use Rattle.opgp_ring.specs.Shape.{Stands, is_whole}
-use Rattle.opgp_ring.specs.Signed.{BeginsSigned, IsSigned, IsSignedFault, IsSignedFaultAt, IsSignedOf, StopsAt, last_of, blocks_in, end_of, end_block, end_pos}
+use Rattle.opgp_ring.specs.Signed.{BeginsSigned, IsSigned, IsSignedFaultAt, IsSignedFaultBy, IsSignedOf, StopsAt, last_of, blocks_in, end_of, end_block, end_pos, told_end}
 use Rattle.opgp_ring.specs.SignedState.{IsOpen, IsSignedIn, is_open}
 use Rattle.opgp_ring.proofs.Feeding.{placed_push, packets_push, packets_in-append, labels_fit-append, and_true, sound_push, body_fault_behind}
 use Rattle.opgp_ring.proofs.SignedShapes.{begins, whole, lacks}
@@ -36,7 +36,7 @@ block_begins given block fits = ap (last_of 0) (blocks_in-append given (of_label
 pub block_stays : (given : List Item) (p : Placed) → end_block (given ++ of_packet p ∷ []) ≡ end_block given
 block_stays given p = ap (last_of 0) (blocks_in-append given (of_packet p ∷ []) ∙ append-nil (blocks_in given))
 
-pub end_is : (given : List Item) (i : Item) → end_pos (given ++ i ∷ []) ≡ end_of i
+end_is : (given : List Item) (i : Item) → end_pos (given ++ i ∷ []) ≡ end_of i
 end_is given i = ap (last_of 0) (map-append end_of given (i ∷ [])) ∙ last_of-push 0 (map end_of given) (end_of i)
 
 -- ---- the order
@@ -126,15 +126,15 @@ kept_sound shape items kept o = subst (All HasNoFault) (sym o.flat) (sound_packe
 pub closed : (shape : Shape) (items : List Item) (kept : List PacketValue) → is_whole shape ≡ true → IsOpen shape items kept → IsSignedOf items kept
 closed shape items kept e o = record { labels = o.labels; sound = o.sound; flat = o.flat; signed = whole shape kept o.stands e }
 
-pub early : (shape : Shape) (items : List Item) (kept : List PacketValue) (block pos : ℕ) → is_whole shape ≡ false → IsOpen shape items kept → block ≡ end_block items → pos ≡ end_pos items → IsSignedFault items (fault_at NotASignedLiteral block pos)
-early shape items kept block pos e o number end =
+pub early : (shape : Shape) (items : List Item) (kept : List PacketValue) (block pos end : ℕ) → is_whole shape ≡ false → IsOpen shape items kept → block ≡ end_block items → pos ≡ end → IsSignedFaultBy end items (fault_at NotASignedLiteral block pos)
+early shape items kept block pos end e o number place =
     inr (
       o.sound,
       inr (record {
         begins = open_begins shape items kept o;
         labels = o.labels;
         lacks = subst (λ (l : List PacketValue). IsSigned l → ⊥) o.flat (lacks shape kept o.stands e);
-        is = ap (λ (n : ℕ). fault_at NotASignedLiteral n pos) number ∙ ap (λ (n : ℕ). fault_at NotASignedLiteral (end_block items) n) end;
+        is = ap (λ (n : ℕ). fault_at NotASignedLiteral n pos) number ∙ ap (λ (n : ℕ). fault_at NotASignedLiteral (end_block items) n) place;
       }),
     )
 
@@ -152,8 +152,10 @@ broken (Broken g) given kept p f e is = body_fault_behind given p g is
 pub passed_over : (s : SignedState) (given : List Item) (kept : List PacketValue) (p : Placed) → ((shape : Shape) → s ≡ Open shape → ⊥) → IsSound p → IsSignedIn s given kept → IsSignedIn s (given ++ of_packet p ∷ []) kept
 passed_over s given kept p none sound is = behind s given kept (of_packet p) sound (not_open s none) is
 
--- an end that fits was counted
-pub end_known : (given : List Item) (p : Placed) (octets end : ℕ) → octets ≡ length (spelling p.packet) → end ≡ min (p.pos + octets) (2 ^ 64 - 1) → end_pos (given ++ of_packet p ∷ []) < 2 ^ 64 → end ≡ end_pos (given ++ of_packet p ∷ [])
-end_known given p octets end size e fits =
-    let at : end_pos (given ++ of_packet p ∷ []) ≡ p.pos + length (spelling p.packet) = end_is given (of_packet p) in
-    omega (arith, at, size, e, fits)
+-- the end is counted as 64 bits tell it
+pub end_known : (given : List Item) (p : Placed) (octets end : ℕ) → octets ≡ length (spelling p.packet) → end ≡ min (p.pos + octets) (2 ^ 64 - 1) → end ≡ told_end (given ++ of_packet p ∷ [])
+end_known given p octets end size e =
+    e ∙ ap (λ (n : ℕ). min (p.pos + n) (2 ^ 64 - 1)) size ∙ ap (λ (n : ℕ). min n (2 ^ 64 - 1)) (sym (end_is given (of_packet p)))
+
+pub end_none : (given : List Item) (block : ℕ) (fits : Bool) → 0 ≡ told_end (given ++ of_label block fits ∷ [])
+end_none given block fits = ap (λ (n : ℕ). min n (2 ^ 64 - 1)) (sym (end_is given (of_label block fits)))

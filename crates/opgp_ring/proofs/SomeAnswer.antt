@@ -1,8 +1,8 @@
 -- Items whose bodies are octets are those of a keyring, or have a fault.
-use Rattle.std.proofs.Common.{◌≡◌, ℕ, ◌≤◌, Bool, true, false, not, ◌||◌, ◌&&◌, ◌==◌, ◌⊎◌, inl, inr, List, [], ◌∷◌, ◌++◌, length, All, refl, sym, ap, subst, ◌∙◌, append_assoc, append-nil, arith}
+use Rattle.std.proofs.Common.{◌≡◌, ℕ, ◌≤◌, Bool, true, false, not, ◌&&◌, ◌⊎◌, inl, inr, List, [], ◌∷◌, ◌++◌, length, All, refl, sym, subst, append_assoc, append-nil, arith}
 use Rattle.std.specs.List.{AllByRecursion}
 use Rattle.std.proofs.lemmas.Bool.{cases_lt}
-use Rattle.std.proofs.lemmas.List.Elements.{All-nil, All-cons, All-head, All-tail, All-push, recursion_from_All}
+use Rattle.std.proofs.lemmas.List.Elements.{All-nil, All-cons, All-head, All-tail, recursion_from_All}
 use Rattle.opgp_octets.specs.declared.limits.Limits.{Limits}
 use Rattle.opgp_octets.specs.Limits.{cert_limit}
 use Rattle.opgp_octets.specs.Octets.{IsOctets}
@@ -23,15 +23,12 @@ use Rattle.opgp_hash.specs.PacketBody.{HasBodyFault}
 use Rattle.opgp_ring.specs.Bodies.{HasNoFault, placed_fault}
 use Rattle.opgp_ring.specs.Composed.{HasOctets, IsFault, IsKeyringOf}
 use Rattle.opgp_ring.specs.Composition.{FitsLimits, Item, IsFaultAt, fault_at, has_primary, needs_primary, of_label, of_packet, packets_in, stands_in_keyring}
-use Rattle.opgp_ring.specs.Keyring.{CertificateValue, IsCertificate, IsFiller, IsKeyring, IsPrimary, KeyringValue, certificate_packets, flat, is_filler, is_head, is_hung, is_primary, octets_of}
-use Rattle.opgp_ring.proofs.Adding.{IsShort, begun_whole, certificate_last, certificates_front, certificates_push, fillers_lack, grown_whole, keyring, lead_is, lead_whole}
-use Rattle.opgp_ring.proofs.Feeding.{begun, begun_is, body_fault_behind, body_fault_comes, kept, lacking_fault, long_fault, order_fault_comes, order_fault_stays, sound_push, stray_fault, too_long}
-use Rattle.opgp_ring.proofs.KindTests.{or_cases, or_left, or_right, primary_needs_none}
-use Rattle.opgp_ring.proofs.Prefixes.{Ends, ends}
+use Rattle.opgp_ring.specs.Keyring.{CertificateValue, KeyringValue, certificate_packets, octets_of}
+use Rattle.opgp_ring.proofs.Adding.{IsShort, keyring}
+use Rattle.opgp_ring.proofs.Feeding.{body_fault_behind, body_fault_comes, kept, lacking_fault, long_fault, order_fault_comes, order_fault_stays, sound_push, stray_fault, too_long}
+use Rattle.opgp_ring.proofs.Longer.{Longer, longer}
 use Rattle.opgp_ring.proofs.Starting.{starts}
 use Rattle.opgp_ring.proofs.States.{body_fault_after, label_push, sound_items}
-use Rattle.opgp_ring.proofs.Stepping.{and_false, filler_free, hung_stands}
-use Rattle.opgp_ring.proofs.Values.{OneMore, more_head, more_hung}
 
 -- ---- bodies
 
@@ -71,30 +68,6 @@ fits limits s =
       | inr short ↦ elim (fits_all limits s.certificates) [ inl a ↦ inl (record { lead = short; certificates = a }) | inr n ↦ inr (λ f. n f.certificates) ]
     ]
 
-record Longer (r : KeyringValue) (p : PacketValue) : Type 0 where
-  pub more : KeyringValue
-  pub is : IsKeyring more
-  pub whole : flat more ≡ flat r ++ p ∷ []
-
-begun_longer : (r : KeyringValue) (p : PacketValue) → IsKeyring r → IsPrimary p → Longer r p
-begun_longer r p k primary = record {
-  more = keyring r.lead (r.certificates ++ begun p ∷ []);
-  is = certificates_push r.lead r.certificates (begun p) k (begun_is p primary);
-  whole = begun_whole r.lead r.certificates p;
-}
-
-lead_longer : (lead : List PacketValue) (p : PacketValue) → IsKeyring (keyring lead []) → IsFiller p → Longer (keyring lead []) p
-lead_longer lead p k filler = record { more = keyring (lead ++ p ∷ []) []; is = lead_is lead p k filler; whole = lead_whole lead p }
-
-grown_longer : (lead : List PacketValue) (done : List CertificateValue) (c : CertificateValue) (p : PacketValue) → IsKeyring (keyring lead (done ++ c ∷ [])) → OneMore c p → Longer (keyring lead (done ++ c ∷ [])) p
-grown_longer lead done c p k m =
-    let parts = certificates_front IsCertificate done c k.certificates in
-    record {
-      more = keyring lead (done ++ m.more ∷ []);
-      is = record { lead = k.lead; certificates = All-push IsCertificate done m.more parts.0 m.is };
-      whole = grown_whole lead done c m.more p m.packets;
-    }
-
 -- ---- one more item
 
 abbrev pub Answer : Limits → List Item → Type 0
@@ -111,48 +84,21 @@ from_longer limits given p r k sound stands free l =
       | inr n ↦ refused_at limits given p r (fault_at CertTooLong p.block p.pos) k sound (long_fault limits (packets_in given) p stands free (too_long limits given p r l.more k l.is l.whole n))
     ]
 
-lead_lacks : (limits : Limits) (given : List Item) (lead : List PacketValue) → IsKeyringOf limits given (keyring lead []) → has_primary (packets_in given) ≡ false
-lead_lacks limits given lead k = ap has_primary (sym k.composes.whole ∙ append-nil lead) ∙ fillers_lack lead k.composes.keyring.lead
-
--- behind the last certificate, or else behind the lead
-attach : (limits : Limits) (given : List Item) (p : Placed) (lead : List PacketValue) (cs : List CertificateValue) → Ends cs → IsKeyringOf limits given (keyring lead cs) → HasNoFault p.packet → stands_in_keyring p.packet.kind ≡ true
-    → ((c : CertificateValue) → IsCertificate c → OneMore c p.packet) → (IsKeyringOf limits given (keyring lead []) → Answer limits (given ++ of_packet p ∷ [])) → Answer limits (given ++ of_packet p ∷ [])
-attach limits given p lead cs (inl e) k sound stands more alone = alone (subst (λ (l : List CertificateValue). IsKeyringOf limits given (keyring lead l)) e k)
-attach limits given p lead cs (inr (done, c, e)) k sound stands more alone =
-    let q : IsKeyringOf limits given (keyring lead (done ++ c ∷ [])) = subst (λ (l : List CertificateValue). IsKeyringOf limits given (keyring lead l)) e k in
-    let is : IsCertificate c = (certificates_front IsCertificate done c q.composes.keyring.certificates).1 in
-    let some : has_primary (packets_in given) ≡ true = ap has_primary (sym q.composes.whole) ∙ certificate_last lead done c is in
-    from_longer limits given p (keyring lead (done ++ c ∷ [])) q sound stands (ap (λ (b : Bool). needs_primary p.packet.kind && not b) some ∙ and_false (needs_primary p.packet.kind))
-    (grown_longer lead done c p.packet q.composes.keyring (more c is))
-
 bool_cases : (b : Bool) → (b ≡ true) ⊎ (b ≡ false)
 bool_cases true = inl refl
 bool_cases false = inr refl
 
-lacks : (limits : Limits) (given : List Item) (p : Placed) (lead : List PacketValue) → HasNoFault p.packet → stands_in_keyring p.packet.kind ≡ true → needs_primary p.packet.kind ≡ true → IsKeyringOf limits given (keyring lead [])
-    → Answer limits (given ++ of_packet p ∷ [])
-lacks limits given p lead sound stands needs k =
-    refused_at limits given p (keyring lead []) (fault_at NoPrimary p.block p.pos) k sound (lacking_fault limits (packets_in given) p stands needs (lead_lacks limits given lead k))
-
-hung_step : (limits : Limits) (given : List Item) (p : Placed) (r : KeyringValue) → IsKeyringOf limits given r → HasNoFault p.packet → is_hung p.packet.kind ≡ true → Answer limits (given ++ of_packet p ∷ [])
-hung_step limits given p r k sound hung =
-    let stands = hung_stands p.packet.kind hung in
-    attach limits given p r.lead r.certificates (ends r.certificates) k sound stands (λ c is. more_hung c p.packet is hung)
-    (λ q. elim (or_cases (p.packet.kind == 2) (is_filler p.packet.kind) hung) [
-      | inl signature ↦ lacks limits given p r.lead sound stands (or_left (p.packet.kind == 2) (is_head p.packet.kind) signature) q
-      | inr filler ↦ from_longer limits given p (keyring r.lead []) q sound stands (ap (λ (b : Bool). b && not (has_primary (packets_in given))) (filler_free p.packet.kind filler)) (lead_longer r.lead p.packet q.composes.keyring filler)
-    ])
-
-head_step : (limits : Limits) (given : List Item) (p : Placed) (r : KeyringValue) → IsKeyringOf limits given r → HasNoFault p.packet → stands_in_keyring p.packet.kind ≡ true → is_head p.packet.kind ≡ true → Answer limits (given ++ of_packet p ∷ [])
-head_step limits given p r k sound stands head =
-    attach limits given p r.lead r.certificates (ends r.certificates) k sound stands (λ c is. more_head c p.packet is head)
-    (λ q. lacks limits given p r.lead sound stands (or_right (p.packet.kind == 2) (is_head p.packet.kind) head) q)
+both : (a b : Bool) → (a && not b) ≡ true → (a ≡ true) × (b ≡ false)
+both true false e = (refl, refl)
+both true true e = absurd cc
+both false b e = absurd cc
 
 stands_step : (limits : Limits) (given : List Item) (p : Placed) (r : KeyringValue) → IsKeyringOf limits given r → HasNoFault p.packet → stands_in_keyring p.packet.kind ≡ true → Answer limits (given ++ of_packet p ∷ [])
 stands_step limits given p r k sound stands =
-    elim (or_cases (is_primary p.packet.kind) (is_head p.packet.kind || is_hung p.packet.kind) stands) [
-      | inl primary ↦ from_longer limits given p r k sound stands (ap (λ (b : Bool). b && not (has_primary (packets_in given))) (primary_needs_none p.packet.kind primary)) (begun_longer r p.packet k.composes.keyring primary)
-      | inr behind ↦ elim (or_cases (is_head p.packet.kind) (is_hung p.packet.kind) behind) [ inl head ↦ head_step limits given p r k sound stands head | inr hung ↦ hung_step limits given p r k sound hung ]
+    let ps : List PacketValue = packets_in given in
+    elim (bool_cases (needs_primary p.packet.kind && not (has_primary ps))) [
+      | inl lacks ↦ let needs = both (needs_primary p.packet.kind) (has_primary ps) lacks in refused_at limits given p r (fault_at NoPrimary p.block p.pos) k sound (lacking_fault limits ps p stands needs.0 needs.1)
+      | inr free ↦ from_longer limits given p r k sound stands free (longer r ps p.packet k.composes.keyring k.composes.whole stands free)
     ]
 
 packet_step : (limits : Limits) (given : List Item) (p : Placed) (r : KeyringValue) → IsKeyringOf limits given r → HasNoFault p.packet → Answer limits (given ++ of_packet p ∷ [])

@@ -12,9 +12,13 @@ use Rattle.opgp_octets.specs.Octets.{IsOctets}
 use Rattle.opgp_ring.specs.Bodies.{IsSound, IsFirstBodyFault, HasFault, placed_fault}
 use Rattle.opgp_ring.specs.Composed.{IsKeyringOf, IsSoundItem, PartValue}
 use Rattle.opgp_ring.specs.Composition.{Item, of_label, of_packet, placed_in, packets_in, labels_fit, Composes, IsOrderFault, IsFaultAt, AreKeyring}
-use Rattle.opgp_ring.specs.Fed.{IsIn}
+use Rattle.opgp_ring.specs.Fed.{IsFaultOf}
 use Rattle.opgp_ring.specs.Keyring.{KeyringValue, IsPrimary}
 use Rattle.opgp_ring.specs.State.{is_open, is_broken_state}
+use Rattle.opgp_ring.specs.Taken.{AreHandedOut}
+use Rattle.opgp_ring.proofs.Faults.{no_fault, no_body_fault}
+use Rattle.opgp_ring.proofs.HandedOut.{handed_in, handed_more}
+use Rattle.opgp_ring.proofs.Standing.{IsIn}
 use Rattle.opgp_ring.proofs.Feeding.{placed_in-append, packets_in-append, labels_fit-append, and_true, sound_push, order_fault_stays, order_fault_comes, body_fault_comes, body_fault_behind, begins_too_long}
 
 -- an open state has a keyring
@@ -29,12 +33,23 @@ pub sound_items : (given : List Item) (i : Item) → All IsSound (placed_in give
 sound_items given (of_label block fits) a s = subst (All IsSound) (sym (placed_in-append given (of_label block fits ∷ []) ∙ append-nil (placed_in given))) a
 sound_items given (of_packet p) a s = sound_push given p a s
 
+-- ---- faults
+
+-- with an item that brings or follows a fault nothing is handed out
+behind_order : (limits : Limits) (given : List Item) (i : Item) (parts : List PartValue) (f : Fault) → AreHandedOut limits given parts → All IsSound (placed_in given) → IsSoundItem i → IsOrderFault limits (given ++ i ∷ []) f
+    → AreHandedOut limits (given ++ i ∷ []) parts × IsFaultOf false limits (given ++ i ∷ []) f
+behind_order limits given i parts f h all sound o = (handed_more limits given i parts h (λ r k. no_fault limits (given ++ i ∷ []) r f k o), (sound_items given i all sound, o))
+
+behind_body : (limits : Limits) (given : List Item) (i : Item) (parts : List PartValue) (f : Fault) → AreHandedOut limits given parts → IsFirstBodyFault (placed_in (given ++ i ∷ [])) f
+    → AreHandedOut limits (given ++ i ∷ []) parts × IsFaultOf true limits (given ++ i ∷ []) f
+behind_body limits given i parts f h b = (handed_more limits given i parts h (λ r k. no_body_fault limits (given ++ i ∷ []) r f k b), b)
+
 -- the first fault of the order
 pub refused : (limits : Limits) (s : State) (given : List Item) (parts : List PartValue) (i : Item) (f : Fault) → IsIn limits s given parts → IsSoundItem i → is_open s ≡ true
-    → IsFaultAt limits (packets_in given) i f → All IsSound (placed_in (given ++ i ∷ [])) × IsOrderFault limits (given ++ i ∷ []) f
+    → IsFaultAt limits (packets_in given) i f → AreHandedOut limits (given ++ i ∷ []) parts × IsFaultOf false limits (given ++ i ∷ []) f
 refused limits s given parts i f is sound e here =
     let k = open_keyring limits s given parts is e in
-    (sound_items given i k.1.sound sound, order_fault_comes limits given i k.0 f k.1 here)
+    behind_order limits given i parts f (handed_in limits s given parts is).out k.1.sound sound (order_fault_comes limits given i k.0 f k.1 here)
 
 pub body_fault_after : (given : List Item) (i : Item) (f : Fault) → IsFirstBodyFault (placed_in given) f → IsFirstBodyFault (placed_in (given ++ i ∷ [])) f
 body_fault_after given (of_label block fits) f b = subst (λ (l : List Placed). IsFirstBodyFault l f) (sym (placed_in-append given (of_label block fits ∷ []) ∙ append-nil (placed_in given))) b
@@ -44,8 +59,8 @@ body_fault_after given (of_packet p) f b = body_fault_behind given p f b
 pub behind : (limits : Limits) (s : State) (given : List Item) (parts : List PartValue) (i : Item) → IsIn limits s given parts → IsSoundItem i → is_open s ≡ false → IsIn limits s (given ++ i ∷ []) parts
 behind limits (Leading lead) given parts i is sound e = absurd cc
 behind limits (Growing c) given parts i is sound e = absurd cc
-behind limits (Disordered f) given parts i is sound e = (sound_items given i is.0 sound, order_fault_stays limits given (i ∷ []) f is.1)
-behind limits (Broken f) given parts i is sound e = body_fault_after given i f is
+behind limits (Disordered f) given parts i is sound e = behind_order limits given i parts f is.0 is.1.0 sound (order_fault_stays limits given (i ∷ []) f is.1.1)
+behind limits (Broken f) given parts i is sound e = behind_body limits given i parts f is.0 (body_fault_after given i f is.1)
 behind limits Spent given parts i is sound e = is
 
 -- a label that is the wanted one
@@ -67,19 +82,20 @@ labelled limits Spent given parts block is = is
 sound_before : (limits : Limits) (s : State) (given : List Item) (parts : List PartValue) → IsIn limits s given parts → is_broken_state s ≡ false → All IsSound (placed_in given)
 sound_before limits (Leading lead) given parts is e = is.stands.sound
 sound_before limits (Growing c) given parts is e = is.stands.sound
-sound_before limits (Disordered f) given parts is e = is.0
+sound_before limits (Disordered f) given parts is e = is.1.0
 sound_before limits (Broken f) given parts is e = absurd cc
 sound_before limits Spent given parts is e = absurd is
 
 pub breaks : (limits : Limits) (s : State) (given : List Item) (parts : List PartValue) (p : Placed) (why : BodyFault) → IsIn limits s given parts → is_broken_state s ≡ false → IsOctets p.packet.body → HasFault p.packet why
-    → IsFirstBodyFault (placed_in (given ++ of_packet p ∷ [])) (placed_fault p why)
-breaks limits s given parts p why is e octets here = body_fault_comes given p why (sound_before limits s given parts is e) octets here
+    → AreHandedOut limits (given ++ of_packet p ∷ []) parts × IsFaultOf true limits (given ++ of_packet p ∷ []) (placed_fault p why)
+breaks limits s given parts p why is e octets here =
+    behind_body limits given (of_packet p) parts (placed_fault p why) (handed_in limits s given parts is).out (body_fault_comes given p why (sound_before limits s given parts is e) octets here)
 
 pub broken : (limits : Limits) (s : State) (given : List Item) (parts : List PartValue) (p : Placed) → IsIn limits s given parts → is_broken_state s ≡ true → IsIn limits s (given ++ of_packet p ∷ []) parts
 broken limits (Leading lead) given parts p is e = absurd cc
 broken limits (Growing c) given parts p is e = absurd cc
 broken limits (Disordered f) given parts p is e = absurd cc
-broken limits (Broken f) given parts p is e = body_fault_behind given p f is
+broken limits (Broken f) given parts p is e = behind_body limits given (of_packet p) parts f is.0 (body_fault_behind given p f is.1)
 broken limits Spent given parts p is e = absurd is
 
 -- a primary key that is too long

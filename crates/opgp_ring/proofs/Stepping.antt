@@ -13,7 +13,6 @@ use Rattle.opgp_ring.specs.declared.ready.Ready.{Ready}
 use Rattle.opgp_ring.specs.Bodies.{HasNoFault}
 use Rattle.opgp_ring.specs.Composed.{PartValue, lead_parts, of_certificate}
 use Rattle.opgp_ring.specs.Composition.{Item, of_packet, packets_in, IsFaultAt, fault_at, stands_in_keyring, needs_primary, has_primary}
-use Rattle.opgp_ring.specs.Fed.{IsIn, IsLeading, IsGrowing}
 use Rattle.opgp_ring.specs.Keyring.{CertificateValue, IsCertificate, IsFiller, IsHead, IsHung, IsPrimary, certificate_packets, octets_of, is_primary, is_head, is_hung, is_filler}
 use Rattle.opgp_ring.specs.declared.sorted.Sorted.{Sorted}
 use Rattle.opgp_ring.specs.declared.sorted.Sorted.TheVariants.{Primary, Head, Signature, Filler, Stray}
@@ -22,6 +21,7 @@ use Rattle.opgp_ring.specs.State.{is_open, is_spent_state, ready_parts}
 use Rattle.opgp_ring.proofs.Adding.{fillers_lack, certificates_front, certificate_last, octets_of-push}
 use Rattle.opgp_ring.proofs.Feeding.{leads, leads_too_long, grows, grows_too_long, begins_first, begins_next, lacking_fault, long_fault, begun}
 use Rattle.opgp_ring.proofs.KindTests.{or_cases, or_left, or_right, primary_needs_none, filler_hung, filler_no_signature, hung_no_head}
+use Rattle.opgp_ring.proofs.Standing.{IsIn, IsLeading, IsGrowing}
 use Rattle.opgp_ring.proofs.States.{begins_long}
 use Rattle.opgp_ring.proofs.Values.{OneMore, more_head, more_hung}
 

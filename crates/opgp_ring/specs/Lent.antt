@@ -8,6 +8,7 @@ use Rattle.opgp_ring.specs.declared.lent.Hang.{Hang}
 use Rattle.opgp_ring.specs.declared.lent.Hang.TheVariants as hang
 use Rattle.opgp_ring.specs.declared.lent.Head.{Head}
 use Rattle.opgp_ring.specs.declared.lent.Head.TheVariants as head
+use Rattle.opgp_ring.specs.Keyring.{IsFiller}
 use Rattle.opgp_ring.specs.Member.{packet_with}
 
 -- the packet that hangs there
@@ -15,6 +16,11 @@ abbrev pub hang_packet : Hang → PacketValue
 hang_packet (hang.Signature form signature) =
     packet_with form.now 2 (signature_octets signature.now)
 hang_packet (hang.Filler packet) = packet.now
+
+-- what is lent as a filler is one
+abbrev pub IsLentHang : Hang → Type 0
+IsLentHang (hang.Signature form signature) = Unit {0}
+IsLentHang (hang.Filler packet) = IsFiller packet.now
 
 -- the packet that begins a component
 abbrev pub head_packet : Head → PacketValue

@@ -1,6 +1,6 @@
 -- Signed messages (RFC 9580, 10.3): one-pass signatures, the literal that is signed, and the
 -- signatures, one behind it for each before it.
-use Rattle.std.specs.Prelude.{◌≡◌, ℕ, ◌+◌, ◌<◌, ◌⊎◌, true, false, not, ◌==◌, List, [], ◌∷◌}
+use Rattle.std.specs.Prelude.{◌≡◌, ℕ, ◌+◌, ◌-◌, ◌^◌, ◌<◌, min, ◌⊎◌, true, false, not, ◌==◌, List, [], ◌∷◌}
 use Rattle.std.specs.Prelude.{◌++◌, All, map, replicate, length}
 use Rattle.std.specs.List.{filter}
 use Rattle.opgp_octets.specs.declared.fault.Fault.{Fault}
@@ -73,18 +73,26 @@ pub record StopsAt (items : List Item) (f : Fault) : Type 0 where
   pub labels : labels_fit before ≡ true
   pub here : IsSignedFaultAt (packets_in before) at f
 
--- no item is at fault, but packets are missing: the fault is at the end of the last block
-pub record EndsEarly (items : List Item) (f : Fault) : Type 0 where
+-- no item is at fault, but packets are missing: the fault is in the last block, at its end
+pub record EndsEarly (end : ℕ) (items : List Item) (f : Fault) : Type 0 where
   pub begins : BeginsSigned (packets_in items)
   pub labels : labels_fit items ≡ true
   pub lacks : IsSigned (packets_in items) → ⊥
-  pub is : f ≡ fault_at NotASignedLiteral (end_block items) (end_pos items)
+  pub is : f ≡ fault_at NotASignedLiteral (end_block items) end
 
--- bodies come first: a fault of the order is answered only where no body has one
-abbrev pub IsSignedFault : List Item → Fault → Type 0
-IsSignedFault items f =
+-- where the last block ends here: bodies come first, and a fault of the order is answered only
+-- where no body has one
+abbrev pub IsSignedFaultBy : ℕ → List Item → Fault → Type 0
+IsSignedFaultBy end items f =
     IsFirstBodyFault (placed_in items) f
-    ⊎ (All IsSound (placed_in items) × (StopsAt items f ⊎ EndsEarly items f))
+    ⊎ (All IsSound (placed_in items) × (StopsAt items f ⊎ EndsEarly end items f))
+
+abbrev pub IsSignedFault : List Item → Fault → Type 0
+IsSignedFault items f = IsSignedFaultBy (end_pos items) items f
+
+-- the end as 64 bits tell it
+abbrev pub told_end : List Item → ℕ
+told_end items = min (end_pos items) (2 ^ 64 - 1)
 
 -- all labels are the wanted ones, each body is sound, and the packets, all of them in order, are
 -- those of the signed literal

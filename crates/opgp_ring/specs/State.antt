@@ -6,7 +6,7 @@ use Rattle.opgp_ring.specs.declared.composer.State.TheVariants.{Leading, Growing
 use Rattle.opgp_ring.specs.declared.composer.State.TheVariants.{Broken, Spent}
 use Rattle.opgp_ring.specs.declared.ready.Ready.{Ready}
 use Rattle.opgp_ring.specs.declared.ready.Ready.TheVariants.{Lead, Certificate}
-use Rattle.opgp_ring.specs.Composed.{PartValue, of_lead, of_certificate}
+use Rattle.opgp_ring.specs.Composed.{PartValue, of_lead, of_certificate, lead_parts}
 use Rattle.opgp_ring.specs.Keyring.{certificate_packets, octets_of}
 
 -- a part that became ready
@@ -25,7 +25,15 @@ is_spent_state (Growing c) = false
 is_spent_state (Disordered f) = false
 is_spent_state (Broken f) = false
 
--- the octets of the part that isn't finished
+-- the part that isn't finished; none behind a fault
+abbrev pub open_parts : State → List PartValue
+open_parts (Leading lead) = lead_parts lead.items
+open_parts (Growing c) = of_certificate c ∷ []
+open_parts (Disordered f) = []
+open_parts (Broken f) = []
+open_parts Spent = []
+
+-- its octets
 abbrev pub open_octets : State → ℕ
 open_octets (Leading lead) = octets_of lead.items
 open_octets (Growing c) = octets_of (certificate_packets c)

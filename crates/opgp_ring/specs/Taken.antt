@@ -1,7 +1,10 @@
 -- What was taken from a composer, against the parts of a keyring.
 use Rattle.std.specs.Prelude.{◌≡◌, List, [], ◌∷◌, ◌++◌, ◌⊎◌}
+use Rattle.opgp_octets.specs.declared.limits.Limits.{Limits}
 use Rattle.opgp_ring.specs.declared.composer.Composer.{Composer}
-use Rattle.opgp_ring.specs.Composed.{PartValue}
+use Rattle.opgp_ring.specs.Composed.{IsKeyringOf, PartValue, parts_of}
+use Rattle.opgp_ring.specs.Composition.{Item}
+use Rattle.opgp_ring.specs.Keyring.{KeyringValue}
 use Rattle.opgp_ring.specs.State.{ready_parts}
 
 -- the parts taken, and the one that is ready
@@ -12,3 +15,21 @@ so_far c taken = taken ++ ready_parts c.ready
 abbrev pub IsAllButLast : List PartValue → List PartValue → Type 0
 IsAllButLast front all =
     ((all ≡ []) × (front ≡ [])) ⊎ ((last : PartValue) × (all ≡ front ++ last ∷ []))
+
+-- no keyring is that of the items with the next one, where there is a next one
+abbrev pub EndsKeyrings : Limits → List Item → List Item → Type 0
+EndsKeyrings limits front [] = Unit {0}
+EndsKeyrings limits front (next ∷ back) =
+    (r : KeyringValue) → IsKeyringOf limits (front ++ next ∷ []) r → ⊥
+
+-- The longest beginning of the items that is a keyring's: before the first fault, and all of them
+-- where there is none. The parts are those of its keyring but the last.
+pub record AreHandedOut (limits : Limits) (given : List Item)
+    (parts : List PartValue) : Type 0 where
+  pub front : List Item
+  pub back : List Item
+  pub whole : given ≡ front ++ back
+  pub ring : KeyringValue
+  pub composed : IsKeyringOf limits front ring
+  pub ends : EndsKeyrings limits front back
+  pub but_last : IsAllButLast parts (parts_of ring)

@@ -150,11 +150,13 @@ impl Composer {
 
     /// Takes the packet, which may make a part ready. The condition is that nothing is ready.
     ///
-    /// After a fault nothing becomes ready. An error is want of memory; the composer is spent from
-    /// then on.
+    /// With a fault nothing becomes ready, nor after it. An error is want of memory; the composer is
+    /// spent from then on.
     pub fn push(&mut self, placed: Placed) -> Result<(), PushFault>
         requires { is_ready self.old ≡ false }
         ensures fed { OnOk result (KeepsFed self.old self.new (of_packet placed ∷ []) []) }
+        // With the packet that brings a fault nothing becomes ready.
+        ensures quiet { IsSome (fault_of self.new) → is_ready self.new ≡ false }
         // After a fault nothing becomes ready, and the fault stays.
         ensures faulty { IsSome (fault_of self.old) → IsOk result × (is_ready self.new ≡ false) }
         ensures stays { StaysFaulty self.old self.new }
@@ -288,6 +290,7 @@ impl Composer {
         ensures behind { is_open self.old.state ≡ false
             → IsOk result × (self.new.state ≡ self.old.state)
             × (self.new.ready ≡ self.old.ready) }
+        ensures quiet { OnOk result (IsSome (fault_of self.new) → is_ready self.new ≡ false) }
         ensures held { OnOk result (is_ready self.new ≡ true
             → IsPrimary (sorted_packet sorted) × (self.new.size ≡ octets)) }
         ensures sound { OnOk result (is_spent self.new ≡ false) }
@@ -323,6 +326,7 @@ impl Composer {
         requires octets { octets ≡ length (spelling primary) }
         ensures fed { TakesIn self.old self.new
             (of_packet (record { packet = primary; block = block; pos = pos })) }
+        ensures quiet { IsSome (fault_of self.new) → is_ready self.new ≡ false }
         ensures held { is_ready self.new ≡ true → self.new.size ≡ octets }
         ensures sound { is_spent self.new ≡ false }
         ensures limits { limits_of self.new ≡ limits_of self.old }

@@ -1,11 +1,12 @@
 //! What the definitions imply.
 
-ghost use Rattle.std.specs.Prelude.{◌≡◌, ◌⊎◌, All, ◌++◌, List, Some, true, false};
+ghost use Rattle.std.specs.Prelude.{◌≡◌, ◌⊎◌, ◌↔◌, All, ◌++◌, ◌∷◌, [], List, Some, true, false};
 ghost use Rattle.opgp_octets.specs.declared.limits.Limits.{Limits};
 ghost use Rattle.opgp_octets.specs.declared.fault.Fault.{Fault};
+ghost use Rattle.opgp_octets.specs.declared.fault.Reason.TheVariants.{CertTooLong};
 ghost use Rattle.opgp_frame.specs.Packet.{PacketValue};
 ghost use Rattle.opgp_ring.specs.Composed.{HasOctets, IsKeyringOf, IsFault, PartValue, parts_of};
-ghost use Rattle.opgp_ring.specs.Composition.{Item, AreKeyring};
+ghost use Rattle.opgp_ring.specs.Composition.{Item, AreKeyring, order_reason};
 ghost use Rattle.opgp_ring.specs.Keyring.{KeyringValue, IsKeyring, flat};
 ghost use Rattle.opgp_ring.specs.Normal.{normal_of};
 ghost use Rattle.opgp_ring.specs.Signed.{IsSignedFault, IsSignedOf};
@@ -64,6 +65,14 @@ pub fn some_answer()
     opgp_sig::laws::some_answer();
     opgp_sig::laws::no_fault();
 }
+
+/// Behind the packets of a keyring, a packet is told as too long exactly where it would make them
+/// those of a keyring but for the limit.
+pub fn too_long_is_told_of_what_would_be_a_keyring()
+    ensures { (limits : Limits) (ps : List PacketValue) (p : PacketValue) → AreKeyring limits ps
+        → (order_reason ps p ≡ CertTooLong)
+        ↔ ((r : KeyringValue) × IsKeyring r × (flat r ≡ ps ++ p ∷ [])) }
+{}
 
 /// Normalising twice is normalising once.
 pub fn normalised_twice()

@@ -4,7 +4,7 @@ ghost use Rattle.std.specs.Prelude.{◌≡◌, length, IfOk};
 ghost use Rattle.opgp_frame.specs.Packet.{PacketValue, IsPacket, spelling};
 ghost use Rattle.opgp_frame.specs.Reframed.{reframed};
 ghost use Rattle.opgp_ring.specs.Keyring.{IsFiller, IsHead, IsHung};
-ghost use Rattle.opgp_ring.specs.Lent.{hang_packet, head_packet};
+ghost use Rattle.opgp_ring.specs.Lent.{IsLentHang, hang_packet, head_packet};
 
 use crate::content::Content;
 use crate::lent::{Hang, Head};
@@ -113,7 +113,8 @@ impl Member {
     /// What hangs here. The condition is that it is a signature or a filler.
     pub fn hang(&self) -> Hang<'_>
         requires { IsHung self.now }
-        ensures { hang_packet result ≡ self.now }
+        ensures value { hang_packet result ≡ self.now }
+        ensures lent { IsLentHang result }
     {
         match &self.content {
             Content::Signature(form, signature) => Hang::Signature(form, signature),

@@ -1,11 +1,11 @@
 //! Gathering the packets of a signed literal.
 
-ghost use Rattle.std.specs.Prelude.{◌≡◌, ◌≤◌, ◌<◌, ◌^◌, ◌++◌, ◌∷◌, [], List, length, true, false};
+ghost use Rattle.std.specs.Prelude.{◌≡◌, ◌≤◌, ◌++◌, ◌∷◌, [], List, length, true, false};
 ghost use Rattle.std.specs.Prelude.{MatchResult, OnOk};
 ghost use Rattle.opgp_ring.specs.Bodies.{IsSound, IsFirstBodyFault};
 ghost use Rattle.opgp_ring.specs.Composed.{IsSoundItem};
 ghost use Rattle.opgp_ring.specs.Composition.{Item, of_label, of_packet, packets_in, fault_at};
-ghost use Rattle.opgp_ring.specs.Signed.{IsSignedFault, IsSignedFaultAt, IsSignedOf, end_pos};
+ghost use Rattle.opgp_ring.specs.Signed.{IsSignedFaultAt, IsSignedFaultBy, IsSignedOf, told_end};
 ghost use Rattle.opgp_ring.specs.SignedState.{IsSignedIn, is_open, opened_in};
 
 use crate::block_of::BlockOf;
@@ -108,12 +108,12 @@ impl SignedGathering {
     /// else the first of the order, a block's label before its packets. Where packets are missing,
     /// that is at the end of the last block.
     ///
-    /// The condition is that nothing was refused. Where the last block ends past 2^64 - 1 the
-    /// answer says nothing. Takes no memory.
+    /// The condition is that nothing was refused. An end past 2^64 - 1 is told as that place. Takes no
+    /// memory.
     pub fn finish(self) -> Result<SignedLiteral, Fault>
         requires { (items : List Item) × GathersSigned self items }
-        ensures { (items : List Item) → GathersSigned self items → end_pos items < 2 ^ 64
-            → MatchResult result (λ l. IsSignedOf items (signed_packets l)) (IsSignedFault items) }
+        ensures { (items : List Item) → GathersSigned self items → MatchResult result
+            (λ l. IsSignedOf items (signed_packets l)) (IsSignedFaultBy (told_end items) items) }
     {
         let SignedGathering {
             flat,

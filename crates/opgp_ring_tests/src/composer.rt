@@ -101,6 +101,22 @@ fn parts_as_they_become_ready(rt: HostRuntime) -> Result<(), Fail> {
             &[NAME, OLD_KEY, KEY, OLD_KEY],
             "----body: KeyVersion block 0 at 3 inner 0",
         ),
+        (
+            &[KEY, NAME, SIGNATURE, OLD_KEY],
+            "----body: KeyVersion block 0 at 72 inner 0",
+        ),
+        (
+            &[KEY, KEY, NAME, OLD_KEY, KEY],
+            "-c---body: KeyVersion block 0 at 109 inner 0",
+        ),
+        (
+            &[KEY, NAME, SESSION_KEY, KEY],
+            "----composition: NotInKeyring block 0 at 56 inner 0",
+        ),
+        (
+            &[FILLER, KEY, NAME, SESSION_KEY, OLD_KEY, KEY],
+            "-l----body: KeyVersion block 0 at 60 inner 0",
+        ),
     ];
     for case in cases {
         let (parts, wanted) = *case;

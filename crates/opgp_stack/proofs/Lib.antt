@@ -1,5 +1,6 @@
 mod Lines
 mod Loops
+mod MadeOnce
 mod Put
 mod Again
 mod Armored

@@ -1,9 +1,10 @@
 -- What the reading loop keeps, and that the octets read decide the answer to all that a source had.
-use Rattle.std.proofs.Common.{◌≡◌, ℕ, ◌+◌, ◌<◌, ◌≤◌, ◌⊎◌, take, refl, inl, inr, List, [], ◌++◌, length, Option, Some, None, IfSome, sym, ap, ◌∙◌, subst, append-nil, length-append, arith}
+use Rattle.std.proofs.Common.{◌≡◌, ℕ, zero, suc, ◌∷◌, ◌+◌, ◌<◌, ◌≤◌, ◌⊎◌, take, refl, inl, inr, List, [], ◌++◌, length, Option, Some, None, IfSome, sym, ap, ◌∙◌, subst, append-nil, length-append, arith}
 use Rattle.std.specs.Io.KnownBytes.{Consumes, IsAtEnd}
 use Rattle.std.proofs.KnownBytes.{Consumes-trans}
 use Rattle.opgp_octets.specs.declared.limits.Limits.{Limits}
 use Rattle.opgp_octets.specs.Limits.{input_limit}
+use Rattle.opgp_octets.specs.Octets.{IsOctets}
 use Rattle.opgp_stack.specs.declared.mode.Mode.{Mode}
 use Rattle.opgp_stack.specs.declared.pipeline.Pipeline.{Pipeline}
 use Rattle.opgp_stack.specs.Pipeline.{Fed, count_of}
@@ -11,9 +12,21 @@ use Rattle.opgp_stack.specs.Pulled.{Pulls}
 use Rattle.opgp_ring.specs.Composition.{Item}
 use Rattle.opgp_stack.specs.Reading.{Wanted, Outcome, AnswerOf, at_length, at_armor, at_framing, at_top}
 
+pub octets_take : (n : ℕ) (o : List ℕ) → IsOctets o → IsOctets (take n o)
+octets_take zero o h i = omega arith
+octets_take (suc n) [] h i = h i
+octets_take (suc n) (x ∷ o) h zero = h 0
+octets_take (suc n) (x ∷ o) h (suc i) = octets_take n o (λ j. h (suc j)) i
+
+pub octets_append : (a b : List ℕ) → IsOctets a → IsOctets b → IsOctets (a ++ b)
+octets_append [] b ha hb i = hb i
+octets_append (x ∷ a) b ha hb zero = ha 0
+octets_append (x ∷ a) b ha hb (suc i) = octets_append a b (λ j. ha (suc j)) hb i
+
 -- some octets were read, and pushed into the pipeline
 pub record Progress {T : Type 0} (fed_top : Limits → T → List Item → Type 0) (wanted : Wanted) (before now : Option (List ℕ)) (mode : Mode) (limits : Limits) (p : Pipeline T) (count : ℕ) : Type 0 where
   pub octets : List ℕ
+  pub each : IsOctets octets
   pub taken : Consumes before now octets
   pub fed : Fed fed_top wanted mode limits p octets
   pub size : length octets ≡ count
@@ -45,12 +58,13 @@ none_taken (Some octets) = refl
 
 module _ {T : Type 0} (fed_top : Limits → T → List Item → Type 0) (wanted : Wanted) (mode : Mode) (limits : Limits) where
   pub progress_none : (left : Option (List ℕ)) (p : Pipeline T) → Fed fed_top wanted mode limits p [] → count_of p ≡ 0 → Progress fed_top wanted left left mode limits p 0
-  progress_none left p fed counted = record { octets = []; taken = none_taken left; fed = fed; size = refl; counted = counted }
+  progress_none left p fed counted = record { octets = []; each = λ i. omega arith; taken = none_taken left; fed = fed; size = refl; counted = counted }
 
   -- the source gave no octet more
   pub pulled_all : (before now after : Option (List ℕ)) (p : Pipeline T) (count limit n : ℕ) (part : List ℕ) (r : Progress fed_top wanted before now mode limits p count) → Consumes now after (take n part) → n ≡ 0 → IsAtEnd after
       → count ≤ limit → limit ≡ input_limit limits → Pulls before after (input_limit limits) r.octets
   pulled_all before now after p count limit n part r more none end within is = record {
+    each = r.each;
     taken = rw append-nil at (Consumes-trans before now after r.octets [] r.taken (subst (λ (m : ℕ). Consumes now after (take m part)) none more));
     all = inl (omega (arith, r.size), end);
   }
@@ -58,4 +72,4 @@ module _ {T : Type 0} (fed_top : Limits → T → List Item → Type 0) (wanted 
   -- it gave more than may be
   pub pulled_many : (before now : Option (List ℕ)) (p : Pipeline T) (count limit : ℕ) (r : Progress fed_top wanted before now mode limits p count) → count ≤ limit + 1 → limit < count → limit ≡ input_limit limits
       → Pulls before now (input_limit limits) r.octets
-  pulled_many before now p count limit r within past is = record { taken = r.taken; all = inr (omega (arith, r.size)) }
+  pulled_many before now p count limit r within past is = record { each = r.each; taken = r.taken; all = inr (omega (arith, r.size)) }

@@ -1,5 +1,5 @@
 -- The signed literal of an input: its end fits, and it is one.
-use Rattle.std.proofs.Common.{◌≡◌, ℕ, ◌+◌, ◌<◌, ◌≤◌, ◌^◌, Bool, true, false, List, [], ◌∷◌, ◌++◌, length, map, sym, ap, subst, arith}
+use Rattle.std.proofs.Common.{◌≡◌, ℕ, ◌+◌, ◌<◌, ◌≤◌, ◌-◌, ◌^◌, min, Bool, true, false, List, [], ◌∷◌, ◌++◌, length, map, sym, ap, subst, arith}
 use Rattle.std.specs.List.{AllByRecursion}
 use Rattle.std.proofs.lemmas.List.{length-append}
 use Rattle.opgp_octets.specs.declared.fault.Fault.{Fault}
@@ -11,7 +11,7 @@ use Rattle.opgp_frame.specs.Frames.{StandFrom, spelled}
 use Rattle.opgp_frame.specs.Packet.{PacketValue, spelling}
 use Rattle.opgp_ring.specs.declared.signed_literal.SignedLiteral.{SignedLiteral}
 use Rattle.opgp_ring.specs.Composition.{Item, of_packet}
-use Rattle.opgp_ring.specs.Signed.{IsSignedFault, IsSignedOf, end_of, end_pos, last_of}
+use Rattle.opgp_ring.specs.Signed.{IsSignedFault, IsSignedFaultBy, IsSignedOf, end_of, end_pos, last_of, told_end}
 use Rattle.opgp_ring.specs.SignedLiteral.{signed_packets}
 use Rattle.opgp_stack.specs.declared.mode.Mode.{Mode}
 use Rattle.opgp_stack.specs.Reading.{TextBlock, Wanted, AreFramed, Holds, Outcome, Whole, Refused, AnswerOf, at_length, at_armor, at_framing, at_top, armored_block, block_items, is_binary, IsOne}
@@ -65,6 +65,9 @@ end_fits law mode limits input bs items within h f =
     let few : end_pos items ≤ length input = last_few 0 (length input) items (omega arith) (framed_few limits message_label 0 (length input) bs items (texts_few law (is_binary mode input) limits input bs h) f) in
     omega (arith, few, within, limits.allowed.input_most)
 
+told_is : (end : ℕ) → end < 2 ^ 64 → min end (2 ^ 64 - 1) ≡ end
+told_is end fits = omega arith
+
 -- ---- what was gathered is what is read
 
 refused_is : {A B : Type 0} (f g : Fault) → ◌≡◌ {A = Outcome A} (Refused f) (Refused g) → ◌≡◌ {A = Outcome B} (Refused f) (Refused g)
@@ -75,13 +78,15 @@ module _ (law : HasNoMoreOctets) (mode : Mode) (limits : Limits) (input : List �
   signed_is l (at_length x e) = cc
   signed_is l (at_armor x f h e) = cc
   signed_is l (at_framing x bs h f i e) = cc
-  signed_is l (at_top x bs h items i t) = at_top x bs h items i (t (end_fits law mode limits input bs items x h i))
+  signed_is l (at_top x bs h items i t) = at_top x bs h items i t
 
   pub signed_refused : (f : Fault) → AnswerOf message_label SaysSigned mode limits input (Refused f) → AnswerOf message_label AreSigned mode limits input (Refused f)
   signed_refused f (at_length x e) = at_length x (refused_is f _ e)
   signed_refused f (at_armor x g h e) = at_armor x g h (refused_is f g e)
   signed_refused f (at_framing x bs h g i e) = at_framing x bs h g i (refused_is f g e)
-  signed_refused f (at_top x bs h items i t) = at_top x bs h items i (t (end_fits law mode limits input bs items x h i))
+  signed_refused f (at_top x bs h items i t) =
+      let told : told_end items ≡ end_pos items = told_is (end_pos items) (end_fits law mode limits input bs items x h i) in
+      at_top x bs h items i (subst (λ (end : ℕ). IsSignedFaultBy end items f) told t)
 
 -- ---- one answer
 

@@ -1,5 +1,5 @@
 -- An input has some answer.
-use Rattle.std.proofs.Common.{ℕ, ◌+◌, ◌≤◌, ◌⊎◌, Bool, true, false, List, [], ◌∷◌, ◌++◌, length, map, refl, sym, subst, inl, inr}
+use Rattle.std.proofs.Common.{◌≡◌, ◌∙◌, ap, ℕ, ◌+◌, ◌≤◌, ◌⊎◌, Bool, true, false, List, [], ◌∷◌, ◌++◌, length, map, refl, sym, subst, inl, inr}
 use Rattle.std.proofs.lemmas.Bool.{cases_lt}
 use Rattle.std.specs.List.{All, AllByRecursion}
 use Rattle.std.proofs.lemmas.List.Elements.{All-append, All-nil, All-cons}
@@ -10,13 +10,22 @@ use Rattle.opgp_octets.specs.Limits.{input_limit, line_limit}
 use Rattle.opgp_armor.specs.Armored.{Armored, Block, IsArmorFault}
 use Rattle.opgp_frame.specs.declared.packet.Placed.{Placed}
 use Rattle.opgp_frame.specs.Frames.{Frames, IsFramingFault, StandFrom}
-use Rattle.opgp_frame.specs.Packet.{spelling}
+use Rattle.opgp_frame.specs.Packet.{PacketValue, spelling}
 use Rattle.opgp_stack.specs.declared.mode.Mode.{Mode}
 use Rattle.opgp_ring.specs.Composed.{HasOctets, IsKeyringOf, IsFault}
-use Rattle.opgp_ring.specs.Composition.{Item, of_label, of_packet}
+use Rattle.opgp_ring.specs.Bodies.{IsSound, IsFirstBodyFault}
+use Rattle.opgp_ring.specs.Composition.{Item, of_label, of_packet, placed_in}
 use Rattle.opgp_ring.specs.Keyring.{KeyringValue}
-use Rattle.opgp_stack.specs.Keyrings.{ComposesTo}
-use Rattle.opgp_stack.specs.Reading.{TextBlock, Wanted, armored_block, block_items, is_binary, Holds, IsTextFault, AreFramed, FirstFault, Outcome, Whole, Refused, too_long, AnswerOf, at_length, at_armor, at_framing, at_top, IsSome}
+use Rattle.opgp_ring.specs.Signed.{IsSignedFault, IsSignedOf}
+use Rattle.opgp_stack.specs.Keyrings.{ComposesTo, key_label}
+use Rattle.opgp_stack.specs.Packets.{ArePackets, BlockValue, any_label, items_in}
+use Rattle.opgp_stack.specs.Signed.{AreSigned, message_label}
+use Rattle.opgp_stack.specs.Reading.{TextBlock, Wanted, armored_block, block_items, is_binary, Holds, IsTextFault, AreFramed, FirstFault, Outcome, Whole, Refused, too_long, AnswerOf, at_length, at_armor, at_framing, at_top}
+
+-- to the labels and packets of blocks that are framed within these limits, whose bodies are octets, a
+-- top has some answer
+abbrev pub IsSome : {A : Type 0} → Limits → Wanted → (List Item → Outcome A → Type 0) → Type 0
+IsSome {A} limits wanted top = (blocks : List TextBlock) (items : List Item) → AreFramed limits wanted 0 blocks items → All HasOctets items → (a : Outcome A) × top items a
 
 -- what the layers promise of their definitions
 pub record LayersAnswer : Type 0 where
@@ -68,23 +77,60 @@ framed_octets limits wanted n (b ∷ bs) items (packets, more, framed, rest, is)
     (framed_octets limits wanted (n + 1) bs more rest))
 
 -- Whatever the top, where it has some answer, so has reading.
-pub some_answer : {A : Type 0} (wanted : Wanted) (top : List Item → Outcome A → Type 0) → IsSome top → LayersAnswer → (mode : Mode) (limits : Limits) (input : List ℕ) → IsOctets input
+pub some_answer : {A : Type 0} (limits : Limits) (wanted : Wanted) (top : List Item → Outcome A → Type 0) → IsSome limits wanted top → LayersAnswer → (mode : Mode) (input : List ℕ) → IsOctets input
     → (a : Outcome A) × AnswerOf wanted top mode limits input a
-some_answer {A} wanted top some w mode limits input octets = elim (cases_lt (input_limit limits) (length input)) [
+some_answer {A} limits wanted top some w mode input octets = elim (cases_lt (input_limit limits) (length input)) [
   | inl long ↦ (Refused (too_long limits), at_length long refl)
   | inr within ↦ elim (some_text w limits (is_binary mode input) input octets) [
     | inr f ↦ (Refused f.0, at_armor within f.0 f.1 refl)
     | inl bs ↦ elim (some_framed w limits wanted 0 bs.0 (text_octets w limits (is_binary mode input) input bs.0 octets bs.1)) [
       | inr f ↦ (Refused f.0, at_framing within bs.0 bs.1 f.0 f.1 refl)
-      | inl ps ↦ let a = some ps.0 (framed_octets limits wanted 0 bs.0 ps.0 ps.1) in (a.0, at_top within bs.0 bs.1 ps.0 ps.1 a.1)
+      | inl ps ↦ let a = some bs.0 ps.0 ps.1 (framed_octets limits wanted 0 bs.0 ps.0 ps.1) in (a.0, at_top within bs.0 bs.1 ps.0 ps.1 a.1)
     ]
   ]
 ]
 
+-- ---- the tops
+
 -- composition has some answer
 pub some_ring : ((limits : Limits) (items : List Item) → All HasOctets items → ((r : KeyringValue) × IsKeyringOf limits items r) ⊎ ((f : Fault) × IsFault limits items f))
-    → (limits : Limits) → IsSome (ComposesTo limits)
-some_ring law limits items octets = elim (law limits items octets) [
+    → (limits : Limits) → IsSome limits key_label (ComposesTo limits)
+some_ring law limits blocks items framed octets = elim (law limits items octets) [
   | inl r ↦ (Whole r.0, r.1)
   | inr f ↦ (Refused f.0, f.1)
 ]
+
+-- what the composition of signed literals promises
+abbrev pub SomeSigned : Type 0
+SomeSigned = (items : List Item) → All HasOctets items → ((ps : List PacketValue) × IsSignedOf items ps) ⊎ ((f : Fault) × IsSignedFault items f)
+
+pub some_signed : SomeSigned → (limits : Limits) → IsSome limits message_label AreSigned
+some_signed law limits blocks items framed octets = elim (law items octets) [
+  | inl r ↦ (Whole r.0, r.1)
+  | inr f ↦ (Refused f.0, f.1)
+]
+
+-- packets that are framed stand in blocks
+blocks_of : (limits : Limits) (wanted : Wanted) (n : ℕ) (bs : List TextBlock) (items : List Item) → AreFramed limits wanted n bs items → (blocks : List BlockValue) × (items_in blocks ≡ items)
+blocks_of limits wanted n [] items h = ([], sym h)
+blocks_of limits wanted n (b ∷ bs) items (packets, more, framed, rest, is) =
+    let (blocks, whole) = blocks_of limits wanted (n + 1) bs more rest in
+    (record { number = n; fits = wanted b.label; packets = packets } ∷ blocks, ap (λ (l : List Item). block_items n (wanted b.label) packets ++ l) whole ∙ sym is)
+
+-- Bodies have a first fault or are sound, as they do in a signed literal and its faults.
+sound_or_fault : SomeSigned → (items : List Item) → All HasOctets items → All IsSound (placed_in items) ⊎ ((f : Fault) × IsFirstBodyFault (placed_in items) f)
+sound_or_fault law items octets = elim (law items octets) [
+  | inl r ↦ inl r.1.sound
+  | inr f ↦ elim f.1 [
+    | inl body ↦ inr (f.0, body)
+    | inr order ↦ inl order.0
+  ]
+]
+
+pub some_packets : SomeSigned → (limits : Limits) → IsSome limits any_label ArePackets
+some_packets law limits blocks items framed octets =
+    let (values, whole) = blocks_of limits any_label 0 blocks items framed in
+    elim (sound_or_fault law items octets) [
+      | inl sound ↦ (Whole values, (whole, sound))
+      | inr f ↦ (Refused f.0, f.1)
+    ]

@@ -1,7 +1,7 @@
 -- What is read of an input: its blocks, their packets, and the one answer.
 use Rattle.std.specs.Prelude.{◌≡◌, ℕ, ◌+◌, ◌<◌, ◌≤◌, ◌⊎◌, nat_le, Bool, true, false, List, []}
 use Rattle.std.specs.Prelude.{◌∷◌, ◌++◌, length, map, Option, Some, None, Result, Ok, Err}
-use Rattle.std.specs.List.{All, flat_map}
+use Rattle.std.specs.List.{flat_map}
 use Rattle.opgp_octets.specs.declared.fault.Fault.{Fault}
 use Rattle.opgp_octets.specs.declared.fault.Layer.TheVariants.{Input}
 use Rattle.opgp_octets.specs.declared.fault.Reason.TheVariants.{InputTooLong}
@@ -11,7 +11,6 @@ use Rattle.opgp_armor.specs.declared.label.Label.{Label}
 use Rattle.opgp_armor.specs.Armored.{Armored, Block, IsArmorFault}
 use Rattle.opgp_frame.specs.declared.packet.Placed.{Placed}
 use Rattle.opgp_frame.specs.Frames.{Frames, IsFramingFault}
-use Rattle.opgp_ring.specs.Composed.{HasOctets}
 use Rattle.opgp_ring.specs.Composition.{Item, of_label, of_packet}
 use Rattle.opgp_stack.specs.declared.mode.Mode.{Mode}
 use Rattle.opgp_stack.specs.declared.mode.Mode.TheVariants.{Auto, Armor, Binary}
@@ -112,9 +111,6 @@ pub data AnswerOf {A : Type 0} (wanted : Wanted) (top : List Item → Outcome A 
       → AreFramed limits wanted 0 blocks items → top items answer
       → AnswerOf wanted top mode limits input answer
 
--- a top has one answer at most to labels and packets, and some answer to those whose bodies are octets
+-- a top has one answer at most to labels and packets
 abbrev pub IsOne : {A : Type 0} → (List Item → Outcome A → Type 0) → Type 0
 IsOne {A} top = (items : List Item) (a b : Outcome A) → top items a → top items b → a ≡ b
-
-abbrev pub IsSome : {A : Type 0} → (List Item → Outcome A → Type 0) → Type 0
-IsSome {A} top = (items : List Item) → All HasOctets items → (a : Outcome A) × top items a

@@ -1,12 +1,12 @@
 -- The signed literal of an input (RFC 9580, 10.3).
-use Rattle.std.specs.Prelude.{◌<◌, ◌^◌, Bool, true, false, List, Option, Some, None}
+use Rattle.std.specs.Prelude.{Bool, true, false, List, Option, Some, None}
 use Rattle.opgp_armor.specs.declared.label.Label.{Label}
 use Rattle.opgp_armor.specs.declared.label.Label.TheVariants.{Message, PublicKeyBlock}
 use Rattle.opgp_armor.specs.declared.label.Label.TheVariants.{PrivateKeyBlock, Signature}
 use Rattle.opgp_frame.specs.Packet.{PacketValue}
 use Rattle.opgp_ring.specs.declared.signed_literal.SignedLiteral.{SignedLiteral}
 use Rattle.opgp_ring.specs.Composition.{Item}
-use Rattle.opgp_ring.specs.Signed.{IsSignedFault, IsSignedOf, end_pos}
+use Rattle.opgp_ring.specs.Signed.{IsSignedFault, IsSignedFaultBy, IsSignedOf, told_end}
 use Rattle.opgp_ring.specs.SignedLiteral.{signed_packets}
 use Rattle.opgp_stack.specs.declared.signed_answer.SignedAnswer.{SignedAnswer}
 use Rattle.opgp_stack.specs.declared.signed_answer.SignedAnswer.TheVariants as answer
@@ -31,7 +31,7 @@ signed_outcome (answer.Literal l) = Whole (signed_packets l)
 signed_outcome (answer.Refused fault) = Refused fault
 
 -- ---- how it is gathered
--- the same, where the end of the last block fits; in what is read it does
+-- the same, where the end of the last block is told in 64 bits; what is read fits them
 abbrev pub SaysSigned : List Item → Outcome SignedLiteral → Type 0
-SaysSigned items (Whole l) = end_pos items < 2 ^ 64 → IsSignedOf items (signed_packets l)
-SaysSigned items (Refused f) = end_pos items < 2 ^ 64 → IsSignedFault items f
+SaysSigned items (Whole l) = IsSignedOf items (signed_packets l)
+SaysSigned items (Refused f) = IsSignedFaultBy (told_end items) items f

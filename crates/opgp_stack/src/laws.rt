@@ -9,8 +9,10 @@ ghost use Rattle.opgp_stack.specs.Keyrings.{ComposesTo, key_label};
 ghost use Rattle.opgp_stack.specs.Packets.{ArePackets, BlockValue, any_label};
 ghost use Rattle.opgp_stack.specs.Reading.{AnswerOf, Holds, Outcome, TextBlock, Whole};
 ghost use Rattle.opgp_stack.specs.Reading.{blocks_octets, is_binary};
+ghost use Rattle.opgp_stack.specs.Running.{Made, Makes};
 ghost use Rattle.opgp_stack.specs.Signed.{AreSigned, message_label};
 ghost use Rattle.opgp_stack.specs.declared.mode.Mode.{Mode};
+ghost use Rattle.opgp_stack.specs.declared.task.Task.{Task};
 
 use opgp_armor::laws as armor;
 use opgp_frame::laws as frame;
@@ -90,4 +92,47 @@ pub fn one_signed_literal()
     ring::one_signed_literal();
     ring::one_signed_fault();
     ring::no_signed_fault();
+}
+
+/// All octets have some answer as packets: one list of blocks, or one fault.
+pub fn some_list_of_packets()
+    ensures { (mode : Mode) (limits : Limits) (input : List ℕ) → IsOctets input
+        → (a : Outcome (List BlockValue)) × AnswerOf any_label ArePackets mode limits input a }
+{
+    armor::some_answer();
+    armor::blocks_hold_octets();
+    frame::some_answer();
+    ring::some_signed_answer();
+}
+
+/// All octets have some answer as a signed literal: its packets, or one fault.
+pub fn some_signed_literal()
+    ensures { (mode : Mode) (limits : Limits) (input : List ℕ) → IsOctets input
+        → (a : Outcome (List PacketValue))
+        × AnswerOf message_label AreSigned mode limits input a }
+{
+    armor::some_answer();
+    armor::blocks_hold_octets();
+    frame::some_answer();
+    ring::some_signed_answer();
+}
+
+/// A task makes one thing at most of octets: one text, or one fault.
+pub fn one_thing_is_made()
+    ensures { (task : Task) (octets : List ℕ) → IsOctets octets
+        → (a b : Made) → Makes task octets a → Makes task octets b → a ≡ b }
+{
+    one_list_of_packets();
+    one_answer();
+    one_signed_literal();
+}
+
+/// A task makes something of all octets: one text, or one fault.
+pub fn something_is_made()
+    ensures { (task : Task) (octets : List ℕ) → IsOctets octets
+        → (made : Made) × Makes task octets made }
+{
+    some_list_of_packets();
+    some_answer();
+    some_signed_literal();
 }

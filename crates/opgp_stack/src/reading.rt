@@ -5,6 +5,7 @@ ghost use Rattle.std.specs.Prelude.{OnOk, OnErr, Err, length, take};
 ghost use Rattle.std.specs.Io.KnownBytes.{Consumes, IsAtEnd};
 ghost use Rattle.opgp_octets.specs.declared.limits.Limits.{Limits};
 ghost use Rattle.opgp_octets.specs.Limits.{input_limit};
+ghost use Rattle.opgp_octets.specs.Octets.{IsOctets};
 ghost use Rattle.opgp_stack.specs.Pipeline.{Fed, count_of};
 ghost use Rattle.opgp_stack.specs.Pulled.{Pulls};
 ghost use Rattle.opgp_stack.specs.Reading.{AnswerOf, outcome_of};
@@ -29,6 +30,7 @@ fn pull_some<R: Source>(reader: &mut R, buf: &mut [u8], most: u64) -> Result<usi
     ensures bound { IfOk result (λ n. (n ≤ length buf.new) × (n ≤ most)) }
     ensures taken { IfOk result
         (λ n. Consumes (R.left reader.old) (R.left reader.new) (take n buf.new)) }
+    ensures each { IfOk result (λ n. IsOctets (take n buf.new)) }
     ensures end { IfOk result (λ n. n ≡ 0 → IsAtEnd (R.left reader.new)) }
     ensures sound { OnOk result (R.has_failed reader.new ≡ false) }
     ensures err { OnErr result (R.has_failed reader.new ≡ true) }

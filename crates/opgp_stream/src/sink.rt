@@ -1,6 +1,6 @@
 //! What octets are written to.
 
-ghost use Rattle.std.specs.Prelude.{◌≡◌, ◌||◌, ◌≤◌, ℕ, Bool, List, Option, IfOk, length};
+ghost use Rattle.std.specs.Prelude.{◌≡◌, ◌||◌, ◌≤◌, ℕ, Bool, false, List, Option, IfOk, length};
 ghost use Rattle.std.specs.Io.KnownBytes.{WriteAppends};
 ghost use Rattle.opgp_stream.specs.Stream.{put_fails};
 
@@ -16,8 +16,9 @@ pub trait Sink {
 
     /// Writes the front of the octets, and answers how many it took.
     ///
-    /// An error has written nothing.
+    /// An error has written nothing. The condition is that no call has failed, which `failed` tells.
     fn put(&mut self, octets: &[u8]) -> io::Result<usize>
+        requires sound { has_failed self.old ≡ false }
         ensures bound { IfOk result (λ n. n ≤ length octets.now) }
         ensures octets { WriteAppends (held self.old) (held self.new) result octets.now }
         ensures failed { has_failed self.new

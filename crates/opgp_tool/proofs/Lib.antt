@@ -1,2 +1,4 @@
+mod OneTask
 mod Parsing
 mod Reading
+mod SameLimits

@@ -1,12 +1,14 @@
 -- What an option's text says as a number, and limits that are said.
-use Rattle.std.proofs.Common.{◌≡◌, refl, ℕ, List, Option, Some, None, Result}
+use Rattle.std.proofs.lemmas.Option.{none-some}
+use Rattle.std.proofs.Common.{◌≡◌, ◌∙◌, ap, sym, refl, Bool, true, false, ℕ, List, Option, Some, None, Result}
 use Rattle.std.specs.Prelude.{IfSome, IfNone, codes}
+use Rattle.std.specs.Str.{bytes_eq}
 use Rattle.std.specs.Str.Parse.{ParsesUnsigned}
-use Rattle.clap.specs.Words.{Row, Text, one_of}
+use Rattle.clap.specs.Words.{Row, Text, first_of, one_of}
 use Rattle.clap.specs.Matches.{ReadsOne}
 use Rattle.opgp_stack.specs.declared.task.Action.{Action}
 use Rattle.opgp_stack.specs.declared.task.Action.TheVariants as action
-use Rattle.opgp_tool.specs.Words.{HasNumber, IsAction}
+use Rattle.opgp_tool.specs.Words.{HasNumber, IsAction, IsNth}
 
 module _ (E : Type 0) (Gives : List ℕ → Result ℕ E → Type 0)
     (parses : (t : List ℕ) (r : Result ℕ E) → Gives t r → ParsesUnsigned 64 10 t r)
@@ -49,3 +51,28 @@ no_action_without_row options name is none (action.Write out) said = absurd (cc 
 no_action_without_row options name is none (action.Normalise out) said = absurd (cc (is, said.0))
 no_action_without_row options name is none (action.Split out nth) said = absurd (cc (is, said.0))
 no_action_without_row options name is none (action.Join out merge) said = absurd (cc (is, said.0))
+
+-- a split whose number isn't one is no action
+pub no_nth : (options : List Row) (word : Text)
+    → ((n : ℕ) → HasNumber options (codes "nth") n → ⊥)
+    → first_of (codes "nth") options ≡ Some word → (nth : Option ℕ) → IsNth options nth → ⊥
+no_nth options word none is None said = none-some word (sym said ∙ is)
+no_nth options word none is (Some n) said = none n said
+
+pub apart : true ≡ false → ⊥
+apart e = absurd cc
+
+abbrev is_split : Text → Bool
+is_split name = bytes_eq name (codes "split")
+
+pub no_action_without_nth : (options : List Row) (name : Text) → name ≡ codes "split"
+    → ((nth : Option ℕ) → IsNth options nth → ⊥)
+    → (a : Action) → IsAction name options a → ⊥
+no_action_without_nth options name is none action.Show said = absurd (apart (ap is_split (sym is ∙ said)))
+no_action_without_nth options name is none action.List said = absurd (apart (ap is_split (sym is ∙ said)))
+no_action_without_nth options name is none action.Check said = absurd (apart (ap is_split (sym is ∙ said)))
+no_action_without_nth options name is none (action.Octets row top) said = absurd (apart (ap is_split (sym is ∙ said.0)))
+no_action_without_nth options name is none (action.Write out) said = absurd (apart (ap is_split (sym is ∙ said.0)))
+no_action_without_nth options name is none (action.Normalise out) said = absurd (apart (ap is_split (sym is ∙ said.0)))
+no_action_without_nth options name is none (action.Split out nth) said = none nth said.2
+no_action_without_nth options name is none (action.Join out merge) said = absurd (apart (ap is_split (sym is ∙ said.0)))

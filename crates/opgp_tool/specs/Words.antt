@@ -1,6 +1,6 @@
 -- What the words of a command line say: the command's name, and its options, a row each, as `clap`
 -- finds them.
-use Rattle.std.specs.Prelude.{◌≡◌, ℕ, ◌<◌, ◌^◌, List, Option, Some, None, true, false, codes}
+use Rattle.std.specs.Prelude.{◌≡◌, ℕ, ◌<◌, ◌^◌, Bool, List, Option, Some, None, false, codes}
 use Rattle.std.specs.Prelude.{MatchOption, if◌then◌else◌}
 use Rattle.std.specs.Str.{bytes_eq}
 use Rattle.std.specs.Str.Parse.{IsNumeral, digits_value, without_leading_plus}
@@ -43,6 +43,16 @@ abbrev pub top_of : Option Text → Top
 top_of None = top.Ring
 top_of (Some word) = if bytes_eq word (codes "literal") then top.Literal else top.Ring
 
+-- `--nth`: the number that its text says, or none where it isn't given
+abbrev pub IsNth : List Row → Option ℕ → Type 0
+IsNth options nth = MatchOption nth (first_of (codes "nth") options ≡ None)
+    (HasNumber options (codes "nth"))
+
+-- `--merge`: given, for which `clap` writes the word `true`, or else not
+abbrev pub merge_of : Option Text → Bool
+merge_of None = false
+merge_of (Some word) = bytes_eq word (codes "true")
+
 -- each limit is the number of the option of its name
 pub record HasLimits (options : List Row) (limits : Limits) : Type 0 where
   pub line : HasNumber options (codes "line") (line_limit limits)
@@ -63,13 +73,10 @@ IsAction name options (action.Write out) = (name ≡ codes "write")
 IsAction name options (action.Normalise out) = (name ≡ codes "normalise")
     × (out ≡ out_of (first_of (codes "out") options))
 IsAction name options (action.Split out nth) = (name ≡ codes "split")
-    × (out ≡ out_of (first_of (codes "out") options))
-    × ((one_of (codes "nth") options ≡ None → nth ≡ None)
-    × MatchOption nth Unit (HasNumber options (codes "nth")))
+    × (out ≡ out_of (first_of (codes "out") options)) × IsNth options nth
 IsAction name options (action.Join out merge) = (name ≡ codes "join")
     × (out ≡ out_of (first_of (codes "out") options))
-    × ((one_of (codes "merge") options ≡ Some (codes "true") → merge ≡ true)
-    × (one_of (codes "merge") options ≡ Some (codes "false") → merge ≡ false))
+    × (merge ≡ merge_of (first_of (codes "merge") options))
 
 -- the task of the command of this name with these options
 pub record IsTask (name : Text) (options : List Row) (task : Task) : Type 0 where

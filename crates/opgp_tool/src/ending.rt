@@ -1,6 +1,6 @@
 //! How a run ends, as its exit status and a line on standard error say.
 
-ghost use Rattle.std.specs.Prelude.{◌≡◌, IfOk, string_bytes};
+ghost use Rattle.std.specs.Prelude.{◌≡◌, IfOk, IsOk, Ok, string_bytes};
 ghost use Rattle.opgp_tool.specs.Ending.{status_of, line_of};
 
 use opgp_octets::{OutOfMemory, fault_line};
@@ -9,10 +9,11 @@ use std::alloc::Global;
 
 /// The exit status of a run, and the line that it prints with its line feed, or nothing.
 ///
-/// An error is want of memory.
+/// An error is want of memory; a run that is done needs none.
 pub fn end_of(alloc: Global, outcome: &Result<(), RunFault>) -> Result<(u8, String), OutOfMemory>
     ensures status { IfOk result (λ end. end.0 ≡ status_of outcome.now) }
     ensures line { IfOk result (λ end. string_bytes end.1 ≡ line_of outcome.now) }
+    ensures succeeds { outcome.now ≡ Ok tt → IsOk result }
 {
     let (status, line) = match outcome {
         Ok(()) => (0, String::new(alloc)),

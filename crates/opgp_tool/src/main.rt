@@ -4,6 +4,7 @@
 mod command;
 mod ending;
 mod help;
+pub mod laws;
 mod task;
 
 use ending::end_of;

@@ -1,14 +1,14 @@
 //! The task that the words of a command line name.
 
-ghost use Rattle.std.specs.Prelude.{◌≡◌, ◌⊎◌, ℕ, Some, IfSome, IfNone, IfOk, IfErr, true, false};
+ghost use Rattle.std.specs.Prelude.{◌≡◌, ◌⊎◌, ℕ, Option, IfSome, IfNone, IfOk, IfErr, []};
 ghost use Rattle.std.specs.Prelude.{codes, map, option_map};
-ghost use Rattle.clap.specs.Words.{App, first_of, found_of, kind_of, one_of, rows_of};
+ghost use Rattle.clap.specs.Words.{App, fault_of, first_of, found_of, kind_of, rows_of};
 ghost use Rattle.clap.specs.declared.error.kind.ErrorKind.TheVariants.{OutOfMemory};
 ghost use Rattle.opgp_stack.specs.declared.task.Action.{Action};
 ghost use Rattle.opgp_stack.specs.declared.task.Task.{Task};
 ghost use Rattle.opgp_octets.specs.declared.limits.Limits.{Limits};
-ghost use Rattle.opgp_tool.specs.Words.{mode_of, out_of, top_of, HasNumber, HasLimits};
-ghost use Rattle.opgp_tool.specs.Words.{IsAction, IsTask};
+ghost use Rattle.opgp_tool.specs.Words.{mode_of, out_of, top_of, merge_of, HasNumber, HasLimits};
+ghost use Rattle.opgp_tool.specs.Words.{IsAction, IsNth, IsTask};
 ghost use Rattle.opgp_tool.specs.Program.{IsProgram, SaysNone, SaysTask};
 ghost use Rattle.opgp_tool.specs.declared.task.Usage.TheVariants.{Memory};
 
@@ -73,14 +73,26 @@ fn number_of(matches: &ArgMatches, id: &str) -> Option<u64>
     matches.get_one::<u64>(id)
 }
 
-/// Whether a flag is given.
-fn flag_of(matches: &ArgMatches, id: &str) -> bool
-    ensures given { one_of id.now (rows_of (found_of matches.now)) ≡ Some (codes "true")
-        → result ≡ true }
-    ensures other { one_of id.now (rows_of (found_of matches.now)) ≡ Some (codes "false")
-        → result ≡ false }
+/// The number of `--nth`, or none where it isn't given. None is the answer where its word is no number.
+fn nth_of(matches: &ArgMatches) -> Option<Option<u64>>
+    ensures some { IfSome result (IsNth (rows_of (found_of matches.now))) }
+    ensures none { IfNone result ((nth : Option ℕ)
+        → IsNth (rows_of (found_of matches.now)) nth → ⊥) }
 {
-    matches.get_flag(id)
+    match word_of(matches, "nth") {
+        None => Some(None),
+        Some(_) => Some(Some(number_of(matches, "nth")?)),
+    }
+}
+
+/// Whether `--merge` is given.
+fn merge_of(matches: &ArgMatches) -> bool
+    ensures { result ≡ merge_of (first_of (codes "merge") (rows_of (found_of matches.now))) }
+{
+    match word_of(matches, "merge") {
+        Some("true") => true,
+        _ => false,
+    }
 }
 
 fn limits_of(matches: &ArgMatches) -> Option<Limits>
@@ -117,11 +129,11 @@ fn action_of(name: &str, matches: &ArgMatches) -> Option<Action>
         }),
         "split" => Some(Action::Split {
             out: out_of(matches),
-            nth: number_of(matches, "nth"),
+            nth: nth_of(matches)?,
         }),
         "join" => Some(Action::Join {
             out: out_of(matches),
-            merge: flag_of(matches, "merge"),
+            merge: merge_of(matches),
         }),
         _ => None,
     }
@@ -173,6 +185,7 @@ fn is_about_a_file(text: &str) -> bool {
 /// The refusals are the text of `clap`, for help too, and want of memory.
 pub fn task_of<'a, S: AsStr>(alloc: Global, words: &'a [S]) -> Result<Task, Usage>
     ensures said { IfOk result (λ task. (program : App) × IsProgram program
+        × (fault_of program (map S.text words.entry.now) ≡ [])
         × SaysTask program (map S.text words.entry.now) task) }
     ensures refused { IfErr result (λ usage. (usage ≡ Memory)
         ⊎ ((program : App) × IsProgram program

@@ -2,7 +2,7 @@ use Rattle.std.proofs.Common.{◌≡◌, ◌++◌, List, ℕ, take, length, arit
 use Rattle.std.proofs.lemmas.Grind.{common_steps}
 use Rattle.std.proofs.lemmas.List.{length-take-le}
 use Rattle.std.proofs.KnownBytes.{Consumes-trans}
-use Rattle.opgp_stack.proofs.Pulling.{progress_none, pulled_all, pulled_many, answer_known}
+use Rattle.opgp_stack.proofs.Pulling.{progress_none, pulled_all, pulled_many, answer_known, octets_append}
 use Rattle.opgp_stack.proofs.reading.pull_all.Goals as goal
 
 pub pulls-init : goal.pulls-init
@@ -67,6 +67,7 @@ pulls-preserved g c =
       sound = e.sound;
       progress = record {
         octets = p.octets ++ piece;
+        each = octets_append p.octets piece p.each e.each;
         taken = Consumes-trans _ _ _ _ _ p.taken e.taken;
         fed = c.in-Ok.ensures.fed _ _ p.octets p.fed;
         size = omega (arith, length-append p.octets piece, size, p.size);

@@ -1,7 +1,7 @@
 use Rattle.std.proofs.Common.{rules, ◌∙◌, sym, ◌≡◌, inr, List, map, Some, None}
 use Rattle.std.specs.Prelude.{option_map}
 use Rattle.clap.specs.Words.{Row, Text, app_of, subcommand_rows_of, rows_of, found_of}
-use Rattle.opgp_tool.proofs.Parsing.{simple, both, given, refused_or, none_said, nothing_said}
+use Rattle.opgp_tool.proofs.Parsing.{simple, free, both, given, refused_or, none_said, nothing_said}
 use Rattle.opgp_tool.proofs.Reading.{where_none}
 use Rattle.opgp_tool.proofs.task.task_of.Goals as goal
 use Rattle.opgp_tool.proofs.task.task_of.Goals.{in-Some, in-None}
@@ -19,6 +19,7 @@ returns-in-Some-task-clause-said g c =
           (sym w.task-is ∙ c.in-Some-task.is) w.task_from-task.ensures.some in (
             app_of c.in-Ok.program,
             made,
+            c.in-Ok-try_get_matches_from.ensures.kinds (free _ made),
             (
               w.in-Some.name.now,
               rows_of (found_of w.in-Some.options.now),

@@ -1,16 +1,36 @@
-use Rattle.std.proofs.Common.{sym}
+use Rattle.std.proofs.Common.{ap, sym, subst}
+use Rattle.std.specs.Prelude.{OnOk}
+use Rattle.opgp_frame.specs.Packet.{PacketValue}
 use Rattle.opgp_ring.specs.Composition.{of_packet, packets_in}
+use Rattle.opgp_ring.specs.Fed.{TakesIn}
 use Rattle.opgp_ring.specs.Sorted.{sorted_packet}
 use Rattle.opgp_ring.proofs.Feeding.{stray_fault}
 use Rattle.opgp_ring.proofs.States.{behind}
 use Rattle.opgp_ring.proofs.Stepping.{strayed}
+use Rattle.opgp_ring.proofs.HandedOut.{fed_of, standing_of}
 use Rattle.opgp_ring.proofs.composer.Composer.add.Goals as goal
 
 pub returns-then-not-is_open-clause-fed : goal.returns-then-not-is_open-clause-fed
 returns-then-not-is_open-clause-fed c limits given taken f =
-    record { limits_kept = f.limits_kept; shape = f.shape; state = behind limits c.args.self.now.state given _ (of_packet (record { packet = sorted_packet c.args.sorted; block = c.args.block; pos = c.args.pos })) f.state c.requires.sound (sym c.if-not-is_open.ensures) }
+    fed_of (record { limits_kept = f.limits_kept; state = behind limits c.args.self.now.state given _ (of_packet (record { packet = sorted_packet c.args.sorted; block = c.args.block; pos = c.args.pos })) (standing_of f).state c.requires.sound (sym c.if-not-is_open.ensures) })
 
 pub returns-in-Stray-clause-fed : goal.returns-in-Stray-clause-fed
 returns-in-Stray-clause-fed c limits given taken f =
     c.refuse.ensures.fed limits given taken (of_packet (record { packet = sorted_packet c.args.sorted; block = c.args.block; pos = c.args.pos })) f c.requires.sound
     (λ _. stray_fault limits (packets_in given) (record { packet = sorted_packet c.args.sorted; block = c.args.block; pos = c.args.pos }) (strayed c.args.sorted c.in-Stray.stray c.in-Stray.is c.requires.sorted))
+
+pub returns-in-Primary-clause-fed : goal.returns-in-Primary-clause-fed
+returns-in-Primary-clause-fed c = subst (λ (v : PacketValue). TakesIn c.args.self.now c.begin.new.self (of_packet (record { packet = v; block = c.args.block; pos = c.args.pos })))
+    (sym (ap sorted_packet c.in-Primary.is)) c.begin.ensures.fed
+
+pub returns-in-Head-clause-fed : goal.returns-in-Head-clause-fed
+returns-in-Head-clause-fed c = subst (λ (v : PacketValue). OnOk c.add_head.result (TakesIn c.args.self.now c.add_head.new.self (of_packet (record { packet = v; block = c.args.block; pos = c.args.pos }))))
+    (sym (ap sorted_packet c.in-Head.is)) c.add_head.ensures.fed
+
+pub returns-in-Signature-clause-fed : goal.returns-in-Signature-clause-fed
+returns-in-Signature-clause-fed c = subst (λ (v : PacketValue). OnOk c.add_signature.result (TakesIn c.args.self.now c.add_signature.new.self (of_packet (record { packet = v; block = c.args.block; pos = c.args.pos }))))
+    (sym (ap sorted_packet c.in-Signature.is)) c.add_signature.ensures.fed
+
+pub returns-in-Filler-clause-fed : goal.returns-in-Filler-clause-fed
+returns-in-Filler-clause-fed c = subst (λ (v : PacketValue). OnOk c.add_filler.result (TakesIn c.args.self.now c.add_filler.new.self (of_packet (record { packet = v; block = c.args.block; pos = c.args.pos }))))
+    (sym (ap sorted_packet c.in-Filler.is)) c.add_filler.ensures.fed

@@ -1,18 +1,19 @@
 use Rattle.std.proofs.Common.{◌≡◌, ◌+◌, ◌<◌, ◌≤◌, ◌==◌, ◌++◌, ap, sym, subst, ◌∙◌, arith}
 use Rattle.opgp_octets.specs.Limits.{cert_limit}
 use Rattle.opgp_ring.specs.Composition.{of_packet}
-use Rattle.opgp_ring.specs.Fed.{IsIn}
+use Rattle.opgp_ring.proofs.Standing.{IsIn}
 use Rattle.opgp_ring.specs.Keyring.{certificate_packets, octets_of, is_head, is_filler}
 use Rattle.opgp_ring.specs.declared.composer.State.{State}
 use Rattle.opgp_ring.specs.State.{ready_parts, open_octets}
 use Rattle.opgp_ring.proofs.KindTests.{or_left, signature_kind}
 use Rattle.opgp_ring.proofs.Stepping.{closed, lead_lacks, hung_long, certificate_more, grown_octets, room_short, room_fits}
+use Rattle.opgp_ring.proofs.HandedOut.{fed_of, standing_of}
 use Rattle.opgp_ring.proofs.composer.Composer.add_signature.Goals as goal
 
 pub returns-in-Leading-clause-fed : goal.returns-in-Leading-clause-fed
 returns-in-Leading-clause-fed c limits given taken f =
-    c.refuse.ensures.fed limits given taken (of_packet (record { packet = c.args.signature; block = c.args.block; pos = c.args.pos })) (record { limits_kept = f.limits_kept; shape = f.shape; state = f.state }) c.requires.sound
-    (λ _. lead_lacks limits c.args.self.now.state c.in-Leading.field-0 given _ (record { packet = c.args.signature; block = c.args.block; pos = c.args.pos }) f.state c.in-Leading.is (or_left (c.args.signature.kind == 2) (is_head c.args.signature.kind) (signature_kind c.args.signature.kind c.requires.signature)))
+    c.refuse.ensures.fed limits given taken (of_packet (record { packet = c.args.signature; block = c.args.block; pos = c.args.pos })) (fed_of (record { limits_kept = f.limits_kept; state = (standing_of f).state })) c.requires.sound
+    (λ _. lead_lacks limits c.args.self.now.state c.in-Leading.field-0 given _ (record { packet = c.args.signature; block = c.args.block; pos = c.args.pos }) (standing_of f).state c.in-Leading.is (or_left (c.args.signature.kind == 2) (is_head c.args.signature.kind) (signature_kind c.args.signature.kind c.requires.signature)))
 
 pub returns-in-Growing-clause-fed : goal.returns-in-Growing-clause-fed
 returns-in-Growing-clause-fed c limits given taken f =
@@ -21,8 +22,8 @@ returns-in-Growing-clause-fed c limits given taken f =
     let counted : octets_of (certificate_packets c.in-Growing.field-0) ≡ size = ap open_octets (sym c.in-Growing.is) ∙ c.args.self.now.counted in
     let short : size ≤ c.cert.result = omega (arith, c.args.self.now.short, c.cert.ensures.value) in
     let long : c.cert.result < size + c.args.octets = room_short c.cert.result size c.args.octets short c.if-octets-room.true in
-    c.refuse-in-Growing.ensures.fed limits given taken (of_packet (record { packet = c.args.signature; block = c.args.block; pos = c.args.pos })) (record { limits_kept = f.limits_kept; shape = f.shape; state = subst (λ (s : State). IsIn limits s given (taken ++ ready_parts c.args.self.now.ready)) c.in-Growing.is f.state }) c.requires.sound
-    (λ _. hung_long limits c.args.self.now.state c.in-Growing.field-0 given _ (record { packet = c.args.signature; block = c.args.block; pos = c.args.pos }) f.state c.in-Growing.is (or_left (c.args.signature.kind == 2) (is_filler c.args.signature.kind) (signature_kind c.args.signature.kind c.requires.signature)) (omega (arith, long, limit, counted, c.requires.octets)))
+    c.refuse-in-Growing.ensures.fed limits given taken (of_packet (record { packet = c.args.signature; block = c.args.block; pos = c.args.pos })) (fed_of (record { limits_kept = f.limits_kept; state = subst (λ (s : State). IsIn limits s given (taken ++ ready_parts c.args.self.now.ready)) c.in-Growing.is (standing_of f).state })) c.requires.sound
+    (λ _. hung_long limits c.args.self.now.state c.in-Growing.field-0 given _ (record { packet = c.args.signature; block = c.args.block; pos = c.args.pos }) (standing_of f).state c.in-Growing.is (or_left (c.args.signature.kind == 2) (is_filler c.args.signature.kind) (signature_kind c.args.signature.kind c.requires.signature)) (omega (arith, long, limit, counted, c.requires.octets)))
 
 pub returns-in-Ok-clause-fed : goal.returns-in-Ok-clause-fed
 returns-in-Ok-clause-fed c limits given taken f =
@@ -31,11 +32,10 @@ returns-in-Ok-clause-fed c limits given taken f =
     let counted : octets_of (certificate_packets c.in-Growing.field-0) ≡ size = ap open_octets (sym c.in-Growing.is) ∙ c.args.self.now.counted in
     let short : size ≤ c.cert.result = omega (arith, c.args.self.now.short, c.cert.ensures.value) in
     let fits : size + c.args.octets ≤ c.cert.result = room_fits c.cert.result size c.args.octets short c.if-octets-room.false in
-    record {
+    fed_of (record {
       limits_kept = f.limits_kept;
-      shape = f.shape;
-      state = certificate_more limits c.args.self.now.state c.in-Growing.field-0 c.hang.new.self given _ (record { packet = c.args.signature; block = c.args.block; pos = c.args.pos }) f.state c.in-Growing.is c.requires.sound c.in-Ok.ensures.ok c.in-Ok.ensures.certificate (omega (arith, fits, limit, counted, c.requires.octets));
-    }
+      state = certificate_more limits c.args.self.now.state c.in-Growing.field-0 c.hang.new.self given _ (record { packet = c.args.signature; block = c.args.block; pos = c.args.pos }) (standing_of f).state c.in-Growing.is c.requires.sound c.in-Ok.ensures.ok c.in-Ok.ensures.certificate (omega (arith, fits, limit, counted, c.requires.octets));
+    })
 
 pub unreachable-requires : goal.unreachable-requires
 unreachable-requires c = absurd (let e = closed c.args.self.now.state c.in_default.not-Leading c.in_default.not-Growing in let o = c.requires.«open» in cc)

@@ -1,22 +1,20 @@
-use Rattle.std.proofs.Common.{◌≡◌, ◌++◌, ◌∷◌, [], List, ap, sym, subst, ◌∙◌, append-nil, arith}
+use Rattle.std.proofs.Common.{◌≡◌, ◌∷◌, [], List, ap, sym, subst, ◌∙◌, arith}
 use Rattle.opgp_octets.specs.Limits.{cert_limit}
 use Rattle.opgp_ring.specs.Composed.{PartValue, of_certificate, lead_parts}
 use Rattle.opgp_ring.specs.Composition.{of_packet}
-use Rattle.opgp_ring.specs.Fed.{IsIn, IsLeading, IsGrowing}
+use Rattle.opgp_ring.proofs.Standing.{IsIn}
 use Rattle.opgp_ring.specs.Keyring.{CertificateValue, certificate_packets, octets_of}
-use Rattle.opgp_ring.specs.declared.composer.State.{State}
 use Rattle.opgp_ring.specs.State.{open_octets, ready_octets, ready_parts}
-use Rattle.opgp_ring.proofs.Adding.{keyring}
-use Rattle.opgp_ring.proofs.Parts.{parts_push}
 use Rattle.opgp_ring.proofs.Feeding.{begun_octets}
 use Rattle.opgp_ring.proofs.Stepping.{none_ready, primary_long, first_more, next_more}
+use Rattle.opgp_ring.proofs.HandedOut.{fed_of, standing_of}
 use Rattle.opgp_ring.proofs.composer.Composer.begin.Goals as goal
 
 pub returns-then-octets-cert-clause-fed : goal.returns-then-octets-cert-clause-fed
 returns-then-octets-cert-clause-fed c limits given taken f =
     let limit : c.cert.result ≡ cert_limit limits = c.cert.ensures.value ∙ ap cert_limit f.limits_kept in
     c.refuse.ensures.fed limits given taken (of_packet (record { packet = c.args.primary; block = c.args.block; pos = c.args.pos })) f c.requires.sound
-    (λ opened. primary_long limits c.args.self.now.state given _ (record { packet = c.args.primary; block = c.args.block; pos = c.args.pos }) f.state opened c.requires.primary (omega (arith, limit, c.if-octets-cert.true, c.requires.octets)))
+    (λ opened. primary_long limits c.args.self.now.state given _ (record { packet = c.args.primary; block = c.args.block; pos = c.args.pos }) (standing_of f).state opened c.requires.primary (omega (arith, limit, c.if-octets-cert.true, c.requires.octets)))
 
 pub invariant_of-self : goal.invariant_of-self
 invariant_of-self c =
@@ -44,26 +42,22 @@ pub returns-in-Leading-clause-fed : goal.returns-in-Leading-clause-fed
 returns-in-Leading-clause-fed c limits given taken f =
     let s = c.args.self.now.state in
     let limit : c.cert.result ≡ cert_limit limits = c.cert.ensures.value ∙ ap cert_limit f.limits_kept in
-    let is = subst (λ (ps : List PartValue). IsIn limits s given ps) (none_ready taken c.args.self.now.ready c.requires.free) f.state in
-    let k : IsLeading limits c.in-Leading.lead.items given taken = subst (λ (t : State). IsIn limits t given taken) (sym c.in-Leading.ensures.value) is in
+    let is = subst (λ (ps : List PartValue). IsIn limits s given ps) (none_ready taken c.args.self.now.ready c.requires.free) (standing_of f).state in
     let parts : ready_parts c.replace-in-Leading.new.dest ≡ lead_parts c.in-Leading.lead.items = ap ready_parts c.replace-in-Leading.ensures.after ∙ c.lead_part-ready.ensures.part in
-    record {
+    fed_of (record {
       limits_kept = f.limits_kept;
-      shape = (keyring c.in-Leading.lead.items [], ap (λ (ps : List PartValue). taken ++ ps) parts ∙ ap (λ (ps : List PartValue). ps ++ lead_parts c.in-Leading.lead.items) k.none ∙ sym (append-nil (lead_parts c.in-Leading.lead.items)));
       state = rw (c.replace.ensures.after, c.new.ensures, parts)
           (first_more limits s c.in-Leading.lead given taken (record { packet = c.args.primary; block = c.args.block; pos = c.args.pos }) is (sym c.in-Leading.ensures.value) c.requires.sound c.requires.primary (omega (arith, limit, c.if-octets-cert.false, c.requires.octets)));
-    }
+    })
 
 pub returns-in-Growing-clause-fed : goal.returns-in-Growing-clause-fed
 returns-in-Growing-clause-fed c limits given taken f =
     let s = c.args.self.now.state in
     let limit : c.cert.result ≡ cert_limit limits = c.cert.ensures.value ∙ ap cert_limit f.limits_kept in
-    let is = subst (λ (ps : List PartValue). IsIn limits s given ps) (none_ready taken c.args.self.now.ready c.requires.free) f.state in
-    let k : IsGrowing limits c.in-Growing.certificate given taken = subst (λ (t : State). IsIn limits t given taken) (sym c.in-Growing.ensures.value) is in
+    let is = subst (λ (ps : List PartValue). IsIn limits s given ps) (none_ready taken c.args.self.now.ready c.requires.free) (standing_of f).state in
     let parts : ready_parts c.replace-in-Growing.new.dest ≡ of_certificate c.in-Growing.certificate ∷ [] = ap ready_parts c.replace-in-Growing.ensures.after in
-    record {
+    fed_of (record {
       limits_kept = f.limits_kept;
-      shape = (keyring k.lead (k.done ++ c.in-Growing.certificate ∷ []), ap (λ (ps : List PartValue). taken ++ ps) parts ∙ ap (λ (ps : List PartValue). ps ++ of_certificate c.in-Growing.certificate ∷ []) k.so_far ∙ parts_push k.lead k.done c.in-Growing.certificate);
       state = rw (c.replace.ensures.after, c.new.ensures, parts)
           (next_more limits s c.in-Growing.certificate given taken (record { packet = c.args.primary; block = c.args.block; pos = c.args.pos }) is (sym c.in-Growing.ensures.value) c.requires.sound c.requires.primary (omega (arith, limit, c.if-octets-cert.false, c.requires.octets)));
-    }
+    })

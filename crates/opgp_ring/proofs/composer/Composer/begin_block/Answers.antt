@@ -2,6 +2,7 @@ use Rattle.std.proofs.Common.{refl}
 use Rattle.opgp_ring.specs.Composition.{of_label}
 use Rattle.opgp_ring.proofs.Keeping.{kept_one}
 use Rattle.opgp_ring.proofs.States.{labelled}
+use Rattle.opgp_ring.proofs.HandedOut.{fed_of, standing_of}
 use Rattle.opgp_ring.proofs.composer.Composer.begin_block.Goals as goal
 
 pub returns-then-not-label_fits-clause-fed : goal.returns-then-not-label_fits-clause-fed
@@ -12,4 +13,4 @@ returns-then-not-label_fits-clause-fed c =
 pub returns-else-not-label_fits-clause-fed : goal.returns-else-not-label_fits-clause-fed
 returns-else-not-label_fits-clause-fed c =
     kept_one c.args.self.now c.args.self.now (of_label c.args.block c.args.label_fits)
-    (λ limits given taken f. record { limits_kept = f.limits_kept; shape = f.shape; state = rw c.if-not-label_fits.false (labelled limits c.args.self.now.state given _ c.args.block f.state) })
+    (λ limits given taken f. fed_of (record { limits_kept = f.limits_kept; state = rw c.if-not-label_fits.false (labelled limits c.args.self.now.state given _ c.args.block (standing_of f).state) }))

@@ -16,6 +16,7 @@ returns-in-Ok-add c =
     let placed = c.args.placed in
     record {
       fed = kept_one old new (of_packet placed) (subst (λ (v : PacketValue). TakesIn old new (of_packet (record { packet = v; block = placed.block; pos = placed.pos }))) c.in-Ok.ensures.packet c.in-Ok-add.ensures.fed);
+      quiet = c.in-Ok-add.ensures.quiet;
       faulty = λ faulty. (refl, ap (is_some {T = Ready}) (c.in-Ok-add.ensures.behind (closed_by old.state faulty)).2 ∙ c.requires);
       stays = same_stays old new (λ e. (c.in-Ok-add.ensures.behind e).1);
       held = λ short. held_short new placed.packet c.in-Ok.ensures.form short
@@ -32,6 +33,7 @@ returns-in-Err c =
     let new = c.break_off.new.self in
     record {
       fed = kept_one old new (of_packet c.args.placed) (c.break_off.ensures.fed c.args.placed.packet c.in-Err.ensures.form.octets c.in-Err.ensures.fault);
+      quiet = λ faulty. ap (is_some {T = Ready}) c.break_off.ensures.ready ∙ c.requires;
       faulty = λ faulty. (refl, ap (is_some {T = Ready}) c.break_off.ensures.ready ∙ c.requires);
       stays = c.break_off.ensures.stays;
       held = λ short. held_none new (ap (is_some {T = Ready}) c.break_off.ensures.ready ∙ c.requires);

@@ -62,3 +62,8 @@ returns-in_ok-push-in-Ok-Some-Certificate c limits items gathers =
     rw (c.new-in-Ok-Some-Certificate.ensures, c.in_ok-push-in-Ok-Some-Certificate.ensures.items)
     (closed_certificate limits items g.lead.items g.certificates.items s.certificate
     (record { ring = k.0; stands = k.1; parts = k.2 ∙ ap (λ (o : Option Ready). before ++ ready_parts o) s.field-0-is ∙ ap (λ (r : Ready). before ++ part_of r ∷ []) s.field-0-0-is }))
+
+pub returns-in-Err : goal.returns-in-Err
+returns-in-Err c limits items gathers =
+    let g = c.args.self in
+    c.in-Err.ensures.ok limits items (parts_of (keyring g.lead.items g.certificates.items)) gathers.fed

@@ -11,7 +11,7 @@ returns-in-Some c given g =
     record {
       state = c.break_off.ensures.state given p (subst (λ (ps : List Placed). IsFirstBodyFault ps c.in-Some.fault) c.from_ref.ensures.value c.in-Some.ensures) g.state;
       block = c.break_off.ensures.block ∙ g.block ∙ sym (block_stays given p);
-      end = λ h. c.break_off.ensures.end ∙ end_known given p c.spelled_len.result c.saturating_add-self.result c.spelled_len.ensures c.saturating_add-self.ensures h;
+      end = c.break_off.ensures.end ∙ end_known given p c.spelled_len.result c.saturating_add-self.result c.spelled_len.ensures c.saturating_add-self.ensures;
     }
 
 pub returns-in_ok-keep-in-None : goal.returns-in_ok-keep-in-None
@@ -21,5 +21,5 @@ returns-in_ok-keep-in-None c = λ given g.
     record {
       state = c.in_ok-keep-in-None.ensures.state given sound g.state;
       block = c.keep.ensures.block ∙ g.block ∙ sym (block_stays given p);
-      end = λ h. c.keep.ensures.end ∙ end_known given p c.spelled_len.result c.saturating_add-self.result c.spelled_len.ensures c.saturating_add-self.ensures h;
+      end = c.keep.ensures.end ∙ end_known given p c.spelled_len.result c.saturating_add-self.result c.spelled_len.ensures c.saturating_add-self.ensures;
     }

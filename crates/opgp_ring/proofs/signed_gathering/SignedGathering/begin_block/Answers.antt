@@ -1,7 +1,7 @@
 use Rattle.std.proofs.Common.{◌∷◌, [], ◌++◌, Bool, refl, sym, subst, ◌∙◌}
 use Rattle.opgp_ring.specs.Composition.{of_label}
 use Rattle.opgp_ring.specs.SignedState.{IsSignedIn}
-use Rattle.opgp_ring.proofs.SignedStates.{block_begins, end_is, labelled}
+use Rattle.opgp_ring.proofs.SignedStates.{block_begins, end_none, labelled}
 use Rattle.opgp_ring.proofs.signed_gathering.SignedGathering.begin_block.Goals as goal
 
 pub returns-then-not-label_fits : goal.returns-then-not-label_fits
@@ -11,7 +11,7 @@ returns-then-not-label_fits c given g =
     record {
       state = c.refuse.ensures.state given (of_label block fits) tt (λ e. (c.if-not-label_fits.true, refl)) g.state;
       block = c.refuse.ensures.block ∙ sym (block_begins given block fits);
-      end = λ h. c.refuse.ensures.end ∙ sym (end_is given (of_label block fits));
+      end = c.refuse.ensures.end ∙ end_none given block fits;
     }
 
 pub returns-else-not-label_fits : goal.returns-else-not-label_fits
@@ -21,5 +21,5 @@ returns-else-not-label_fits c given g =
     record {
       state = subst (λ (b : Bool). IsSignedIn c.args.self.now.state (given ++ of_label block b ∷ []) c.args.self.now.flat.items) (sym c.if-not-label_fits.false) (labelled c.args.self.now.state given c.args.self.now.flat.items block g.state);
       block = sym (block_begins given block fits);
-      end = λ h. sym (end_is given (of_label block fits));
+      end = end_none given block fits;
     }

@@ -2,6 +2,7 @@ use Rattle.std.proofs.Common.{List, sym, subst, ◌∙◌}
 use Rattle.opgp_frame.specs.Packet.{PacketValue}
 use Rattle.opgp_ring.specs.declared.signed_gathering.SignedState.{SignedState}
 use Rattle.opgp_ring.specs.Composition.{Item}
+use Rattle.opgp_ring.specs.Signed.{told_end}
 use Rattle.opgp_ring.specs.SignedState.{IsSignedIn}
 use Rattle.opgp_ring.proofs.SignedStates.{kept_sound, early}
 use Rattle.opgp_ring.proofs.signed_gathering.SignedGathering.finish.Goals as goal
@@ -13,6 +14,6 @@ new-requires-clause-sound c =
     kept_sound c.in-Open.shape items kept (subst (λ (s : SignedState). IsSignedIn s items kept) c.in-Open.is c.requires.1.state)
 
 pub returns-in-Open-2 : goal.returns-in-Open-2
-returns-in-Open-2 c = λ items g fits.
+returns-in-Open-2 c = λ items g.
     let kept : List PacketValue = c.args.self.flat.items in
-    early c.in-Open.shape items kept c.args.self.block c.args.self.end (sym c.is_whole.ensures ∙ c.if-is_whole.false) (subst (λ (s : SignedState). IsSignedIn s items kept) c.in-Open.is g.state) g.block (g.end fits)
+    early c.in-Open.shape items kept c.args.self.block c.args.self.end (told_end items) (sym c.is_whole.ensures ∙ c.if-is_whole.false) (subst (λ (s : SignedState). IsSignedIn s items kept) c.in-Open.is g.state) g.block g.end

@@ -1,0 +1,93 @@
+-- Words name one task at most.
+use Rattle.std.proofs.Common.{◌≡◌, ◌∙◌, ap, sym, subst, refl, ℕ, List, Option, Some, None, codes}
+use Rattle.std.proofs.lemmas.Option.{same_Some, none-some}
+use Rattle.std.specs.Prelude.{slice_get, option_and_then, option_map}
+use Rattle.std.specs.Str.{bytes_eq}
+use Rattle.std.specs.Str.Parse.{digits_value, without_leading_plus}
+use Rattle.clap.specs.Walk.{row_text}
+use Rattle.clap.specs.Words.{App, Row, Text, read_as}
+use Rattle.opgp_octets.specs.declared.limits.Limits.{Limits}
+use Rattle.opgp_stack.specs.declared.mode.Mode.{Mode}
+use Rattle.opgp_stack.specs.declared.task.Action.{Action}
+use Rattle.opgp_stack.specs.declared.task.Action.TheVariants as action
+use Rattle.opgp_stack.specs.declared.task.Task.{Task}
+use Rattle.opgp_tool.specs.Program.{SaysTask}
+use Rattle.opgp_tool.specs.Words.{HasLimits, HasNumber, IsAction, IsNth, IsTask}
+use Rattle.opgp_tool.proofs.Reading.{apart}
+use Rattle.opgp_tool.proofs.SameLimits.{same_limits}
+
+one_number : (options : List Row) (id : Text) (m n : ℕ) → HasNumber options id m
+    → HasNumber options id n → m ≡ n
+one_number options id m n a b =
+    let same : a.0 ≡ b.0 = same_Some a.0 b.0 (sym a.1 ∙ b.1) in
+    a.2.value ∙ ap (λ (t : Text). digits_value 10 (without_leading_plus t)) same ∙ sym b.2.value
+
+no_text : (o : Option Row) (t : Text) → option_and_then (λ r. slice_get r.values 0) o ≡ None
+    → option_and_then row_text o ≡ Some t → ⊥
+no_text None t none some = none-some t some
+no_text (Some r) t none some =
+    none-some t (sym (ap (option_map (read_as r.reading)) none) ∙ some)
+
+one_nth : (options : List Row) (m n : Option ℕ) → IsNth options m → IsNth options n → m ≡ n
+one_nth options None None a b = refl
+one_nth options None (Some n) a b = absurd (no_text _ b.0 a b.1)
+one_nth options (Some m) None a b = absurd (no_text _ a.0 b a.1)
+one_nth options (Some m) (Some n) a b = ap {B = Option ℕ} Some (one_number options _ m n a b)
+
+-- the command of an action
+abbrev name_of : Action → Text
+name_of action.Show = codes "show"
+name_of action.List = codes "list"
+name_of action.Check = codes "check"
+name_of (action.Octets row top) = codes "octets"
+name_of (action.Write out) = codes "write"
+name_of (action.Normalise out) = codes "normalise"
+name_of (action.Split out nth) = codes "split"
+name_of (action.Join out merge) = codes "join"
+
+named : (name : Text) (options : List Row) (a : Action) → IsAction name options a → name ≡ name_of a
+named name options action.Show said = said
+named name options action.List said = said
+named name options action.Check said = said
+named name options (action.Octets row top) said = said.0
+named name options (action.Write out) said = said.0
+named name options (action.Normalise out) said = said.0
+named name options (action.Split out nth) said = said.0
+named name options (action.Join out merge) said = said.0
+
+one_action : (name : Text) (options : List Row) (a b : Action) → IsAction name options a
+    → IsAction name options b → a ≡ b
+one_action name options action.Show action.Show a b = refl
+one_action name options action.List action.List a b = refl
+one_action name options action.Check action.Check a b = refl
+one_action name options (action.Octets row top) (action.Octets more other) a b =
+    let rows : row ≡ more = one_number options _ row more a.1 b.1 in cc (rows, a.2, b.2)
+one_action name options (action.Write out) (action.Write other) a b = cc (a.1, b.1)
+one_action name options (action.Normalise out) (action.Normalise other) a b = cc (a.1, b.1)
+one_action name options (action.Split out nth) (action.Split other m) a b =
+    let same : nth ≡ m = one_nth options nth m a.2 b.2 in cc (same, a.1, b.1)
+one_action name options (action.Join out merge) (action.Join other m) a b = cc (a.1, a.2, b.1, b.2)
+one_action name options x y a b =
+    let same : name_of x ≡ name_of y = sym (named name options x a) ∙ named name options y b in
+    absurd (apart (ap (λ (t : Text). bytes_eq t (name_of x)) same))
+
+one_limits : (options : List Row) (a b : Limits) → HasLimits options a → HasLimits options b → a ≡ b
+one_limits options a b m n = same_limits a b (one_number options _ _ _ m.line n.line)
+    (one_number options _ _ _ m.body n.body) (one_number options _ _ _ m.cert n.cert)
+    (one_number options _ _ _ m.input n.input) (one_number options _ _ _ m.pieces n.pieces)
+
+abbrev task_with : Mode → Limits → Action → Task
+task_with mode limits action = record { mode = mode; limits = limits; action = action }
+
+one_said : (name : Text) (options : List Row) (a b : Task) → IsTask name options a
+    → IsTask name options b → a ≡ b
+one_said name options a b m n =
+    ap (λ (x : Mode). task_with x a.limits a.action) (m.mode ∙ sym n.mode)
+    ∙ ap (λ (x : Limits). task_with b.mode x a.action) (one_limits options _ _ m.limits n.limits)
+    ∙ ap (task_with b.mode b.limits) (one_action name options _ _ m.action n.action)
+
+pub one_task : (program : App) (words : List Text) (a b : Task) → SaysTask program words a
+    → SaysTask program words b → a ≡ b
+one_task program words a b m n =
+    let same : (m.0, m.1) ≡ (n.0, n.1) = same_Some _ _ (sym m.2 ∙ n.2) in
+    one_said n.0 n.1 a b (subst (λ (p : Text × List Row). IsTask p.0 p.1 a) same m.3) n.3

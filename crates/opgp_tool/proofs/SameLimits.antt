@@ -1,0 +1,53 @@
+-- Limits are their numbers.
+use Rattle.std.proofs.Common.{◌≡◌, ap, subst, ℕ}
+use Rattle.std.proofs.Props.{props}
+use Rattle.opgp_octets.specs.Ranges.{AreAllowed}
+use Rattle.opgp_octets.specs.declared.limits.Limits.{Limits}
+
+abbrev of : (line body cert input pieces : ℕ) → AreAllowed line body cert input pieces → Limits
+of line body cert input pieces allowed = record {
+  line = line;
+  body = body;
+  cert = cert;
+  input = input;
+  pieces = pieces;
+  allowed = allowed;
+}
+
+-- ranges have one proof
+allowed-prop : (line body cert input pieces : ℕ) → IsProp (AreAllowed line body cert input pieces)
+allowed-prop line body cert input pieces = hlevel props
+
+module _ (l b c i p : ℕ) (h : AreAllowed l b c i p) where
+  one : (k : AreAllowed l b c i p) → of l b c i p h ≡ of l b c i p k
+  one k = ap (of l b c i p) (allowed-prop l b c i p h k)
+
+  two : (p2 : ℕ) → p ≡ p2 → (k : AreAllowed l b c i p2) → of l b c i p h ≡ of l b c i p2 k
+  two p2 e = subst (λ x. (k : AreAllowed l b c i x) → of l b c i p h ≡ of l b c i x k) e one
+
+  three : (p2 i2 : ℕ) → p ≡ p2 → i ≡ i2 → (k : AreAllowed l b c i2 p2)
+      → of l b c i p h ≡ of l b c i2 p2 k
+  three p2 i2 e f =
+      subst (λ x. (k : AreAllowed l b c x p2) → of l b c i p h ≡ of l b c x p2 k) f (two p2 e)
+
+  four : (p2 i2 c2 : ℕ) → p ≡ p2 → i ≡ i2 → c ≡ c2 → (k : AreAllowed l b c2 i2 p2)
+      → of l b c i p h ≡ of l b c2 i2 p2 k
+  four p2 i2 c2 e f g = subst (λ x. (k : AreAllowed l b x i2 p2) → of l b c i p h ≡ of l b x i2 p2 k)
+      g (three p2 i2 e f)
+
+  five : (p2 i2 c2 b2 : ℕ) → p ≡ p2 → i ≡ i2 → c ≡ c2 → b ≡ b2 → (k : AreAllowed l b2 c2 i2 p2)
+      → of l b c i p h ≡ of l b2 c2 i2 p2 k
+  five p2 i2 c2 b2 e f g m =
+      subst (λ x. (k : AreAllowed l x c2 i2 p2) → of l b c i p h ≡ of l x c2 i2 p2 k) m
+      (four p2 i2 c2 e f g)
+
+  six : (p2 i2 c2 b2 l2 : ℕ) → p ≡ p2 → i ≡ i2 → c ≡ c2 → b ≡ b2 → l ≡ l2
+      → (k : AreAllowed l2 b2 c2 i2 p2) → of l b c i p h ≡ of l2 b2 c2 i2 p2 k
+  six p2 i2 c2 b2 l2 e f g m n =
+      subst (λ x. (k : AreAllowed x b2 c2 i2 p2) → of l b c i p h ≡ of x b2 c2 i2 p2 k) n
+      (five p2 i2 c2 b2 e f g m)
+
+pub same_limits : (a b : Limits) → a.line ≡ b.line → a.body ≡ b.body → a.cert ≡ b.cert
+    → a.input ≡ b.input → a.pieces ≡ b.pieces → a ≡ b
+same_limits a b line body cert input pieces = six a.line a.body a.cert a.input a.pieces a.allowed
+    b.pieces b.input b.cert b.body b.line pieces input cert body line b.allowed

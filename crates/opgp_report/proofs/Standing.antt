@@ -15,7 +15,7 @@ use Rattle.opgp_hash.specs.SignedValue.{SignedValue, signed_of}
 use Rattle.opgp_hash.specs.SubjectValue.{SubjectValue}
 use Rattle.opgp_ring.specs.Keyring.{CertificateValue, ComponentValue, KeyringValue, IsCertificate, IsComponent, IsFiller, IsKeyring, certificate_packets, component_packets, flat}
 use Rattle.opgp_report.specs.declared.place.Place.{Place}
-use Rattle.opgp_report.specs.Report.{Says, row_at, nested_at, embedded_rows, embedding_bodies, signed_rows, inner_rows, value_rows, hang_rows, hangs_rows, components_rows, certificate_rows, certificates_rows, report_of, keys_in, is_on_two, on_head, on_primary}
+use Rattle.opgp_report.specs.Report.{Says, row_at, nested_at, embedded_rows, embedding_bodies, signed_rows, value_rows, hang_rows, hangs_rows, components_rows, certificate_rows, certificates_rows, report_of, keys_in, is_on_two, on_head, on_primary}
 use Rattle.opgp_report.specs.RowValue.{RowValue}
 use Rattle.opgp_report.specs.Standing.{hang_at, hangs_of, is_outer, is_signature}
 use Rattle.opgp_report.proofs.Scanning.{filler_signs_nothing, head_kind, primary_kind}

@@ -1,12 +1,10 @@
 -- A task makes one thing of octets.
 use Rattle.std.proofs.Common.{◌≡◌, ◌∙◌, ℕ, List, sym, ap, refl}
-use Rattle.opgp_frame.specs.Packet.{PacketValue}
 use Rattle.opgp_octets.specs.Octets.{IsOctets}
 use Rattle.opgp_octets.specs.declared.limits.Limits.{Limits}
 use Rattle.opgp_ring.specs.Composition.{Item}
-use Rattle.opgp_ring.specs.Keyring.{KeyringValue}
 use Rattle.opgp_stack.specs.Keyrings.{ComposesTo, key_label}
-use Rattle.opgp_stack.specs.Packets.{ArePackets, BlockValue, any_label}
+use Rattle.opgp_stack.specs.Packets.{ArePackets, any_label}
 use Rattle.opgp_stack.specs.Reading.{AnswerOf, Outcome, Wanted}
 use Rattle.opgp_stack.specs.Running.{Made, MakesBy, made_of_answer, message_answer, shown_answer}
 use Rattle.opgp_stack.specs.Signed.{AreSigned, message_label}

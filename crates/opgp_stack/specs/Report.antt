@@ -3,8 +3,6 @@ use Rattle.std.specs.Prelude.{ℕ, ◌+◌, List, [], ◌∷◌, ◌++◌, codes
 use Rattle.std.specs.Fmt.{decimal}
 use Rattle.std.specs.List.{flat_map}
 use Rattle.hex.specs.Hex.{encode_upper}
-use Rattle.opgp_hash.specs.declared.digests.Digest.{Digest}
-use Rattle.opgp_hash.specs.declared.why.Why.{Why}
 use Rattle.opgp_hash.specs.Why.{why_text}
 use Rattle.opgp_hash.specs.Digest.{digest_octets}
 use Rattle.opgp_report.specs.declared.place.Place.{Place}

@@ -11,7 +11,7 @@ ghost use Rattle.opgp_frame.specs.Spelling.{octets_left};
 use crate::form::Form;
 use crate::packet::Packet;
 use crate::spelling::Spelling;
-use opgp_octets::OutOfMemory;
+use opgp_octets::{OutOfMemory, put};
 
 /// Writes the packet's octets (RFC 9580, 4.2) at the end of `out`, in the packet's form.
 ///
@@ -79,19 +79,6 @@ fn append(mut spelling: Spelling, out: &mut Vec<u8>)
     while let Some((header, piece)) = spelling.next() {
         put(header.as_slice(), out);
         put(piece, out);
-    }
-}
-
-/// Writes the octets at the end of `out`, which has room for them.
-fn put(octets: &[u8], out: &mut Vec<u8>)
-    requires room { vec_len out.old + length octets.now ≤ vec_capacity out.old }
-    ensures items { out.new.items ≡ out.old.items ++ octets.now }
-    ensures len { vec_len out.new ≡ vec_len out.old + length octets.now }
-    ensures capacity { vec_capacity out.old ≤ vec_capacity out.new }
-{
-    match out.extend_from_slice(octets) {
-        Ok(()) => {}
-        Err(_) => unreachable!(),
     }
 }
 

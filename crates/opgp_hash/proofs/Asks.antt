@@ -3,7 +3,7 @@ use Rattle.std.proofs.Common.{◌≡◌, ℕ, Bool, true, false, cond, Option, S
 use Rattle.std.specs.Prelude.{find}
 use Rattle.std.proofs.lemmas.Bool.{not-false, or_cases, and_parts, eqb-true}
 use Rattle.opgp_octets.specs.HashAlgorithm.{hash_algorithm_of}
-use Rattle.opgp_sig.specs.SignatureBody.{salt_size}
+use Rattle.opgp_octets.specs.HashAlgorithm.{salt_size}
 use Rattle.opgp_hash.specs.declared.why.Why.{Why}
 use Rattle.opgp_hash.specs.declared.why.Why.TheVariants.{Kind, Misplaced, Version, Hash}
 use Rattle.opgp_hash.specs.Asking.{applies, why_not}

@@ -1,9 +1,8 @@
 -- Which questions there are (RFC 9580, 5.2.3, 5.2.4, 9.5).
 use Rattle.std.specs.Prelude.{◌≡◌, ℕ, ◌^◌, ◌<◌, ◌≤◌, Bool, true, ◌&&◌, ◌||◌, List, length, ◌==◌}
 use Rattle.std.specs.Prelude.{if◌then◌else◌, unwrap_or}
-use Rattle.opgp_octets.specs.HashAlgorithm.{hash_algorithm_of}
+use Rattle.opgp_octets.specs.HashAlgorithm.{hash_algorithm_of, salt_size}
 use Rattle.opgp_octets.specs.Octets.{IsOctets}
-use Rattle.opgp_sig.specs.SignatureBody.{salt_size}
 use Rattle.opgp_hash.specs.SubjectValue.{SubjectValue, is_about, IsSubject}
 
 -- what is asked of a signature's hash: a version, a salt, what the signature is about, its type,

@@ -174,12 +174,7 @@ fn salt_len(version: u8, hash: u8) -> usize
     if version == 4 {
         return 0;
     }
-    match HashAlgorithm::from(hash) {
-        HashAlgorithm::Sha256 | HashAlgorithm::Sha224 | HashAlgorithm::Sha3_256 => 16,
-        HashAlgorithm::Sha384 => 24,
-        HashAlgorithm::Sha512 | HashAlgorithm::Sha3_512 => 32,
-        _ => 0,
-    }
+    usize::from(HashAlgorithm::from(hash).salt_size().unwrap_or(0))
 }
 
 /// What follows an octet.

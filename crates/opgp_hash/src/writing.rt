@@ -11,7 +11,7 @@ use crate::laws;
 use crate::part::Part;
 use crate::parts::Parts;
 use crate::question::Question;
-use opgp_octets::OutOfMemory;
+use opgp_octets::{OutOfMemory, put};
 
 /// Writes the octets that the question's hash is taken over at the end of `out`.
 ///
@@ -49,17 +49,4 @@ fn put_part(part: &Part<'_>, out: &mut Vec<u8>)
 {
     put(part.head.octets(), out);
     put(part.body, out);
-}
-
-/// Writes the octets at the end of `out`, which has room for them.
-fn put(octets: &[u8], out: &mut Vec<u8>)
-    requires room { vec_len out.old + length octets.now ≤ vec_capacity out.old }
-    ensures items { out.new.items ≡ out.old.items ++ octets.now }
-    ensures len { vec_len out.new ≡ vec_len out.old + length octets.now }
-    ensures capacity { vec_capacity out.old ≤ vec_capacity out.new }
-{
-    match out.extend_from_slice(octets) {
-        Ok(()) => {}
-        Err(_) => unreachable!(),
-    }
 }

@@ -2,7 +2,26 @@
 
 ghost use Rattle.std.specs.Prelude.{◌≡◌};
 ghost use Rattle.opgp_octets.specs.HashAlgorithm.{hash_algorithm_of, hash_algorithm_number};
-ghost use Rattle.opgp_octets.specs.HashAlgorithm.{hash_algorithm_name};
+ghost use Rattle.opgp_octets.specs.HashAlgorithm.{hash_algorithm_name, salt_size};
+
+use crate::rows::{by_number, name_of, number_of};
+
+// The table: a number, a variant, a name.
+macro_rules! rows {
+    ($read:ident, $what:expr) => {
+        $read! { $what, HashAlgorithm;
+            1 Md5 "MD5";
+            2 Sha1 "SHA-1";
+            3 Ripemd160 "RIPEMD-160";
+            8 Sha256 "SHA2-256";
+            9 Sha384 "SHA2-384";
+            10 Sha512 "SHA2-512";
+            11 Sha224 "SHA2-224";
+            12 Sha3_256 "SHA3-256";
+            14 Sha3_512 "SHA3-512";
+        }
+    };
+}
 
 /// A hash algorithm (RFC 9580, 9.5).
 #[derive(Clone, Copy, PartialEq, Eq)]
@@ -36,18 +55,7 @@ impl From<u8> for HashAlgorithm {
 
     #[tactic(auto, unfolding(crate::specs::HashAlgorithm::hash_algorithm_of))]
     fn from(number: u8) -> HashAlgorithm {
-        match number {
-            1 => HashAlgorithm::Md5,
-            2 => HashAlgorithm::Sha1,
-            3 => HashAlgorithm::Ripemd160,
-            8 => HashAlgorithm::Sha256,
-            9 => HashAlgorithm::Sha384,
-            10 => HashAlgorithm::Sha512,
-            11 => HashAlgorithm::Sha224,
-            12 => HashAlgorithm::Sha3_256,
-            14 => HashAlgorithm::Sha3_512,
-            _ => HashAlgorithm::Other(number),
-        }
+        rows!(by_number, number)
     }
 }
 
@@ -56,18 +64,7 @@ impl HashAlgorithm {
     pub fn number(self) -> u8
         ensures { result ≡ hash_algorithm_number self }
     {
-        match self {
-            HashAlgorithm::Md5 => 1,
-            HashAlgorithm::Sha1 => 2,
-            HashAlgorithm::Ripemd160 => 3,
-            HashAlgorithm::Sha256 => 8,
-            HashAlgorithm::Sha384 => 9,
-            HashAlgorithm::Sha512 => 10,
-            HashAlgorithm::Sha224 => 11,
-            HashAlgorithm::Sha3_256 => 12,
-            HashAlgorithm::Sha3_512 => 14,
-            HashAlgorithm::Other(number) => number,
-        }
+        rows!(number_of, self)
     }
 
     /// Its name in the standard; `unknown` for any other number.
@@ -75,17 +72,19 @@ impl HashAlgorithm {
     pub fn name(self) -> &'static str
         ensures { result.now ≡ hash_algorithm_name self }
     {
+        rows!(name_of, self)
+    }
+
+    /// How many octets the salt of a version 6 signature has under it (RFC 9580, 9.5); None where the
+    /// standard names no size.
+    pub fn salt_size(self) -> Option<u8>
+        ensures { result ≡ salt_size self }
+    {
         match self {
-            HashAlgorithm::Md5 => "MD5",
-            HashAlgorithm::Sha1 => "SHA-1",
-            HashAlgorithm::Ripemd160 => "RIPEMD-160",
-            HashAlgorithm::Sha256 => "SHA2-256",
-            HashAlgorithm::Sha384 => "SHA2-384",
-            HashAlgorithm::Sha512 => "SHA2-512",
-            HashAlgorithm::Sha224 => "SHA2-224",
-            HashAlgorithm::Sha3_256 => "SHA3-256",
-            HashAlgorithm::Sha3_512 => "SHA3-512",
-            HashAlgorithm::Other(_) => "unknown",
+            HashAlgorithm::Sha224 | HashAlgorithm::Sha256 | HashAlgorithm::Sha3_256 => Some(16),
+            HashAlgorithm::Sha384 => Some(24),
+            HashAlgorithm::Sha512 | HashAlgorithm::Sha3_512 => Some(32),
+            _ => None,
         }
     }
 }

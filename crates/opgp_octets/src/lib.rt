@@ -2,6 +2,7 @@
 //! multiprecision integers.
 #![tactic(auto)]
 
+mod appending;
 mod fault;
 mod fault_text;
 mod hash_algorithm;
@@ -15,10 +16,12 @@ mod number;
 mod packet_len;
 mod packet_type;
 mod refusal;
+mod rows;
 mod signature_type;
 mod sub_len;
 mod subpacket_kind;
 
+pub use appending::put;
 pub use fault::{BodyFault, Fault, Layer, Reason};
 pub use fault_text::fault_line;
 pub use hash_algorithm::HashAlgorithm;

@@ -4,6 +4,34 @@ ghost use Rattle.std.specs.Prelude.{◌≡◌};
 ghost use Rattle.opgp_octets.specs.PacketType.{packet_type_of, packet_type_number};
 ghost use Rattle.opgp_octets.specs.PacketType.{packet_type_name};
 
+use crate::rows::{by_number, name_of, number_of};
+
+// The table: a number, a variant, a name.
+macro_rules! rows {
+    ($read:ident, $what:expr) => {
+        $read! { $what, PacketType;
+            0 Reserved "Reserved";
+            1 PublicKeyEncryptedSessionKey "Public Key Encrypted Session Key";
+            2 Signature "Signature";
+            3 SymmetricKeyEncryptedSessionKey "Symmetric Key Encrypted Session Key";
+            4 OnePassSignature "One-Pass Signature";
+            5 SecretKey "Secret Key";
+            6 PublicKey "Public Key";
+            7 SecretSubkey "Secret Subkey";
+            8 CompressedData "Compressed Data";
+            9 SymmetricallyEncryptedData "Symmetrically Encrypted Data";
+            10 Marker "Marker";
+            11 LiteralData "Literal Data";
+            12 Trust "Trust";
+            13 UserId "User ID";
+            14 PublicSubkey "Public Subkey";
+            17 UserAttribute "User Attribute";
+            18 EncryptedIntegrityProtectedData "Symmetrically Encrypted and Integrity Protected Data";
+            21 Padding "Padding";
+        }
+    };
+}
+
 /// The type of a packet (RFC 9580, 5).
 #[derive(Clone, Copy, PartialEq, Eq)]
 pub enum PacketType {
@@ -54,27 +82,7 @@ impl From<u8> for PacketType {
 
     #[tactic(auto, unfolding(crate::specs::PacketType::packet_type_of))]
     fn from(number: u8) -> PacketType {
-        match number {
-            0 => PacketType::Reserved,
-            1 => PacketType::PublicKeyEncryptedSessionKey,
-            2 => PacketType::Signature,
-            3 => PacketType::SymmetricKeyEncryptedSessionKey,
-            4 => PacketType::OnePassSignature,
-            5 => PacketType::SecretKey,
-            6 => PacketType::PublicKey,
-            7 => PacketType::SecretSubkey,
-            8 => PacketType::CompressedData,
-            9 => PacketType::SymmetricallyEncryptedData,
-            10 => PacketType::Marker,
-            11 => PacketType::LiteralData,
-            12 => PacketType::Trust,
-            13 => PacketType::UserId,
-            14 => PacketType::PublicSubkey,
-            17 => PacketType::UserAttribute,
-            18 => PacketType::EncryptedIntegrityProtectedData,
-            21 => PacketType::Padding,
-            _ => PacketType::Other(number),
-        }
+        rows!(by_number, number)
     }
 }
 
@@ -83,27 +91,7 @@ impl PacketType {
     pub fn number(self) -> u8
         ensures { result ≡ packet_type_number self }
     {
-        match self {
-            PacketType::Reserved => 0,
-            PacketType::PublicKeyEncryptedSessionKey => 1,
-            PacketType::Signature => 2,
-            PacketType::SymmetricKeyEncryptedSessionKey => 3,
-            PacketType::OnePassSignature => 4,
-            PacketType::SecretKey => 5,
-            PacketType::PublicKey => 6,
-            PacketType::SecretSubkey => 7,
-            PacketType::CompressedData => 8,
-            PacketType::SymmetricallyEncryptedData => 9,
-            PacketType::Marker => 10,
-            PacketType::LiteralData => 11,
-            PacketType::Trust => 12,
-            PacketType::UserId => 13,
-            PacketType::PublicSubkey => 14,
-            PacketType::UserAttribute => 17,
-            PacketType::EncryptedIntegrityProtectedData => 18,
-            PacketType::Padding => 21,
-            PacketType::Other(number) => number,
-        }
+        rows!(number_of, self)
     }
 
     /// Its name in the standard; `unknown` for any other number.
@@ -111,27 +99,6 @@ impl PacketType {
     pub fn name(self) -> &'static str
         ensures { result.now ≡ packet_type_name self }
     {
-        match self {
-            PacketType::Reserved => "Reserved",
-            PacketType::PublicKeyEncryptedSessionKey => "Public Key Encrypted Session Key",
-            PacketType::Signature => "Signature",
-            PacketType::SymmetricKeyEncryptedSessionKey => "Symmetric Key Encrypted Session Key",
-            PacketType::OnePassSignature => "One-Pass Signature",
-            PacketType::SecretKey => "Secret Key",
-            PacketType::PublicKey => "Public Key",
-            PacketType::SecretSubkey => "Secret Subkey",
-            PacketType::CompressedData => "Compressed Data",
-            PacketType::SymmetricallyEncryptedData => "Symmetrically Encrypted Data",
-            PacketType::Marker => "Marker",
-            PacketType::LiteralData => "Literal Data",
-            PacketType::Trust => "Trust",
-            PacketType::UserId => "User ID",
-            PacketType::PublicSubkey => "Public Subkey",
-            PacketType::UserAttribute => "User Attribute",
-            PacketType::EncryptedIntegrityProtectedData =>
-                "Symmetrically Encrypted and Integrity Protected Data",
-            PacketType::Padding => "Padding",
-            PacketType::Other(_) => "unknown",
-        }
+        rows!(name_of, self)
     }
 }

@@ -4,6 +4,31 @@ ghost use Rattle.std.specs.Prelude.{◌≡◌};
 ghost use Rattle.opgp_octets.specs.SignatureType.{signature_type_of, signature_type_number};
 ghost use Rattle.opgp_octets.specs.SignatureType.{signature_type_name};
 
+use crate::rows::{by_number, name_of, number_of};
+
+// The table: a number, a variant, a name.
+macro_rules! rows {
+    ($read:ident, $what:expr) => {
+        $read! { $what, SignatureType;
+            0 Binary "Binary Signature";
+            1 Text "Text Signature";
+            2 Standalone "Standalone Signature";
+            16 GenericCertification "Generic Certification Signature";
+            17 PersonaCertification "Persona Certification Signature";
+            18 CasualCertification "Casual Certification Signature";
+            19 PositiveCertification "Positive Certification Signature";
+            24 SubkeyBinding "Subkey Binding Signature";
+            25 PrimaryKeyBinding "Primary Key Binding Signature";
+            31 DirectKey "Direct Key Signature";
+            32 KeyRevocation "Key Revocation Signature";
+            40 SubkeyRevocation "Subkey Revocation Signature";
+            48 CertificationRevocation "Certification Revocation Signature";
+            64 Timestamp "Timestamp Signature";
+            80 ThirdPartyConfirmation "Third-Party Confirmation Signature";
+        }
+    };
+}
+
 /// The type of a signature (RFC 9580, 5.2.1).
 #[derive(Clone, Copy, PartialEq, Eq)]
 pub enum SignatureType {
@@ -48,24 +73,7 @@ impl From<u8> for SignatureType {
 
     #[tactic(auto, unfolding(crate::specs::SignatureType::signature_type_of))]
     fn from(number: u8) -> SignatureType {
-        match number {
-            0 => SignatureType::Binary,
-            1 => SignatureType::Text,
-            2 => SignatureType::Standalone,
-            16 => SignatureType::GenericCertification,
-            17 => SignatureType::PersonaCertification,
-            18 => SignatureType::CasualCertification,
-            19 => SignatureType::PositiveCertification,
-            24 => SignatureType::SubkeyBinding,
-            25 => SignatureType::PrimaryKeyBinding,
-            31 => SignatureType::DirectKey,
-            32 => SignatureType::KeyRevocation,
-            40 => SignatureType::SubkeyRevocation,
-            48 => SignatureType::CertificationRevocation,
-            64 => SignatureType::Timestamp,
-            80 => SignatureType::ThirdPartyConfirmation,
-            _ => SignatureType::Other(number),
-        }
+        rows!(by_number, number)
     }
 }
 
@@ -74,24 +82,7 @@ impl SignatureType {
     pub fn number(self) -> u8
         ensures { result ≡ signature_type_number self }
     {
-        match self {
-            SignatureType::Binary => 0,
-            SignatureType::Text => 1,
-            SignatureType::Standalone => 2,
-            SignatureType::GenericCertification => 16,
-            SignatureType::PersonaCertification => 17,
-            SignatureType::CasualCertification => 18,
-            SignatureType::PositiveCertification => 19,
-            SignatureType::SubkeyBinding => 24,
-            SignatureType::PrimaryKeyBinding => 25,
-            SignatureType::DirectKey => 31,
-            SignatureType::KeyRevocation => 32,
-            SignatureType::SubkeyRevocation => 40,
-            SignatureType::CertificationRevocation => 48,
-            SignatureType::Timestamp => 64,
-            SignatureType::ThirdPartyConfirmation => 80,
-            SignatureType::Other(number) => number,
-        }
+        rows!(number_of, self)
     }
 
     /// Its name in the standard; `unknown` for any other number.
@@ -99,23 +90,6 @@ impl SignatureType {
     pub fn name(self) -> &'static str
         ensures { result.now ≡ signature_type_name self }
     {
-        match self {
-            SignatureType::Binary => "Binary Signature",
-            SignatureType::Text => "Text Signature",
-            SignatureType::Standalone => "Standalone Signature",
-            SignatureType::GenericCertification => "Generic Certification Signature",
-            SignatureType::PersonaCertification => "Persona Certification Signature",
-            SignatureType::CasualCertification => "Casual Certification Signature",
-            SignatureType::PositiveCertification => "Positive Certification Signature",
-            SignatureType::SubkeyBinding => "Subkey Binding Signature",
-            SignatureType::PrimaryKeyBinding => "Primary Key Binding Signature",
-            SignatureType::DirectKey => "Direct Key Signature",
-            SignatureType::KeyRevocation => "Key Revocation Signature",
-            SignatureType::SubkeyRevocation => "Subkey Revocation Signature",
-            SignatureType::CertificationRevocation => "Certification Revocation Signature",
-            SignatureType::Timestamp => "Timestamp Signature",
-            SignatureType::ThirdPartyConfirmation => "Third-Party Confirmation Signature",
-            SignatureType::Other(_) => "unknown",
-        }
+        rows!(name_of, self)
     }
 }

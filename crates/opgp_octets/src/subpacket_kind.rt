@@ -4,6 +4,42 @@ ghost use Rattle.std.specs.Prelude.{◌≡◌};
 ghost use Rattle.opgp_octets.specs.SubpacketKind.{subpacket_kind_of, subpacket_kind_number};
 ghost use Rattle.opgp_octets.specs.SubpacketKind.{subpacket_kind_name};
 
+use crate::rows::{by_number, name_of, number_of};
+
+// The table: a number, a variant, a name.
+macro_rules! rows {
+    ($read:ident, $what:expr) => {
+        $read! { $what, SubpacketKind;
+            2 Created "Signature Creation Time";
+            3 Expires "Signature Expiration Time";
+            4 Exportable "Exportable Certification";
+            5 Trust "Trust Signature";
+            6 RegularExpression "Regular Expression";
+            7 Revocable "Revocable";
+            9 KeyExpires "Key Expiration Time";
+            11 PreferredSymmetric "Preferred Symmetric Ciphers for v1 SEIPD";
+            12 RevocationKey "Revocation Key";
+            16 Issuer "Issuer Key ID";
+            20 Notation "Notation Data";
+            21 PreferredHash "Preferred Hash Algorithms";
+            22 PreferredCompression "Preferred Compression Algorithms";
+            23 KeyServerPreferences "Key Server Preferences";
+            24 PreferredKeyServer "Preferred Key Server";
+            25 PrimaryUserId "Primary User ID";
+            26 PolicyUri "Policy URI";
+            27 KeyFlags "Key Flags";
+            28 SignersUserId "Signer's User ID";
+            29 RevocationReason "Reason for Revocation";
+            30 Features "Features";
+            31 SignatureTarget "Signature Target";
+            32 EmbeddedSignature "Embedded Signature";
+            33 IssuerFingerprint "Issuer Fingerprint";
+            35 IntendedRecipient "Intended Recipient Fingerprint";
+            39 PreferredAead "Preferred AEAD Ciphersuites";
+        }
+    };
+}
+
 /// The kind of a signature's subpacket (RFC 9580, 5.2.3.7).
 #[derive(Clone, Copy, PartialEq, Eq)]
 pub enum SubpacketKind {
@@ -70,35 +106,7 @@ impl From<u8> for SubpacketKind {
 
     #[tactic(auto, unfolding(crate::specs::SubpacketKind::subpacket_kind_of))]
     fn from(number: u8) -> SubpacketKind {
-        match number {
-            2 => SubpacketKind::Created,
-            3 => SubpacketKind::Expires,
-            4 => SubpacketKind::Exportable,
-            5 => SubpacketKind::Trust,
-            6 => SubpacketKind::RegularExpression,
-            7 => SubpacketKind::Revocable,
-            9 => SubpacketKind::KeyExpires,
-            11 => SubpacketKind::PreferredSymmetric,
-            12 => SubpacketKind::RevocationKey,
-            16 => SubpacketKind::Issuer,
-            20 => SubpacketKind::Notation,
-            21 => SubpacketKind::PreferredHash,
-            22 => SubpacketKind::PreferredCompression,
-            23 => SubpacketKind::KeyServerPreferences,
-            24 => SubpacketKind::PreferredKeyServer,
-            25 => SubpacketKind::PrimaryUserId,
-            26 => SubpacketKind::PolicyUri,
-            27 => SubpacketKind::KeyFlags,
-            28 => SubpacketKind::SignersUserId,
-            29 => SubpacketKind::RevocationReason,
-            30 => SubpacketKind::Features,
-            31 => SubpacketKind::SignatureTarget,
-            32 => SubpacketKind::EmbeddedSignature,
-            33 => SubpacketKind::IssuerFingerprint,
-            35 => SubpacketKind::IntendedRecipient,
-            39 => SubpacketKind::PreferredAead,
-            _ => SubpacketKind::Other(number),
-        }
+        rows!(by_number, number)
     }
 }
 
@@ -107,35 +115,7 @@ impl SubpacketKind {
     pub fn number(self) -> u8
         ensures { result ≡ subpacket_kind_number self }
     {
-        match self {
-            SubpacketKind::Created => 2,
-            SubpacketKind::Expires => 3,
-            SubpacketKind::Exportable => 4,
-            SubpacketKind::Trust => 5,
-            SubpacketKind::RegularExpression => 6,
-            SubpacketKind::Revocable => 7,
-            SubpacketKind::KeyExpires => 9,
-            SubpacketKind::PreferredSymmetric => 11,
-            SubpacketKind::RevocationKey => 12,
-            SubpacketKind::Issuer => 16,
-            SubpacketKind::Notation => 20,
-            SubpacketKind::PreferredHash => 21,
-            SubpacketKind::PreferredCompression => 22,
-            SubpacketKind::KeyServerPreferences => 23,
-            SubpacketKind::PreferredKeyServer => 24,
-            SubpacketKind::PrimaryUserId => 25,
-            SubpacketKind::PolicyUri => 26,
-            SubpacketKind::KeyFlags => 27,
-            SubpacketKind::SignersUserId => 28,
-            SubpacketKind::RevocationReason => 29,
-            SubpacketKind::Features => 30,
-            SubpacketKind::SignatureTarget => 31,
-            SubpacketKind::EmbeddedSignature => 32,
-            SubpacketKind::IssuerFingerprint => 33,
-            SubpacketKind::IntendedRecipient => 35,
-            SubpacketKind::PreferredAead => 39,
-            SubpacketKind::Other(number) => number,
-        }
+        rows!(number_of, self)
     }
 
     /// Its name in the standard; `unknown` for any other number.
@@ -143,34 +123,6 @@ impl SubpacketKind {
     pub fn name(self) -> &'static str
         ensures { result.now ≡ subpacket_kind_name self }
     {
-        match self {
-            SubpacketKind::Created => "Signature Creation Time",
-            SubpacketKind::Expires => "Signature Expiration Time",
-            SubpacketKind::Exportable => "Exportable Certification",
-            SubpacketKind::Trust => "Trust Signature",
-            SubpacketKind::RegularExpression => "Regular Expression",
-            SubpacketKind::Revocable => "Revocable",
-            SubpacketKind::KeyExpires => "Key Expiration Time",
-            SubpacketKind::PreferredSymmetric => "Preferred Symmetric Ciphers for v1 SEIPD",
-            SubpacketKind::RevocationKey => "Revocation Key",
-            SubpacketKind::Issuer => "Issuer Key ID",
-            SubpacketKind::Notation => "Notation Data",
-            SubpacketKind::PreferredHash => "Preferred Hash Algorithms",
-            SubpacketKind::PreferredCompression => "Preferred Compression Algorithms",
-            SubpacketKind::KeyServerPreferences => "Key Server Preferences",
-            SubpacketKind::PreferredKeyServer => "Preferred Key Server",
-            SubpacketKind::PrimaryUserId => "Primary User ID",
-            SubpacketKind::PolicyUri => "Policy URI",
-            SubpacketKind::KeyFlags => "Key Flags",
-            SubpacketKind::SignersUserId => "Signer's User ID",
-            SubpacketKind::RevocationReason => "Reason for Revocation",
-            SubpacketKind::Features => "Features",
-            SubpacketKind::SignatureTarget => "Signature Target",
-            SubpacketKind::EmbeddedSignature => "Embedded Signature",
-            SubpacketKind::IssuerFingerprint => "Issuer Fingerprint",
-            SubpacketKind::IntendedRecipient => "Intended Recipient Fingerprint",
-            SubpacketKind::PreferredAead => "Preferred AEAD Ciphersuites",
-            SubpacketKind::Other(_) => "unknown",
-        }
+        rows!(name_of, self)
     }
 }

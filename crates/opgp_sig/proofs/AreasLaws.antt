@@ -12,7 +12,8 @@ use Rattle.opgp_body.specs.Subpackets.{subs_octets, Area}
 use Rattle.opgp_body.proofs.AreaLaws.{area_found, area_anywhere}
 use Rattle.opgp_sig.specs.AreaPlaces.{hashed_start}
 use Rattle.opgp_sig.specs.AreasValue.{AreasValue, IsSound, areas_fields, front_of}
-use Rattle.opgp_sig.specs.SignatureBody.{extent, with_areas, salt_size, salt_of_size}
+use Rattle.opgp_octets.specs.HashAlgorithm.{salt_size}
+use Rattle.opgp_sig.specs.SignatureBody.{extent, with_areas, salt_of_size}
 
 in_octets : (p : Span) (o : List ℕ) → IsOctets o → IsOctets (octets_in p o)
 in_octets p o fits = IsOctets-take (p.end - p.start) (drop p.start o) (IsOctets-drop p.start o fits)

@@ -3,12 +3,7 @@ use Rattle.std.specs.Prelude.{◌≡◌, ℕ, Bool, false, ◌==◌, ◌⊎◌, 
 use Rattle.std.specs.Prelude.{length, Option, Some, None, Result, Ok, Err}
 use Rattle.opgp_octets.specs.declared.fault.Reason.TheVariants.{Short, SaltSize}
 use Rattle.opgp_octets.specs.declared.fault.BodyFault.{BodyFault}
-use Rattle.opgp_octets.specs.declared.hash_algorithm.HashAlgorithm.{HashAlgorithm}
-use Rattle.opgp_octets.specs.declared.hash_algorithm.HashAlgorithm.TheVariants.{Sha256}
-use Rattle.opgp_octets.specs.declared.hash_algorithm.HashAlgorithm.TheVariants.{Sha384, Sha512}
-use Rattle.opgp_octets.specs.declared.hash_algorithm.HashAlgorithm.TheVariants.{Sha224, Sha3_256}
-use Rattle.opgp_octets.specs.declared.hash_algorithm.HashAlgorithm.TheVariants.{Sha3_512}
-use Rattle.opgp_octets.specs.HashAlgorithm.{hash_algorithm_of}
+use Rattle.opgp_octets.specs.HashAlgorithm.{hash_algorithm_of, salt_size}
 use Rattle.opgp_octets.specs.KeyAlgorithm.{key_algorithm_of}
 use Rattle.opgp_octets.specs.Reading.{◌>>=◌}
 use Rattle.opgp_body.specs.Fields.{Kind, octet, exact, four, mpi, sized, fixed, whole, never}
@@ -33,16 +28,6 @@ abbrev pub old_material_kinds : Shape → List Kind
 old_material_kinds rsa = mpi false ∷ []
 old_material_kinds dsa = mpi false ∷ mpi false ∷ []
 old_material_kinds other = never ∷ []
-
--- how many octets the salt of a hash algorithm has, where that is known (9.5)
-abbrev pub salt_size : HashAlgorithm → Option ℕ
-salt_size Sha256 = Some 16
-salt_size Sha384 = Some 24
-salt_size Sha512 = Some 32
-salt_size Sha224 = Some 16
-salt_size Sha3_256 = Some 16
-salt_size Sha3_512 = Some 32
-salt_size other = None
 
 -- a salt of this size; where none is known, of any
 abbrev pub salt_of_size : Option ℕ → Kind

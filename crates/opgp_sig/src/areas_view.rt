@@ -1,7 +1,7 @@
 //! A signature of version 4 or 6 over the octets of its body.
 
 ghost use Rattle.std.specs.Prelude.{◌≡◌, ◌+◌, ◌≤◌, ℕ, length, Some, Ok, IfOk};
-ghost use Rattle.opgp_octets.specs.HashAlgorithm.{hash_algorithm_of};
+ghost use Rattle.opgp_octets.specs.HashAlgorithm.{hash_algorithm_of, salt_size};
 ghost use Rattle.opgp_octets.specs.KeyAlgorithm.{key_algorithm_of};
 ghost use Rattle.opgp_octets.specs.Octets.{IsOctets, IsBodySized};
 ghost use Rattle.opgp_octets.specs.Reading.{Reads};
@@ -11,7 +11,7 @@ ghost use Rattle.opgp_sig.specs.AreaPlaces.{areas_in, AreasLie, AreasLie-prop};
 ghost use Rattle.opgp_sig.specs.AreasValue.{areas_fields, front_of};
 ghost use Rattle.opgp_sig.specs.Material.{shape};
 ghost use Rattle.opgp_sig.specs.Shape.{shape_of, Shape-set};
-ghost use Rattle.opgp_sig.specs.SignatureBody.{with_areas, salt_size};
+ghost use Rattle.opgp_sig.specs.SignatureBody.{with_areas};
 
 use crate::area_places::AreaPlaces;
 use crate::material::SignatureMaterialView;

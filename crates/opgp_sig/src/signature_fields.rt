@@ -21,13 +21,9 @@ pub(crate) fn salt_at(cursor: &mut Cursor<'_>, hash: u8) -> Result<Span, BodyFau
     ensures body { body_under cursor.new ≡ body_under cursor.old }
     ensures within { IfOk result (λ p. IsIn p (length (body_under cursor.old))) }
 {
-    match HashAlgorithm::from(hash) {
-        HashAlgorithm::Sha224 | HashAlgorithm::Sha256 | HashAlgorithm::Sha3_256 => {
-            cursor.sized(Reason::SaltSize, 16, 16)
-        }
-        HashAlgorithm::Sha384 => cursor.sized(Reason::SaltSize, 24, 24),
-        HashAlgorithm::Sha512 | HashAlgorithm::Sha3_512 => cursor.sized(Reason::SaltSize, 32, 32),
-        _ => cursor.sized(Reason::SaltSize, 0, 255),
+    match HashAlgorithm::from(hash).salt_size() {
+        Some(size) => cursor.sized(Reason::SaltSize, size, size),
+        None => cursor.sized(Reason::SaltSize, 0, 255),
     }
 }
 

@@ -92,6 +92,19 @@ fn hash_algorithms(rt: HostRuntime) {
     }
 }
 
+// RFC 9580, 9.5: the sizes of salts.
+#[test]
+fn salt_sizes(rt: HostRuntime) {
+    let rows = [(8, 16), (9, 24), (10, 32), (11, 16), (12, 16), (14, 32)];
+    for number in 0..=255 {
+        let size = match rows.iter().find(|row| row.0 == number) {
+            Some(row) => Some(row.1),
+            None => None,
+        };
+        assert!(rt; HashAlgorithm::from(number).salt_size() == size, "{number}");
+    }
+}
+
 // RFC 9580, 5.2.1.
 #[test]
 fn signature_types(rt: HostRuntime) {

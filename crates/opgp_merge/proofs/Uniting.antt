@@ -1,10 +1,11 @@
 -- Items gathered one after the other are, for each of the firsts, all that are like it.
-use Rattle.std.proofs.Common.{◌≡◌, ◌∙◌, ℕ, ◌<◌, ◌≤◌, Bool, true, false, cond, List, [], ◌∷◌, ◌++◌, length, map, refl, sym, ap, append-nil, append_assoc, arith}
+use Rattle.std.proofs.Common.{◌≡◌, ◌∙◌, ℕ, ◌<◌, ◌≤◌, Bool, true, false, cond, List, [], ◌∷◌, ◌++◌, length, map, refl, sym, ap, subst, append-nil, append_assoc, arith}
 use Rattle.std.specs.Prelude.{not, zero, suc, All, ◌&&◌, ◌==◌, drop}
 use Rattle.std.specs.List.{filter, flat_map, fold}
 use Rattle.std.specs.Str.{bytes_eq}
 use Rattle.std.proofs.lemmas.Bool.{eq-eqb}
-use Rattle.std.proofs.lemmas.List.Elements.{All-cons, All-head, All-tail, All-filter}
+use Rattle.std.proofs.lemmas.List.{map-append}
+use Rattle.std.proofs.lemmas.List.Elements.{All-cons, All-head, All-tail, All-filter, All-push}
 use Rattle.std.proofs.lemmas.Slice.Eq.{bytes_eq-Decides}
 use Rattle.opgp_frame.specs.Packet.{PacketValue}
 use Rattle.opgp_ring.specs.Keyring.{CertificateValue, ComponentValue}
@@ -226,3 +227,11 @@ pub certificates_united : (cs : List CertificateValue) → map once_certificate 
 certificates_united cs =
     ap (map once_certificate) (sym (joined_is primary_name with_parts (λ k x. refl) cs) ∙ gathered_is same_primary (λ c. itself (primary_name c)) (alike primary_name) with_parts (λ k x. refl) whole_certificate certificate_whole cs)
     ∙ map_map (λ c. whole_certificate c (like same_primary c cs)) once_certificate (firsts same_primary cs)
+
+-- ---- one after the other
+
+pub once_more : {X : Type 0} (once : X → X) (done before after : List X) (x y : X) → done ≡ map once before → after ≡ done ++ y ∷ [] → y ≡ once x → after ≡ map once (before ++ x ∷ [])
+once_more {X} once done before after x y e pushed is = pushed ∙ ap (λ (k : List X). k ++ y ∷ []) e ∙ ap (λ (z : X). map once before ++ z ∷ []) is ∙ sym (map-append once before (x ∷ []))
+
+pub all_more : {X : Type 0} (S : X → Type 0) (done after : List X) (y : X) → after ≡ done ++ y ∷ [] → All S done → S y → All S after
+all_more S done after y pushed all here = subst (All S) (sym pushed) (All-push S done y all here)

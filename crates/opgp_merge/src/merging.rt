@@ -2,11 +2,11 @@
 
 ghost use Rattle.std.specs.Prelude.{◌≡◌, map, All, IfOk};
 ghost use Rattle.opgp_ring.specs.Keyring.{IsCertificate, IsComponent};
-ghost use Rattle.opgp_merge.specs.Merged.{firsts, merged_of, same_packet, same_primary};
-ghost use Rattle.opgp_merge.specs.Merged.{united_certificate, united_components};
-ghost use Rattle.opgp_merge.specs.Slots.{once_certificate, once_component};
+ghost use Rattle.opgp_merge.specs.Merged.{firsts, merged_of, same_packet};
+ghost use Rattle.opgp_merge.specs.Slots.{joined_all, once_certificate, once_component};
 
 use crate::gathering::join;
+use crate::joining::Joining;
 use opgp_octets::OutOfMemory;
 use opgp_ring::{Certificate, Component, Keyring, Member};
 use std::alloc::Global;
@@ -22,90 +22,79 @@ pub fn merge(ring: Keyring) -> Result<Keyring, OutOfMemory>
     ensures { IfOk result (λ r. r ≡ merged_of ring) }
 {
     let (lead, certificates, alloc) = ring.into_parts();
-    let gathered = join(alloc, certificates)?;
-    let merged = unite_each_certificate(alloc, gathered)?;
+    let merged = unite(alloc, certificates)?;
     Ok(Keyring::new(alloc, lead, merged))
 }
 
-/// The certificates, each with the same component and the same packet once.
-fn unite_each_certificate(
-    alloc: Global,
-    certificates: Vec<Certificate>,
-) -> Result<Vec<Certificate>, OutOfMemory>
-    ensures value { IfOk result (λ v. v.items ≡ map once_certificate certificates.items) }
-    ensures certificates { IfOk result (λ v. All IsCertificate v.items) }
+/// What holds packets, or components, of which each is to stand once.
+trait Uniting: Joining {
+    // It, with each of them once.
+    ghost once: { Self → Self };
+
+    // What it is then.
+    ghost sound: { Self → Type 0 };
+
+    /// It, with each of them once. An error is want of memory.
+    fn united(self, alloc: Global) -> Result<Self, OutOfMemory>
+        ensures value { IfOk result (λ x. x ≡ once self) }
+        ensures sound { IfOk result (λ x. sound x) };
+}
+
+impl Uniting for Certificate {
+    ghost once = { once_certificate };
+
+    ghost sound = { IsCertificate };
+
+    fn united(self, alloc: Global) -> Result<Certificate, OutOfMemory> {
+        let (primary, hangs, components) = self.into_parts();
+        let hangs = match unite_members(alloc, hangs) {
+            Ok(hangs) => hangs,
+            Err(refused) => {
+                drop(primary);
+                return Err(refused);
+            }
+        };
+        match unite(alloc, components) {
+            Ok(components) => Ok(Certificate::from_parts(primary, hangs, components)),
+            Err(refused) => {
+                drop(primary);
+                Err(refused)
+            }
+        }
+    }
+}
+
+impl Uniting for Component {
+    ghost once = { once_component };
+
+    ghost sound = { IsComponent };
+
+    fn united(self, alloc: Global) -> Result<Component, OutOfMemory> {
+        let (head, hangs) = self.into_parts();
+        match unite_members(alloc, hangs) {
+            Ok(hangs) => Ok(Component::from_parts(head, hangs)),
+            Err(refused) => {
+                drop(head);
+                Err(refused)
+            }
+        }
+    }
+}
+
+/// One item for each name, in the place of the first, with what all of that name hold, each of it
+/// once.
+fn unite<T: Uniting>(alloc: Global, items: Vec<T>) -> Result<Vec<T>, OutOfMemory>
+    ensures value { IfOk result (λ v. v.items
+        ≡ map T.once (joined_all T.name T.both items.items)) }
+    ensures sound { IfOk result (λ v. All T.sound v.items) }
 {
+    let gathered = join(alloc, items)?;
     let mut united = Vec::new(alloc);
-    for certificate in certificates {
-        let once = unite_certificate(alloc, certificate)?;
+    for item in gathered {
+        let once = item.united(alloc)?;
         united.push(once)?;
     }
     Ok(united)
-}
-
-/// The certificate with the same component and the same packet once.
-fn unite_certificate(alloc: Global, certificate: Certificate) -> Result<Certificate, OutOfMemory>
-    ensures value { IfOk result (λ c. c ≡ once_certificate certificate) }
-    ensures certificate { IfOk result (λ c. IsCertificate c) }
-{
-    let (primary, hangs, components) = certificate.into_parts();
-    let hangs = match unite_members(alloc, hangs) {
-        Ok(hangs) => hangs,
-        Err(refused) => {
-            drop(primary);
-            return Err(refused);
-        }
-    };
-    match unite_components(alloc, components) {
-        Ok(components) => Ok(Certificate::from_parts(primary, hangs, components)),
-        Err(refused) => {
-            drop(primary);
-            Err(refused)
-        }
-    }
-}
-
-/// One component for each head, in the place of the first.
-fn unite_components(
-    alloc: Global,
-    components: Vec<Component>,
-) -> Result<Vec<Component>, OutOfMemory>
-    ensures value { IfOk result (λ v. v.items ≡ united_components components.items) }
-    ensures components { IfOk result (λ v. All IsComponent v.items) }
-{
-    let gathered = join(alloc, components)?;
-    unite_each_component(alloc, gathered)
-}
-
-/// The components, each with the same packet once.
-fn unite_each_component(
-    alloc: Global,
-    components: Vec<Component>,
-) -> Result<Vec<Component>, OutOfMemory>
-    ensures value { IfOk result (λ v. v.items ≡ map once_component components.items) }
-    ensures components { IfOk result (λ v. All IsComponent v.items) }
-{
-    let mut united = Vec::new(alloc);
-    for component in components {
-        let once = unite_component(alloc, component)?;
-        united.push(once)?;
-    }
-    Ok(united)
-}
-
-/// The component with the same packet once.
-fn unite_component(alloc: Global, component: Component) -> Result<Component, OutOfMemory>
-    ensures value { IfOk result (λ c. c ≡ once_component component) }
-    ensures component { IfOk result (λ c. IsComponent c) }
-{
-    let (head, hangs) = component.into_parts();
-    match unite_members(alloc, hangs) {
-        Ok(hangs) => Ok(Component::from_parts(head, hangs)),
-        Err(refused) => {
-            drop(head);
-            Err(refused)
-        }
-    }
 }
 
 /// The packets that aren't the same as an earlier one.

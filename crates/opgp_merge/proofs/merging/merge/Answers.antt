@@ -10,5 +10,5 @@ returns c =
     let cs : List CertificateValue = c.args.ring.certificates in
     let parts = c.into_parts-lead.ensures in
     let merged : c.in_ok-merged.merged.items ≡ map (united_certificate cs) (firsts same_primary cs) =
-    c.in_ok-merged.ensures.value ∙ ap (map once_certificate) (c.in_ok-gathered.ensures ∙ ap (joined_all primary_name with_parts) parts.certificates) ∙ certificates_united cs in
+    c.in_ok-merged.ensures.value ∙ ap (λ (l : List CertificateValue). map once_certificate (joined_all primary_name with_parts l)) parts.certificates ∙ certificates_united cs in
     c.new.ensures ∙ (λ i. record { lead = parts.lead i; certificates = merged i })

@@ -1,4 +1,3 @@
-mod Lines
 mod Loops
 mod MadeOnce
 mod Put

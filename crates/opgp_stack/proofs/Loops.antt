@@ -5,16 +5,7 @@ use Rattle.std.specs.Result.{IsErr}
 use Rattle.std.proofs.lemmas.List.{take_more, take-append-drop, append-nil}
 use Rattle.std.proofs.lemmas.List.Concat.{flat_map-append}
 use Rattle.opgp_stream.specs.Added.{State, Adds, Breaks, Writes}
-
--- the laws that it needs
-abbrev pub GoesOn : Type 0
-GoesOn = (a b c : State) (xs ys : List ℕ) → Adds a b xs → Adds b c ys → Adds a c (xs ++ ys)
-
-abbrev pub FailsBehind : Type 0
-FailsBehind = (a b c : State) (xs ys : List ℕ) → Adds a b xs → Breaks b c ys → Breaks a c (xs ++ ys)
-
-abbrev pub FailsInFront : Type 0
-FailsInFront = (a b : State) (xs ys : List ℕ) → Breaks a b xs → Breaks a b (xs ++ ys)
+use Rattle.opgp_stream.proofs.Added.{adds_then, breaks_then, breaks_more}
 
 one_more : {X : Type 0} (f : X → List ℕ) (xs : List X) (i : ℕ) (x : X) (octets : List ℕ) → i < length xs → x ≡ get_or xs i x → octets ≡ f x
     → flat_map f (take i xs) ++ octets ≡ flat_map f (take (i + 1) xs)
@@ -22,16 +13,16 @@ one_more {X} f xs i x octets l is e =
     ap (λ (v : List ℕ). flat_map f (take i xs) ++ v) (e ∙ ap f is ∙ sym (append-nil (f (get_or xs i x))))
     ∙ sym (flat_map-append f (take i xs) (get_or xs i x ∷ [])) ∙ ap (λ (v : List X). flat_map f v) (sym (take_more xs i x l))
 
-pub more_of : {X : Type 0} (f : X → List ℕ) → GoesOn → (a b c : State) (xs : List X) (i : ℕ) (x : X) (octets : List ℕ) → i < length xs → x ≡ get_or xs i x → octets ≡ f x
+pub more_of : {X : Type 0} (f : X → List ℕ) (a b c : State) (xs : List X) (i : ℕ) (x : X) (octets : List ℕ) → i < length xs → x ≡ get_or xs i x → octets ≡ f x
     → Adds a b (flat_map f (take i xs)) → Adds b c octets → Adds a c (flat_map f (take (i + 1) xs))
-more_of {X} f on a b c xs i x octets l is e p q = subst (Adds a c) (one_more f xs i x octets l is e) (on a b c (flat_map f (take i xs)) octets p q)
+more_of {X} f a b c xs i x octets l is e p q = subst (Adds a c) (one_more f xs i x octets l is e) (adds_then a b c (flat_map f (take i xs)) octets p q)
 
-pub broken_of : {X E : Type 0} (f : X → List ℕ) → FailsBehind → FailsInFront → (a b c : State) (r : Result Unit E) (xs : List X) (i : ℕ) (x : X) (octets : List ℕ) → i < length xs → x ≡ get_or xs i x → octets ≡ f x
+pub broken_of : {X E : Type 0} (f : X → List ℕ) (a b c : State) (r : Result Unit E) (xs : List X) (i : ℕ) (x : X) (octets : List ℕ) → i < length xs → x ≡ get_or xs i x → octets ≡ f x
     → IsErr r → Adds a b (flat_map f (take i xs)) → Breaks b c octets → Writes a c r (flat_map f xs)
-broken_of {X} f behind front a b c (Ok u) xs i x octets l is e h p q = cc h
-broken_of {X} f behind front a b c (Err d) xs i x octets l is e h p q =
+broken_of {X} f a b c (Ok u) xs i x octets l is e h p q = cc h
+broken_of {X} f a b c (Err d) xs i x octets l is e h p q =
     let done : List ℕ = flat_map f (take i xs) ++ octets in
     let rest : List ℕ = flat_map f (drop (i + 1) xs) in
     subst (Breaks a c)
     (ap (λ (v : List ℕ). v ++ rest) (one_more f xs i x octets l is e) ∙ sym (flat_map-append f (take (i + 1) xs) (drop (i + 1) xs)) ∙ ap (λ (v : List X). flat_map f v) (take-append-drop (i + 1) xs))
-    (front a c done rest (behind a b c _ octets p q))
+    (breaks_more a c done rest (breaks_then a b c _ octets p q))

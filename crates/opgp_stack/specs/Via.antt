@@ -1,11 +1,11 @@
 -- Octets on their way to an output, bare or as armor.
-use Rattle.std.specs.Prelude.{ℕ, Bool, List, Option, Some, None, Result, MatchResult}
+use Rattle.std.specs.Prelude.{◌≡◌, ℕ, Bool, List, Option, Some, None, Result, MatchResult}
 use Rattle.opgp_stream.specs.declared.armoring.Armoring.{Armoring}
 use Rattle.opgp_stream.specs.declared.output.Output.{Output}
 use Rattle.opgp_stream.specs.Added.{State, Adds, Breaks}
 use Rattle.opgp_armor.specs.declared.label.Label.{Label}
 use Rattle.opgp_stream.specs.Armoring.{label_of, row_of}
-use Rattle.opgp_stream.specs.Output.{state_of}
+use Rattle.opgp_stream.specs.Output.{sink_name, state_of}
 use Rattle.opgp_stream.specs.Rows.{Rows, AddsRows, BreaksRows}
 
 -- what an output has added; and, inside a block of armor, the octets that wait for a row
@@ -53,3 +53,12 @@ way_of held has_failed o a = record { output = state_of held has_failed o; row =
 abbrev pub label_in : Option Armoring → Option Label
 label_in None = None
 label_in (Some a) = Some (label_of a)
+
+-- The octets are added, bare or in rows of the same block, to the sink that the output had, or that
+-- sink has failed in them.
+pub record ExtendsVia {W T E : Type 0} (held : W → Option (List ℕ)) (has_failed : W → Bool)
+    (old : Output W) (before : Option Armoring) (new : Output W) (after : Option Armoring)
+    (result : Result T E) (octets : List ℕ) : Type 0 where
+  pub same : sink_name new ≡ sink_name old
+  pub label : label_in after ≡ label_in before
+  pub written : WritesVia (way_of held has_failed old before) (way_of held has_failed new after) result octets

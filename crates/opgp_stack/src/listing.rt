@@ -10,14 +10,12 @@ ghost use Rattle.opgp_stack.specs.Listing.{attribute_line, filler_line, key_line
 ghost use Rattle.opgp_stack.specs.Listing.{opaque_text, packet_line, signature_line, typed_text};
 ghost use Rattle.opgp_stack.specs.Listing.{key_names, key_numbers, user_id_line};
 ghost use Rattle.opgp_stack.specs.Role.{role_name};
-ghost use Rattle.opgp_stream.specs.Added.{Writes};
-ghost use Rattle.opgp_stream.specs.Output.{sink_name, sink_of, state_of};
+ghost use Rattle.opgp_stream.specs.Output.{Extends, sink_of};
 
 use opgp_hash::{KeyId, fingerprint};
 use opgp_key::{Attribute, Key};
 use opgp_ring::{Content, Packets, Part};
 use opgp_sig::Signature;
-use opgp_stream::laws::{a_failure_behind, a_failure_in_front, adding_goes_on, nothing_is_added};
 use opgp_stream::{Output, Sink, Word};
 use std::io;
 
@@ -31,9 +29,7 @@ enum Role {
 /// Adds a word.
 fn add_role<W: Sink>(output: &mut Output<'_, W>, role: Role) -> io::Result<()>
     requires { W.has_failed (sink_of output.old) ≡ false }
-    ensures same { sink_name output.new ≡ sink_name output.old }
-    ensures written { Writes (state_of W.held W.has_failed output.old)
-        (state_of W.held W.has_failed output.new) result (role_name role) }
+    ensures { Extends W.held W.has_failed output.old output.new result (role_name role) }
 {
     match role {
         Role::Primary => output.add(b"pub"),
@@ -49,9 +45,8 @@ fn add_numbers<W: Sink>(
     algorithm: u8,
 ) -> io::Result<()>
     requires { W.has_failed (sink_of output.old) ≡ false }
-    ensures same { sink_name output.new ≡ sink_name output.old }
-    ensures written { Writes (state_of W.held W.has_failed output.old)
-        (state_of W.held W.has_failed output.new) result (key_numbers version created algorithm) }
+    ensures { Extends W.held W.has_failed output.old output.new result
+        (key_numbers version created algorithm) }
 {
     output.add_words(&[
         Word::Text(b" v"),
@@ -67,13 +62,9 @@ fn add_numbers<W: Sink>(
 /// Adds a fingerprint and a key ID.
 fn add_names<W: Sink>(output: &mut Output<'_, W>, print: &[u8], id: &[u8]) -> io::Result<()>
     requires { W.has_failed (sink_of output.old) ≡ false }
-    ensures same { sink_name output.new ≡ sink_name output.old }
-    ensures written { Writes (state_of W.held W.has_failed output.old)
-        (state_of W.held W.has_failed output.new) result (key_names print.now id.now) }
+    ensures { Extends W.held W.has_failed output.old output.new result
+        (key_names print.now id.now) }
 {
-    adding_goes_on();
-    a_failure_behind();
-    a_failure_in_front();
     output.add_hex(print)?;
     add_id(output, id)
 }
@@ -81,9 +72,7 @@ fn add_names<W: Sink>(output: &mut Output<'_, W>, print: &[u8], id: &[u8]) -> io
 /// Adds a key ID and the line's end.
 fn add_id<W: Sink>(output: &mut Output<'_, W>, id: &[u8]) -> io::Result<()>
     requires { W.has_failed (sink_of output.old) ≡ false }
-    ensures same { sink_name output.new ≡ sink_name output.old }
-    ensures written { Writes (state_of W.held W.has_failed output.old)
-        (state_of W.held W.has_failed output.new) result
+    ensures { Extends W.held W.has_failed output.old output.new result
         (codes " " ++ encode_upper id.now ++ codes "\n") }
 {
     output.add_words(&[Word::Text(b" "), Word::Hex(id), Word::Text(b"\n")])
@@ -92,15 +81,10 @@ fn add_id<W: Sink>(output: &mut Output<'_, W>, id: &[u8]) -> io::Result<()>
 /// Adds the line of a key.
 fn add_key<W: Sink>(output: &mut Output<'_, W>, role: Role, key: &Key) -> io::Result<()>
     requires { W.has_failed (sink_of output.old) ≡ false }
-    ensures same { sink_name output.new ≡ sink_name output.old }
-    ensures written { Writes (state_of W.held W.has_failed output.old)
-        (state_of W.held W.has_failed output.new) result
+    ensures { Extends W.held W.has_failed output.old output.new result
         (key_line (role_name role) (key_octets key.now)) }
 {
     opgp_key::laws::written_key();
-    adding_goes_on();
-    a_failure_behind();
-    a_failure_in_front();
     let print = fingerprint(key);
     let KeyId(id) = print.key_id();
     add_role(output, role)?;
@@ -111,9 +95,7 @@ fn add_key<W: Sink>(output: &mut Output<'_, W>, role: Role, key: &Key) -> io::Re
 /// Adds the line of a user ID.
 fn add_user_id<W: Sink>(output: &mut Output<'_, W>, octets: &[u8]) -> io::Result<()>
     requires { W.has_failed (sink_of output.old) ≡ false }
-    ensures same { sink_name output.new ≡ sink_name output.old }
-    ensures written { Writes (state_of W.held W.has_failed output.old)
-        (state_of W.held W.has_failed output.new) result (user_id_line octets.now) }
+    ensures { Extends W.held W.has_failed output.old output.new result (user_id_line octets.now) }
 {
     output.add_words(&[
         Word::Text(b"uid \""),
@@ -125,9 +107,7 @@ fn add_user_id<W: Sink>(output: &mut Output<'_, W>, octets: &[u8]) -> io::Result
 /// Adds the line of a user attribute.
 fn add_attribute<W: Sink>(output: &mut Output<'_, W>, attribute: &Attribute) -> io::Result<()>
     requires { W.has_failed (sink_of output.old) ≡ false }
-    ensures same { sink_name output.new ≡ sink_name output.old }
-    ensures written { Writes (state_of W.held W.has_failed output.old)
-        (state_of W.held W.has_failed output.new) result
+    ensures { Extends W.held W.has_failed output.old output.new result
         (attribute_line (attribute_octets attribute.now)) }
 {
     let count = attribute.subpackets().count() as u64;
@@ -137,9 +117,8 @@ fn add_attribute<W: Sink>(output: &mut Output<'_, W>, attribute: &Attribute) -> 
 /// Adds the line of a filler.
 fn add_filler<W: Sink>(output: &mut Output<'_, W>, kind: u8, body: &[u8]) -> io::Result<()>
     requires { W.has_failed (sink_of output.old) ≡ false }
-    ensures same { sink_name output.new ≡ sink_name output.old }
-    ensures written { Writes (state_of W.held W.has_failed output.old)
-        (state_of W.held W.has_failed output.new) result (filler_line kind (length body.now)) }
+    ensures { Extends W.held W.has_failed output.old output.new result
+        (filler_line kind (length body.now)) }
 {
     output.add_words(&[
         Word::Text(b"pkt "),
@@ -159,9 +138,8 @@ fn add_typed<W: Sink>(
     hash: u8,
 ) -> io::Result<()>
     requires { W.has_failed (sink_of output.old) ≡ false }
-    ensures same { sink_name output.new ≡ sink_name output.old }
-    ensures written { Writes (state_of W.held W.has_failed output.old)
-        (state_of W.held W.has_failed output.new) result (typed_text version kind algorithm hash) }
+    ensures { Extends W.held W.has_failed output.old output.new result
+        (typed_text version kind algorithm hash) }
 {
     output.add_words(&[
         Word::Text(b"sig v"),
@@ -179,9 +157,8 @@ fn add_typed<W: Sink>(
 /// Adds the line of a signature that is kept as it is.
 fn add_opaque<W: Sink>(output: &mut Output<'_, W>, body: &[u8]) -> io::Result<()>
     requires { W.has_failed (sink_of output.old) ≡ false }
-    ensures same { sink_name output.new ≡ sink_name output.old }
-    ensures written { Writes (state_of W.held W.has_failed output.old)
-        (state_of W.held W.has_failed output.new) result (opaque_text (length body.now)) }
+    ensures { Extends W.held W.has_failed output.old output.new result
+        (opaque_text (length body.now)) }
 {
     output.add_words(&[
         Word::Text(b"sig opaque "),
@@ -193,9 +170,7 @@ fn add_opaque<W: Sink>(output: &mut Output<'_, W>, body: &[u8]) -> io::Result<()
 /// Adds the line of a signature.
 fn add_signature<W: Sink>(output: &mut Output<'_, W>, signature: &Signature) -> io::Result<()>
     requires { W.has_failed (sink_of output.old) ≡ false }
-    ensures same { sink_name output.new ≡ sink_name output.old }
-    ensures written { Writes (state_of W.held W.has_failed output.old)
-        (state_of W.held W.has_failed output.new) result
+    ensures { Extends W.held W.has_failed output.old output.new result
         (signature_line (signature_octets signature.now)) }
 {
     opgp_sig::laws::written_signature();
@@ -220,9 +195,8 @@ fn add_signature<W: Sink>(output: &mut Output<'_, W>, signature: &Signature) -> 
 fn add_line<W: Sink>(output: &mut Output<'_, W>, part: Part<'_>) -> io::Result<()>
     requires lent { IsLent part }
     requires sound { W.has_failed (sink_of output.old) ≡ false }
-    ensures same { sink_name output.new ≡ sink_name output.old }
-    ensures written { Writes (state_of W.held W.has_failed output.old)
-        (state_of W.held W.has_failed output.new) result (packet_line (part_packet part.entry)) }
+    ensures { Extends W.held W.has_failed output.old output.new result
+        (packet_line (part_packet part.entry)) }
 {
     let member = match part {
         Part::Lead(packet) => return add_filler(output, packet.kind(), packet.body()),
@@ -244,14 +218,9 @@ pub(crate) fn add_listing<W: Sink>(
     mut packets: Packets<'_>,
 ) -> io::Result<()>
     requires { W.has_failed (sink_of output.old) ≡ false }
-    ensures same { sink_name output.new ≡ sink_name output.old }
-    ensures written { Writes (state_of W.held W.has_failed output.old)
-        (state_of W.held W.has_failed output.new) result (listing (packets_left packets.entry)) }
+    ensures { Extends W.held W.has_failed output.old output.new result
+        (listing (packets_left packets.entry)) }
 {
-    nothing_is_added();
-    adding_goes_on();
-    a_failure_behind();
-    a_failure_in_front();
     'packets: while let Some(part) = packets.next() {
         add_line(output, part)?;
     }

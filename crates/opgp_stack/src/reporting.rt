@@ -7,13 +7,11 @@ ghost use Rattle.opgp_report.specs.Row.{row_value};
 ghost use Rattle.opgp_report.specs.RowValue.{asked_with, not_asked};
 ghost use Rattle.opgp_stack.specs.Report.{finding_words, id_or_none, line_at, number_or_none};
 ghost use Rattle.opgp_stack.specs.Report.{report_lines, row_line, verdict_name};
-ghost use Rattle.opgp_stream.specs.Added.{Writes};
 ghost use Rattle.opgp_stream.specs.Line.{word_text};
-ghost use Rattle.opgp_stream.specs.Output.{sink_name, sink_of, state_of};
+ghost use Rattle.opgp_stream.specs.Output.{Extends, sink_of};
 
 use opgp_hash::{Digest, KeyId, Why};
 use opgp_report::{Finding, Place, Row, Verdict};
-use opgp_stream::laws::{a_failure_behind, a_failure_in_front, adding_goes_on, nothing_is_added};
 use opgp_stream::{Output, Sink, Word};
 use std::io;
 
@@ -69,9 +67,8 @@ fn add_asked<W: Sink>(
     verdict: Verdict,
 ) -> io::Result<()>
     requires { W.has_failed (sink_of output.old) ≡ false }
-    ensures same { sink_name output.new ≡ sink_name output.old }
-    ensures written { Writes (state_of W.held W.has_failed output.old)
-        (state_of W.held W.has_failed output.new) result (line_at number place (finding_words
+    ensures { Extends W.held W.has_failed output.old output.new result
+        (line_at number place (finding_words
         (asked_with kind hash (option_map (λ k. k.0) signer) digest.now verdict))) }
 {
     let left = left_of(digest);
@@ -106,9 +103,7 @@ fn add_none<W: Sink>(
     why: Why,
 ) -> io::Result<()>
     requires { W.has_failed (sink_of output.old) ≡ false }
-    ensures same { sink_name output.new ≡ sink_name output.old }
-    ensures written { Writes (state_of W.held W.has_failed output.old)
-        (state_of W.held W.has_failed output.new) result
+    ensures { Extends W.held W.has_failed output.old output.new result
         (line_at number place (finding_words (not_asked why))) }
 {
     output.add_words(&[
@@ -131,9 +126,8 @@ fn add_none<W: Sink>(
 /// Adds the line of a row.
 fn add_row<W: Sink>(output: &mut Output<'_, W>, number: u64, row: &Row) -> io::Result<()>
     requires { W.has_failed (sink_of output.old) ≡ false }
-    ensures same { sink_name output.new ≡ sink_name output.old }
-    ensures written { Writes (state_of W.held W.has_failed output.old)
-        (state_of W.held W.has_failed output.new) result (row_line number (row_value row.now)) }
+    ensures { Extends W.held W.has_failed output.old output.new result
+        (row_line number (row_value row.now)) }
 {
     match &row.finding {
         Finding::Asked {
@@ -152,14 +146,9 @@ fn add_row<W: Sink>(output: &mut Output<'_, W>, number: u64, row: &Row) -> io::R
 /// Adds the lines of rows.
 pub(crate) fn add_report<W: Sink>(output: &mut Output<'_, W>, rows: &[Row]) -> io::Result<()>
     requires { W.has_failed (sink_of output.old) ≡ false }
-    ensures same { sink_name output.new ≡ sink_name output.old }
-    ensures written { Writes (state_of W.held W.has_failed output.old)
-        (state_of W.held W.has_failed output.new) result (report_lines 0 (map row_value rows.now)) }
+    ensures { Extends W.held W.has_failed output.old output.new result
+        (report_lines 0 (map row_value rows.now)) }
 {
-    nothing_is_added();
-    adding_goes_on();
-    a_failure_behind();
-    a_failure_in_front();
     let mut number = 0u64;
     let mut rest = rows;
     'rows: while let Some((row, more)) = rest.split_first() {

@@ -9,13 +9,11 @@ ghost use Rattle.opgp_stack.specs.Packets.{block_value};
 ghost use Rattle.opgp_stack.specs.Showing.{area_lines, area_name, bit_name, content_lines};
 ghost use Rattle.opgp_stack.specs.Showing.{form_name, header_line, meaning_name, packet_lines};
 ghost use Rattle.opgp_stack.specs.Showing.{shown, shown_blocks, signature_lines, subpacket_line};
-ghost use Rattle.opgp_stream.specs.Added.{Writes};
-ghost use Rattle.opgp_stream.specs.Output.{sink_name, sink_of, state_of};
+ghost use Rattle.opgp_stream.specs.Output.{Extends, sink_of};
 
 use opgp_frame::{Form, Placed};
 use opgp_ring::BlockOf;
 use opgp_sig::{SigView, SubMeaning, SubView, Subs};
-use opgp_stream::laws::{a_failure_behind, a_failure_in_front, adding_goes_on, nothing_is_added};
 use opgp_stream::{Output, Sink, Word};
 use std::io;
 
@@ -76,9 +74,7 @@ fn meaning_text(meaning: SubMeaning<'_>) -> &'static [u8]
 /// Adds the line of a packet.
 fn add_header<W: Sink>(output: &mut Output<'_, W>, placed: &Placed) -> io::Result<()>
     requires { W.has_failed (sink_of output.old) ≡ false }
-    ensures same { sink_name output.new ≡ sink_name output.old }
-    ensures written { Writes (state_of W.held W.has_failed output.old)
-        (state_of W.held W.has_failed output.new) result (header_line placed.now) }
+    ensures { Extends W.held W.has_failed output.old output.new result (header_line placed.now) }
 {
     let packet = &placed.packet;
     let kind = packet.kind() as u64;
@@ -104,9 +100,7 @@ fn add_subpacket<W: Sink>(
     subpacket: SubView<'_>,
 ) -> io::Result<()>
     requires { W.has_failed (sink_of output.old) ≡ false }
-    ensures same { sink_name output.new ≡ sink_name output.old }
-    ensures written { Writes (state_of W.held W.has_failed output.old)
-        (state_of W.held W.has_failed output.new) result
+    ensures { Extends W.held W.has_failed output.old output.new result
         (subpacket_line area (sub_shown subpacket.entry)) }
 {
     let kind = subpacket.kind() as u64;
@@ -127,15 +121,9 @@ fn add_area<W: Sink>(
     mut subpackets: Subs<'_>,
 ) -> io::Result<()>
     requires { W.has_failed (sink_of output.old) ≡ false }
-    ensures same { sink_name output.new ≡ sink_name output.old }
-    ensures written { Writes (state_of W.held W.has_failed output.old)
-        (state_of W.held W.has_failed output.new) result
+    ensures { Extends W.held W.has_failed output.old output.new result
         (area_lines area (subs_to_come subpackets.entry)) }
 {
-    nothing_is_added();
-    adding_goes_on();
-    a_failure_behind();
-    a_failure_in_front();
     'subpackets: while let Some(subpacket) = subpackets.next() {
         add_subpacket(output, area, subpacket)?;
     }
@@ -149,15 +137,10 @@ fn add_areas<W: Sink>(
     unhashed: Subs<'_>,
 ) -> io::Result<()>
     requires { W.has_failed (sink_of output.old) ≡ false }
-    ensures same { sink_name output.new ≡ sink_name output.old }
-    ensures written { Writes (state_of W.held W.has_failed output.old)
-        (state_of W.held W.has_failed output.new) result
+    ensures { Extends W.held W.has_failed output.old output.new result
         (area_lines Area.Hashed (subs_to_come hashed.entry)
         ++ area_lines Area.Unhashed (subs_to_come unhashed.entry)) }
 {
-    adding_goes_on();
-    a_failure_behind();
-    a_failure_in_front();
     add_area(output, Area::Hashed, hashed)?;
     add_area(output, Area::Unhashed, unhashed)
 }
@@ -166,11 +149,8 @@ fn add_areas<W: Sink>(
 fn add_signature<W: Sink>(output: &mut Output<'_, W>, body: &[u8]) -> io::Result<()>
     requires small { IsBodySized body.now }
     requires sound { W.has_failed (sink_of output.old) ≡ false }
-    ensures same { sink_name output.new ≡ sink_name output.old }
-    ensures written { Writes (state_of W.held W.has_failed output.old)
-        (state_of W.held W.has_failed output.new) result (signature_lines body.now) }
+    ensures { Extends W.held W.has_failed output.old output.new result (signature_lines body.now) }
 {
-    nothing_is_added();
     match SigView::parse_body(body) {
         Ok(SigView::Four(view)) => add_areas(output, view.hashed(), view.unhashed()),
         Ok(SigView::Six(view)) => add_areas(output, view.hashed(), view.unhashed()),
@@ -182,11 +162,9 @@ fn add_signature<W: Sink>(output: &mut Output<'_, W>, body: &[u8]) -> io::Result
 fn add_content<W: Sink>(output: &mut Output<'_, W>, kind: u8, body: &[u8]) -> io::Result<()>
     requires small { IsBodySized body.now }
     requires sound { W.has_failed (sink_of output.old) ≡ false }
-    ensures same { sink_name output.new ≡ sink_name output.old }
-    ensures written { Writes (state_of W.held W.has_failed output.old)
-        (state_of W.held W.has_failed output.new) result (content_lines kind body.now) }
+    ensures { Extends W.held W.has_failed output.old output.new result
+        (content_lines kind body.now) }
 {
-    nothing_is_added();
     if kind == 2 {
         return add_signature(output, body);
     }
@@ -196,13 +174,8 @@ fn add_content<W: Sink>(output: &mut Output<'_, W>, kind: u8, body: &[u8]) -> io
 /// Adds the lines of a packet.
 fn add_packet<W: Sink>(output: &mut Output<'_, W>, placed: &Placed) -> io::Result<()>
     requires { W.has_failed (sink_of output.old) ≡ false }
-    ensures same { sink_name output.new ≡ sink_name output.old }
-    ensures written { Writes (state_of W.held W.has_failed output.old)
-        (state_of W.held W.has_failed output.new) result (packet_lines placed.now) }
+    ensures { Extends W.held W.has_failed output.old output.new result (packet_lines placed.now) }
 {
-    adding_goes_on();
-    a_failure_behind();
-    a_failure_in_front();
     add_header(output, placed)?;
     add_content(output, placed.packet.kind(), placed.packet.body())
 }
@@ -210,14 +183,8 @@ fn add_packet<W: Sink>(output: &mut Output<'_, W>, placed: &Placed) -> io::Resul
 /// Adds the lines of packets.
 fn add_packets<W: Sink>(output: &mut Output<'_, W>, packets: &[Placed]) -> io::Result<()>
     requires { W.has_failed (sink_of output.old) ≡ false }
-    ensures same { sink_name output.new ≡ sink_name output.old }
-    ensures written { Writes (state_of W.held W.has_failed output.old)
-        (state_of W.held W.has_failed output.new) result (shown packets.now) }
+    ensures { Extends W.held W.has_failed output.old output.new result (shown packets.now) }
 {
-    nothing_is_added();
-    adding_goes_on();
-    a_failure_behind();
-    a_failure_in_front();
     for placed in packets {
         add_packet(output, placed)?;
     }
@@ -227,15 +194,9 @@ fn add_packets<W: Sink>(output: &mut Output<'_, W>, packets: &[Placed]) -> io::R
 /// Adds the lines of all packets of blocks.
 pub(crate) fn add_shown<W: Sink>(output: &mut Output<'_, W>, blocks: &[BlockOf]) -> io::Result<()>
     requires { W.has_failed (sink_of output.old) ≡ false }
-    ensures same { sink_name output.new ≡ sink_name output.old }
-    ensures written { Writes (state_of W.held W.has_failed output.old)
-        (state_of W.held W.has_failed output.new) result
+    ensures { Extends W.held W.has_failed output.old output.new result
         (shown_blocks (map block_value blocks.now)) }
 {
-    nothing_is_added();
-    adding_goes_on();
-    a_failure_behind();
-    a_failure_in_front();
     for block in blocks {
         add_packets(output, &block.packets)?;
     }

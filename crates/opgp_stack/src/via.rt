@@ -3,16 +3,12 @@
 ghost use Rattle.std.specs.Prelude.{◌≡◌, ◌++◌, true, false};
 ghost use Rattle.opgp_frame.specs.Packet.{IsPacket, packets_octets, spelling};
 ghost use Rattle.opgp_ring.specs.Packets.{packets_left, part_packet};
-ghost use Rattle.opgp_stack.specs.Via.{AddsVia, WritesVia, label_in, way_of};
+ghost use Rattle.opgp_stack.specs.Via.{AddsVia, ExtendsVia, way_of};
 ghost use Rattle.opgp_stream.specs.Added.{Adds};
 ghost use Rattle.opgp_stream.specs.Output.{sink_name, sink_of, state_of};
 
 use opgp_frame::{Form, Spelling};
 use opgp_ring::{Packets, Part};
-use opgp_stream::laws::{
-    a_failure_behind, a_failure_in_front, a_failure_in_rows_behind, a_failure_in_rows_in_front,
-    adding_goes_on, no_rows_are_added, nothing_is_added, rows_go_on,
-};
 use opgp_stream::{Armoring, Output, Sink};
 use std::io;
 
@@ -23,10 +19,8 @@ fn add<W: Sink>(
     octets: &[u8],
 ) -> io::Result<()>
     requires { W.has_failed (sink_of output.old) ≡ false }
-    ensures same { sink_name output.new ≡ sink_name output.old }
-    ensures label { label_in armoring.new ≡ label_in armoring.old }
-    ensures written { WritesVia (way_of W.held W.has_failed output.old armoring.old)
-        (way_of W.held W.has_failed output.new armoring.new) result octets.now }
+    ensures { ExtendsVia W.held W.has_failed output.old armoring.old output.new armoring.new result
+        octets.now }
 {
     match armoring {
         Some(armoring) => armoring.add(output, octets),
@@ -42,17 +36,9 @@ fn add_part<W: Sink>(
     piece: &[u8],
 ) -> io::Result<()>
     requires { W.has_failed (sink_of output.old) ≡ false }
-    ensures same { sink_name output.new ≡ sink_name output.old }
-    ensures label { label_in armoring.new ≡ label_in armoring.old }
-    ensures written { WritesVia (way_of W.held W.has_failed output.old armoring.old)
-        (way_of W.held W.has_failed output.new armoring.new) result (header.now ++ piece.now) }
+    ensures { ExtendsVia W.held W.has_failed output.old armoring.old output.new armoring.new result
+        (header.now ++ piece.now) }
 {
-    adding_goes_on();
-    a_failure_behind();
-    a_failure_in_front();
-    rows_go_on();
-    a_failure_in_rows_behind();
-    a_failure_in_rows_in_front();
     if armoring.is_none() {
         return output.add_both(header, piece);
     }
@@ -72,20 +58,9 @@ fn add_packet<W: Sink>(
 ) -> io::Result<()>
     requires packet { IsPacket (record { form = form.now; kind = kind; body = body.now }) }
     requires sound { W.has_failed (sink_of output.old) ≡ false }
-    ensures same { sink_name output.new ≡ sink_name output.old }
-    ensures label { label_in armoring.new ≡ label_in armoring.old }
-    ensures written { WritesVia (way_of W.held W.has_failed output.old armoring.old)
-        (way_of W.held W.has_failed output.new armoring.new) result
+    ensures { ExtendsVia W.held W.has_failed output.old armoring.old output.new armoring.new result
         (spelling (record { form = form.now; kind = kind; body = body.now })) }
 {
-    nothing_is_added();
-    adding_goes_on();
-    a_failure_behind();
-    a_failure_in_front();
-    no_rows_are_added();
-    rows_go_on();
-    a_failure_in_rows_behind();
-    a_failure_in_rows_in_front();
     let mut spelling = Spelling::new(form, kind, body);
     'parts: while let Some((header, piece)) = spelling.next() {
         add_part(output, armoring, header.as_slice(), piece)?;
@@ -146,10 +121,7 @@ fn add_one<W: Sink>(
     part: Part<'_>,
 ) -> io::Result<()>
     requires { W.has_failed (sink_of output.old) ≡ false }
-    ensures same { sink_name output.new ≡ sink_name output.old }
-    ensures label { label_in armoring.new ≡ label_in armoring.old }
-    ensures written { WritesVia (way_of W.held W.has_failed output.old armoring.old)
-        (way_of W.held W.has_failed output.new armoring.new) result
+    ensures { ExtendsVia W.held W.has_failed output.old armoring.old output.new armoring.new result
         (spelling (part_packet part.entry)) }
 {
     match part {
@@ -181,20 +153,9 @@ pub(crate) fn add_packets<W: Sink>(
     mut packets: Packets<'_>,
 ) -> io::Result<()>
     requires { W.has_failed (sink_of output.old) ≡ false }
-    ensures same { sink_name output.new ≡ sink_name output.old }
-    ensures label { label_in armoring.new ≡ label_in armoring.old }
-    ensures written { WritesVia (way_of W.held W.has_failed output.old armoring.old)
-        (way_of W.held W.has_failed output.new armoring.new) result
+    ensures { ExtendsVia W.held W.has_failed output.old armoring.old output.new armoring.new result
         (packets_octets (packets_left packets.entry)) }
 {
-    nothing_is_added();
-    adding_goes_on();
-    a_failure_behind();
-    a_failure_in_front();
-    no_rows_are_added();
-    rows_go_on();
-    a_failure_in_rows_behind();
-    a_failure_in_rows_in_front();
     'packets: while let Some(part) = packets.next() {
         if !hold_one(output, armoring, part) {
             add_one(output, armoring, part)?;

@@ -6,8 +6,7 @@ ghost use Rattle.opgp_frame.specs.Packet.{packets_octets};
 ghost use Rattle.opgp_ring.specs.Packets.{packets_left};
 ghost use Rattle.opgp_stack.specs.Texts.{text_octets};
 ghost use Rattle.opgp_stack.specs.Writing.{Puts, certificates_text, packets_text};
-ghost use Rattle.opgp_stream.specs.Added.{Writes};
-ghost use Rattle.opgp_stream.specs.Output.{sink_name, sink_of, state_of, waiting_in};
+ghost use Rattle.opgp_stream.specs.Output.{Extends, sink_name, sink_of, waiting_in};
 
 use crate::listing::add_listing;
 use crate::reporting::add_report;
@@ -17,20 +16,13 @@ use crate::via::add_packets;
 use opgp_armor::Label;
 use opgp_report::Row;
 use opgp_ring::{BlockOf, Certificate, Packets};
-use opgp_stream::laws::{
-    a_block_is_added, a_failure_at_a_begin_line, a_failure_at_an_end_line, a_failure_behind,
-    a_failure_in_a_block, a_failure_in_front, a_prefix_is_put, adding_goes_on, all_is_put,
-    nothing_is_added,
-};
 use opgp_stream::{Armoring, Buffer, Output, Sink};
 use std::io;
 
 /// Adds packets as they are.
 fn add_bare<W: Sink>(output: &mut Output<'_, W>, packets: Packets<'_>) -> io::Result<()>
     requires { W.has_failed (sink_of output.old) ≡ false }
-    ensures same { sink_name output.new ≡ sink_name output.old }
-    ensures written { Writes (state_of W.held W.has_failed output.old)
-        (state_of W.held W.has_failed output.new) result
+    ensures { Extends W.held W.has_failed output.old output.new result
         (packets_octets (packets_left packets.entry)) }
 {
     let mut none = None;
@@ -44,15 +36,9 @@ fn add_block<W: Sink>(
     packets: Packets<'_>,
 ) -> io::Result<()>
     requires { W.has_failed (sink_of output.old) ≡ false }
-    ensures same { sink_name output.new ≡ sink_name output.old }
-    ensures written { Writes (state_of W.held W.has_failed output.old)
-        (state_of W.held W.has_failed output.new) result
+    ensures { Extends W.held W.has_failed output.old output.new result
         (armor_text label [] (packets_octets (packets_left packets.entry))) }
 {
-    a_block_is_added();
-    a_failure_at_a_begin_line();
-    a_failure_at_an_end_line();
-    a_failure_in_a_block();
     let mut armoring = Some(Armoring::begin(output, label)?);
     add_packets(output, &mut armoring, packets)?;
     match armoring {
@@ -68,9 +54,7 @@ pub(crate) fn add_text<W: Sink>(
     packets: Packets<'_>,
 ) -> io::Result<()>
     requires { W.has_failed (sink_of output.old) ≡ false }
-    ensures same { sink_name output.new ≡ sink_name output.old }
-    ensures written { Writes (state_of W.held W.has_failed output.old)
-        (state_of W.held W.has_failed output.new) result
+    ensures { Extends W.held W.has_failed output.old output.new result
         (packets_text out (packets_left packets.entry)) }
 {
     match out {
@@ -86,15 +70,9 @@ fn add_certificates<W: Sink>(
     certificates: &[Certificate],
 ) -> io::Result<()>
     requires { W.has_failed (sink_of output.old) ≡ false }
-    ensures same { sink_name output.new ≡ sink_name output.old }
-    ensures written { Writes (state_of W.held W.has_failed output.old)
-        (state_of W.held W.has_failed output.new) result
+    ensures { Extends W.held W.has_failed output.old output.new result
         (certificates_text out certificates.now) }
 {
-    nothing_is_added();
-    adding_goes_on();
-    a_failure_behind();
-    a_failure_in_front();
     for certificate in certificates {
         add_text(output, out, Packets::of_certificate(certificate))?;
     }
@@ -121,9 +99,7 @@ pub(crate) enum Text<'a> {
 /// Adds a text.
 fn add<W: Sink>(output: &mut Output<'_, W>, text: Text<'_>) -> io::Result<()>
     requires { W.has_failed (sink_of output.old) ≡ false }
-    ensures same { sink_name output.new ≡ sink_name output.old }
-    ensures written { Writes (state_of W.held W.has_failed output.old)
-        (state_of W.held W.has_failed output.new) result (text_octets text.entry) }
+    ensures { Extends W.held W.has_failed output.old output.new result (text_octets text.entry) }
 {
     match text {
         Text::Packets(out, packets) => add_text(output, out, packets),
@@ -143,10 +119,6 @@ fn put_through<W: Sink>(output: &mut Output<'_, W>, text: Text<'_>) -> io::Resul
     ensures put { Puts W.held W.has_failed (sink_of output.old) (sink_of output.new) result
         (text_octets text.entry) }
 {
-    adding_goes_on();
-    a_failure_behind();
-    all_is_put();
-    a_prefix_is_put();
     add(output, text)?;
     output.finish()
 }

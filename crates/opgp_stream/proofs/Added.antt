@@ -1,5 +1,5 @@
 -- Octets added one after the other.
-use Rattle.std.proofs.Common.{◌≡◌, ◌∙◌, ℕ, ◌+◌, false, List, [], ◌∷◌, ◌++◌, refl, sym, ap, subst, arith, length, take, min, Option, Result, Ok, Err}
+use Rattle.std.proofs.Common.{◌≡◌, ◌∙◌, ℕ, ◌+◌, false, List, [], ◌++◌, refl, sym, ap, subst, arith, length, take, min, Option, Result, Ok, Err}
 use Rattle.std.specs.Result.{IsErr, OnOk, OnErr}
 use Rattle.std.proofs.lemmas.List.{append_assoc, append-nil, take-append-le, take_min, take_at, drop_at}
 use Rattle.std.proofs.Math.Seq.{take-add}
@@ -124,8 +124,3 @@ prefix_moved (Err d) old old' new new' xs xs' e f h p =
 
 pub writes_same : {T E : Type 0} (a b : State) (r : Result T E) (xs ys : List ℕ) → xs ≡ ys → Writes a b r xs → Writes a b r ys
 writes_same a b r xs ys e p = let P : List ℕ → Type 0 = λ v. Writes a b r v in subst P e p
-
--- a line behind others
-pub line_then : {T E : Type 0} (a b c : State) (r : Result T E) (front line last : List ℕ) → Adds a b front → Writes b c r (line ++ 10 ∷ []) → line ≡ last → Writes a c r (front ++ (last ++ 10 ∷ []))
-line_then a b c r front line last p q e =
-    writes_same a c r _ _ (ap (λ (v : List ℕ). front ++ (v ++ 10 ∷ [])) e) (then a b c r front (line ++ 10 ∷ []) p q)

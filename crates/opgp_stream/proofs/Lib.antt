@@ -1,4 +1,5 @@
 pub mod Added
+pub mod Extended
 pub mod Loops
 pub mod Pieces
 pub mod Places

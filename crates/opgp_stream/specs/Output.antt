@@ -1,9 +1,9 @@
 -- What an output has put and what waits in it.
-use Rattle.std.specs.Prelude.{ℕ, Bool, List, Option, take}
+use Rattle.std.specs.Prelude.{◌≡◌, ℕ, Bool, List, Option, Result, take}
 use Rattle.std.specs.Borrow.{GName}
 use Rattle.opgp_stream.specs.declared.buffer.Buffer.{Buffer}
 use Rattle.opgp_stream.specs.declared.output.Output.{Output}
-use Rattle.opgp_stream.specs.Added.{State}
+use Rattle.opgp_stream.specs.Added.{State, Writes}
 
 -- the octets in a buffer
 abbrev pub held_in : Buffer → List ℕ
@@ -29,3 +29,9 @@ state_of held has_failed o = record {
   failed = has_failed (sink_of o);
   waiting = waiting_in o;
 }
+
+-- The octets are added to the sink that the output had, or that sink has failed in them.
+pub record Extends {W T E : Type 0} (held : W → Option (List ℕ)) (has_failed : W → Bool)
+    (old new : Output W) (result : Result T E) (octets : List ℕ) : Type 0 where
+  pub same : sink_name new ≡ sink_name old
+  pub written : Writes (state_of held has_failed old) (state_of held has_failed new) result octets

@@ -3,8 +3,7 @@
 ghost use Rattle.std.specs.Prelude.{◌≡◌, ◌<◌, ◌≤◌, ◌++◌, ◌∷◌, [], false, length, take, IfOk, OnOk};
 ghost use Rattle.std.specs.Prelude.{OnErr};
 ghost use Rattle.opgp_armor.specs.Written.{data_lines};
-ghost use Rattle.opgp_stream.specs.Added.{Writes};
-ghost use Rattle.opgp_stream.specs.Output.{sink_name, sink_of, state_of};
+ghost use Rattle.opgp_stream.specs.Output.{Extends, sink_name, sink_of};
 ghost use Rattle.opgp_stream.specs.Rows.{AddsRows, BreaksRows, WritesRows, closing, opening};
 
 use crate::output::Output;
@@ -19,9 +18,7 @@ use std::io;
 /// Adds a line and its line feed.
 fn add_line<W: Sink>(output: &mut Output<'_, W>, line: &[u8]) -> io::Result<()>
     requires { W.has_failed (sink_of output.old) ≡ false }
-    ensures same { sink_name output.new ≡ sink_name output.old }
-    ensures written { Writes (state_of W.held W.has_failed output.old)
-        (state_of W.held W.has_failed output.new) result (line.now ++ 10 ∷ []) }
+    ensures { Extends W.held W.has_failed output.old output.new result (line.now ++ 10 ∷ []) }
 {
     output.add_both(line, b"\n")
 }
@@ -31,9 +28,7 @@ fn add_row<W: Sink>(output: &mut Output<'_, W>, row: &[u8]) -> io::Result<()>
     requires some { 0 < length row.now }
     requires short { length row.now ≤ 48 }
     requires sound { W.has_failed (sink_of output.old) ≡ false }
-    ensures same { sink_name output.new ≡ sink_name output.old }
-    ensures written { Writes (state_of W.held W.has_failed output.old)
-        (state_of W.held W.has_failed output.new) result (data_lines row.now) }
+    ensures { Extends W.held W.has_failed output.old output.new result (data_lines row.now) }
 {
     a_row_has_one_data_line();
     let mut letters = [0; 64];
@@ -57,11 +52,9 @@ impl Armoring {
     /// Adds the begin line and a blank line (RFC 9580, 6.2.1).
     pub fn begin<W: Sink>(output: &mut Output<'_, W>, label: Label) -> io::Result<Self>
         requires { W.has_failed (sink_of output.old) ≡ false }
-        ensures same { sink_name output.new ≡ sink_name output.old }
         ensures label { IfOk result (λ a. label_of a ≡ label) }
         ensures empty { IfOk result (λ a. row_of a ≡ []) }
-        ensures written { Writes (state_of W.held W.has_failed output.old)
-            (state_of W.held W.has_failed output.new) result (opening label) }
+        ensures added { Extends W.held W.has_failed output.old output.new result (opening label) }
     {
         add_line(output, label.begin_line())?;
         add_line(output, b"")?;
@@ -74,9 +67,8 @@ impl Armoring {
     /// Adds the data line of the octets that wait, if any do.
     fn add_waiting<W: Sink>(&self, output: &mut Output<'_, W>) -> io::Result<()>
         requires { W.has_failed (sink_of output.old) ≡ false }
-        ensures same { sink_name output.new ≡ sink_name output.old }
-        ensures written { Writes (state_of W.held W.has_failed output.old)
-            (state_of W.held W.has_failed output.new) result (data_lines (row_of self.now)) }
+        ensures { Extends W.held W.has_failed output.old output.new result
+            (data_lines (row_of self.now)) }
     {
         no_octets_have_no_data_lines();
         if self.row.octets().len() > 0 {
@@ -167,9 +159,7 @@ impl Armoring {
     /// Adds the data line of what waits, and the end line (RFC 9580, 6.2.3). No checksum is added.
     pub fn end<W: Sink>(self, output: &mut Output<'_, W>) -> io::Result<()>
         requires { W.has_failed (sink_of output.old) ≡ false }
-        ensures same { sink_name output.new ≡ sink_name output.old }
-        ensures written { Writes (state_of W.held W.has_failed output.old)
-            (state_of W.held W.has_failed output.new) result
+        ensures { Extends W.held W.has_failed output.old output.new result
             (data_lines (row_of self) ++ closing (label_of self)) }
     {
         self.add_waiting(output)?;

@@ -3,9 +3,8 @@
 ghost use Rattle.std.specs.Prelude.{◌≡◌, [], true, false, OnOk, OnErr};
 ghost use Rattle.std.specs.Io.KnownBytes.{Appends};
 ghost use Rattle.opgp_armor.specs.Written.{armor_text};
-ghost use Rattle.opgp_stream.specs.Added.{Writes};
 ghost use Rattle.opgp_stream.specs.Block.{joined};
-ghost use Rattle.opgp_stream.specs.Output.{sink_name, sink_of, state_of, waiting_in};
+ghost use Rattle.opgp_stream.specs.Output.{Extends, sink_name, sink_of, waiting_in};
 ghost use Rattle.opgp_stream.specs.Stream.{AppendsPrefix};
 
 use crate::armoring::Armoring;
@@ -20,9 +19,7 @@ impl<'a, W: Sink> Output<'a, W> {
     /// Adds pieces as one block of armor without headers (RFC 9580, 6.2).
     pub fn add_block(&mut self, label: Label, pieces: &[Vec<u8>]) -> io::Result<()>
         requires { W.has_failed (sink_of self.old) ≡ false }
-        ensures same { sink_name self.new ≡ sink_name self.old }
-        ensures written { Writes (state_of W.held W.has_failed self.old)
-            (state_of W.held W.has_failed self.new) result
+        ensures { Extends W.held W.has_failed self.old self.new result
             (armor_text label [] (joined pieces.now)) }
     {
         data_lines_of_whole_rows_join();

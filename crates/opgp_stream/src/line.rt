@@ -1,9 +1,8 @@
 //! A line, word by word.
 
 ghost use Rattle.std.specs.Prelude.{◌≡◌, false};
-ghost use Rattle.opgp_stream.specs.Added.{Writes};
 ghost use Rattle.opgp_stream.specs.Line.{line_text, word_text};
-ghost use Rattle.opgp_stream.specs.Output.{sink_name, sink_of, state_of};
+ghost use Rattle.opgp_stream.specs.Output.{Extends, sink_of};
 
 use crate::output::Output;
 use crate::sink::Sink;
@@ -27,9 +26,7 @@ impl<'a, W: Sink> Output<'a, W> {
     /// Adds a word.
     fn add_word(&mut self, word: &Word<'_>) -> io::Result<()>
         requires { W.has_failed (sink_of self.old) ≡ false }
-        ensures same { sink_name self.new ≡ sink_name self.old }
-        ensures written { Writes (state_of W.held W.has_failed self.old)
-            (state_of W.held W.has_failed self.new) result (word_text word.now) }
+        ensures { Extends W.held W.has_failed self.old self.new result (word_text word.now) }
     {
         match *word {
             Word::Text(octets) => self.add(octets),
@@ -42,9 +39,7 @@ impl<'a, W: Sink> Output<'a, W> {
     /// Adds words, one after the other. A line feed is a word like any other.
     pub fn add_words(&mut self, words: &[Word<'_>]) -> io::Result<()>
         requires { W.has_failed (sink_of self.old) ≡ false }
-        ensures same { sink_name self.new ≡ sink_name self.old }
-        ensures written { Writes (state_of W.held W.has_failed self.old)
-            (state_of W.held W.has_failed self.new) result (line_text words.now) }
+        ensures { Extends W.held W.has_failed self.old self.new result (line_text words.now) }
     {
         if self.buffer.hold_words(words) {
             return Ok(());
@@ -56,9 +51,7 @@ impl<'a, W: Sink> Output<'a, W> {
     #[inline(never)]
     fn add_each(&mut self, words: &[Word<'_>]) -> io::Result<()>
         requires { W.has_failed (sink_of self.old) ≡ false }
-        ensures same { sink_name self.new ≡ sink_name self.old }
-        ensures written { Writes (state_of W.held W.has_failed self.old)
-            (state_of W.held W.has_failed self.new) result (line_text words.now) }
+        ensures { Extends W.held W.has_failed self.old self.new result (line_text words.now) }
     {
         for word in words {
             self.add_word(word)?;

@@ -1,8 +1,8 @@
 //! A buffered writer that takes no memory.
 
 ghost use Rattle.std.specs.Prelude.{◌≡◌, ◌++◌, [], true, false, OnOk};
-ghost use Rattle.opgp_stream.specs.Added.{Adds, Writes};
-ghost use Rattle.opgp_stream.specs.Output.{sink_name, sink_of, state_of, waiting_in};
+ghost use Rattle.opgp_stream.specs.Added.{Adds};
+ghost use Rattle.opgp_stream.specs.Output.{Extends, sink_name, sink_of, state_of, waiting_in};
 
 use crate::buffer::{Buffer, SIZE};
 use crate::sink::Sink;
@@ -32,9 +32,7 @@ impl<'a, W: Sink> Output<'a, W> {
     /// Adds octets. 65,536 and more aren't copied.
     pub fn add(&mut self, octets: &[u8]) -> io::Result<()>
         requires { W.has_failed (sink_of self.old) ≡ false }
-        ensures same { sink_name self.new ≡ sink_name self.old }
-        ensures written { Writes (state_of W.held W.has_failed self.old)
-            (state_of W.held W.has_failed self.new) result octets.now }
+        ensures { Extends W.held W.has_failed self.old self.new result octets.now }
     {
         if octets.len() <= self.buffer.room() {
             self.buffer.hold(octets);
@@ -46,9 +44,7 @@ impl<'a, W: Sink> Output<'a, W> {
     /// Adds octets, and behind them others, as two calls of [`Output::add`] do.
     pub fn add_both(&mut self, front: &[u8], back: &[u8]) -> io::Result<()>
         requires { W.has_failed (sink_of self.old) ≡ false }
-        ensures same { sink_name self.new ≡ sink_name self.old }
-        ensures written { Writes (state_of W.held W.has_failed self.old)
-            (state_of W.held W.has_failed self.new) result (front.now ++ back.now) }
+        ensures { Extends W.held W.has_failed self.old self.new result (front.now ++ back.now) }
     {
         if self.hold_both(front, back) {
             return Ok(());
@@ -74,9 +70,7 @@ impl<'a, W: Sink> Output<'a, W> {
     #[inline(never)]
     fn add_two(&mut self, front: &[u8], back: &[u8]) -> io::Result<()>
         requires { W.has_failed (sink_of self.old) ≡ false }
-        ensures same { sink_name self.new ≡ sink_name self.old }
-        ensures written { Writes (state_of W.held W.has_failed self.old)
-            (state_of W.held W.has_failed self.new) result (front.now ++ back.now) }
+        ensures { Extends W.held W.has_failed self.old self.new result (front.now ++ back.now) }
     {
         self.add(front)?;
         self.add(back)
@@ -86,9 +80,7 @@ impl<'a, W: Sink> Output<'a, W> {
     #[inline(never)]
     fn add_past_room(&mut self, octets: &[u8]) -> io::Result<()>
         requires { W.has_failed (sink_of self.old) ≡ false }
-        ensures same { sink_name self.new ≡ sink_name self.old }
-        ensures written { Writes (state_of W.held W.has_failed self.old)
-            (state_of W.held W.has_failed self.new) result octets.now }
+        ensures { Extends W.held W.has_failed self.old self.new result octets.now }
     {
         self.finish()?;
         self.add_first(octets)
@@ -98,9 +90,7 @@ impl<'a, W: Sink> Output<'a, W> {
     fn add_first(&mut self, octets: &[u8]) -> io::Result<()>
         requires empty { waiting_in self.old ≡ [] }
         requires sound { W.has_failed (sink_of self.old) ≡ false }
-        ensures same { sink_name self.new ≡ sink_name self.old }
-        ensures written { Writes (state_of W.held W.has_failed self.old)
-            (state_of W.held W.has_failed self.new) result octets.now }
+        ensures { Extends W.held W.has_failed self.old self.new result octets.now }
     {
         if octets.len() < SIZE {
             self.buffer.hold(octets);
@@ -112,9 +102,7 @@ impl<'a, W: Sink> Output<'a, W> {
     /// Puts all that waits.
     pub fn finish(&mut self) -> io::Result<()>
         requires { W.has_failed (sink_of self.old) ≡ false }
-        ensures same { sink_name self.new ≡ sink_name self.old }
-        ensures written { Writes (state_of W.held W.has_failed self.old)
-            (state_of W.held W.has_failed self.new) result [] }
+        ensures added { Extends W.held W.has_failed self.old self.new result [] }
         ensures empty { OnOk result (waiting_in self.new ≡ []) }
     {
         put_all(&mut *self.sink, self.buffer.octets())?;

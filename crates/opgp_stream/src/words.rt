@@ -3,8 +3,7 @@
 ghost use Rattle.std.specs.Prelude.{◌≡◌, ◌<◌, ◌≤◌, ◌*◌, false, length, take, slice_index};
 ghost use Rattle.std.specs.Fmt.{decimal};
 ghost use Rattle.hex.specs.Hex.{encode_upper};
-ghost use Rattle.opgp_stream.specs.Added.{Writes};
-ghost use Rattle.opgp_stream.specs.Output.{sink_name, sink_of, state_of};
+ghost use Rattle.opgp_stream.specs.Output.{Extends, sink_of};
 ghost use Rattle.opgp_stream.specs.Texts.{escape, escaped, is_plain};
 
 use crate::output::Output;
@@ -41,9 +40,7 @@ impl<'a, W: Sink> Output<'a, W> {
     /// Adds a number in decimal.
     pub fn add_decimal(&mut self, n: u64) -> io::Result<()>
         requires { W.has_failed (sink_of self.old) ≡ false }
-        ensures same { sink_name self.new ≡ sink_name self.old }
-        ensures written { Writes (state_of W.held W.has_failed self.old)
-            (state_of W.held W.has_failed self.new) result (decimal n) }
+        ensures { Extends W.held W.has_failed self.old self.new result (decimal n) }
     {
         let mut digits = itoa::Buffer::new();
         self.add(digits.format(n).as_bytes())
@@ -52,9 +49,7 @@ impl<'a, W: Sink> Output<'a, W> {
     /// Adds octets in upper-case hexadecimal, two digits an octet.
     pub fn add_hex(&mut self, octets: &[u8]) -> io::Result<()>
         requires { W.has_failed (sink_of self.old) ≡ false }
-        ensures same { sink_name self.new ≡ sink_name self.old }
-        ensures written { Writes (state_of W.held W.has_failed self.old)
-            (state_of W.held W.has_failed self.new) result (encode_upper octets.now) }
+        ensures { Extends W.held W.has_failed self.old self.new result (encode_upper octets.now) }
     {
         let mut rest = octets;
         'pieces: while rest.len() > 0 {
@@ -69,9 +64,7 @@ impl<'a, W: Sink> Output<'a, W> {
     fn add_digits(&mut self, octets: &[u8]) -> io::Result<()>
         requires short { length octets.now ≤ 32 }
         requires sound { W.has_failed (sink_of self.old) ≡ false }
-        ensures same { sink_name self.new ≡ sink_name self.old }
-        ensures written { Writes (state_of W.held W.has_failed self.old)
-            (state_of W.held W.has_failed self.new) result (encode_upper octets.now) }
+        ensures { Extends W.held W.has_failed self.old self.new result (encode_upper octets.now) }
     {
         let mut room = [0; 64];
         let digits = &mut room[..2 * octets.len()];
@@ -83,9 +76,7 @@ impl<'a, W: Sink> Output<'a, W> {
     /// as `\x` and two upper-case digits.
     pub fn add_escaped(&mut self, octets: &[u8]) -> io::Result<()>
         requires { W.has_failed (sink_of self.old) ≡ false }
-        ensures same { sink_name self.new ≡ sink_name self.old }
-        ensures written { Writes (state_of W.held W.has_failed self.old)
-            (state_of W.held W.has_failed self.new) result (escaped octets.now) }
+        ensures { Extends W.held W.has_failed self.old self.new result (escaped octets.now) }
     {
         let mut rest = octets;
         'runs: while rest.len() > 0 {
@@ -104,9 +95,7 @@ impl<'a, W: Sink> Output<'a, W> {
     fn add_escape(&mut self, octet: u8) -> io::Result<()>
         requires other { is_plain octet ≡ false }
         requires sound { W.has_failed (sink_of self.old) ≡ false }
-        ensures same { sink_name self.new ≡ sink_name self.old }
-        ensures written { Writes (state_of W.held W.has_failed self.old)
-            (state_of W.held W.has_failed self.new) result (escape octet) }
+        ensures { Extends W.held W.has_failed self.old self.new result (escape octet) }
     {
         self.add(b"\\x")?;
         self.add_digits(&[octet])

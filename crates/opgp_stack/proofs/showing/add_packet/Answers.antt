@@ -1,21 +1,12 @@
-use Rattle.opgp_stream.specs.Added.{State}
-use Rattle.opgp_stream.specs.Output.{state_of}
-use Rattle.opgp_stack.specs.Showing.{content_lines, header_line}
-use Rattle.opgp_stack.proofs.Lines.{then, stop}
+use Rattle.std.proofs.Common.{refl}
+use Rattle.opgp_stream.proofs.Extended.{extends_stop, extends_then}
+use Rattle.opgp_stack.specs.Showing.{content_lines}
 use Rattle.opgp_stack.proofs.showing.add_packet.Goals as goal
 
-pub returns-in_err-add_header-clause-written : goal.returns-in_err-add_header-clause-written
-returns-in_err-add_header-clause-written g c =
-    let old : State = state_of g.W.Sink.held g.W.Sink.has_failed c.args.output.now in
-    let new : State = state_of g.W.Sink.held g.W.Sink.has_failed c.add_header.new.output in
-    let p = c.args.placed.now in
-    stop c.a_failure_in_front.ensures old new c.from_residual.result (header_line p) (content_lines p.packet.kind p.packet.body) c.from_residual.ensures.0 c.in_err-add_header.ensures.written
+pub returns-in_err-add_header : goal.returns-in_err-add_header
+returns-in_err-add_header g c =
+    let packet = c.args.placed.now.packet in
+    extends_stop (content_lines packet.kind packet.body) refl c.from_residual.ensures.0 c.in_err-add_header.ensures
 
-pub returns-clause-written : goal.returns-clause-written
-returns-clause-written g c =
-    let old : State = state_of g.W.Sink.held g.W.Sink.has_failed c.args.output.now in
-    let mid : State = state_of g.W.Sink.held g.W.Sink.has_failed c.add_header.new.output in
-    let new : State = state_of g.W.Sink.held g.W.Sink.has_failed c.add_content.new.output in
-    let p = c.args.placed.now in
-    then c.adding_goes_on.ensures c.a_failure_behind.ensures old mid new c.add_content.result (header_line p) (content_lines p.packet.kind p.packet.body) c.in_ok-add_header.ensures.written
-    (rw (c.kind.ensures.value, c.body.ensures.value) at c.add_content.ensures.written)
+pub returns : goal.returns
+returns g c = extends_then refl c.in_ok-add_header.ensures (rw (c.kind.ensures.value, c.body.ensures.value) at c.add_content.ensures)

@@ -1,9 +1,9 @@
-use Rattle.std.proofs.Common.{◌≡◌, ◌∙◌, Bool, List, ℕ, [], ◌++◌, codes, ap, append_assoc, append-nil}
+use Rattle.std.proofs.Common.{◌≡◌, ◌∙◌, sym, Bool, List, ℕ, [], ◌++◌, codes, ap, append_assoc, append-nil}
 use Rattle.std.specs.Fmt.{decimal}
 use Rattle.opgp_octets.specs.SubLen.{sub_len_amount}
 use Rattle.opgp_sig.specs.Meaning.{Meaning}
+use Rattle.opgp_stream.proofs.Extended.{extends_same}
 use Rattle.opgp_stack.specs.Showing.{bit_name, meaning_name}
-use Rattle.opgp_stack.proofs.Lines.{lines_same}
 use Rattle.opgp_stack.proofs.showing.add_subpacket.Goals as goal
 
 -- words in a line, some of which are made of three
@@ -14,13 +14,13 @@ grouped p area q kind r bit s amount t meaning u = simp (append_assoc, append-ni
 words : (a a' k k' b b' n n' m m' : List ℕ) → a ≡ a' → k ≡ k' → b ≡ b' → n ≡ n' → m ≡ m' → a ++ (k ++ (b ++ (n ++ (m ++ [])))) ≡ a' ++ (k' ++ (b' ++ (n' ++ (m' ++ []))))
 words a a' k k' b b' n n' m m' e1 e2 e3 e4 e5 = cc
 
-pub returns-clause-written : goal.returns-clause-written
-returns-clause-written g c =
+pub returns : goal.returns
+returns g c =
     let critical = c.critical_text.ensures ∙ ap (λ (v : Bool). codes " critical " ++ bit_name v ++ codes " length ") c.critical.ensures in
     let meaning = c.meaning_text.ensures ∙ ap (λ (v : Meaning). codes " " ++ meaning_name v ++ codes "\n") c.meaning.ensures.exact in
     let kind = ap decimal c.kind-kind.ensures in
     let amount = ap decimal (c.amount-amount.ensures ∙ ap sub_len_amount c.len.ensures) in
-    lines_same _ _ c.add_words.result _ _
-    (words _ _ _ _ _ _ _ _ _ _ c.area_text.ensures kind critical amount meaning
-    ∙ grouped (codes "  ") _ (codes " kind ") _ (codes " critical ") _ (codes " length ") _ (codes " ") _ (codes "\n"))
-    c.add_words.ensures.written
+    extends_same
+    (sym (words _ _ _ _ _ _ _ _ _ _ c.area_text.ensures kind critical amount meaning
+    ∙ grouped (codes "  ") _ (codes " kind ") _ (codes " critical ") _ (codes " length ") _ (codes " ") _ (codes "\n")))
+    c.add_words.ensures

@@ -5,6 +5,6 @@ use Rattle.opgp_stack.proofs.writing.put_through.Goals as goal
 
 pub returns-clause-put : goal.returns-clause-put
 returns-clause-put g c =
-    put_all g.W.Sink.held g.W.Sink.has_failed c.all_is_put.ensures c.a_prefix_is_put.ensures c.adding_goes_on.ensures c.a_failure_behind.ensures (sink_of c.args.output.now) (sink_of c.finish.new.self)
+    put_all g.W.Sink.held g.W.Sink.has_failed (sink_of c.args.output.now) (sink_of c.finish.new.self)
     (waiting_in c.args.output.now) (waiting_in c.add.new.output) (waiting_in c.finish.new.self) (state_of g.W.Sink.held g.W.Sink.has_failed c.add.new.output) c.finish.result (text_octets c.args.text) c.requires.none
-    c.in_ok-add.ensures.written c.finish.ensures.written c.finish.ensures.empty
+    c.in_ok-add.ensures.written c.finish.ensures.added.written c.finish.ensures.empty

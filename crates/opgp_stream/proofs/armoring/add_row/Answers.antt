@@ -2,8 +2,11 @@ use Rattle.std.proofs.Common.{◌∙◌, ◌++◌, ◌∷◌, [], ℕ, List, sym
 use Rattle.opgp_stream.proofs.Added.{writes_same}
 use Rattle.opgp_stream.proofs.armoring.add_row.Goals as goal
 
-pub returns-clause-written : goal.returns-clause-written
-returns-clause-written g c =
+pub returns : goal.returns
+returns g c =
     let line = c.a_row_has_one_data_line.ensures c.args.row.now c.requires.some c.requires.short in
     let letters = ap (λ (v : List ℕ). v ++ 10 ∷ []) c.encode_row-count.ensures.letters in
-    writes_same _ _ c.add_line.result _ _ (letters ∙ sym line) c.add_line.ensures.written
+    record {
+      same = c.add_line.ensures.same;
+      written = writes_same _ _ c.add_line.result _ _ (letters ∙ sym line) c.add_line.ensures.written;
+    }

@@ -4,10 +4,11 @@ use Rattle.opgp_stream.specs.Line.{word_text}
 use Rattle.opgp_stream.proofs.Loops.{more_of, broken_of}
 use Rattle.opgp_stream.proofs.output.Output.add_each.Goals as goal
 
-pub returns-in_err-add_word-clause-written : goal.returns-in_err-add_word-clause-written
-returns-in_err-add_word-clause-written g c =
-    stop _ _ c.from_residual.result _ c.from_residual.ensures.0
-    (broken_of word_text _ _ _ c.args.words.now c.loop-word.word-index _ c.loop-word-test.true c.loop-word.invariant.added c.in_err-add_word.ensures.written)
+pub returns-in_err-add_word : goal.returns-in_err-add_word
+returns-in_err-add_word g c = record {
+  same = c.in_err-add_word.ensures.same ∙ c.loop-word.invariant.same;
+  written = stop _ _ c.from_residual.result _ c.from_residual.ensures.0 (broken_of word_text _ _ _ c.args.words.now c.loop-word.word-index _ c.loop-word-test.true c.loop-word.invariant.added c.in_err-add_word.ensures.written);
+}
 
 pub loop-word-preserved : goal.loop-word-preserved
 loop-word-preserved g c =

@@ -21,28 +21,39 @@ runs-preserved g c =
       but = less_left _ _ _ _ _ _ _ (less_left _ _ _ _ _ _ _ c.runs.invariant.but cut run) cut2 other;
     }
 
-pub returns-in_err-add-clause-written : goal.returns-in_err-add-clause-written
-returns-in_err-add-clause-written g c =
+pub returns-in_err-add : goal.returns-in_err-add
+returns-in_err-add g c =
     let cut = run_split c.runs.rest.now c.split_at.result.0.now c.split_at.result.1.now c.plain_len.result c.split_at.ensures.front c.split_at.ensures.back c.plain_len.ensures.plain in
-    stop _ _ c.from_residual.result _ c.from_residual.ensures.0 (broken_left _ _ _ _ _ _ _ c.runs.invariant.but cut c.in_err-add.ensures.written)
+    record {
+      same = c.in_err-add.ensures.same ∙ c.runs.invariant.same;
+      written = stop _ _ c.from_residual.result _ c.from_residual.ensures.0 (broken_left _ _ _ _ _ _ _ c.runs.invariant.but cut c.in_err-add.ensures.written);
+    }
 
-pub returns-then-after-eq0-clause-written : goal.returns-then-after-eq0-clause-written
-returns-then-after-eq0-clause-written g c =
+pub returns-then-after-eq0 : goal.returns-then-after-eq0
+returns-then-after-eq0 g c =
     let cut = run_split c.runs.rest.now c.split_at.result.0.now c.split_at.result.1.now c.plain_len.result c.split_at.ensures.front c.split_at.ensures.back c.plain_len.ensures.plain in
     let none : c.split_at.result.1.now ≡ [] = nil_from_length c.split_at.result.1.now (omega arith) in
-    nothing_left _ _ _ _ (less_left _ _ _ _ _ _ _ c.runs.invariant.but cut c.in_ok-add.ensures.written) (ap escaped none ∙ escaped-nil)
+    record {
+      same = c.in_ok-add.ensures.same ∙ c.runs.invariant.same;
+      written = nothing_left _ _ _ _ (less_left _ _ _ _ _ _ _ c.runs.invariant.but cut c.in_ok-add.ensures.written) (ap escaped none ∙ escaped-nil);
+    }
 
-pub returns-in_err-add_escape-clause-written : goal.returns-in_err-add_escape-clause-written
-returns-in_err-add_escape-clause-written g c =
+pub returns-in_err-add_escape : goal.returns-in_err-add_escape
+returns-in_err-add_escape g c =
     let cut = run_split c.runs.rest.now c.split_at.result.0.now c.split_at.result.1.now c.plain_len.result c.split_at.ensures.front c.split_at.ensures.back c.plain_len.ensures.plain in
     let run = c.in_ok-add.ensures.written in
     let other = c.in_err-add_escape.ensures.written in
     let after : List ℕ = c.split_at.result.1.now in
     let cut2 = escape_split after (slice_index after 0) (drop 1 after) (omega arith) refl refl in
-    stop _ _ c.from_residual-in_err-add_escape.result _ c.from_residual-in_err-add_escape.ensures.0
-    (broken_left _ _ _ _ _ _ _ (less_left _ _ _ _ _ _ _ c.runs.invariant.but cut run) cut2 other)
+    record {
+      same = c.in_err-add_escape.ensures.same ∙ c.in_ok-add.ensures.same ∙ c.runs.invariant.same;
+      written = stop _ _ c.from_residual-in_err-add_escape.result _ c.from_residual-in_err-add_escape.ensures.0 (broken_left _ _ _ _ _ _ _ (less_left _ _ _ _ _ _ _ c.runs.invariant.but cut run) cut2 other);
+    }
 
-pub returns-clause-written : goal.returns-clause-written
-returns-clause-written g c =
+pub returns : goal.returns
+returns g c =
     let none : c.runs.rest.now ≡ [] = nil_from_length c.runs.rest.now (omega arith) in
-    nothing_left _ _ _ _ c.runs.invariant.but (ap escaped none ∙ escaped-nil)
+    record {
+      same = c.runs.invariant.same;
+      written = nothing_left _ _ _ _ c.runs.invariant.but (ap escaped none ∙ escaped-nil);
+    }

@@ -18,12 +18,18 @@ pieces-preserved g c =
       but = less_left _ _ _ _ _ _ _ c.pieces.invariant.but cut more;
     }
 
-pub returns-in_err-add_digits-clause-written : goal.returns-in_err-add_digits-clause-written
-returns-in_err-add_digits-clause-written g c =
+pub returns-in_err-add_digits : goal.returns-in_err-add_digits
+returns-in_err-add_digits g c =
     let cut = upper_split c.pieces.rest.now c.split_at.result.0.now c.split_at.result.1.now c.min.result c.split_at.ensures.front c.split_at.ensures.back in
-    stop _ _ c.from_residual.result _ c.from_residual.ensures.0 (broken_left _ _ _ _ _ _ _ c.pieces.invariant.but cut c.in_err-add_digits.ensures.written)
+    record {
+      same = c.in_err-add_digits.ensures.same ∙ c.pieces.invariant.same;
+      written = stop _ _ c.from_residual.result _ c.from_residual.ensures.0 (broken_left _ _ _ _ _ _ _ c.pieces.invariant.but cut c.in_err-add_digits.ensures.written);
+    }
 
-pub returns-clause-written : goal.returns-clause-written
-returns-clause-written g c =
+pub returns : goal.returns
+returns g c =
     let none : c.pieces.rest.now ≡ [] = nil_from_length c.pieces.rest.now (omega arith) in
-    nothing_left _ _ _ _ c.pieces.invariant.but (ap encode_upper none ∙ upper-nil)
+    record {
+      same = c.pieces.invariant.same;
+      written = nothing_left _ _ _ _ c.pieces.invariant.but (ap encode_upper none ∙ upper-nil);
+    }

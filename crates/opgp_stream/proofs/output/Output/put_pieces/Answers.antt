@@ -10,9 +10,9 @@ returns-in_err-add_block-clause-prefix g c = at_err c.from_residual.result (pref
 pub returns-clause-octets : goal.returns-clause-octets
 returns-clause-octets g c =
     put_ok _ _ c.finish.result _ c.requires.none c.finish.ensures.empty
-    (then_is _ _ _ c.finish.result _ _ _ (sym (append-nil _)) c.in_ok-add_block.ensures.written c.finish.ensures.written)
+    (then_is _ _ _ c.finish.result _ _ _ (sym (append-nil _)) c.in_ok-add_block.ensures.written c.finish.ensures.added.written)
 
 pub returns-clause-prefix : goal.returns-clause-prefix
 returns-clause-prefix g c =
     put_err _ _ c.finish.result _ c.requires.none
-    (then_is _ _ _ c.finish.result _ _ _ (sym (append-nil _)) c.in_ok-add_block.ensures.written c.finish.ensures.written)
+    (then_is _ _ _ c.finish.result _ _ _ (sym (append-nil _)) c.in_ok-add_block.ensures.written c.finish.ensures.added.written)

@@ -40,8 +40,5 @@ filler_no_signature k f = excluded is_filler 2 k refl f
 pub primary_needs_none : (k : ℕ) → is_primary k ≡ true → ((k == 2) || is_head k) ≡ false
 primary_needs_none k p = or_false (k == 2) (is_head k) (excluded is_primary 2 k refl p) (or_false (k == 13) ((k == 17) || (k == 14)) (excluded is_primary 13 k refl p) (or_false (k == 17) (k == 14) (excluded is_primary 17 k refl p) (excluded is_primary 14 k refl p)))
 
-pub signature_kind : (k : ℕ) → k ≡ 2 → (k == 2) ≡ true
-signature_kind k e = ap (λ (n : ℕ). n == 2) e
-
 pub primary_no_data : (k : ℕ) → is_primary k ≡ true → (((k == 9) || (k == 11)) || (k == 18)) ≡ false
 primary_no_data k p = or_false ((k == 9) || (k == 11)) (k == 18) (or_false (k == 9) (k == 11) (excluded is_primary 9 k refl p) (excluded is_primary 11 k refl p)) (excluded is_primary 18 k refl p)

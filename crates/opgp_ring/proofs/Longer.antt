@@ -10,7 +10,7 @@ use Rattle.opgp_ring.proofs.Adding.{Stands, all_stand, begun_whole, certificates
 use Rattle.opgp_ring.proofs.Feeding.{begun, begun_is}
 use Rattle.opgp_ring.proofs.KindTests.{or_cases, or_left, or_right}
 use Rattle.opgp_ring.proofs.Prefixes.{Ends, ends}
-use Rattle.opgp_ring.proofs.Values.{OneMore, more_head, more_hung}
+use Rattle.opgp_ring.proofs.Values.{OneMore, more_behind}
 
 pub record Longer (r : KeyringValue) (p : PacketValue) : Type 0 where
   pub more : KeyringValue
@@ -37,11 +37,11 @@ grown_longer lead done c p k m =
     }
 
 -- behind the last certificate, or else behind the lead
-attach : (lead : List PacketValue) (cs : List CertificateValue) (p : PacketValue) → Ends cs → IsKeyring (keyring lead cs) → ((c : CertificateValue) → IsCertificate c → OneMore c p) → (cs ≡ [] → Longer (keyring lead []) p) → Longer (keyring lead cs) p
-attach lead cs p (inl e) k more alone = subst (λ (l : List CertificateValue). Longer (keyring lead l) p) (sym e) (alone e)
-attach lead cs p (inr (done, c, e)) k more alone =
+attach : (lead : List PacketValue) (cs : List CertificateValue) (p : PacketValue) → Ends cs → IsKeyring (keyring lead cs) → (is_head p.kind || is_hung p.kind) ≡ true → (cs ≡ [] → Longer (keyring lead []) p) → Longer (keyring lead cs) p
+attach lead cs p (inl e) k behind alone = subst (λ (l : List CertificateValue). Longer (keyring lead l) p) (sym e) (alone e)
+attach lead cs p (inr (done, c, e)) k behind alone =
     let q : IsKeyring (keyring lead (done ++ c ∷ [])) = subst (λ (l : List CertificateValue). IsKeyring (keyring lead l)) e k in
-    subst (λ (l : List CertificateValue). Longer (keyring lead l) p) (sym e) (grown_longer lead done c p q (more c (certificates_front IsCertificate done c q.certificates).1))
+    subst (λ (l : List CertificateValue). Longer (keyring lead l) p) (sym e) (grown_longer lead done c p q (more_behind c p (certificates_front IsCertificate done c q.certificates).1 behind))
 
 -- with no certificate there is no primary key
 none_first : (r : KeyringValue) (ps : List PacketValue) (kind : ℕ) → IsKeyring r → flat r ≡ ps → (needs_primary kind && not (has_primary ps)) ≡ false → r.certificates ≡ [] → needs_primary kind ≡ true → ⊥
@@ -55,14 +55,13 @@ longer r ps p k whole stands free =
     let never = none_first r ps p.kind k whole free in
     elim (or_cases (is_primary p.kind) (is_head p.kind || is_hung p.kind) stands) [
       | inl primary ↦ begun_longer r p k primary
-      | inr behind ↦ elim (or_cases (is_head p.kind) (is_hung p.kind) behind) [
-        | inl head ↦ attach r.lead r.certificates p (ends r.certificates) k (λ c is. more_head c p is head) (λ e. absurd (never e (or_right (p.kind == 2) (is_head p.kind) head)))
-        | inr hung ↦ attach r.lead r.certificates p (ends r.certificates) k (λ c is. more_hung c p is hung)
-            (λ e. elim (or_cases (p.kind == 2) (is_filler p.kind) hung) [
-              | inl signature ↦ absurd (never e (or_left (p.kind == 2) (is_head p.kind) signature))
-              | inr filler ↦ lead_longer r.lead p (subst (λ (cs : List CertificateValue). IsKeyring (keyring r.lead cs)) e k) filler
-            ])
-      ]
+      | inr behind ↦ attach r.lead r.certificates p (ends r.certificates) k behind (λ e. elim (or_cases (is_head p.kind) (is_hung p.kind) behind) [
+        | inl head ↦ absurd (never e (or_right (p.kind == 2) (is_head p.kind) head))
+        | inr hung ↦ elim (or_cases (p.kind == 2) (is_filler p.kind) hung) [
+          | inl signature ↦ absurd (never e (or_left (p.kind == 2) (is_head p.kind) signature))
+          | inr filler ↦ lead_longer r.lead p (subst (λ (cs : List CertificateValue). IsKeyring (keyring r.lead cs)) e k) filler
+        ]
+      ])
     ]
 
 -- ---- why there is none

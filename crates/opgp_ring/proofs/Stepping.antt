@@ -13,17 +13,17 @@ use Rattle.opgp_ring.specs.declared.ready.Ready.{Ready}
 use Rattle.opgp_ring.specs.Bodies.{HasNoFault}
 use Rattle.opgp_ring.specs.Composed.{PartValue, lead_parts, of_certificate}
 use Rattle.opgp_ring.specs.Composition.{Item, of_packet, packets_in, IsFaultAt, fault_at, stands_in_keyring, needs_primary, has_primary}
-use Rattle.opgp_ring.specs.Keyring.{CertificateValue, IsCertificate, IsFiller, IsHead, IsHung, IsPrimary, certificate_packets, octets_of, is_primary, is_head, is_hung, is_filler}
+use Rattle.opgp_ring.specs.Keyring.{CertificateValue, IsCertificate, IsFiller, IsPrimary, certificate_packets, octets_of, is_primary, is_head, is_hung, is_filler}
 use Rattle.opgp_ring.specs.declared.sorted.Sorted.{Sorted}
-use Rattle.opgp_ring.specs.declared.sorted.Sorted.TheVariants.{Primary, Head, Signature, Filler, Stray}
+use Rattle.opgp_ring.specs.declared.sorted.Sorted.TheVariants.{Primary, Behind, Filler, Stray}
 use Rattle.opgp_ring.specs.Sorted.{IsSorted, sorted_packet}
-use Rattle.opgp_ring.specs.State.{is_open, is_spent_state, ready_parts}
+use Rattle.opgp_ring.specs.State.{has_begun, is_open, is_spent_state, ready_parts}
 use Rattle.opgp_ring.proofs.Adding.{fillers_lack, certificates_front, certificate_last, octets_of-push}
 use Rattle.opgp_ring.proofs.Feeding.{leads, leads_too_long, grows, grows_too_long, begins_first, begins_next, lacking_fault, long_fault, begun}
 use Rattle.opgp_ring.proofs.KindTests.{or_cases, or_left, or_right, primary_needs_none, filler_hung, filler_no_signature, hung_no_head}
 use Rattle.opgp_ring.proofs.Standing.{IsIn, IsLeading, IsGrowing}
 use Rattle.opgp_ring.proofs.States.{begins_long}
-use Rattle.opgp_ring.proofs.Values.{OneMore, more_head, more_hung}
+use Rattle.opgp_ring.proofs.Values.{more_behind}
 
 pub room_short : (m s o : ℕ) → s ≤ m → m - s < o → m < s + o
 room_short m s o h k = omega arith
@@ -38,16 +38,21 @@ closed (Disordered f) a b = refl
 closed (Broken f) a b = refl
 closed Spent a b = refl
 
+pub closed_lead : (s : State) → ((x : Vec Packet Global) → s ≡ Leading x → ⊥) → has_begun s ≡ false → is_open s ≡ false
+closed_lead s a none = closed s a (λ c e. let begun : has_begun s ≡ true = ap has_begun e in cc)
+
 pub none_ready : (taken : List PartValue) (o : Option Ready) → is_some o ≡ false → taken ++ ready_parts o ≡ taken
 none_ready taken None e = append-nil taken
 none_ready taken (Some r) e = absurd cc
 
-pub needs_stands : (k : ℕ) → needs_primary k ≡ true → stands_in_keyring k ≡ true
-needs_stands k n =
-    elim (or_cases (k == 2) (is_head k) n) [ inl t ↦ or_right (is_primary k) (is_head k || is_hung k) (or_right (is_head k) (is_hung k) (or_left (k == 2) (is_filler k) t)) | inr t ↦ or_right (is_primary k) (is_head k || is_hung k) (or_left (is_head k) (is_hung k) t) ]
+pub needs_behind : (k : ℕ) → needs_primary k ≡ true → (is_head k || is_hung k) ≡ true
+needs_behind k n = elim (or_cases (k == 2) (is_head k) n) [ inl t ↦ or_right (is_head k) (is_hung k) (or_left (k == 2) (is_filler k) t) | inr t ↦ or_left (is_head k) (is_hung k) t ]
 
-pub hung_stands : (k : ℕ) → is_hung k ≡ true → stands_in_keyring k ≡ true
-hung_stands k h = or_right (is_primary k) (is_head k || is_hung k) (or_right (is_head k) (is_hung k) h)
+pub filler_behind : (k : ℕ) → is_filler k ≡ true → (is_head k || is_hung k) ≡ true
+filler_behind k f = or_right (is_head k) (is_hung k) (filler_hung k f)
+
+behind_stands : (k : ℕ) → (is_head k || is_hung k) ≡ true → stands_in_keyring k ≡ true
+behind_stands k b = or_right (is_primary k) (is_head k || is_hung k) b
 
 pub filler_free : (k : ℕ) → is_filler k ≡ true → needs_primary k ≡ false
 filler_free k f = ap (λ (b : Bool). b || is_head k) (filler_no_signature k f) ∙ hung_no_head k (filler_hung k f)
@@ -58,14 +63,14 @@ pub lead_lacks : (limits : Limits) (s : State) (lead : Vec Packet Global) (given
 lead_lacks limits s lead given parts p is e needs =
     let k : IsLeading limits lead.items given parts = subst (λ (t : State). IsIn limits t given parts) e is in
     let none : has_primary (packets_in given) ≡ false = ap has_primary (sym k.stands.composes.whole ∙ append-nil lead.items) ∙ fillers_lack lead.items k.stands.composes.keyring.lead in
-    lacking_fault limits (packets_in given) p (needs_stands p.packet.kind needs) needs none
+    lacking_fault limits (packets_in given) p (behind_stands p.packet.kind (needs_behind p.packet.kind needs)) needs none
 
 -- a filler that makes the lead too long
 pub lead_long : (limits : Limits) (s : State) (lead : Vec Packet Global) (given : List Item) (parts : List PartValue) (p : Placed) → IsIn limits s given parts → s ≡ Leading lead → IsFiller p.packet
     → cert_limit limits < octets_of lead.items + length (spelling p.packet) → IsFaultAt limits (packets_in given) (of_packet p) (fault_at CertTooLong p.block p.pos)
 lead_long limits s lead given parts p is e filler long =
     let k : IsLeading limits lead.items given parts = subst (λ (t : State). IsIn limits t given parts) e is in
-    long_fault limits (packets_in given) p (hung_stands p.packet.kind (filler_hung p.packet.kind filler)) (ap (λ (b : Bool). b && not (has_primary (packets_in given))) (filler_free p.packet.kind filler))
+    long_fault limits (packets_in given) p (behind_stands p.packet.kind (filler_behind p.packet.kind filler)) (ap (λ (b : Bool). b && not (has_primary (packets_in given))) (filler_free p.packet.kind filler))
     (leads_too_long limits lead.items given parts p k filler long)
 
 pub and_false : (a : Bool) → (a && false) ≡ false
@@ -73,26 +78,15 @@ and_false true = refl
 and_false false = refl
 
 -- a packet that makes the certificate too long
-pub grown_long : (limits : Limits) (s : State) (c : CertificateValue) (given : List Item) (parts : List PartValue) (p : Placed) → IsIn limits s given parts → s ≡ Growing c → stands_in_keyring p.packet.kind ≡ true
-    → ((k : IsCertificate c) → OneMore c p.packet) → cert_limit limits < octets_of (certificate_packets c) + length (spelling p.packet)
-    → IsFaultAt limits (packets_in given) (of_packet p) (fault_at CertTooLong p.block p.pos)
-grown_long limits s c given parts p is e stands more long =
+pub grown_long : (limits : Limits) (s : State) (c : CertificateValue) (given : List Item) (parts : List PartValue) (p : Placed) → IsIn limits s given parts → s ≡ Growing c → (is_head p.packet.kind || is_hung p.packet.kind) ≡ true
+    → cert_limit limits < octets_of (certificate_packets c) + length (spelling p.packet) → IsFaultAt limits (packets_in given) (of_packet p) (fault_at CertTooLong p.block p.pos)
+grown_long limits s c given parts p is e behind long =
     let k : IsGrowing limits c given parts = subst (λ (t : State). IsIn limits t given parts) e is in
     let certificate : IsCertificate c = (certificates_front IsCertificate k.done c k.stands.composes.keyring.certificates).1 in
-    let m = more certificate in
+    let m = more_behind c p.packet certificate behind in
     let some : has_primary (packets_in given) ≡ true = ap has_primary (sym k.stands.composes.whole) ∙ certificate_last k.lead k.done c certificate in
-    long_fault limits (packets_in given) p stands (ap (λ (b : Bool). needs_primary p.packet.kind && not b) some ∙ and_false (needs_primary p.packet.kind))
+    long_fault limits (packets_in given) p (behind_stands p.packet.kind behind) (ap (λ (b : Bool). needs_primary p.packet.kind && not b) some ∙ and_false (needs_primary p.packet.kind))
     (grows_too_long limits c m.more given parts p k m.packets m.is long)
-
-pub head_long : (limits : Limits) (s : State) (c : CertificateValue) (given : List Item) (parts : List PartValue) (p : Placed) → IsIn limits s given parts → s ≡ Growing c → IsHead p.packet
-    → cert_limit limits < octets_of (certificate_packets c) + length (spelling p.packet) → IsFaultAt limits (packets_in given) (of_packet p) (fault_at CertTooLong p.block p.pos)
-head_long limits s c given parts p is e head long =
-    grown_long limits s c given parts p is e (needs_stands p.packet.kind (or_right (p.packet.kind == 2) (is_head p.packet.kind) head)) (λ (k : IsCertificate c). more_head c p.packet k head) long
-
-pub hung_long : (limits : Limits) (s : State) (c : CertificateValue) (given : List Item) (parts : List PartValue) (p : Placed) → IsIn limits s given parts → s ≡ Growing c → IsHung p.packet
-    → cert_limit limits < octets_of (certificate_packets c) + length (spelling p.packet) → IsFaultAt limits (packets_in given) (of_packet p) (fault_at CertTooLong p.block p.pos)
-hung_long limits s c given parts p is e hung long =
-    grown_long limits s c given parts p is e (hung_stands p.packet.kind hung) (λ (k : IsCertificate c). more_hung c p.packet k hung) long
 
 -- a primary key that is too long
 pub primary_long : (limits : Limits) (s : State) (given : List Item) (parts : List PartValue) (p : Placed) → IsIn limits s given parts → is_open s ≡ true → IsPrimary p.packet → cert_limit limits < length (spelling p.packet)
@@ -133,8 +127,7 @@ grown_octets c d p size octets packets before own = omega (arith, ap octets_of p
 pub strayed : (s : Sorted) (p : PacketValue) → s ≡ Stray p → IsSorted s → stands_in_keyring (sorted_packet s).kind ≡ false
 strayed (Stray q) p e h = h
 strayed (Primary q) p e h = absurd cc
-strayed (Head q) p e h = absurd cc
-strayed (Signature q) p e h = absurd cc
+strayed (Behind q) p e h = absurd cc
 strayed (Filler q) p e h = absurd cc
 
 pub spent_is : (s : State) → is_spent_state s ≡ true → s ≡ Spent

@@ -1,18 +1,19 @@
 -- A certificate with one more packet, as a value.
-use Rattle.std.proofs.Common.{◌≡◌, ℕ, zero, suc, ◌<◌, List, [], ◌∷◌, ◌++◌, length, get_or, set, refl, sym, ap, ◌∙◌, append_assoc, append-nil, arith}
+use Rattle.std.proofs.Common.{◌≡◌, true, ◌||◌, inl, inr, ℕ, zero, suc, ◌<◌, List, [], ◌∷◌, ◌++◌, length, get_or, set, refl, sym, ap, ◌∙◌, append_assoc, append-nil, arith}
 use Rattle.std.specs.List.{flat_map}
 use Rattle.std.proofs.lemmas.List.Elements.{All-nil, All-push, All-set, All-get_or}
 use Rattle.std.proofs.lemmas.List.Concat.{flat_map-append}
 use Rattle.opgp_frame.specs.Packet.{PacketValue}
-use Rattle.opgp_ring.specs.Keyring.{ComponentValue, CertificateValue, IsComponent, IsCertificate, IsHead, IsHung, component_packets, certificate_packets}
+use Rattle.opgp_ring.specs.Keyring.{ComponentValue, CertificateValue, IsComponent, IsCertificate, IsHead, IsHung, component_packets, certificate_packets, is_head, is_hung}
 use Rattle.opgp_ring.proofs.Hanging.{hung_last}
+use Rattle.opgp_ring.proofs.KindTests.{or_cases}
 
 pub record OneMore (c : CertificateValue) (p : PacketValue) : Type 0 where
   pub more : CertificateValue
   pub packets : certificate_packets more ≡ certificate_packets c ++ p ∷ []
   pub is : IsCertificate more
 
-pub more_head : (c : CertificateValue) (p : PacketValue) → IsCertificate c → IsHead p → OneMore c p
+more_head : (c : CertificateValue) (p : PacketValue) → IsCertificate c → IsHead p → OneMore c p
 more_head c p k head =
     let new : ComponentValue = record { head = p; hangs = [] } in
     record {
@@ -48,5 +49,5 @@ hung_in primary hangs (x ∷ cs) p k hung =
       is = record { primary = k.primary; hangs = k.hangs; components = All-set IsComponent all i new (record { head = known.head; hangs = All-push IsHung last.hangs p known.hangs hung }) k.components };
     }
 
-pub more_hung : (c : CertificateValue) (p : PacketValue) → IsCertificate c → IsHung p → OneMore c p
-more_hung c p k hung = hung_in c.primary c.hangs c.components p k hung
+pub more_behind : (c : CertificateValue) (p : PacketValue) → IsCertificate c → (is_head p.kind || is_hung p.kind) ≡ true → OneMore c p
+more_behind c p k behind = elim (or_cases (is_head p.kind) (is_hung p.kind) behind) [ inl head ↦ more_head c p k head | inr hung ↦ hung_in c.primary c.hangs c.components p k hung ]

@@ -1,24 +1,21 @@
 -- What reading a packet for a keyring gives.
-use Rattle.std.specs.Prelude.{◌≡◌, false}
+use Rattle.std.specs.Prelude.{◌≡◌, true, false}
 use Rattle.opgp_frame.specs.Packet.{PacketValue}
 use Rattle.opgp_ring.specs.declared.sorted.Sorted.{Sorted}
-use Rattle.opgp_ring.specs.declared.sorted.Sorted.TheVariants.{Primary, Head, Signature, Filler}
-use Rattle.opgp_ring.specs.declared.sorted.Sorted.TheVariants.{Stray}
-use Rattle.opgp_ring.specs.Keyring.{IsPrimary, IsHead, IsFiller}
-use Rattle.opgp_ring.specs.Composition.{stands_in_keyring}
+use Rattle.opgp_ring.specs.declared.sorted.Sorted.TheVariants.{Primary, Behind, Filler, Stray}
+use Rattle.opgp_ring.specs.Keyring.{IsPrimary, IsFiller}
+use Rattle.opgp_ring.specs.Composition.{stands_in_keyring, needs_primary}
 
 -- the packet that was read
 abbrev pub sorted_packet : Sorted → PacketValue
 sorted_packet (Primary p) = p
-sorted_packet (Head p) = p
-sorted_packet (Signature p) = p
+sorted_packet (Behind p) = p
 sorted_packet (Filler p) = p
 sorted_packet (Stray p) = p
 
 -- its type is one that has this place
 abbrev pub IsSorted : Sorted → Type 0
 IsSorted (Primary p) = IsPrimary p
-IsSorted (Head p) = IsHead p
-IsSorted (Signature p) = p.kind ≡ 2
+IsSorted (Behind p) = needs_primary p.kind ≡ true
 IsSorted (Filler p) = IsFiller p
 IsSorted (Stray p) = stands_in_keyring p.kind ≡ false

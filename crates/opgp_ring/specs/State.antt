@@ -63,6 +63,14 @@ is_open (Disordered f) = false
 is_open (Broken f) = false
 is_open Spent = false
 
+-- a certificate has begun
+abbrev pub has_begun : State → Bool
+has_begun (Leading lead) = false
+has_begun (Growing c) = true
+has_begun (Disordered f) = false
+has_begun (Broken f) = false
+has_begun Spent = false
+
 -- a body was at fault
 abbrev pub is_broken_state : State → Bool
 is_broken_state (Leading lead) = false

@@ -2,6 +2,7 @@
 
 ghost use Rattle.std.specs.Prelude.{◌≡◌, IfOk};
 
+use crate::copying::copy_all;
 use opgp_frame::Placed;
 use opgp_octets::OutOfMemory;
 use std::alloc::Global;
@@ -24,11 +25,7 @@ impl BlockOf {
         ensures label_fits { IfOk result (λ b. b.label_fits ≡ self.now.label_fits) }
         ensures packets { IfOk result (λ b. b.packets.items ≡ self.now.packets.items) }
     {
-        let mut packets = Vec::new(alloc);
-        for placed in &self.packets {
-            let copy = placed.copy(alloc)?;
-            packets.push(copy)?;
-        }
+        let packets = copy_all(alloc, &self.packets, |placed| placed.copy(alloc))?;
         Ok(BlockOf {
             block: self.block,
             label_fits: self.label_fits,

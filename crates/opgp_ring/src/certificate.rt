@@ -1,14 +1,14 @@
 //! A certificate.
 
-ghost use Rattle.std.specs.Prelude.{◌≡◌, ◌++◌, ◌∷◌, [], All, OnOk, OnErr, IfOk};
-ghost use Rattle.std.specs.List.{flat_map};
+ghost use Rattle.std.specs.Prelude.{◌≡◌, ◌||◌, ◌++◌, ◌∷◌, [], true, All, OnOk, OnErr, IfOk};
 ghost use Rattle.opgp_ring.specs.Keyring.{CertificateValue, IsCertificate, certificate_packets};
-ghost use Rattle.opgp_ring.specs.Keyring.{component_packets, IsPrimary, IsHead, IsHung, IsFiller};
-ghost use Rattle.opgp_ring.specs.Keyring.{IsComponent};
+ghost use Rattle.opgp_ring.specs.Keyring.{IsPrimary, IsHead, IsHung, IsFiller};
+ghost use Rattle.opgp_ring.specs.Keyring.{IsComponent, is_head, is_hung};
 ghost use Rattle.opgp_ring.specs.Normal.{normal_certificate};
 
-use crate::component::{Component, copy_members};
+use crate::component::Component;
 use crate::content::Content;
+use crate::copying::copy_all;
 use crate::member::Member;
 use crate::reframing::{reframe_components, reframe_members};
 use opgp_frame::Packet;
@@ -118,25 +118,46 @@ impl Certificate {
         Ok(())
     }
 
-    /// Begins a component. An error is want of memory.
-    pub(crate) fn begin(&mut self, alloc: Global, head: Member) -> Result<(), OutOfMemory>
+    /// Adds a packet behind the others: a user ID, an attribute or a subkey begins a component, and
+    /// others hang on the last one, or on the primary key where there is none.
+    ///
+    /// An error is want of memory; the certificate is then as it was.
+    pub(crate) fn add(&mut self, alloc: Global, packet: Member) -> Result<(), OutOfMemory>
+        requires { (is_head packet.kind || is_hung packet.kind) ≡ true }
+        ensures ok { OnOk result
+            (certificate_packets self.new ≡ certificate_packets self.old ++ packet ∷ []) }
+        ensures certificate { OnOk result (IsCertificate self.new) }
+        ensures err { OnErr result (self.new ≡ self.old) }
+    {
+        if packet.begins_component() {
+            self.begin(alloc, packet)
+        } else {
+            self.hang(packet)
+        }
+    }
+
+    /// Begins a component. An error is want of memory; the certificate is then as it was.
+    fn begin(&mut self, alloc: Global, head: Member) -> Result<(), OutOfMemory>
         requires { IsHead head }
         ensures ok { OnOk result
             (certificate_packets self.new ≡ certificate_packets self.old ++ head ∷ []) }
         ensures certificate { OnOk result (IsCertificate self.new) }
+        ensures err { OnErr result (self.new ≡ self.old) }
     {
         self.components.push(Component::new(alloc, head))?;
         Ok(())
     }
 
-    /// Hangs a packet on the last component, or on the primary key where there is none. An error is
-    /// want of memory.
+    /// Hangs a packet on the last component, or on the primary key where there is none.
+    ///
+    /// An error is want of memory; the certificate is then as it was.
     #[inline(always)]
-    pub(crate) fn hang(&mut self, packet: Member) -> Result<(), OutOfMemory>
+    fn hang(&mut self, packet: Member) -> Result<(), OutOfMemory>
         requires { IsHung packet }
         ensures ok { OnOk result
             (certificate_packets self.new ≡ certificate_packets self.old ++ packet ∷ []) }
         ensures certificate { OnOk result (IsCertificate self.new) }
+        ensures err { OnErr result (self.new ≡ self.old) }
     {
         match self.components.last_mut() {
             Some(last) => {
@@ -184,29 +205,6 @@ impl Certificate {
         &self.components
     }
 
-    /// Adds its packets, copied. After an error some of them stand there.
-    pub(crate) fn append_to(&self, alloc: Global, out: &mut Vec<Packet>) -> Result<(), OutOfMemory>
-        ensures { OnOk result (out.new.items ≡ out.old.items ++ certificate_packets self.now) }
-    {
-        let primary = self.primary.packet(alloc)?;
-        out.push(primary)?;
-        for hang in &self.hangs {
-            let packet = hang.packet(alloc)?;
-            out.push(packet)?;
-        }
-        self.append_components(alloc, out)
-    }
-
-    fn append_components(&self, alloc: Global, out: &mut Vec<Packet>) -> Result<(), OutOfMemory>
-        ensures { OnOk result
-            (out.new.items ≡ out.old.items ++ flat_map component_packets self.now.components) }
-    {
-        for component in &self.components {
-            component.append_to(alloc, out)?;
-        }
-        Ok(())
-    }
-
     /// Hangs fillers on the last component, or on the primary key where there is none. An error is
     /// want of memory.
     pub(crate) fn hang_all(&mut self, fillers: Vec<Packet>) -> Result<(), OutOfMemory>
@@ -228,8 +226,8 @@ impl Certificate {
         ensures value { IfOk result (λ c. c ≡ self.now) }
         ensures certificate { IsCertificate self.now }
     {
-        let components = copy_components(alloc, &self.components)?;
-        let hangs = copy_members(alloc, &self.hangs)?;
+        let components = copy_all(alloc, &self.components, |component| component.copy(alloc))?;
+        let hangs = copy_all(alloc, &self.hangs, |member| member.copy(alloc))?;
         let primary = self.primary.copy(alloc)?;
         Ok(Certificate {
             primary,
@@ -246,30 +244,4 @@ impl Certificate {
         reframe_members(alloc, &mut self.hangs);
         reframe_components(alloc, &mut self.components);
     }
-}
-
-fn copy_components(alloc: Global, components: &[Component]) -> Result<Vec<Component>, OutOfMemory>
-    ensures { IfOk result (λ v. v.items ≡ components.now) }
-{
-    let mut copies = Vec::new(alloc);
-    for component in components {
-        let copy = component.copy(alloc)?;
-        copies.push(copy)?;
-    }
-    Ok(copies)
-}
-
-/// Equal certificates. An error is want of memory.
-pub(crate) fn copy_certificates(
-    alloc: Global,
-    certificates: &[Certificate],
-) -> Result<Vec<Certificate>, OutOfMemory>
-    ensures { IfOk result (λ v. v.items ≡ certificates.now) }
-{
-    let mut copies = Vec::new(alloc);
-    for certificate in certificates {
-        let copy = certificate.copy(alloc)?;
-        copies.push(copy)?;
-    }
-    Ok(copies)
 }

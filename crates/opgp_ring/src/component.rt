@@ -1,13 +1,13 @@
 //! A component of a certificate.
 
 ghost use Rattle.std.specs.Prelude.{◌≡◌, ◌++◌, ◌∷◌, [], All, OnOk, OnErr, IfOk};
-ghost use Rattle.opgp_ring.specs.Keyring.{ComponentValue, IsComponent, component_packets, IsHead};
+ghost use Rattle.opgp_ring.specs.Keyring.{ComponentValue, IsComponent, IsHead};
 ghost use Rattle.opgp_ring.specs.Keyring.{IsHung};
 ghost use Rattle.opgp_ring.specs.Normal.{normal_component};
 
+use crate::copying::copy_all;
 use crate::member::Member;
 use crate::reframing::reframe_members;
-use opgp_frame::Packet;
 use opgp_octets::OutOfMemory;
 use std::alloc::Global;
 use std::marker::Model;
@@ -42,12 +42,13 @@ impl Component {
         }
     }
 
-    /// Hangs a packet on it. An error is want of memory.
+    /// Hangs a packet on it. An error is want of memory; the component is then as it was.
     #[inline(always)]
     pub(crate) fn hang(&mut self, packet: Member) -> Result<(), OutOfMemory>
         requires { IsHung packet }
         ensures head { self.new.head ≡ self.old.head }
         ensures ok { OnOk result (self.new.hangs ≡ self.old.hangs ++ packet ∷ []) }
+        ensures err { OnErr result (self.new ≡ self.old) }
         ensures component { IsComponent self.new }
     {
         self.hangs.push(packet)?;
@@ -106,24 +107,11 @@ impl Component {
         &self.hangs
     }
 
-    /// Adds its packets, copied. After an error some of them stand there.
-    pub(crate) fn append_to(&self, alloc: Global, out: &mut Vec<Packet>) -> Result<(), OutOfMemory>
-        ensures { OnOk result (out.new.items ≡ out.old.items ++ component_packets self.now) }
-    {
-        let head = self.head.packet(alloc)?;
-        out.push(head)?;
-        for hang in &self.hangs {
-            let packet = hang.packet(alloc)?;
-            out.push(packet)?;
-        }
-        Ok(())
-    }
-
     /// An equal component. An error is want of memory.
     pub fn copy(&self, alloc: Global) -> Result<Component, OutOfMemory>
         ensures { IfOk result (λ c. c ≡ self.now) }
     {
-        let hangs = copy_members(alloc, &self.hangs)?;
+        let hangs = copy_all(alloc, &self.hangs, |member| member.copy(alloc))?;
         let head = self.head.copy(alloc)?;
         Ok(Component { head, hangs })
     }
@@ -135,16 +123,4 @@ impl Component {
         self.head.reframe(alloc);
         reframe_members(alloc, &mut self.hangs);
     }
-}
-
-/// Equal packets. An error is want of memory.
-pub(crate) fn copy_members(alloc: Global, members: &[Member]) -> Result<Vec<Member>, OutOfMemory>
-    ensures { IfOk result (λ v. v.items ≡ members.now) }
-{
-    let mut copies = Vec::new(alloc);
-    for member in members {
-        let copy = member.copy(alloc)?;
-        copies.push(copy)?;
-    }
-    Ok(copies)
 }

@@ -1,6 +1,6 @@
 //! A composer of keyrings that packets are pushed into.
 
-ghost use Rattle.std.specs.Prelude.{◌≡◌, ◌≤◌, ◌+◌, ◌++◌, ◌∷◌, ◌↔◌, ℕ, List, [], true, false};
+ghost use Rattle.std.specs.Prelude.{◌≡◌, ◌≤◌, ◌+◌, ◌++◌, ◌∷◌, ◌↔◌, ◌||◌, ℕ, List, [], true, false};
 ghost use Rattle.std.specs.Prelude.{length, is_some, IsSome, IsOk, OnOk, OnErr, MatchResult, Ok};
 ghost use Rattle.std.specs.Prelude.{Err, Some};
 ghost use Rattle.opgp_octets.specs.declared.fault.Fault.{Fault};
@@ -13,7 +13,8 @@ ghost use Rattle.opgp_frame.specs.Packet.{PacketValue, spelling};
 ghost use Rattle.opgp_ring.specs.Bodies.{HasFault, HasNoFault};
 ghost use Rattle.opgp_ring.specs.Composed.{IsFault, IsKeyringOf, PartValue, parts_of, lead_parts};
 ghost use Rattle.opgp_ring.specs.Composition.{Item, of_label, of_packet};
-ghost use Rattle.opgp_ring.specs.Keyring.{KeyringValue, IsPrimary, IsHead, IsFiller, octets_of};
+ghost use Rattle.opgp_ring.specs.Keyring.{KeyringValue, IsPrimary, IsFiller, octets_of};
+ghost use Rattle.opgp_ring.specs.Keyring.{is_head, is_hung};
 ghost use Rattle.opgp_ring.specs.State.{open_octets, ready_octets, ready_parts};
 
 use crate::certificate::Certificate;
@@ -61,9 +62,9 @@ impl Composer {
     ghost use Rattle.opgp_ring.specs.Fed.{Fed, KeepsFed, TakesIn, StaysFaulty, is_spent, is_ready};
     ghost use Rattle.opgp_ring.specs.Fed.{fault_of, is_broken, limits_of, held_of};
     ghost use Rattle.opgp_ring.specs.Sorted.{IsSorted, sorted_packet};
-    ghost use Rattle.opgp_ring.specs.State.{is_open};
+    ghost use Rattle.opgp_ring.specs.State.{is_open, has_begun};
     ghost use Rattle.opgp_ring.specs.Composed.{IsSoundItem};
-    ghost use Rattle.opgp_ring.specs.Composition.{IsFaultAt, fault_at, packets_in};
+    ghost use Rattle.opgp_ring.specs.Composition.{IsFaultAt, fault_at, packets_in, needs_primary};
 
     /// A composer that was given nothing. Takes no memory; pushes do, from `alloc`.
     #[tactic(auto, unfolding(crate::specs::Keyring::octets_of))]
@@ -221,6 +222,16 @@ impl Composer {
         }
     }
 
+    /// Whether a certificate has begun.
+    fn has_begun(&self) -> bool
+        ensures { result ≡ has_begun self.now.state }
+    {
+        match self.state {
+            State::Growing(_) => true,
+            State::Leading(_) | State::Disordered(_) | State::Broken(_) | State::Spent => false,
+        }
+    }
+
     /// Want of memory: nothing is kept.
     fn spend(&mut self)
         ensures spent { is_spent self.new ≡ true }
@@ -305,9 +316,14 @@ impl Composer {
                 self.begin(primary, octets, block, pos);
                 Ok(())
             }
-            Sorted::Head(head) => self.add_head(head, octets, block, pos),
-            Sorted::Signature(signature) => self.add_signature(signature, octets, block, pos),
-            Sorted::Filler(filler) => self.add_filler(filler, octets, block, pos),
+            Sorted::Behind(member) => self.grow(member, octets, block, pos),
+            Sorted::Filler(filler) => {
+                if self.has_begun() {
+                    self.grow(Member::filler(filler), octets, block, pos)
+                } else {
+                    self.lead(filler, octets, block, pos)
+                }
+            }
             Sorted::Stray(stray) => {
                 drop(stray);
                 self.refuse(Reason::NotInKeyring, block, pos);
@@ -352,21 +368,17 @@ impl Composer {
         }
     }
 
-    /// Adds a user ID, an attribute or a subkey.
-    fn add_head(
-        &mut self,
-        head: Member,
-        octets: u64,
-        block: u64,
-        pos: u64,
-    ) -> Result<(), OutOfMemory>
+    /// Adds a packet behind a primary key; before the first one it is at fault.
+    fn grow(&mut self, member: Member, octets: u64, block: u64, pos: u64) -> Result<(), OutOfMemory>
         requires open { is_open self.old.state ≡ true }
         requires unspent { is_spent self.old ≡ false }
-        requires head { IsHead head }
-        requires sound { HasNoFault head }
-        requires octets { octets ≡ length (spelling head) }
+        requires behind { (is_head member.kind || is_hung member.kind) ≡ true }
+        // Fillers may lead.
+        requires lead { has_begun self.old.state ≡ false → needs_primary member.kind ≡ true }
+        requires sound { HasNoFault member }
+        requires octets { octets ≡ length (spelling member) }
         ensures fed { OnOk result (TakesIn self.old self.new
-            (of_packet (record { packet = head; block = block; pos = pos }))) }
+            (of_packet (record { packet = member; block = block; pos = pos }))) }
         ensures ready { OnOk result (self.new.ready ≡ self.old.ready) }
         ensures sound { OnOk result (is_spent self.new ≡ false) }
         ensures limits { limits_of self.new ≡ limits_of self.old }
@@ -375,82 +387,27 @@ impl Composer {
         let room = self.limits.cert() - self.size;
         match &mut self.state {
             State::Leading(_) => {
-                drop(head);
+                drop(member);
                 self.refuse(Reason::NoPrimary, block, pos);
             }
             State::Growing(_) if octets > room => {
-                drop(head);
+                drop(member);
                 self.refuse(Reason::CertTooLong, block, pos);
             }
             State::Growing(certificate) => {
-                match certificate.begin(alloc, head) {
-                    Ok(()) => self.size += octets,
-                    Err(e) => {
-                        drop(mem::replace(&mut self.state, State::Spent));
-                        self.size = 0;
-                        return Err(e);
-                    }
-                }
+                certificate.add(alloc, member)?;
+                self.size += octets;
             }
             _ => unreachable!(),
         }
         Ok(())
     }
 
-    /// Adds a signature.
-    fn add_signature(
-        &mut self,
-        signature: Member,
-        octets: u64,
-        block: u64,
-        pos: u64,
-    ) -> Result<(), OutOfMemory>
+    /// Adds a filler before the first primary key.
+    fn lead(&mut self, filler: Packet, octets: u64, block: u64, pos: u64) -> Result<(), OutOfMemory>
         requires open { is_open self.old.state ≡ true }
         requires unspent { is_spent self.old ≡ false }
-        requires signature { signature.kind ≡ 2 }
-        requires sound { HasNoFault signature }
-        requires octets { octets ≡ length (spelling signature) }
-        ensures fed { OnOk result (TakesIn self.old self.new
-            (of_packet (record { packet = signature; block = block; pos = pos }))) }
-        ensures ready { OnOk result (self.new.ready ≡ self.old.ready) }
-        ensures sound { OnOk result (is_spent self.new ≡ false) }
-        ensures limits { limits_of self.new ≡ limits_of self.old }
-    {
-        let room = self.limits.cert() - self.size;
-        match &mut self.state {
-            State::Leading(_) => {
-                drop(signature);
-                self.refuse(Reason::NoPrimary, block, pos);
-            }
-            State::Growing(_) if octets > room => {
-                drop(signature);
-                self.refuse(Reason::CertTooLong, block, pos);
-            }
-            State::Growing(certificate) => {
-                match certificate.hang(signature) {
-                    Ok(()) => self.size += octets,
-                    Err(e) => {
-                        drop(mem::replace(&mut self.state, State::Spent));
-                        self.size = 0;
-                        return Err(e);
-                    }
-                }
-            }
-            _ => unreachable!(),
-        }
-        Ok(())
-    }
-
-    /// Adds a filler.
-    fn add_filler(
-        &mut self,
-        filler: Packet,
-        octets: u64,
-        block: u64,
-        pos: u64,
-    ) -> Result<(), OutOfMemory>
-        requires open { is_open self.old.state ≡ true }
-        requires unspent { is_spent self.old ≡ false }
+        requires lead { has_begun self.old.state ≡ false }
         requires filler { IsFiller filler }
         requires sound { HasNoFault filler }
         requires octets { octets ≡ length (spelling filler) }
@@ -466,24 +423,9 @@ impl Composer {
                 drop(filler);
                 self.refuse(Reason::CertTooLong, block, pos);
             }
-            State::Growing(_) if octets > room => {
-                drop(filler);
-                self.refuse(Reason::CertTooLong, block, pos);
-            }
             State::Leading(lead) => {
                 lead.push(filler)?;
                 self.size += octets;
-            }
-            State::Growing(certificate) => {
-                let member = Member::filler(filler);
-                match certificate.hang(member) {
-                    Ok(()) => self.size += octets,
-                    Err(e) => {
-                        drop(mem::replace(&mut self.state, State::Spent));
-                        self.size = 0;
-                        return Err(e);
-                    }
-                }
             }
             _ => unreachable!(),
         }

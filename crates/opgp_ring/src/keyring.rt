@@ -3,7 +3,8 @@
 ghost use Rattle.std.specs.Prelude.{◌≡◌, IfOk};
 ghost use Rattle.opgp_ring.specs.Keyring.{KeyringValue, IsKeyring};
 
-use crate::certificate::{Certificate, copy_certificates};
+use crate::certificate::Certificate;
+use crate::copying::copy_all;
 use opgp_frame::Packet;
 use opgp_octets::OutOfMemory;
 use std::alloc::Global;
@@ -76,24 +77,16 @@ impl Keyring {
     pub fn copy(&self, alloc: Global) -> Result<Keyring, OutOfMemory>
         ensures { IfOk result (λ r. r ≡ self.now) }
     {
-        let lead = copy_packets(alloc, &self.lead)?;
-        let certificates = copy_certificates(alloc, &self.certificates)?;
+        let lead = copy_all(alloc, &self.lead, |packet| packet.copy(alloc))?;
+        let certificates = copy_all(
+            alloc,
+            &self.certificates,
+            |certificate| certificate.copy(alloc),
+        )?;
         Ok(Keyring {
             alloc,
             lead,
             certificates,
         })
     }
-}
-
-/// Equal packets. An error is want of memory.
-pub(crate) fn copy_packets(alloc: Global, packets: &[Packet]) -> Result<Vec<Packet>, OutOfMemory>
-    ensures { IfOk result (λ v. v.items ≡ packets.now) }
-{
-    let mut copies = Vec::new(alloc);
-    for packet in packets {
-        let copy = packet.copy(alloc)?;
-        copies.push(copy)?;
-    }
-    Ok(copies)
 }

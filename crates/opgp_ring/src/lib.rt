@@ -10,6 +10,7 @@ mod composer;
 mod composing;
 mod composing_signed;
 mod content;
+mod copying;
 mod ending;
 mod flattening;
 mod gathering;

@@ -3,7 +3,7 @@
 ghost use Rattle.std.specs.Prelude.{◌≡◌, length, IfOk};
 ghost use Rattle.opgp_frame.specs.Packet.{PacketValue, IsPacket, spelling};
 ghost use Rattle.opgp_frame.specs.Reframed.{reframed};
-ghost use Rattle.opgp_ring.specs.Keyring.{IsFiller, IsHead, IsHung};
+ghost use Rattle.opgp_ring.specs.Keyring.{IsFiller, IsHead, IsHung, is_head};
 ghost use Rattle.opgp_ring.specs.Lent.{IsLentHang, hang_packet, head_packet};
 
 use crate::content::Content;
@@ -87,6 +87,13 @@ impl Member {
             Content::Signature(_, _) => 2,
             Content::Filler(packet) => packet.kind(),
         }
+    }
+
+    /// Whether it is a user ID, an attribute or a subkey.
+    pub(crate) fn begins_component(&self) -> bool
+        ensures { result ≡ is_head self.now.kind }
+    {
+        matches!(self.kind(), 13 | 14 | 17)
     }
 
     /// The packet's body.

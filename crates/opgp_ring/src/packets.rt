@@ -1,6 +1,6 @@
 //! The packets of a keyring, one after the other.
 
-ghost use Rattle.std.specs.Prelude.{◌≡◌, ◌∷◌, [], All, IfSome, MatchOption};
+ghost use Rattle.std.specs.Prelude.{◌≡◌, ◌∷◌, [], All, IfOk, IfSome, MatchOption};
 ghost use Rattle.opgp_frame.specs.Packet.{PacketValue};
 ghost use Rattle.opgp_ring.specs.Keyring.{IsFiller, certificate_packets, flat};
 
@@ -9,6 +9,8 @@ use crate::component::Component;
 use crate::keyring::Keyring;
 use crate::member::Member;
 use opgp_frame::Packet;
+use opgp_octets::OutOfMemory;
+use std::alloc::Global;
 use std::slice;
 
 /// A packet of a keyring, lent (RFC 9580, 10.1).
@@ -18,6 +20,20 @@ pub enum Part<'a> {
     Lead(&'a Packet),
     /// A packet of a certificate, with its body read.
     Member(&'a Member),
+}
+
+impl Part<'_> {
+    ghost use Rattle.opgp_ring.specs.Packets.{part_packet};
+
+    /// The packet, with octets of its own. An error is want of memory.
+    pub(crate) fn packet(self, alloc: Global) -> Result<Packet, OutOfMemory>
+        ensures { IfOk result (λ p. p ≡ part_packet self.entry) }
+    {
+        match self {
+            Part::Lead(packet) => packet.copy(alloc),
+            Part::Member(member) => member.packet(alloc),
+        }
+    }
 }
 
 /// The packets of a keyring that are left, in order. Takes no memory.

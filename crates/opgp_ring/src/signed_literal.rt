@@ -5,7 +5,7 @@ ghost use Rattle.opgp_key.specs.LiteralView.{literal_view_octets};
 ghost use Rattle.opgp_ring.specs.Bodies.{HasNoFault};
 ghost use Rattle.opgp_ring.specs.Signed.{IsSigned, bodies_of};
 
-use crate::keyring::copy_packets;
+use crate::copying::copy_all;
 use crate::signatures::{Signatures, first_of};
 use opgp_frame::Packet;
 use opgp_key::LiteralView;
@@ -71,7 +71,7 @@ impl SignedLiteral {
     pub fn copy(&self, alloc: Global) -> Result<SignedLiteral, OutOfMemory>
         ensures { IfOk result (λ l. signed_packets l ≡ signed_packets self.now) }
     {
-        let flat = copy_packets(alloc, &self.flat)?;
+        let flat = copy_all(alloc, &self.flat, |packet| packet.copy(alloc))?;
         Ok(SignedLiteral { flat })
     }
 }

@@ -18,10 +18,8 @@ use opgp_sig::Signature;
 pub(crate) enum Sorted {
     /// A primary key.
     Primary(Member),
-    /// A user ID, an attribute or a subkey.
-    Head(Member),
-    /// A signature.
-    Signature(Member),
+    /// A user ID, an attribute, a subkey or a signature: it stands behind a primary key.
+    Behind(Member),
     /// A marker, trust or padding packet, or one of a type that isn't critical.
     Filler(Packet),
     /// None: its type stands in no keyring.
@@ -42,7 +40,7 @@ pub(crate) fn sort(packet: Packet) -> Result<Sorted, BodyFault>
         PacketType::Signature => {
             let (form, _, body) = packet.into_parts();
             let signature = Signature::from_body(body)?;
-            Ok(Sorted::Signature(Member::new(Content::Signature(form, signature))))
+            Ok(Sorted::Behind(Member::new(Content::Signature(form, signature))))
         }
         PacketType::PublicKey => {
             let (form, _, body) = packet.into_parts();
@@ -56,17 +54,17 @@ pub(crate) fn sort(packet: Packet) -> Result<Sorted, BodyFault>
         PacketType::UserId => {
             let (form, _, body) = packet.into_parts();
             let id = UserId::from_body(body);
-            Ok(Sorted::Head(Member::new(Content::UserId(form, id))))
+            Ok(Sorted::Behind(Member::new(Content::UserId(form, id))))
         }
         PacketType::PublicSubkey => {
             let (form, _, body) = packet.into_parts();
             let key = Key::from_body(body)?;
-            Ok(Sorted::Head(Member::new(Content::Subkey(form, key))))
+            Ok(Sorted::Behind(Member::new(Content::Subkey(form, key))))
         }
         PacketType::UserAttribute => {
             let (form, _, body) = packet.into_parts();
             let attribute = Attribute::from_body(body)?;
-            Ok(Sorted::Head(Member::new(Content::Attribute(form, attribute))))
+            Ok(Sorted::Behind(Member::new(Content::Attribute(form, attribute))))
         }
         _ if is_filler(packet.kind()) => Ok(Sorted::Filler(packet)),
         _ => Ok(Sorted::Stray(packet)),

@@ -1,4 +1,4 @@
-use Rattle.std.proofs.Common.{ap, sym, subst}
+use Rattle.std.proofs.Common.{ap, sym, subst, ◌∙◌}
 use Rattle.std.specs.Prelude.{OnOk}
 use Rattle.opgp_frame.specs.Packet.{PacketValue}
 use Rattle.opgp_ring.specs.Composition.{of_packet, packets_in}
@@ -23,14 +23,14 @@ pub returns-in-Primary-clause-fed : goal.returns-in-Primary-clause-fed
 returns-in-Primary-clause-fed c = subst (λ (v : PacketValue). TakesIn c.args.self.now c.begin.new.self (of_packet (record { packet = v; block = c.args.block; pos = c.args.pos })))
     (sym (ap sorted_packet c.in-Primary.is)) c.begin.ensures.fed
 
-pub returns-in-Head-clause-fed : goal.returns-in-Head-clause-fed
-returns-in-Head-clause-fed c = subst (λ (v : PacketValue). OnOk c.add_head.result (TakesIn c.args.self.now c.add_head.new.self (of_packet (record { packet = v; block = c.args.block; pos = c.args.pos }))))
-    (sym (ap sorted_packet c.in-Head.is)) c.add_head.ensures.fed
+pub returns-in-Behind-clause-fed : goal.returns-in-Behind-clause-fed
+returns-in-Behind-clause-fed c = subst (λ (v : PacketValue). OnOk c.grow.result (TakesIn c.args.self.now c.grow.new.self (of_packet (record { packet = v; block = c.args.block; pos = c.args.pos }))))
+    (sym (ap sorted_packet c.in-Behind.is)) c.grow.ensures.fed
 
-pub returns-in-Signature-clause-fed : goal.returns-in-Signature-clause-fed
-returns-in-Signature-clause-fed c = subst (λ (v : PacketValue). OnOk c.add_signature.result (TakesIn c.args.self.now c.add_signature.new.self (of_packet (record { packet = v; block = c.args.block; pos = c.args.pos }))))
-    (sym (ap sorted_packet c.in-Signature.is)) c.add_signature.ensures.fed
+pub returns-then-has_begun-clause-fed : goal.returns-then-has_begun-clause-fed
+returns-then-has_begun-clause-fed c = subst (λ (v : PacketValue). OnOk c.grow-then-has_begun.result (TakesIn c.args.self.now c.grow-then-has_begun.new.self (of_packet (record { packet = v; block = c.args.block; pos = c.args.pos }))))
+    (c.filler.ensures ∙ sym (ap sorted_packet c.in-Filler.is)) c.grow-then-has_begun.ensures.fed
 
-pub returns-in-Filler-clause-fed : goal.returns-in-Filler-clause-fed
-returns-in-Filler-clause-fed c = subst (λ (v : PacketValue). OnOk c.add_filler.result (TakesIn c.args.self.now c.add_filler.new.self (of_packet (record { packet = v; block = c.args.block; pos = c.args.pos }))))
-    (sym (ap sorted_packet c.in-Filler.is)) c.add_filler.ensures.fed
+pub returns-else-has_begun-clause-fed : goal.returns-else-has_begun-clause-fed
+returns-else-has_begun-clause-fed c = subst (λ (v : PacketValue). OnOk c.lead.result (TakesIn c.args.self.now c.lead.new.self (of_packet (record { packet = v; block = c.args.block; pos = c.args.pos }))))
+    (sym (ap sorted_packet c.in-Filler.is)) c.lead.ensures.fed

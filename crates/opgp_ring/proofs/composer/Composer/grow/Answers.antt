@@ -1,19 +1,18 @@
-use Rattle.std.proofs.Common.{◌≡◌, ◌+◌, ◌<◌, ◌≤◌, ◌==◌, ◌++◌, ap, sym, subst, ◌∙◌, arith}
+use Rattle.std.proofs.Common.{◌≡◌, ◌+◌, ◌<◌, ◌≤◌, ◌++◌, ap, sym, subst, ◌∙◌, arith}
 use Rattle.opgp_octets.specs.Limits.{cert_limit}
 use Rattle.opgp_ring.specs.Composition.{of_packet}
 use Rattle.opgp_ring.proofs.Standing.{IsIn}
-use Rattle.opgp_ring.specs.Keyring.{certificate_packets, octets_of, is_head}
+use Rattle.opgp_ring.specs.Keyring.{certificate_packets, octets_of}
 use Rattle.opgp_ring.specs.declared.composer.State.{State}
-use Rattle.opgp_ring.specs.State.{ready_parts, open_octets}
-use Rattle.opgp_ring.proofs.KindTests.{or_right}
-use Rattle.opgp_ring.proofs.Stepping.{closed, lead_lacks, head_long, certificate_more, grown_octets, room_short, room_fits}
+use Rattle.opgp_ring.specs.State.{ready_parts, open_octets, has_begun}
+use Rattle.opgp_ring.proofs.Stepping.{closed, lead_lacks, grown_long, certificate_more, grown_octets, room_short, room_fits}
 use Rattle.opgp_ring.proofs.HandedOut.{fed_of, standing_of}
-use Rattle.opgp_ring.proofs.composer.Composer.add_head.Goals as goal
+use Rattle.opgp_ring.proofs.composer.Composer.grow.Goals as goal
 
 pub returns-in-Leading-clause-fed : goal.returns-in-Leading-clause-fed
 returns-in-Leading-clause-fed c limits given taken f =
-    c.refuse.ensures.fed limits given taken (of_packet (record { packet = c.args.head; block = c.args.block; pos = c.args.pos })) (fed_of (record { limits_kept = f.limits_kept; state = (standing_of f).state })) c.requires.sound
-    (λ _. lead_lacks limits c.args.self.now.state c.in-Leading.field-0 given _ (record { packet = c.args.head; block = c.args.block; pos = c.args.pos }) (standing_of f).state c.in-Leading.is (or_right (c.args.head.kind == 2) (is_head c.args.head.kind) c.requires.head))
+    c.refuse.ensures.fed limits given taken (of_packet (record { packet = c.args.member; block = c.args.block; pos = c.args.pos })) (fed_of (record { limits_kept = f.limits_kept; state = (standing_of f).state })) c.requires.sound
+    (λ _. lead_lacks limits c.args.self.now.state c.in-Leading.field-0 given _ (record { packet = c.args.member; block = c.args.block; pos = c.args.pos }) (standing_of f).state c.in-Leading.is (c.requires.lead (ap has_begun c.in-Leading.is)))
 
 pub returns-in-Growing-clause-fed : goal.returns-in-Growing-clause-fed
 returns-in-Growing-clause-fed c limits given taken f =
@@ -22,11 +21,11 @@ returns-in-Growing-clause-fed c limits given taken f =
     let counted : octets_of (certificate_packets c.in-Growing.field-0) ≡ size = ap open_octets (sym c.in-Growing.is) ∙ c.args.self.now.counted in
     let short : size ≤ c.cert.result = omega (arith, c.args.self.now.short, c.cert.ensures.value) in
     let long : c.cert.result < size + c.args.octets = room_short c.cert.result size c.args.octets short c.if-octets-room.true in
-    c.refuse-in-Growing.ensures.fed limits given taken (of_packet (record { packet = c.args.head; block = c.args.block; pos = c.args.pos })) (fed_of (record { limits_kept = f.limits_kept; state = subst (λ (s : State). IsIn limits s given (taken ++ ready_parts c.args.self.now.ready)) c.in-Growing.is (standing_of f).state })) c.requires.sound
-    (λ _. head_long limits c.args.self.now.state c.in-Growing.field-0 given _ (record { packet = c.args.head; block = c.args.block; pos = c.args.pos }) (standing_of f).state c.in-Growing.is (c.requires.head) (omega (arith, long, limit, counted, c.requires.octets)))
+    c.refuse-in-Growing.ensures.fed limits given taken (of_packet (record { packet = c.args.member; block = c.args.block; pos = c.args.pos })) (fed_of (record { limits_kept = f.limits_kept; state = subst (λ (s : State). IsIn limits s given (taken ++ ready_parts c.args.self.now.ready)) c.in-Growing.is (standing_of f).state })) c.requires.sound
+    (λ _. grown_long limits c.args.self.now.state c.in-Growing.field-0 given _ (record { packet = c.args.member; block = c.args.block; pos = c.args.pos }) (standing_of f).state c.in-Growing.is c.requires.behind (omega (arith, long, limit, counted, c.requires.octets)))
 
-pub returns-in-Ok-clause-fed : goal.returns-in-Ok-clause-fed
-returns-in-Ok-clause-fed c limits given taken f =
+pub returns-in_ok-add-in-Growing-2-clause-fed : goal.returns-in_ok-add-in-Growing-2-clause-fed
+returns-in_ok-add-in-Growing-2-clause-fed c limits given taken f =
     let size = c.args.self.now.size in
     let limit : c.cert.result ≡ cert_limit limits = c.cert.ensures.value ∙ ap cert_limit f.limits_kept in
     let counted : octets_of (certificate_packets c.in-Growing.field-0) ≡ size = ap open_octets (sym c.in-Growing.is) ∙ c.args.self.now.counted in
@@ -34,20 +33,20 @@ returns-in-Ok-clause-fed c limits given taken f =
     let fits : size + c.args.octets ≤ c.cert.result = room_fits c.cert.result size c.args.octets short c.if-octets-room.false in
     fed_of (record {
       limits_kept = f.limits_kept;
-      state = certificate_more limits c.args.self.now.state c.in-Growing.field-0 c.begin.new.self given _ (record { packet = c.args.head; block = c.args.block; pos = c.args.pos }) (standing_of f).state c.in-Growing.is c.requires.sound c.in-Ok.ensures.ok c.in-Ok.ensures.certificate (omega (arith, fits, limit, counted, c.requires.octets));
+      state = certificate_more limits c.args.self.now.state c.in-Growing.field-0 c.add.new.self given _ (record { packet = c.args.member; block = c.args.block; pos = c.args.pos }) (standing_of f).state c.in-Growing.is c.requires.sound c.in_ok-add-in-Growing-2.ensures.ok c.in_ok-add-in-Growing-2.ensures.certificate (omega (arith, fits, limit, counted, c.requires.octets));
     })
 
 pub unreachable-requires : goal.unreachable-requires
 unreachable-requires c = absurd (let e = closed c.args.self.now.state c.in_default.not-Leading c.in_default.not-Growing in let o = c.requires.«open» in cc)
 
-pub invariant_of-self-in-Ok : goal.invariant_of-self-in-Ok
-invariant_of-self-in-Ok c =
+pub invariant_of-self-in-Growing-2 : goal.invariant_of-self-in-Growing-2
+invariant_of-self-in-Growing-2 c =
     let size = c.args.self.now.size in
     let counted : octets_of (certificate_packets c.in-Growing.field-0) ≡ size = ap open_octets (sym c.in-Growing.is) ∙ c.args.self.now.counted in
     let short : size ≤ c.cert.result = omega (arith, c.args.self.now.short, c.cert.ensures.value) in
     let fits : size + c.args.octets ≤ c.cert.result = room_fits c.cert.result size c.args.octets short c.if-octets-room.false in
     record {
       short = omega (arith, fits, c.cert.ensures.value);
-      counted = grown_octets c.in-Growing.field-0 c.begin.new.self c.args.head size c.args.octets c.in-Ok.ensures.ok counted c.requires.octets;
+      counted = grown_octets c.in-Growing.field-0 c.add.new.self c.args.member size c.args.octets c.in_ok-add-in-Growing-2.ensures.ok counted c.requires.octets;
       ready_short = c.args.self.now.ready_short;
     }

@@ -122,6 +122,7 @@ impl Certificate {
     /// others hang on the last one, or on the primary key where there is none.
     ///
     /// An error is want of memory; the certificate is then as it was.
+    #[inline(always)]
     pub(crate) fn add(&mut self, alloc: Global, packet: Member) -> Result<(), OutOfMemory>
         requires { (is_head packet.kind || is_hung packet.kind) ≡ true }
         ensures ok { OnOk result

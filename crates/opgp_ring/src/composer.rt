@@ -369,6 +369,7 @@ impl Composer {
     }
 
     /// Adds a packet behind a primary key; before the first one it is at fault.
+    #[inline(always)]
     fn grow(&mut self, member: Member, octets: u64, block: u64, pos: u64) -> Result<(), OutOfMemory>
         requires open { is_open self.old.state ≡ true }
         requires unspent { is_spent self.old ≡ false }

@@ -1,10 +1,10 @@
 -- The hashed subpackets of a signature.
 use Rattle.std.specs.Prelude.{List, Option, Some, None}
-use Rattle.opgp_body.specs.AreaReading.{subs_in}
-use Rattle.opgp_body.specs.Subpackets.{Sub}
-use Rattle.opgp_sig.specs.declared.sig_view.SigView.{SigView}
-use Rattle.opgp_sig.specs.declared.sig_view.SigView.TheVariants.{Three, Four, Six, Other}
-use Rattle.opgp_sig.specs.AreasView.{areas_view_value}
+use Rattle.opgp_packet.specs.AreaReading.{subs_in}
+use Rattle.opgp_packet.specs.Subpackets.{Sub}
+use Rattle.opgp_packet.specs.declared.sig_view.SigView.{SigView}
+use Rattle.opgp_packet.specs.declared.sig_view.SigView.TheVariants.{Three, Four, Six, Other}
+use Rattle.opgp_packet.specs.AreasView.{areas_view_value}
 
 -- those of versions 4 and 6 (RFC 9580, 5.2.3)
 abbrev pub hashed_subs : SigView → Option (List Sub)

@@ -1,7 +1,7 @@
 //! What hashed octets ask.
 
 use anyhow::Result;
-use opgp_body::{Walk, fault_in_area};
+use opgp_packet::{Walk, fault_in_area};
 use opgp_hash::{Question, Subject, fingerprint_of_view, reopen};
 use opgp_octets::{SignatureType, u32_at};
 

@@ -7,9 +7,9 @@ use Rattle.std.proofs.lemmas.Nat.{from_be_bytes-to_be_bytes_4}
 use Rattle.opgp_octets.specs.declared.fault.BodyFault.{BodyFault}
 use Rattle.opgp_octets.specs.Reading.{number_at}
 use Rattle.opgp_octets.proofs.Bytes.{wide16, wide32, number_again}
-use Rattle.opgp_key.specs.AttributeBody.{attribute}
-use Rattle.opgp_body.specs.Fields.{Field, small, Body}
-use Rattle.opgp_key.specs.KeyBody.{key}
+use Rattle.opgp_packet.specs.AttributeBody.{attribute}
+use Rattle.opgp_packet.specs.Fields.{Field, small, Body}
+use Rattle.opgp_packet.specs.KeyBody.{key}
 use Rattle.opgp_hash.proofs.Fields.{FieldsLaw}
 use Rattle.opgp_hash.specs.QuestionValue.{QuestionValue}
 use Rattle.opgp_hash.specs.Hashed.{key_hashed, id_hashed, attribute_hashed, subject_hashed, area_hashed, front_hashed, trailer_hashed, hashed}

@@ -2,8 +2,8 @@
 use Rattle.std.proofs.Common.{◌≡◌, ℕ, List, Ok}
 use Rattle.std.specs.Prelude.{◌↔◌}
 use Rattle.opgp_octets.specs.Octets.{IsOctets}
-use Rattle.opgp_body.specs.FieldReading.{body_at}
-use Rattle.opgp_body.specs.Fields.{Field, Grammar, Body}
+use Rattle.opgp_packet.specs.FieldReading.{body_at}
+use Rattle.opgp_packet.specs.Fields.{Field, Grammar, Body}
 
 -- fields are read of octets exactly where the octets are those fields, one after the other
 abbrev pub FieldsLaw : Type 0

@@ -4,11 +4,11 @@ use Rattle.opgp_octets.specs.Octets.{IsOctets}
 use Rattle.opgp_octets.specs.declared.fault.BodyFault.{BodyFault}
 use Rattle.opgp_octets.specs.declared.packet_type.PacketType.{PacketType}
 use Rattle.opgp_octets.specs.declared.packet_type.PacketType.TheVariants.{Signature, PublicKey, PublicSubkey, LiteralData, UserAttribute}
-use Rattle.opgp_body.specs.Fields.{Grammar, FirstFault}
-use Rattle.opgp_key.specs.AttributeBody.{attribute}
-use Rattle.opgp_key.specs.KeyBody.{key}
-use Rattle.opgp_key.specs.LiteralBody.{literal}
-use Rattle.opgp_sig.specs.SignatureBody.{SignatureFault}
+use Rattle.opgp_packet.specs.Fields.{Grammar, FirstFault}
+use Rattle.opgp_packet.specs.AttributeBody.{attribute}
+use Rattle.opgp_packet.specs.KeyBody.{key}
+use Rattle.opgp_packet.specs.LiteralBody.{literal}
+use Rattle.opgp_packet.specs.SignatureBody.{SignatureFault}
 use Rattle.opgp_hash.specs.PacketBody.{HasBodyFault}
 
 -- fields have one first fault, and so have signatures

@@ -7,10 +7,10 @@ use Rattle.opgp_octets.specs.declared.fault.BodyFault.{BodyFault}
 use Rattle.opgp_octets.specs.Octets.{IsOctets}
 use Rattle.opgp_octets.specs.Reading.{number_at}
 use Rattle.opgp_octets.proofs.Bytes.{IsOctets-drop, chosen, IsWide, wide16, wide32, number_takes}
-use Rattle.opgp_key.specs.AttributeBody.{attribute}
-use Rattle.opgp_body.specs.Fields.{Field, small, wide, integer, named, bare, subpackets, Body}
-use Rattle.opgp_body.specs.FieldReading.{body_at}
-use Rattle.opgp_key.specs.KeyBody.{key}
+use Rattle.opgp_packet.specs.AttributeBody.{attribute}
+use Rattle.opgp_packet.specs.Fields.{Field, small, wide, integer, named, bare, subpackets, Body}
+use Rattle.opgp_packet.specs.FieldReading.{body_at}
+use Rattle.opgp_packet.specs.KeyBody.{key}
 use Rattle.opgp_hash.proofs.Fields.{FieldsLaw}
 use Rattle.opgp_hash.specs.Hashed.{key_hashed, subject_hashed}
 use Rattle.opgp_hash.specs.SubjectValue.{is_certification, is_on_key, is_on_subkey, is_about, IsKeyOf, IsAttribute, IsSubject}

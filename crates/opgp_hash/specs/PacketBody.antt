@@ -5,10 +5,10 @@ use Rattle.opgp_octets.specs.declared.packet_type.PacketType.{PacketType}
 use Rattle.opgp_octets.specs.declared.packet_type.PacketType.TheVariants.{Signature, PublicKey}
 use Rattle.opgp_octets.specs.declared.packet_type.PacketType.TheVariants.{PublicSubkey, LiteralData}
 use Rattle.opgp_octets.specs.declared.packet_type.PacketType.TheVariants.{UserAttribute}
-use Rattle.opgp_key.specs.AttributeBody.{AttributeFault}
-use Rattle.opgp_key.specs.KeyBody.{KeyFault}
-use Rattle.opgp_key.specs.LiteralBody.{LiteralFault}
-use Rattle.opgp_sig.specs.SignatureBody.{SignatureFault}
+use Rattle.opgp_packet.specs.AttributeBody.{AttributeFault}
+use Rattle.opgp_packet.specs.KeyBody.{KeyFault}
+use Rattle.opgp_packet.specs.LiteralBody.{LiteralFault}
+use Rattle.opgp_packet.specs.SignatureBody.{SignatureFault}
 
 -- The octets are no body of a packet of this type, and this is their first fault. Keys, attributes,
 -- literals and signatures may have one; a user ID is any octets, and of other types nothing is

@@ -5,10 +5,10 @@ use Rattle.std.specs.Prelude.{None, Result, Ok, Err, is_ok, nat_le, ◌==◌, if
 use Rattle.std.specs.Int.{w16, w32, from_be_bytes}
 use Rattle.opgp_octets.specs.declared.fault.BodyFault.{BodyFault}
 use Rattle.opgp_octets.specs.Reading.{number_at}
-use Rattle.opgp_key.specs.AttributeBody.{attribute}
-use Rattle.opgp_body.specs.FieldReading.{body_at}
-use Rattle.opgp_body.specs.Fields.{Field, amount}
-use Rattle.opgp_key.specs.KeyBody.{key}
+use Rattle.opgp_packet.specs.AttributeBody.{attribute}
+use Rattle.opgp_packet.specs.FieldReading.{body_at}
+use Rattle.opgp_packet.specs.Fields.{Field, amount}
+use Rattle.opgp_packet.specs.KeyBody.{key}
 use Rattle.opgp_hash.specs.QuestionValue.{QuestionValue, is_version, is_hash, salt_amount}
 use Rattle.opgp_hash.specs.Reading.{◌>>=◌, front_at, end_at}
 use Rattle.opgp_hash.specs.SubjectValue.{SubjectValue, binary, one, two, on_user_id, on_attribute}

@@ -1,9 +1,9 @@
 -- What is hashed of a signature itself (RFC 9580, 5.2.3, 5.2.4).
 use Rattle.std.specs.Prelude.{◌≡◌, ℕ, List, [], ◌∷◌, ◌++◌, Option, Some, None, unwrap_or}
 use Rattle.std.specs.List.{slice_get}
-use Rattle.opgp_body.specs.Fields.{Field, small, wide, integer, named, bare, subpackets, amount}
-use Rattle.opgp_body.specs.Subpackets.{subs_octets}
-use Rattle.opgp_sig.specs.SignatureBody.{SignatureValue, of_three, of_four, of_six, of_other}
+use Rattle.opgp_packet.specs.Fields.{Field, small, wide, integer, named, bare, subpackets, amount}
+use Rattle.opgp_packet.specs.Subpackets.{subs_octets}
+use Rattle.opgp_packet.specs.SignatureBody.{SignatureValue, of_three, of_four, of_six, of_other}
 use Rattle.opgp_hash.specs.Hashed.{area_hashed}
 
 pub record SignedValue : Type 0 where

@@ -1,6 +1,6 @@
 -- What a subject shows.
-use Rattle.opgp_key.specs.KeyView.{key_view_octets}
-use Rattle.opgp_key.specs.AttributeView.{attribute_view_octets}
+use Rattle.opgp_packet.specs.KeyView.{key_view_octets}
+use Rattle.opgp_packet.specs.AttributeView.{attribute_view_octets}
 use Rattle.opgp_hash.specs.declared.subject.Subject.{Subject}
 use Rattle.opgp_hash.specs.declared.subject.Subject.TheVariants.{Binary, One, Two, OnUserId}
 use Rattle.opgp_hash.specs.declared.subject.Subject.TheVariants.{OnAttribute}

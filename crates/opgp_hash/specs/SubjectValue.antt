@@ -3,9 +3,9 @@
 use Rattle.std.specs.Prelude.{ℕ, ◌^◌, ◌≤◌, Bool, true, ◌&&◌, ◌||◌, List, ◌∷◌, length}
 use Rattle.std.specs.Prelude.{◌==◌, nat_le, slice_index, Option, Some, None}
 use Rattle.opgp_octets.specs.Octets.{IsOctets, IsBodySized}
-use Rattle.opgp_body.specs.Fields.{Field, small, Body}
-use Rattle.opgp_key.specs.AttributeBody.{attribute}
-use Rattle.opgp_key.specs.KeyBody.{key}
+use Rattle.opgp_packet.specs.Fields.{Field, small, Body}
+use Rattle.opgp_packet.specs.AttributeBody.{attribute}
+use Rattle.opgp_packet.specs.KeyBody.{key}
 
 pub data SubjectValue : Type 0 where
   binary : List ℕ → SubjectValue

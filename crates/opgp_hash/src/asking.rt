@@ -2,8 +2,8 @@
 
 ghost use Rattle.std.specs.Prelude.{◌≡◌, true, IfSome, IfNone, IfOk, Some, None};
 ghost use Rattle.opgp_octets.specs.Reading.{Reads};
-ghost use Rattle.opgp_sig.specs.SigView.{sig_view_value, sig_view_octets};
-ghost use Rattle.opgp_sig.specs.Signature.{signature_value, signature_octets};
+ghost use Rattle.opgp_packet.specs.SigView.{sig_view_value, sig_view_octets};
+ghost use Rattle.opgp_packet.specs.Signature.{signature_value, signature_octets};
 ghost use Rattle.opgp_hash.specs.Asking.{ask_of, ask_at_of, asked, why_not};
 ghost use Rattle.opgp_hash.specs.Hashed.{front_hashed};
 ghost use Rattle.opgp_hash.specs.Question.{question_value};
@@ -21,7 +21,7 @@ use crate::site::Site;
 use crate::subject::Subject;
 use crate::why::Why;
 use opgp_octets::SignatureType;
-use opgp_sig::{SigView, Signature};
+use opgp_packet::{SigView, Signature};
 
 /// What the signature asks about the subject, or the first reason why it asks nothing. Takes no
 /// memory.

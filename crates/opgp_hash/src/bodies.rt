@@ -1,12 +1,12 @@
 //! The bodies that are hashed, with what is known of them.
 
 ghost use Rattle.std.specs.Prelude.{◌≡◌, ◌⊎◌, ◌≤◌, length};
-ghost use Rattle.opgp_key.specs.AttributeView.{attribute_view_octets};
-ghost use Rattle.opgp_key.specs.KeyView.{key_view_octets};
+ghost use Rattle.opgp_packet.specs.AttributeView.{attribute_view_octets};
+ghost use Rattle.opgp_packet.specs.KeyView.{key_view_octets};
 ghost use Rattle.opgp_octets.specs.Octets.{IsOctets, IsBodySized};
 ghost use Rattle.opgp_hash.specs.SubjectValue.{IsKeyOf, IsAttribute, version_of};
 
-use opgp_key::{AttributeView, KeyView};
+use opgp_packet::{AttributeView, KeyView};
 
 /// The body of a key of this version.
 pub(crate) fn key_body<'a>(key: &KeyView<'a>, version: u8) -> &'a [u8]

@@ -3,7 +3,7 @@
 ghost use Rattle.std.specs.Prelude.{◌≡◌, true, Some};
 ghost use Rattle.std.proofs.Props.{props};
 ghost use Rattle.sha2.specs.Hashers.{Holds224, Holds256, Holds384, Holds512};
-ghost use Rattle.opgp_key.specs.KeyView.{key_view_octets};
+ghost use Rattle.opgp_packet.specs.KeyView.{key_view_octets};
 ghost use Rattle.opgp_hash.specs.Hashed.{key_hashed, subject_hashed};
 ghost use Rattle.opgp_hash.specs.Hasher.{HoldsSha1};
 ghost use Rattle.opgp_hash.specs.HoldsProps.{sha1-prop, sha224-prop, sha256-prop};
@@ -19,7 +19,7 @@ use crate::kept::Kept;
 use crate::parts::Parts;
 use crate::question::Question;
 use crate::subject::Subject;
-use opgp_key::KeyView;
+use opgp_packet::KeyView;
 use opgp_octets::HashAlgorithm;
 use sha2::{Sha224, Sha256, Sha384, Sha512};
 

@@ -1,15 +1,15 @@
 //! What names a key: a hash of its body.
 
 ghost use Rattle.std.specs.Prelude.{◌≡◌, ◌≤◌, length};
-ghost use Rattle.opgp_key.specs.Key.{key_octets, key_value};
-ghost use Rattle.opgp_key.specs.KeyView.{key_view_octets, key_view_value};
+ghost use Rattle.opgp_packet.specs.Key.{key_octets, key_value};
+ghost use Rattle.opgp_packet.specs.KeyView.{key_view_octets, key_view_value};
 ghost use Rattle.opgp_hash.specs.Fingerprint.{fingerprint_of, four_hashed, six_hashed};
 ghost use Rattle.opgp_hash.specs.KeyId.{key_id_of};
 ghost use Rattle.sha1.specs.Sha1.{sha1};
 ghost use Rattle.sha2.specs.Sha256.{sha256};
 
 use crate::fingerprints::{Fingerprint, KeyId};
-use opgp_key::{Key, KeyView};
+use opgp_packet::{Key, KeyView};
 use sha1::Sha1;
 use sha2::{Digest, Sha256};
 

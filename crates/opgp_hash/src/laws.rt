@@ -15,8 +15,8 @@ pub fn one_body_fault()
     ensures { (kind : PacketType) (o : List ℕ) (f g : BodyFault) → IsOctets o
         → HasBodyFault kind o f → HasBodyFault kind o g → f ≡ g }
 {
-    opgp_body::laws::one_fault();
-    opgp_sig::laws::one_fault();
+    opgp_packet::field_laws::one_fault();
+    opgp_packet::signature_laws::one_fault();
 }
 
 /// A question is read of octets exactly where they are its hashed octets.
@@ -24,19 +24,19 @@ pub fn questions_are_reopened()
     ensures { (q : QuestionValue) (o : List ℕ) → IsOctets o
         → (question_at o ≡ Some q) ↔ (IsQuestion q × (hashed q ≡ o)) }
 {
-    opgp_body::laws::fields_are_read();
+    opgp_packet::field_laws::fields_are_read();
 }
 
 /// The hashed octets of a question are read again as that question.
 pub fn written_question()
     ensures { (q : QuestionValue) → IsQuestion q → question_at (hashed q) ≡ Some q }
 {
-    opgp_body::laws::fields_are_read();
+    opgp_packet::field_laws::fields_are_read();
 }
 
 /// Questions that differ in anything never have the same hashed octets.
 pub fn one_question()
     ensures { (q r : QuestionValue) → IsQuestion q → IsQuestion r → hashed q ≡ hashed r → q ≡ r }
 {
-    opgp_body::laws::fields_are_read();
+    opgp_packet::field_laws::fields_are_read();
 }

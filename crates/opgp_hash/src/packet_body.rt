@@ -5,9 +5,8 @@ ghost use Rattle.opgp_octets.specs.declared.fault.BodyFault.{BodyFault};
 ghost use Rattle.opgp_octets.specs.Octets.{IsBodySized};
 ghost use Rattle.opgp_hash.specs.PacketBody.{HasBodyFault};
 
-use opgp_key::{AttributeView, KeyView, Literal};
+use opgp_packet::{AttributeView, KeyView, Literal, SigView};
 use opgp_octets::{BodyFault, PacketType};
-use opgp_sig::SigView;
 
 /// The first fault of the body of a packet of this type, if it has one. Takes no memory.
 ///
@@ -18,8 +17,8 @@ pub fn body_fault(kind: PacketType, body: &[u8]) -> Option<BodyFault>
     ensures fault { IfSome result (HasBodyFault kind body.now) }
     ensures none { IfNone result ((f : BodyFault) → HasBodyFault kind body.now f → ⊥) }
 {
-    opgp_body::laws::no_fault();
-    opgp_sig::laws::no_fault();
+    opgp_packet::field_laws::no_fault();
+    opgp_packet::signature_laws::no_fault();
     match kind {
         PacketType::Signature => SigView::parse_body(body).err(),
         PacketType::PublicKey | PacketType::PublicSubkey => KeyView::parse_body(body).err(),

@@ -4,7 +4,7 @@ ghost use Rattle.std.specs.Prelude.{◌≡◌, ◌≤◌, ◌+◌, ◌++◌, ◌
 
 use crate::bodies::{attribute_body, key_body};
 use crate::question::Question;
-use opgp_key::{AttributeView, KeyView};
+use opgp_packet::{AttributeView, KeyView};
 
 /// So many octets.
 #[derive(Clone, Copy)]
@@ -44,8 +44,8 @@ pub(crate) struct Part<'a> {
 impl<'a> Part<'a> {
     ghost use Rattle.std.specs.Int.{w32, to_be_bytes};
     ghost use Rattle.opgp_octets.specs.Octets.{IsBodySized};
-    ghost use Rattle.opgp_key.specs.AttributeView.{attribute_view_octets};
-    ghost use Rattle.opgp_key.specs.KeyView.{key_view_octets};
+    ghost use Rattle.opgp_packet.specs.AttributeView.{attribute_view_octets};
+    ghost use Rattle.opgp_packet.specs.KeyView.{key_view_octets};
     ghost use Rattle.opgp_hash.specs.Hashed.{key_hashed, id_hashed, attribute_hashed};
     ghost use Rattle.opgp_hash.specs.Hashed.{front_hashed};
     ghost use Rattle.opgp_hash.specs.Part.{part_octets};

@@ -2,7 +2,7 @@
 
 ghost use Rattle.std.specs.Prelude.{◌≡◌, ◌≢◌, ◌+◌, ◌≤◌, ℕ, length, true, Some, IfSome, IfNone};
 ghost use Rattle.opgp_octets.specs.Octets.{IsBodySized};
-ghost use Rattle.opgp_key.specs.KeyView.{key_view_octets};
+ghost use Rattle.opgp_packet.specs.KeyView.{key_view_octets};
 ghost use Rattle.opgp_hash.specs.Hashed.{hashed};
 ghost use Rattle.opgp_hash.specs.Opened.{front_seen, trailer_seen};
 ghost use Rattle.opgp_hash.specs.Question.{question_value};
@@ -19,7 +19,7 @@ ghost use Rattle.opgp_hash.specs.SubjectValue.{are_keys_of, is_within, version_o
 use crate::kinds::{is_certification, is_hash, is_on_content, is_on_key, is_on_subkey};
 use crate::question::Question;
 use crate::subject::Subject;
-use opgp_key::{AttributeView, KeyView};
+use opgp_packet::{AttributeView, KeyView};
 use opgp_octets::{HashAlgorithm, u16_at, u32_at};
 
 /// What the front of a signature says.
@@ -50,7 +50,7 @@ pub fn reopen(o: &[u8]) -> Option<Question<'_>>
     ensures none { IfNone result ((q : QuestionValue) → IsQuestion q → hashed q ≡ o.now → ⊥) }
     ensures exact { Gives question_value result (question_at o.now) }
 {
-    opgp_body::laws::fields_are_read();
+    opgp_packet::field_laws::fields_are_read();
     read(o)
 }
 

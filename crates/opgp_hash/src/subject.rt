@@ -3,7 +3,7 @@
 ghost use Rattle.std.specs.Prelude.{◌≡◌, true};
 
 use crate::bodies::{are_octets, attribute_body, key_body};
-use opgp_key::{AttributeView, KeyView};
+use opgp_packet::{AttributeView, KeyView};
 
 /// What a signature is about (RFC 9580, 5.2.4).
 #[derive(Clone, Copy)]

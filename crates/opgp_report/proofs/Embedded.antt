@@ -1,9 +1,9 @@
 -- Rows of embedded signatures, in two areas.
 use Rattle.std.proofs.Common.{◌≡◌, ◌∙◌, ℕ, ◌+◌, List, [], ◌∷◌, ◌++◌, length, sym, ap, arith, append_assoc, subst}
-use Rattle.opgp_body.specs.Subpackets.{Sub}
+use Rattle.opgp_packet.specs.Subpackets.{Sub}
 use Rattle.opgp_hash.specs.declared.site.Site.TheVariants.{Embedded}
 use Rattle.opgp_hash.specs.SubjectValue.{SubjectValue}
-use Rattle.opgp_sig.specs.SignatureBody.{signature_at}
+use Rattle.opgp_packet.specs.SignatureBody.{signature_at}
 use Rattle.opgp_report.specs.declared.place.Place.{Place}
 use Rattle.opgp_report.specs.Report.{Says, row_at, nested_at, embedded_rows, embedding_bodies, bound_rows}
 use Rattle.opgp_report.specs.RowValue.{RowValue}

@@ -1,11 +1,11 @@
 -- Looking for what stands at a number of a list that is made of parts.
 use Rattle.std.specs.Prelude.{◌==◌, if◌then◌else◌, Bool, true}
 use Rattle.std.proofs.lemmas.List.{map-append}
-use Rattle.opgp_body.specs.Subpackets.{Sub}
+use Rattle.opgp_packet.specs.Subpackets.{Sub}
 use Rattle.opgp_hash.specs.declared.site.Site.TheVariants.{Embedded}
 use Rattle.opgp_hash.specs.SubjectValue.{SubjectValue}
-use Rattle.opgp_sig.specs.SignatureBody.{signature_at}
-use Rattle.opgp_sig.specs.SubView.{kind_shown}
+use Rattle.opgp_packet.specs.SignatureBody.{signature_at}
+use Rattle.opgp_packet.specs.SubView.{kind_shown}
 use Rattle.opgp_report.specs.Asked.{asked_in, embedded_asked, bound_asked}
 use Rattle.opgp_report.specs.Report.{embedding_bodies}
 use Rattle.std.proofs.Common.{◌≡◌, ◌∙◌, ℕ, ◌+◌, ◌<◌, List, [], ◌∷◌, ◌++◌, length, Some, refl, sym, ap, subst, arith, slice_get}

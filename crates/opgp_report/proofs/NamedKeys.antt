@@ -3,8 +3,8 @@ use Rattle.std.proofs.Common.{◌≡◌, ◌∙◌, ℕ, List, [], ◌∷◌, ma
 use Rattle.std.specs.Option.{option_map, option_and_then}
 use Rattle.std.proofs.lemmas.Option.{slice_get-map}
 use Rattle.opgp_hash.specs.declared.fingerprints.Fingerprint.{Fingerprint}
-use Rattle.opgp_key.specs.KeyView.{key_view_octets}
-use Rattle.opgp_sig.specs.SignatureBody.{SignatureValue}
+use Rattle.opgp_packet.specs.KeyView.{key_view_octets}
+use Rattle.opgp_packet.specs.SignatureBody.{SignatureValue}
 use Rattle.opgp_report.specs.declared.signers.Signer.{Signer}
 use Rattle.opgp_report.specs.First.{print_of}
 use Rattle.opgp_report.specs.Report.{signer_in}

@@ -7,8 +7,8 @@ use Rattle.std.proofs.lemmas.List.{map-append}
 use Rattle.std.proofs.lemmas.List.Elements.{All-head, All-tail, filter-append}
 use Rattle.opgp_octets.specs.declared.fault.BodyFault.{BodyFault}
 use Rattle.opgp_frame.specs.Packet.{PacketValue}
-use Rattle.opgp_sig.specs.Areas.{hashed_subs, unhashed_subs}
-use Rattle.opgp_sig.specs.SignatureBody.{SignatureValue, signature_at}
+use Rattle.opgp_packet.specs.Areas.{hashed_subs, unhashed_subs}
+use Rattle.opgp_packet.specs.SignatureBody.{SignatureValue, signature_at}
 use Rattle.opgp_hash.specs.declared.site.Site.{Site}
 use Rattle.opgp_hash.specs.declared.site.Site.TheVariants.{Embedded}
 use Rattle.opgp_hash.specs.SignedValue.{SignedValue, signed_of}

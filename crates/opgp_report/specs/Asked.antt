@@ -4,10 +4,10 @@ use Rattle.std.specs.Prelude.{Option, Some, None, Result, Ok, Err, slice_get}
 use Rattle.std.specs.List.{flat_map}
 use Rattle.opgp_octets.specs.declared.fault.BodyFault.{BodyFault}
 use Rattle.opgp_octets.specs.Reading.{Reads}
-use Rattle.opgp_body.specs.Subpackets.{Sub}
+use Rattle.opgp_packet.specs.Subpackets.{Sub}
 use Rattle.opgp_frame.specs.Packet.{PacketValue}
-use Rattle.opgp_sig.specs.Areas.{hashed_subs, unhashed_subs}
-use Rattle.opgp_sig.specs.SignatureBody.{SignatureValue, signature_at}
+use Rattle.opgp_packet.specs.Areas.{hashed_subs, unhashed_subs}
+use Rattle.opgp_packet.specs.SignatureBody.{SignatureValue, signature_at}
 use Rattle.opgp_hash.specs.declared.site.Site.{Site}
 use Rattle.opgp_hash.specs.declared.site.Site.TheVariants.{Hung, Embedded}
 use Rattle.opgp_hash.specs.declared.why.Why.{Why}

@@ -2,8 +2,8 @@
 use Rattle.std.specs.Prelude.{ℕ, zero, suc, List, [], ◌∷◌, Option, Some, None, take}
 use Rattle.std.specs.Prelude.{if◌then◌else◌}
 use Rattle.std.specs.Str.{bytes_eq}
-use Rattle.opgp_body.specs.Fields.{Field, small, wide, integer, named, bare, subpackets}
-use Rattle.opgp_sig.specs.SignatureBody.{SignatureValue, of_three, of_four, of_six, of_other}
+use Rattle.opgp_packet.specs.Fields.{Field, small, wide, integer, named, bare, subpackets}
+use Rattle.opgp_packet.specs.SignatureBody.{SignatureValue, of_three, of_four, of_six, of_other}
 use Rattle.opgp_hash.specs.Digest.{digest_octets}
 use Rattle.opgp_report.specs.declared.verifier.Verdict.{Verdict}
 use Rattle.opgp_report.specs.declared.verifier.Verdict.TheVariants.{Bad, Undecided}

@@ -5,11 +5,11 @@ use Rattle.std.specs.Prelude.{Option, Some, None, Result, Ok, Err, map, slice_ge
 use Rattle.std.specs.List.{flat_map}
 use Rattle.std.specs.Option.{option_map, option_and_then}
 use Rattle.opgp_octets.specs.declared.fault.BodyFault.{BodyFault}
-use Rattle.opgp_body.specs.Subpackets.{Sub}
+use Rattle.opgp_packet.specs.Subpackets.{Sub}
 use Rattle.opgp_frame.specs.Packet.{PacketValue}
-use Rattle.opgp_sig.specs.Areas.{hashed_subs, unhashed_subs}
-use Rattle.opgp_sig.specs.SignatureBody.{SignatureValue, signature_at}
-use Rattle.opgp_sig.specs.SubView.{kind_shown}
+use Rattle.opgp_packet.specs.Areas.{hashed_subs, unhashed_subs}
+use Rattle.opgp_packet.specs.SignatureBody.{SignatureValue, signature_at}
+use Rattle.opgp_packet.specs.SubView.{kind_shown}
 use Rattle.opgp_hash.specs.declared.site.Site.{Site}
 use Rattle.opgp_hash.specs.declared.site.Site.TheVariants.{Hung, Embedded}
 use Rattle.opgp_hash.specs.declared.why.Why.{Why}

@@ -1,8 +1,8 @@
 -- What the rows of a report show.
 use Rattle.std.specs.Prelude.{List, map}
 use Rattle.std.specs.Option.{option_map}
-use Rattle.opgp_key.specs.KeyView.{key_view_octets}
-use Rattle.opgp_sig.specs.SigView.{sig_view_value}
+use Rattle.opgp_packet.specs.KeyView.{key_view_octets}
+use Rattle.opgp_packet.specs.SigView.{sig_view_value}
 use Rattle.opgp_report.specs.declared.report.Report.{Report}
 use Rattle.opgp_report.specs.declared.row.Finding.{Finding}
 use Rattle.opgp_report.specs.declared.row.Finding.TheVariants.{Asked, NotAsked}

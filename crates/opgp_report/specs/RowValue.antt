@@ -1,6 +1,6 @@
 -- The rows of a report, and what a verifier is asked, without where their octets lie.
 use Rattle.std.specs.Prelude.{ℕ, List, Option}
-use Rattle.opgp_sig.specs.SignatureBody.{SignatureValue}
+use Rattle.opgp_packet.specs.SignatureBody.{SignatureValue}
 use Rattle.opgp_hash.specs.declared.digests.Digest.{Digest}
 use Rattle.opgp_hash.specs.declared.why.Why.{Why}
 use Rattle.opgp_report.specs.declared.place.Place.{Place}

@@ -1,10 +1,10 @@
 -- Which key made a signature, as its subpackets say (RFC 9580, 5.2.3.12, 5.2.3.35).
 use Rattle.std.specs.Prelude.{ℕ, ◌==◌, ◌&&◌, ◌||◌, if◌then◌else◌, List, [], ◌∷◌, length, Option}
 use Rattle.std.specs.Prelude.{Some, None}
-use Rattle.opgp_body.specs.Subpackets.{Sub}
-use Rattle.opgp_sig.specs.Areas.{hashed_subs, unhashed_subs}
-use Rattle.opgp_sig.specs.SignatureBody.{SignatureValue}
-use Rattle.opgp_sig.specs.SubView.{kind_shown}
+use Rattle.opgp_packet.specs.Subpackets.{Sub}
+use Rattle.opgp_packet.specs.Areas.{hashed_subs, unhashed_subs}
+use Rattle.opgp_packet.specs.SignatureBody.{SignatureValue}
+use Rattle.opgp_packet.specs.SubView.{kind_shown}
 use Rattle.opgp_hash.specs.declared.fingerprints.Fingerprint.{Fingerprint}
 use Rattle.opgp_report.specs.First.{first_by_id, first_by_print}
 

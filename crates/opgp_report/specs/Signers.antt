@@ -1,6 +1,6 @@
 -- What the keys of a keyring show that can be named as signers.
 use Rattle.std.specs.Prelude.{ℕ, List, map}
-use Rattle.opgp_key.specs.KeyView.{key_view_octets}
+use Rattle.opgp_packet.specs.KeyView.{key_view_octets}
 use Rattle.opgp_report.specs.declared.signers.Signers.{Signers}
 
 -- their bodies, in order

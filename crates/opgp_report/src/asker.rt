@@ -8,8 +8,8 @@ ghost use Rattle.opgp_hash.specs.QuestionValue.{QuestionValue};
 ghost use Rattle.opgp_hash.specs.declared.why.Why.{Why};
 ghost use Rattle.opgp_octets.specs.Octets.{IsBodySized};
 ghost use Rattle.opgp_octets.specs.Reading.{Reads};
-ghost use Rattle.opgp_sig.specs.SignatureBody.{signature_at};
-ghost use Rattle.opgp_sig.specs.SigView.{sig_view_value};
+ghost use Rattle.opgp_packet.specs.SignatureBody.{signature_at};
+ghost use Rattle.opgp_packet.specs.SigView.{sig_view_value};
 ghost use Rattle.opgp_report.specs.Asker.{asker_keys};
 ghost use Rattle.opgp_report.specs.Report.{finding_of, row_at};
 ghost use Rattle.opgp_report.specs.Row.{finding_value, row_value};
@@ -20,7 +20,7 @@ use crate::row::{Finding, Row};
 use crate::signers::{Signers, id_of, key_of};
 use crate::verifier::{Job, Verifier};
 use opgp_hash::{CertificateHasher, Question, Site, Why, ask_at};
-use opgp_sig::SigView;
+use opgp_packet::SigView;
 
 /// What rows are made with: the keys that may be signers, and who is asked.
 #[derive(Drop)]

@@ -6,11 +6,11 @@ ghost use Rattle.std.specs.Option.{option_map};
 ghost use Rattle.opgp_hash.specs.Question.{question_value};
 ghost use Rattle.opgp_hash.specs.Subject.{subject_value};
 ghost use Rattle.opgp_hash.specs.SubjectValue.{is_within};
-ghost use Rattle.opgp_key.specs.KeyView.{key_view_octets};
-ghost use Rattle.opgp_sig.specs.Signature.{signature_octets};
-ghost use Rattle.opgp_sig.specs.SignatureBody.{signature_at};
-ghost use Rattle.opgp_sig.specs.SigView.{sig_view_value};
-ghost use Rattle.opgp_sig.specs.Subs.{subs_to_come};
+ghost use Rattle.opgp_packet.specs.KeyView.{key_view_octets};
+ghost use Rattle.opgp_packet.specs.Signature.{signature_octets};
+ghost use Rattle.opgp_packet.specs.SignatureBody.{signature_at};
+ghost use Rattle.opgp_packet.specs.SigView.{sig_view_value};
+ghost use Rattle.opgp_packet.specs.Subs.{subs_to_come};
 ghost use Rattle.opgp_octets.specs.Octets.{IsBodySized};
 ghost use Rattle.opgp_octets.specs.Reading.{Reads};
 ghost use Rattle.opgp_report.specs.Asked.{Finds, asked_in, asked_of, bound_asked, certificate_asked};
@@ -21,10 +21,9 @@ ghost use Rattle.opgp_report.specs.Report.{embedding_bodies};
 use crate::found::Found;
 use crate::rows::{is_on_two, subject_on};
 use opgp_hash::{Question, Site, Subject, Why, ask_at};
-use opgp_key::KeyView;
+use opgp_packet::{KeyView, SigView, Signature, Subs};
 use opgp_octets::SignatureType;
 use opgp_ring::{Certificate, Component, Content, Keyring, Member};
-use opgp_sig::{SigView, Signature, Subs};
 
 /// Among what is embedded.
 fn in_embedded<'a>(subject: Subject<'a>, mut subpackets: Subs<'a>, row: usize) -> Found<'a>
@@ -106,7 +105,7 @@ fn in_signature<'a>(subject: Subject<'a>, signature: &'a Signature, row: usize) 
     ensures { Finds result (value_asked (subject_value subject.entry)
         (signature_at (signature_octets signature.now))) row }
 {
-    opgp_sig::laws::written_signature();
+    opgp_packet::signature_laws::written_signature();
     let view = signature.view();
     if row == 0 {
         return Found::At(ask_at(Site::Hung, view, subject));

@@ -5,11 +5,11 @@ ghost use Rattle.std.specs.Prelude.{Some, None, OnOk, IfOk};
 ghost use Rattle.opgp_hash.specs.CertificateHasher.{hasher_subject};
 ghost use Rattle.opgp_hash.specs.Subject.{subject_value};
 ghost use Rattle.opgp_hash.specs.SubjectValue.{first_key, is_within};
-ghost use Rattle.opgp_key.specs.KeyView.{key_view_octets};
-ghost use Rattle.opgp_sig.specs.Signature.{signature_octets};
-ghost use Rattle.opgp_sig.specs.SignatureBody.{signature_at};
-ghost use Rattle.opgp_sig.specs.SigView.{sig_view_value};
-ghost use Rattle.opgp_sig.specs.Subs.{subs_to_come};
+ghost use Rattle.opgp_packet.specs.KeyView.{key_view_octets};
+ghost use Rattle.opgp_packet.specs.Signature.{signature_octets};
+ghost use Rattle.opgp_packet.specs.SignatureBody.{signature_at};
+ghost use Rattle.opgp_packet.specs.SigView.{sig_view_value};
+ghost use Rattle.opgp_packet.specs.Subs.{subs_to_come};
 ghost use Rattle.opgp_report.specs.Asker.{asker_keys};
 ghost use Rattle.opgp_report.specs.Report.{bound_rows, certificate_rows, certificates_rows};
 ghost use Rattle.opgp_report.specs.Report.{components_rows};
@@ -22,10 +22,9 @@ use crate::place::Place;
 use crate::row::Row;
 use crate::verifier::Verifier;
 use opgp_hash::{CertificateHasher, Site, Subject};
-use opgp_key::KeyView;
+use opgp_packet::{KeyView, SigView, Signature, Subs};
 use opgp_octets::{OutOfMemory, SignatureType};
 use opgp_ring::{Certificate, Component, Content, Head, Member};
-use opgp_sig::{SigView, Signature, Subs};
 
 /// Adds a row for each signature that is embedded in the one that hangs in a place, numbered from
 /// here, and answers the number behind the last. An error is want of memory.
@@ -144,7 +143,7 @@ fn add_signature<V: Verifier>(
         ++ value_rows (V.says asker.now.verifier.now) (asker_keys asker.now)
         (hasher_subject hasher.old) place (signature_at (signature_octets signature.now))) }
 {
-    opgp_sig::laws::written_signature();
+    opgp_packet::signature_laws::written_signature();
     let view = signature.view();
     rows.push(asker.row(hasher, Site::Hung, place, view))?;
     add_inner(rows, asker, hasher, place, view)

@@ -4,8 +4,8 @@ ghost use Rattle.std.specs.Prelude.{◌≡◌, ◌++◌, ◌∷◌, [], map, IfO
 ghost use Rattle.std.specs.List.{flat_map};
 ghost use Rattle.std.specs.Option.{option_map};
 ghost use Rattle.opgp_hash.specs.KeyId.{id_of};
-ghost use Rattle.opgp_key.specs.KeyView.{key_view_octets};
-ghost use Rattle.opgp_sig.specs.SigView.{sig_view_value};
+ghost use Rattle.opgp_packet.specs.KeyView.{key_view_octets};
+ghost use Rattle.opgp_packet.specs.SigView.{sig_view_value};
 ghost use Rattle.opgp_report.specs.First.{print_of};
 ghost use Rattle.opgp_report.specs.Names.{prints_shown};
 ghost use Rattle.opgp_report.specs.Report.{certificate_keys, keys_in, signer_in, subkey_bodies};
@@ -13,10 +13,9 @@ ghost use Rattle.opgp_report.specs.Report.{certificate_keys, keys_in, signer_in,
 use crate::names::Names;
 use crate::signing::signer;
 use opgp_hash::{Fingerprint, KeyId, fingerprint_of_view};
-use opgp_key::KeyView;
+use opgp_packet::{KeyView, SigView};
 use opgp_octets::OutOfMemory;
 use opgp_ring::{Certificate, Component, Head, Keyring};
-use opgp_sig::SigView;
 use std::alloc::Global;
 
 /// A key, with its key ID.

@@ -2,14 +2,14 @@
 
 ghost use Rattle.std.specs.Prelude.{◌≡◌, ℕ, List};
 ghost use Rattle.std.specs.Option.{option_map};
-ghost use Rattle.opgp_sig.specs.SigView.{sig_view_value};
-ghost use Rattle.opgp_sig.specs.Subs.{subs_to_come};
-ghost use Rattle.opgp_sig.specs.SubView.{sub_shown};
+ghost use Rattle.opgp_packet.specs.SigView.{sig_view_value};
+ghost use Rattle.opgp_packet.specs.Subs.{subs_to_come};
+ghost use Rattle.opgp_packet.specs.SubView.{sub_shown};
 ghost use Rattle.opgp_report.specs.Names.{prints_shown};
 ghost use Rattle.opgp_report.specs.Signer.{print_in, id_in, first_some, signer_by, signer_of};
 
 use crate::names::Names;
-use opgp_sig::{SigView, SubView, Subs};
+use opgp_packet::{SigView, SubView, Subs};
 
 /// The place of the key that made the signature: the first key with the fingerprint that its hashed
 /// area names, or else with the key ID that one of its areas names (RFC 9580, 5.2.3.12, 5.2.3.35).

@@ -6,8 +6,7 @@ ghost use Rattle.opgp_report.specs.RowValue.{JobValue};
 ghost use Rattle.opgp_report.specs.declared.verifier.Verdict.{Verdict};
 
 use opgp_hash::Digest;
-use opgp_key::KeyView;
-use opgp_sig::SigView;
+use opgp_packet::{KeyView, SigView};
 
 /// What a verifier says of a signature.
 #[derive(Clone, Copy, Debug, PartialEq, Eq)]

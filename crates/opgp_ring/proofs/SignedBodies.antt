@@ -7,8 +7,8 @@ use Rattle.std.proofs.lemmas.List.Elements.{filter-append}
 use Rattle.opgp_frame.specs.Packet.{PacketValue}
 use Rattle.opgp_octets.specs.PacketType.{packet_type_of}
 use Rattle.opgp_octets.specs.declared.fault.BodyFault.{BodyFault}
-use Rattle.opgp_key.specs.LiteralBody.{LiteralFault}
-use Rattle.opgp_sig.specs.SignatureBody.{SignatureFault}
+use Rattle.opgp_packet.specs.LiteralBody.{LiteralFault}
+use Rattle.opgp_packet.specs.SignatureBody.{SignatureFault}
 use Rattle.opgp_hash.specs.PacketBody.{HasBodyFault}
 use Rattle.opgp_ring.specs.Bodies.{HasNoFault}
 use Rattle.opgp_ring.specs.Keyring.{is_filler}

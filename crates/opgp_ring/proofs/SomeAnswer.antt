@@ -12,13 +12,13 @@ use Rattle.opgp_octets.specs.declared.fault.BodyFault.{BodyFault}
 use Rattle.opgp_octets.specs.declared.fault.Reason.TheVariants.{NoPrimary, NotInKeyring, CertTooLong, BlockLabel}
 use Rattle.opgp_octets.specs.declared.packet_type.PacketType.{PacketType}
 use Rattle.opgp_octets.specs.declared.packet_type.PacketType.TheVariants.{Signature, PublicKey, PublicSubkey, LiteralData, UserAttribute}
-use Rattle.opgp_body.specs.Fields.{Grammar, Field, Body, FirstFault}
+use Rattle.opgp_packet.specs.Fields.{Grammar, Field, Body, FirstFault}
 use Rattle.opgp_frame.specs.declared.packet.Placed.{Placed}
 use Rattle.opgp_frame.specs.Packet.{PacketValue}
-use Rattle.opgp_key.specs.AttributeBody.{attribute}
-use Rattle.opgp_key.specs.KeyBody.{key}
-use Rattle.opgp_key.specs.LiteralBody.{literal}
-use Rattle.opgp_sig.specs.SignatureBody.{SignatureValue, Spells, SignatureFault}
+use Rattle.opgp_packet.specs.AttributeBody.{attribute}
+use Rattle.opgp_packet.specs.KeyBody.{key}
+use Rattle.opgp_packet.specs.LiteralBody.{literal}
+use Rattle.opgp_packet.specs.SignatureBody.{SignatureValue, Spells, SignatureFault}
 use Rattle.opgp_hash.specs.PacketBody.{HasBodyFault}
 use Rattle.opgp_ring.specs.Bodies.{HasNoFault, placed_fault}
 use Rattle.opgp_ring.specs.Composed.{HasOctets, IsFault, IsKeyringOf}

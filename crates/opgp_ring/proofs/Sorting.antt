@@ -6,7 +6,7 @@ use Rattle.opgp_octets.specs.declared.fault.BodyFault.{BodyFault}
 use Rattle.opgp_octets.specs.declared.packet_type.PacketType.{PacketType}
 use Rattle.opgp_octets.specs.declared.packet_type.PacketType.TheVariants.{Signature, PublicKey, PublicSubkey, LiteralData, UserId, UserAttribute}
 use Rattle.opgp_octets.specs.Octets.{IsOctets}
-use Rattle.opgp_body.specs.Fields.{Grammar, Field, Body, FirstFault}
+use Rattle.opgp_packet.specs.Fields.{Grammar, Field, Body, FirstFault}
 use Rattle.opgp_frame.specs.Packet.{PacketValue}
 use Rattle.opgp_ring.specs.Bodies.{HasFault}
 use Rattle.opgp_hash.specs.PacketBody.{HasBodyFault}

@@ -1,9 +1,9 @@
 -- The packets of a keyring as they are lent: each with what its body holds.
 use Rattle.opgp_frame.specs.Packet.{PacketValue}
-use Rattle.opgp_key.specs.Attribute.{attribute_octets}
-use Rattle.opgp_key.specs.Key.{key_octets}
-use Rattle.opgp_key.specs.UserId.{user_id_octets}
-use Rattle.opgp_sig.specs.Signature.{signature_octets}
+use Rattle.opgp_packet.specs.Attribute.{attribute_octets}
+use Rattle.opgp_packet.specs.Key.{key_octets}
+use Rattle.opgp_packet.specs.UserId.{user_id_octets}
+use Rattle.opgp_packet.specs.Signature.{signature_octets}
 use Rattle.opgp_ring.specs.declared.lent.Hang.{Hang}
 use Rattle.opgp_ring.specs.declared.lent.Hang.TheVariants as hang
 use Rattle.opgp_ring.specs.declared.lent.Head.{Head}

@@ -2,10 +2,10 @@
 use Rattle.std.specs.Prelude.{◌≡◌, ℕ, true, List}
 use Rattle.opgp_frame.specs.declared.form.Form.{Form}
 use Rattle.opgp_frame.specs.Packet.{PacketValue, IsPacket}
-use Rattle.opgp_key.specs.Key.{key_octets}
-use Rattle.opgp_key.specs.UserId.{user_id_octets}
-use Rattle.opgp_key.specs.Attribute.{attribute_octets}
-use Rattle.opgp_sig.specs.Signature.{signature_octets}
+use Rattle.opgp_packet.specs.Key.{key_octets}
+use Rattle.opgp_packet.specs.UserId.{user_id_octets}
+use Rattle.opgp_packet.specs.Attribute.{attribute_octets}
+use Rattle.opgp_packet.specs.Signature.{signature_octets}
 use Rattle.opgp_ring.specs.declared.content.Content.{Content}
 use Rattle.opgp_ring.specs.declared.content.Content.TheVariants.{Primary, Subkey, UserId}
 use Rattle.opgp_ring.specs.declared.content.Content.TheVariants.{Attribute, Signature, Filler}

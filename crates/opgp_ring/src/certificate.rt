@@ -12,7 +12,7 @@ use crate::copying::copy_all;
 use crate::member::Member;
 use crate::reframing::{reframe_components, reframe_members};
 use opgp_frame::Packet;
-use opgp_key::Key;
+use opgp_packet::Key;
 use opgp_octets::OutOfMemory;
 use std::alloc::Global;
 use std::marker::Model;
@@ -45,7 +45,7 @@ impl Model for Certificate {
 }
 
 impl Certificate {
-    ghost use Rattle.opgp_key.specs.Key.{key_octets};
+    ghost use Rattle.opgp_packet.specs.Key.{key_octets};
 
     /// A certificate of a primary key alone. Takes no memory.
     pub(crate) fn new(alloc: Global, primary: Member) -> Certificate

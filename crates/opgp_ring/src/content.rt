@@ -1,8 +1,7 @@
 //! What packets of a keyring hold.
 
 use opgp_frame::{Form, Packet};
-use opgp_key::{Attribute, Key, UserId};
-use opgp_sig::Signature;
+use opgp_packet::{Attribute, Key, Signature, UserId};
 
 /// A packet of a keyring (RFC 9580, 10.1): the form of its header, and its body, read.
 #[derive(Drop)]

@@ -60,10 +60,10 @@ pub fn some_answer()
         → ((r : KeyringValue) × IsKeyringOf limits items r)
         ⊎ ((f : Fault) × IsFault limits items f) }
 {
-    opgp_body::laws::some_answer();
-    opgp_body::laws::no_fault();
-    opgp_sig::laws::some_answer();
-    opgp_sig::laws::no_fault();
+    opgp_packet::field_laws::some_answer();
+    opgp_packet::field_laws::no_fault();
+    opgp_packet::signature_laws::some_answer();
+    opgp_packet::signature_laws::no_fault();
 }
 
 /// Behind the packets of a keyring, a packet is told as too long exactly where it would make them
@@ -105,8 +105,8 @@ pub fn some_signed_answer()
         → ((ps : List PacketValue) × IsSignedOf items ps)
         ⊎ ((f : Fault) × IsSignedFault items f) }
 {
-    opgp_body::laws::some_answer();
-    opgp_body::laws::no_fault();
-    opgp_sig::laws::some_answer();
-    opgp_sig::laws::no_fault();
+    opgp_packet::field_laws::some_answer();
+    opgp_packet::field_laws::no_fault();
+    opgp_packet::signature_laws::some_answer();
+    opgp_packet::signature_laws::no_fault();
 }

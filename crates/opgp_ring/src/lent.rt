@@ -1,8 +1,7 @@
 //! Packets of a keyring as they are lent, by the place that they have.
 
 use opgp_frame::{Form, Packet};
-use opgp_key::{Attribute, Key, UserId};
-use opgp_sig::Signature;
+use opgp_packet::{Attribute, Key, Signature, UserId};
 
 /// What hangs on a primary key, a user ID, an attribute or a subkey (RFC 9580, 10.1).
 #[derive(Clone, Copy)]

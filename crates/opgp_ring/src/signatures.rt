@@ -1,12 +1,12 @@
 //! The signatures of a literal, one after the other.
 
 ghost use Rattle.std.specs.Prelude.{◌≡◌, ◌∷◌, [], All, IfSome, MatchOption};
-ghost use Rattle.opgp_sig.specs.SigView.{sig_view_octets};
+ghost use Rattle.opgp_packet.specs.SigView.{sig_view_octets};
 ghost use Rattle.opgp_ring.specs.Bodies.{HasNoFault};
 ghost use Rattle.opgp_ring.specs.Signed.{bodies_of};
 
 use opgp_frame::Packet;
-use opgp_sig::SigView;
+use opgp_packet::SigView;
 
 /// The signatures that are left, in order. Takes no memory.
 #[derive(Clone, Copy)]

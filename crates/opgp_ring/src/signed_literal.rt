@@ -1,14 +1,14 @@
 //! A literal and the signatures of it.
 
 ghost use Rattle.std.specs.Prelude.{◌≡◌, ◌∷◌, [], List, length, All, IfOk};
-ghost use Rattle.opgp_key.specs.LiteralView.{literal_view_octets};
+ghost use Rattle.opgp_packet.specs.LiteralView.{literal_view_octets};
 ghost use Rattle.opgp_ring.specs.Bodies.{HasNoFault};
 ghost use Rattle.opgp_ring.specs.Signed.{IsSigned, bodies_of};
 
 use crate::copying::copy_all;
 use crate::signatures::{Signatures, first_of};
 use opgp_frame::Packet;
-use opgp_key::LiteralView;
+use opgp_packet::LiteralView;
 use opgp_octets::OutOfMemory;
 use std::alloc::Global;
 

@@ -9,9 +9,8 @@ ghost use Rattle.opgp_ring.specs.Sorted.{IsSorted, sorted_packet};
 use crate::content::Content;
 use crate::member::Member;
 use opgp_frame::Packet;
-use opgp_key::{Attribute, Key, Literal, UserId};
+use opgp_packet::{Attribute, Key, Literal, Signature, UserId};
 use opgp_octets::{BodyFault, PacketType};
-use opgp_sig::Signature;
 
 /// A packet by the place that it has in keyrings.
 #[derive(Drop)]
@@ -34,8 +33,8 @@ pub(crate) fn sort(packet: Packet) -> Result<Sorted, BodyFault>
     ensures sound { OnOk result (HasNoFault packet) }
     ensures fault { IfErr result (HasFault packet) }
 {
-    opgp_body::laws::no_fault();
-    opgp_sig::laws::no_fault();
+    opgp_packet::field_laws::no_fault();
+    opgp_packet::signature_laws::no_fault();
     match PacketType::from(packet.kind()) {
         PacketType::Signature => {
             let (form, _, body) = packet.into_parts();

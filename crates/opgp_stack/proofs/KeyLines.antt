@@ -1,11 +1,11 @@
 -- The line of a key.
 use Rattle.std.proofs.Common.{◌≡◌, ℕ, List, ap, Result, Ok}
 use Rattle.opgp_octets.specs.declared.fault.BodyFault.{BodyFault}
-use Rattle.opgp_body.specs.FieldReading.{body_at}
-use Rattle.opgp_body.specs.Fields.{Field}
-use Rattle.opgp_key.specs.declared.key.Key.{Key}
-use Rattle.opgp_key.specs.Key.{key_octets, key_value}
-use Rattle.opgp_key.specs.KeyBody.{key, key_fields}
+use Rattle.opgp_packet.specs.FieldReading.{body_at}
+use Rattle.opgp_packet.specs.Fields.{Field}
+use Rattle.opgp_packet.specs.declared.key.Key.{Key}
+use Rattle.opgp_packet.specs.Key.{key_octets, key_value}
+use Rattle.opgp_packet.specs.KeyBody.{key, key_fields}
 use Rattle.opgp_stack.specs.Listing.{fields_of, key_line, key_text, number_at}
 
 pub key_line_is : ((k : Key) → body_at key (key_octets k) ≡ Ok (key_fields (key_value k))) → (word : List ℕ) (k : Key)

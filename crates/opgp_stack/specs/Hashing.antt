@@ -1,16 +1,16 @@
 -- What the signatures of a signed literal ask (RFC 9580, 5.2.4, 10.3).
 use Rattle.std.specs.Prelude.{ℕ, List, [], ◌∷◌, map, Result, Ok, Err}
 use Rattle.opgp_octets.specs.declared.fault.BodyFault.{BodyFault}
-use Rattle.opgp_body.specs.FieldReading.{body_at}
-use Rattle.opgp_body.specs.Fields.{Field, bare}
+use Rattle.opgp_packet.specs.FieldReading.{body_at}
+use Rattle.opgp_packet.specs.Fields.{Field, bare}
 use Rattle.opgp_frame.specs.Packet.{PacketValue}
 use Rattle.opgp_hash.specs.declared.why.Why.TheVariants.{Opaque}
 use Rattle.opgp_hash.specs.Asking.{ask_of}
 use Rattle.opgp_hash.specs.SubjectValue.{binary}
-use Rattle.opgp_key.specs.LiteralBody.{literal}
+use Rattle.opgp_packet.specs.LiteralBody.{literal}
 use Rattle.opgp_report.specs.Asked.{Asked}
 use Rattle.opgp_ring.specs.Signed.{bodies_of}
-use Rattle.opgp_sig.specs.SignatureBody.{SignatureValue, signature_at}
+use Rattle.opgp_packet.specs.SignatureBody.{SignatureValue, signature_at}
 
 -- the fourth field of a literal is its content (5.9)
 abbrev pub content_of : Result (List Field) BodyFault → List ℕ

@@ -5,15 +5,15 @@ use Rattle.std.specs.Fmt.{decimal}
 use Rattle.std.specs.List.{flat_map}
 use Rattle.hex.specs.Hex.{encode_upper}
 use Rattle.opgp_octets.specs.declared.fault.BodyFault.{BodyFault}
-use Rattle.opgp_body.specs.AreaReading.{subs_in}
-use Rattle.opgp_body.specs.FieldReading.{body_at}
-use Rattle.opgp_body.specs.Fields.{Field, small, wide, integer, named, bare, subpackets}
+use Rattle.opgp_packet.specs.AreaReading.{subs_in}
+use Rattle.opgp_packet.specs.FieldReading.{body_at}
+use Rattle.opgp_packet.specs.Fields.{Field, small, wide, integer, named, bare, subpackets}
 use Rattle.opgp_frame.specs.Packet.{PacketValue}
 use Rattle.opgp_hash.specs.Fingerprint.{fingerprint_of, print_octets}
 use Rattle.opgp_hash.specs.KeyId.{key_id_of}
-use Rattle.opgp_key.specs.KeyBody.{key}
-use Rattle.opgp_sig.specs.SignatureBody.{SignatureValue, of_three, of_four, of_six, of_other}
-use Rattle.opgp_sig.specs.SignatureBody.{signature_at}
+use Rattle.opgp_packet.specs.KeyBody.{key}
+use Rattle.opgp_packet.specs.SignatureBody.{SignatureValue, of_three, of_four, of_six, of_other}
+use Rattle.opgp_packet.specs.SignatureBody.{signature_at}
 use Rattle.opgp_stream.specs.Texts.{escaped}
 
 -- ---- numbers of a body

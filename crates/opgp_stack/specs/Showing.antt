@@ -6,16 +6,16 @@ use Rattle.std.specs.List.{flat_map}
 use Rattle.opgp_octets.specs.declared.fault.BodyFault.{BodyFault}
 use Rattle.opgp_octets.specs.SubLen.{sub_len_amount}
 use Rattle.opgp_octets.specs.SubpacketKind.{subpacket_kind_of}
-use Rattle.opgp_body.specs.Subpackets.{Sub}
+use Rattle.opgp_packet.specs.Subpackets.{Sub}
 use Rattle.opgp_frame.specs.declared.form.Form.{Form}
 use Rattle.opgp_frame.specs.declared.form.Form.TheVariants.{OldOne, OldTwo, OldFour, NewOne, NewTwo}
 use Rattle.opgp_frame.specs.declared.form.Form.TheVariants.{NewFive, Partial}
 use Rattle.opgp_frame.specs.declared.packet.Placed.{Placed}
-use Rattle.opgp_sig.specs.Areas.{hashed_subs, unhashed_subs}
-use Rattle.opgp_sig.specs.Meaning.{Meaning, unfit, unknown}
-use Rattle.opgp_sig.specs.MeaningReading.{meaning_of}
-use Rattle.opgp_sig.specs.SignatureBody.{SignatureValue, signature_at}
-use Rattle.opgp_sig.specs.SubView.{is_critical, kind_shown}
+use Rattle.opgp_packet.specs.Areas.{hashed_subs, unhashed_subs}
+use Rattle.opgp_packet.specs.Meaning.{Meaning, unfit, unknown}
+use Rattle.opgp_packet.specs.MeaningReading.{meaning_of}
+use Rattle.opgp_packet.specs.SignatureBody.{SignatureValue, signature_at}
+use Rattle.opgp_packet.specs.SubView.{is_critical, kind_shown}
 use Rattle.opgp_stack.specs.Packets.{BlockValue}
 use Rattle.opgp_stack.specs.declared.showing.Area.{Area}
 use Rattle.opgp_stack.specs.declared.showing.Area.TheVariants.{Hashed, Unhashed}

@@ -6,8 +6,8 @@ ghost use Rattle.std.specs.Option.{option_map};
 ghost use Rattle.opgp_hash.specs.Question.{question_value};
 ghost use Rattle.opgp_report.specs.Asked.{question_in};
 ghost use Rattle.opgp_ring.specs.SignedLiteral.{signed_packets};
-ghost use Rattle.opgp_sig.specs.SignatureBody.{signature_at};
-ghost use Rattle.opgp_sig.specs.SigView.{sig_view_octets};
+ghost use Rattle.opgp_packet.specs.SignatureBody.{signature_at};
+ghost use Rattle.opgp_packet.specs.SigView.{sig_view_octets};
 ghost use Rattle.opgp_stack.specs.Hashing.{asked_about, content_in, message_asked};
 ghost use Rattle.opgp_stack.specs.Running.{IsMade, question_made};
 
@@ -18,7 +18,7 @@ use crate::writing::Text;
 use crate::writing_keyring::write;
 use opgp_hash::{Question, Subject, ask_view, write_octets};
 use opgp_ring::SignedLiteral;
-use opgp_sig::SigView;
+use opgp_packet::SigView;
 use opgp_stream::Sink;
 use std::alloc::Global;
 
@@ -28,8 +28,8 @@ fn question_about<'a>(message: &'a SignedLiteral, signature: SigView<'a>) -> Opt
         (asked_about (content_in (signed_packets message.now))
         (signature_at (sig_view_octets signature.entry)))) }
 {
-    opgp_body::laws::fields_are_read();
-    opgp_sig::laws::signatures_are_read();
+    opgp_packet::field_laws::fields_are_read();
+    opgp_packet::signature_laws::signatures_are_read();
     let _body = signature.body();
     let view = message.literal();
     let _literal = view.body();

@@ -2,10 +2,10 @@
 
 ghost use Rattle.std.specs.Prelude.{◌≡◌, ◌++◌, false, codes, length};
 ghost use Rattle.hex.specs.Hex.{encode_upper};
-ghost use Rattle.opgp_key.specs.Attribute.{attribute_octets};
-ghost use Rattle.opgp_key.specs.Key.{key_octets};
+ghost use Rattle.opgp_packet.specs.Attribute.{attribute_octets};
+ghost use Rattle.opgp_packet.specs.Key.{key_octets};
 ghost use Rattle.opgp_ring.specs.Packets.{IsLent, packets_left, part_packet};
-ghost use Rattle.opgp_sig.specs.Signature.{signature_octets};
+ghost use Rattle.opgp_packet.specs.Signature.{signature_octets};
 ghost use Rattle.opgp_stack.specs.Listing.{attribute_line, filler_line, key_line, listing};
 ghost use Rattle.opgp_stack.specs.Listing.{opaque_text, packet_line, signature_line, typed_text};
 ghost use Rattle.opgp_stack.specs.Listing.{key_names, key_numbers, user_id_line};
@@ -13,9 +13,8 @@ ghost use Rattle.opgp_stack.specs.Role.{role_name};
 ghost use Rattle.opgp_stream.specs.Output.{Extends, sink_of};
 
 use opgp_hash::{KeyId, fingerprint};
-use opgp_key::{Attribute, Key};
+use opgp_packet::{Attribute, Key, Signature};
 use opgp_ring::{Content, Packets, Part};
-use opgp_sig::Signature;
 use opgp_stream::{Output, Sink, Word};
 use std::io;
 
@@ -84,7 +83,7 @@ fn add_key<W: Sink>(output: &mut Output<'_, W>, role: Role, key: &Key) -> io::Re
     ensures { Extends W.held W.has_failed output.old output.new result
         (key_line (role_name role) (key_octets key.now)) }
 {
-    opgp_key::laws::written_key();
+    opgp_packet::key_laws::written_key();
     let print = fingerprint(key);
     let KeyId(id) = print.key_id();
     add_role(output, role)?;
@@ -173,7 +172,7 @@ fn add_signature<W: Sink>(output: &mut Output<'_, W>, signature: &Signature) -> 
     ensures { Extends W.held W.has_failed output.old output.new result
         (signature_line (signature_octets signature.now)) }
 {
-    opgp_sig::laws::written_signature();
+    opgp_packet::signature_laws::written_signature();
     match signature {
         Signature::Three(three) => {
             let view = three.view();

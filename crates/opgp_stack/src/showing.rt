@@ -2,9 +2,9 @@
 
 ghost use Rattle.std.specs.Prelude.{◌≡◌, ◌++◌, false, codes, map};
 ghost use Rattle.opgp_octets.specs.Octets.{IsBodySized};
-ghost use Rattle.opgp_sig.specs.Subs.{subs_to_come};
-ghost use Rattle.opgp_sig.specs.SubView.{sub_shown};
-ghost use Rattle.opgp_sig.specs.SubMeaning.{meaning_shown};
+ghost use Rattle.opgp_packet.specs.Subs.{subs_to_come};
+ghost use Rattle.opgp_packet.specs.SubView.{sub_shown};
+ghost use Rattle.opgp_packet.specs.SubMeaning.{meaning_shown};
 ghost use Rattle.opgp_stack.specs.Packets.{block_value};
 ghost use Rattle.opgp_stack.specs.Showing.{area_lines, area_name, bit_name, content_lines};
 ghost use Rattle.opgp_stack.specs.Showing.{form_name, header_line, meaning_name, packet_lines};
@@ -13,7 +13,7 @@ ghost use Rattle.opgp_stream.specs.Output.{Extends, sink_of};
 
 use opgp_frame::{Form, Placed};
 use opgp_ring::BlockOf;
-use opgp_sig::{SigView, SubMeaning, SubView, Subs};
+use opgp_packet::{SigView, SubMeaning, SubView, Subs};
 use opgp_stream::{Output, Sink, Word};
 use std::io;
 

@@ -1,6 +1,6 @@
 use Rattle.std.proofs.Common.{arith}
-use Rattle.opgp_key.specs.AttributeBody.{attribute, attribute_fields}
-use Rattle.opgp_key.specs.AttributeView.{attribute_view_value}
+use Rattle.opgp_packet.specs.AttributeBody.{attribute, attribute_fields}
+use Rattle.opgp_packet.specs.AttributeView.{attribute_view_value}
 use Rattle.opgp_hash.proofs.packet_body.body_fault.Goals as goal
 
 pub returns-in-Ok-clause-none : goal.returns-in-Ok-clause-none

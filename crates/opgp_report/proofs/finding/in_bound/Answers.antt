@@ -1,6 +1,6 @@
 use Rattle.std.proofs.Common.{rules, ◌≡◌, List, subst, sym}
 use Rattle.opgp_hash.specs.Subject.{subject_value}
-use Rattle.opgp_sig.specs.Subs.{subs_to_come}
+use Rattle.opgp_packet.specs.Subs.{subs_to_come}
 use Rattle.opgp_report.specs.declared.found.Found.TheVariants.{At}
 use Rattle.opgp_report.specs.Asked.{Asked, Finds, embedded_asked}
 use Rattle.opgp_report.specs.Report.{embedding_bodies}

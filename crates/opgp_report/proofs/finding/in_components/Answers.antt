@@ -1,6 +1,6 @@
 use Rattle.std.proofs.Common.{List, length, ap, subst, sym, arith}
 use Rattle.std.proofs.lemmas.List.{nil_from_length}
-use Rattle.opgp_key.specs.KeyView.{key_view_octets}
+use Rattle.opgp_packet.specs.KeyView.{key_view_octets}
 use Rattle.opgp_report.specs.declared.found.Found.TheVariants.{At, Left}
 use Rattle.opgp_report.specs.Asked.{Asked, Finds, component_asked, components_asked}
 use Rattle.opgp_report.proofs.Looking.{in_front, behind}

@@ -1,5 +1,5 @@
 use Rattle.std.proofs.Common.{length}
-use Rattle.opgp_key.specs.KeyView.{key_view_octets}
+use Rattle.opgp_packet.specs.KeyView.{key_view_octets}
 use Rattle.opgp_report.specs.declared.found.Found.{Found}
 use Rattle.opgp_report.specs.Asked.{Finds, components_asked}
 use Rattle.opgp_report.proofs.finding.in_components.Given as goal

@@ -1,9 +1,9 @@
 use Rattle.std.proofs.Common.{rules, ◌≡◌, ◌∷◌, [], List, length, ap, subst, sym, arith}
 use Rattle.opgp_hash.specs.Subject.{subject_value}
 use Rattle.opgp_hash.specs.declared.site.Site.TheVariants.{Embedded}
-use Rattle.opgp_sig.specs.SignatureBody.{signature_at}
-use Rattle.opgp_sig.specs.Subs.{subs_to_come}
-use Rattle.opgp_sig.specs.SubView.{kind_shown, sub_shown}
+use Rattle.opgp_packet.specs.SignatureBody.{signature_at}
+use Rattle.opgp_packet.specs.Subs.{subs_to_come}
+use Rattle.opgp_packet.specs.SubView.{kind_shown, sub_shown}
 use Rattle.opgp_report.specs.declared.found.Found.TheVariants.{At, Left}
 use Rattle.opgp_report.specs.Asked.{Asked, Finds, asked_in, embedded_asked}
 use Rattle.opgp_report.specs.Report.{embedding_bodies}

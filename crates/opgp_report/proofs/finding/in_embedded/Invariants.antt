@@ -1,6 +1,6 @@
 use Rattle.std.proofs.Common.{length}
 use Rattle.opgp_hash.specs.Subject.{subject_value}
-use Rattle.opgp_sig.specs.Subs.{subs_to_come}
+use Rattle.opgp_packet.specs.Subs.{subs_to_come}
 use Rattle.opgp_report.specs.declared.found.Found.{Found}
 use Rattle.opgp_report.specs.Asked.{Finds, embedded_asked}
 use Rattle.opgp_report.specs.Report.{embedding_bodies}

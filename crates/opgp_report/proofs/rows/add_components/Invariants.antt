@@ -1,7 +1,7 @@
 use Rattle.std.proofs.Common.{◌≡◌, ◌+◌, ◌++◌, length, map, Some}
 use Rattle.opgp_hash.specs.CertificateHasher.{hasher_subject}
 use Rattle.opgp_hash.specs.SubjectValue.{first_key}
-use Rattle.opgp_key.specs.KeyView.{key_view_octets}
+use Rattle.opgp_packet.specs.KeyView.{key_view_octets}
 use Rattle.opgp_report.specs.Asker.{asker_keys}
 use Rattle.opgp_report.specs.Report.{components_rows}
 use Rattle.opgp_report.specs.Row.{row_value}

@@ -1,6 +1,6 @@
 use Rattle.std.proofs.Common.{◌≡◌, ◌+◌, ◌++◌, ◌≤◌, length, map}
 use Rattle.opgp_hash.specs.CertificateHasher.{hasher_subject}
-use Rattle.opgp_sig.specs.Subs.{subs_to_come}
+use Rattle.opgp_packet.specs.Subs.{subs_to_come}
 use Rattle.opgp_report.specs.Asker.{asker_keys}
 use Rattle.opgp_report.specs.Report.{embedded_rows, embedding_bodies}
 use Rattle.opgp_report.specs.Row.{row_value}

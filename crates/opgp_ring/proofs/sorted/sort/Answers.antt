@@ -1,7 +1,7 @@
 use Rattle.std.proofs.Common.{◌≡◌, false, refl, ap, ◌∙◌}
 use Rattle.opgp_octets.specs.PacketType.{packet_type_of}
-use Rattle.opgp_key.specs.AttributeBody.{attribute}
-use Rattle.opgp_key.specs.KeyBody.{key}
+use Rattle.opgp_packet.specs.AttributeBody.{attribute}
+use Rattle.opgp_packet.specs.KeyBody.{key}
 use Rattle.opgp_ring.specs.Keyring.{is_filler}
 use Rattle.opgp_ring.proofs.Sorting.{fields_sound, stray, typed, unread}
 use Rattle.opgp_ring.proofs.sorted.sort.Goals as goal

@@ -1,5 +1,5 @@
 use Rattle.std.proofs.Common.{refl}
-use Rattle.opgp_sig.specs.Subs.{subs_to_come}
+use Rattle.opgp_packet.specs.Subs.{subs_to_come}
 use Rattle.opgp_stream.proofs.Extended.{extends_stop, extends_then}
 use Rattle.opgp_stack.specs.Showing.{area_lines}
 use Rattle.opgp_stack.specs.declared.showing.Area.TheVariants.{Unhashed}

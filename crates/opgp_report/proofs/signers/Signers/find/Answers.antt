@@ -1,9 +1,9 @@
 use Rattle.std.proofs.Common.{◌∙◌, Option, Some, None, length, refl, sym, ap}
 use Rattle.std.proofs.lemmas.Option.{slice_get_read}
 use Rattle.std.specs.Option.{option_map}
-use Rattle.opgp_key.specs.KeyView.{key_view_octets}
+use Rattle.opgp_packet.specs.KeyView.{key_view_octets}
 use Rattle.opgp_report.specs.declared.signers.Signer.{Signer}
-use Rattle.opgp_sig.specs.SigView.{sig_view_value}
+use Rattle.opgp_packet.specs.SigView.{sig_view_value}
 use Rattle.opgp_report.proofs.NamedKeys.{found}
 use Rattle.opgp_report.proofs.signers.Signers.find.Goals as goal
 

@@ -1,5 +1,0 @@
-pub mod AreaLaws
-pub mod ExtentLaws
-pub mod GrammarLaws
-pub mod KindLaws
-pub mod SpanLaws

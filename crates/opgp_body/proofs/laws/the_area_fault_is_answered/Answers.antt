@@ -1,5 +1,0 @@
-use Rattle.opgp_body.proofs.AreaLaws.{area_fails, area_refused}
-use Rattle.opgp_body.proofs.laws.the_area_fault_is_answered.Goals as goal
-
-pub returns : goal.returns
-returns c = λ end o f fits. (area_fails end o f fits, area_refused end o f fits)

@@ -1,5 +1,0 @@
-use Rattle.opgp_body.proofs.GrammarLaws.{body_fault, body_refused}
-use Rattle.opgp_body.proofs.laws.the_first_fault_is_answered.Goals as goal
-
-pub returns : goal.returns
-returns c = λ grammar o f fits. (body_fault grammar o f fits, body_refused grammar o f fits)

@@ -1,9 +1,0 @@
-pub mod AreaLength
-pub mod AreaReading
-pub mod Cursor
-pub mod FieldReading
-pub mod Fields
-pub mod Spans
-pub mod Subpacket
-pub mod Subpackets
-pub mod Walk

@@ -1,6 +1,0 @@
--- What a subpacket shows.
-use Rattle.opgp_body.specs.declared.subpacket.Subpacket.{Subpacket}
-use Rattle.opgp_body.specs.Subpackets.{Sub}
-
-abbrev pub sub_seen : Subpacket → Sub
-sub_seen s = record { len = s.len; kind = s.kind; octets = s.octets.now }

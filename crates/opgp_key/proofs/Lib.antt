@@ -1,2 +1,0 @@
-pub mod AttributeLaws
-pub mod KeyLaws

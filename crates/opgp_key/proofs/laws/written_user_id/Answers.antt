@@ -1,7 +1,0 @@
-use Rattle.std.proofs.Common.{refl}
-use Rattle.opgp_body.specs.FieldReading.{body_at, step_at, kind_at}
-use Rattle.opgp_key.proofs.laws.written_user_id.Goals as goal
-
-pub returns : goal.returns
-unfolding body_at step_at kind_at
-returns c = λ u. refl

@@ -1,0 +1,13 @@
+pub mod AreaLaws
+pub mod AreasLaws
+pub mod AttributeLaws
+pub mod ExtentLaws
+pub mod FormLaws
+pub mod GrammarLaws
+pub mod KeyLaws
+pub mod KindLaws
+pub mod MeaningLaws
+pub mod SignatureLaws
+pub mod SpanLaws
+pub mod ThreeLaws
+pub mod ValueLaws

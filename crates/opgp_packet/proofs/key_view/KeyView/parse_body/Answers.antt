@@ -1,0 +1,14 @@
+use Rattle.std.proofs.Common.{arith}
+use Rattle.opgp_packet.specs.KeyBody.{key, key_fields}
+use Rattle.opgp_packet.specs.KeyView.{key_view_value}
+use Rattle.opgp_packet.proofs.GrammarLaws.{parser_found, parser_only, parser_fault}
+use Rattle.opgp_packet.proofs.key_view.KeyView.parse_body.Goals as goal
+
+pub returns-clause-found : goal.returns-clause-found
+returns-clause-found c = parser_found (λ x. key_fields (key_view_value x)) key c.args.o.now c.read.result (λ i. omega (arith, c.type_inv.o i)) c.read.ensures.exact
+
+pub returns-clause-only : goal.returns-clause-only
+returns-clause-only c = parser_only (λ x. key_fields (key_view_value x)) key c.args.o.now c.read.result c.read.ensures.exact
+
+pub returns-clause-fault : goal.returns-clause-fault
+returns-clause-fault c = parser_fault (λ x. key_fields (key_view_value x)) key c.args.o.now c.read.result (λ i. omega (arith, c.type_inv.o i)) c.read.ensures.exact

@@ -1,0 +1,14 @@
+use Rattle.std.proofs.Common.{arith}
+use Rattle.opgp_packet.specs.LiteralBody.{literal, literal_fields}
+use Rattle.opgp_packet.specs.LiteralView.{literal_view_value}
+use Rattle.opgp_packet.proofs.GrammarLaws.{parser_found, parser_only, parser_fault}
+use Rattle.opgp_packet.proofs.literal_view.LiteralView.parse_body.Goals as goal
+
+pub returns-clause-found : goal.returns-clause-found
+returns-clause-found c = parser_found (λ x. literal_fields (literal_view_value x)) literal c.args.o.now c.read.result (λ i. omega (arith, c.type_inv.o i)) c.read.ensures.exact
+
+pub returns-clause-only : goal.returns-clause-only
+returns-clause-only c = parser_only (λ x. literal_fields (literal_view_value x)) literal c.args.o.now c.read.result c.read.ensures.exact
+
+pub returns-clause-fault : goal.returns-clause-fault
+returns-clause-fault c = parser_fault (λ x. literal_fields (literal_view_value x)) literal c.args.o.now c.read.result (λ i. omega (arith, c.type_inv.o i)) c.read.ensures.exact

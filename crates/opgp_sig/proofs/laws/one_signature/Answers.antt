@@ -1,5 +1,0 @@
-use Rattle.opgp_sig.proofs.SignatureLaws.{one_value}
-use Rattle.opgp_sig.proofs.laws.one_signature.Goals as goal
-
-pub returns : goal.returns
-returns c = λ value other o fits. one_value o value other fits

@@ -7,11 +7,9 @@ use Rattle.std.specs.Str.{bytes_eq}
 use Rattle.std.specs.declared.option.Option.{Option}
 use Rattle.std.specs.declared.option.Option.TheVariants.{None, Some}
 use Rattle.opgp_armor.specs.declared.label.Label.{Label}
-use Rattle.opgp_armor.specs.declared.label.Label.TheVariants.{Message, PublicKeyBlock}
-use Rattle.opgp_armor.specs.declared.label.Label.TheVariants.{PrivateKeyBlock, Signature}
+use Rattle.opgp_armor.specs.declared.label.Label.TheVariants as labels
 use Rattle.opgp_armor.specs.declared.section.Section.{Section}
-use Rattle.opgp_armor.specs.declared.section.Section.TheVariants.{Outside, Headers, Data}
-use Rattle.opgp_armor.specs.declared.section.Section.TheVariants.{AfterChecksum}
+use Rattle.opgp_armor.specs.declared.section.Section.TheVariants as sections
 use Rattle.opgp_octets.specs.Octets.{IsOctets}
 use Rattle.opgp_octets.specs.declared.fault.Fault.{Fault}
 use Rattle.opgp_octets.specs.declared.fault.Layer.TheVariants as layer
@@ -154,10 +152,10 @@ pub record Opens (limit : ℕ) (ls : List Line) : Type 0 where
 -- the label that a content spells, in one of the two kinds of line
 abbrev pub label_at : (Label → List ℕ) → List ℕ → Option Label
 label_at spelled c =
-    if bytes_eq c (spelled Message) then Some Message
-    else if bytes_eq c (spelled PublicKeyBlock) then Some PublicKeyBlock
-    else if bytes_eq c (spelled PrivateKeyBlock) then Some PrivateKeyBlock
-    else if bytes_eq c (spelled Signature) then Some Signature
+    if bytes_eq c (spelled labels.Message) then Some labels.Message
+    else if bytes_eq c (spelled labels.PublicKeyBlock) then Some labels.PublicKeyBlock
+    else if bytes_eq c (spelled labels.PrivateKeyBlock) then Some labels.PrivateKeyBlock
+    else if bytes_eq c (spelled labels.Signature) then Some labels.Signature
     else None
 
 -- Where the next line stands, and how many blocks are finished: what lines of an armored text do.
@@ -166,26 +164,26 @@ pub record Situation : Type 0 where
   pub finished : ℕ
 
 abbrev pub opened_by : Option Label → Section
-opened_by None = Outside
-opened_by (Some label) = Headers label
+opened_by None = sections.Outside
+opened_by (Some label) = sections.Headers label
 
 abbrev pub after_content : Section → List ℕ → Section
-after_content Outside c = opened_by (label_at begin_line c)
-after_content (Headers label) [] = Data label
-after_content (Headers label) (d ∷ c) = Headers label
-after_content (Data label) c =
-    if begins_with is_equals c then AfterChecksum label
-    else if begins_with is_dash c then Outside
-    else Data label
-after_content (AfterChecksum label) c =
-    if begins_with is_dash c then Outside else AfterChecksum label
+after_content sections.Outside c = opened_by (label_at begin_line c)
+after_content (sections.Headers label) [] = sections.Data label
+after_content (sections.Headers label) (d ∷ c) = sections.Headers label
+after_content (sections.Data label) c =
+    if begins_with is_equals c then sections.AfterChecksum label
+    else if begins_with is_dash c then sections.Outside
+    else sections.Data label
+after_content (sections.AfterChecksum label) c =
+    if begins_with is_dash c then sections.Outside else sections.AfterChecksum label
 
 -- 1 where a block ends
 abbrev pub ended_by : Section → List ℕ → ℕ
-ended_by Outside c = 0
-ended_by (Headers label) c = 0
-ended_by (Data label) c = if begins_with is_dash c then 1 else 0
-ended_by (AfterChecksum label) c = if begins_with is_dash c then 1 else 0
+ended_by sections.Outside c = 0
+ended_by (sections.Headers label) c = 0
+ended_by (sections.Data label) c = if begins_with is_dash c then 1 else 0
+ended_by (sections.AfterChecksum label) c = if begins_with is_dash c then 1 else 0
 
 abbrev pub after_line : Situation → Line → Situation
 after_line s l = record {
@@ -194,18 +192,18 @@ after_line s l = record {
 }
 
 unfoldable pub situation : List Line → Situation
-situation ls = fold after_line (record { section = Outside; finished = 0 }) ls
+situation ls = fold after_line (record { section = sections.Outside; finished = 0 }) ls
 
 -- why a line is refused where it stands
 abbrev pub short_reason : Section → List ℕ → Reason
-short_reason Outside c = reason.Label
-short_reason (Headers label) c = reason.Header
-short_reason (Data label) c =
+short_reason sections.Outside c = reason.Label
+short_reason (sections.Headers label) c = reason.Header
+short_reason (sections.Data label) c =
     if begins_with is_equals c then reason.Padding
     else if begins_with is_dash c
     then (if bytes_eq c (end_line label) then reason.Padding else reason.EndLabel)
     else if list_all may_stand c then reason.Padding else reason.Letters
-short_reason (AfterChecksum label) c =
+short_reason (sections.AfterChecksum label) c =
     if begins_with is_dash c then reason.EndLabel else reason.AfterChecksum
 
 abbrev pub reason_of : ℕ → Section → Line → Reason
@@ -225,10 +223,10 @@ pub record LineFault (limit : ℕ) (text : List ℕ) (why : Reason) (block pos :
   pub pos_is : pos ≡ offset before
 
 abbrev pub end_reason : Section → Reason
-end_reason Outside = reason.NoBlock
-end_reason (Headers label) = reason.Unfinished
-end_reason (Data label) = reason.Unfinished
-end_reason (AfterChecksum label) = reason.Unfinished
+end_reason sections.Outside = reason.NoBlock
+end_reason (sections.Headers label) = reason.Unfinished
+end_reason (sections.Data label) = reason.Unfinished
+end_reason (sections.AfterChecksum label) = reason.Unfinished
 
 -- The text ends too early.
 pub record EndFault (limit : ℕ) (text : List ℕ) (why : Reason) (block pos : ℕ) : Type 0 where

@@ -9,8 +9,7 @@ use Rattle.std.specs.declared.result.Result.{Result}
 use Rattle.std.specs.declared.result.Result.TheVariants.{Ok, Err}
 use Rattle.opgp_armor.specs.declared.label.Label.{Label}
 use Rattle.opgp_armor.specs.declared.section.Section.{Section}
-use Rattle.opgp_armor.specs.declared.section.Section.TheVariants.{Outside, Headers, Data}
-use Rattle.opgp_armor.specs.declared.section.Section.TheVariants.{AfterChecksum}
+use Rattle.opgp_armor.specs.declared.section.Section.TheVariants as sections
 use Rattle.opgp_octets.specs.declared.fault.Reason.{Reason}
 use Rattle.opgp_octets.specs.declared.fault.Reason.TheVariants as reason
 use Rattle.opgp_armor.specs.Letters.{is_equals, Pending, no_letters, data_line}
@@ -49,12 +48,12 @@ Answer = Result (State × List Event) Reason
 
 abbrev pub on_begin : Option Label → Answer
 on_begin None = Err reason.Label
-on_begin (Some l) = Ok (record { section = Headers l; pending = no_letters }, Begin l ∷ [])
+on_begin (Some l) = Ok (record { section = sections.Headers l; pending = no_letters }, Begin l ∷ [])
 
 abbrev pub on_header : Label → Pending → Option (List ℕ × List ℕ) → Answer
 on_header l p None = Err reason.Header
 on_header l p (Some (key, value)) =
-    Ok (record { section = Headers l; pending = p }, Header key value ∷ [])
+    Ok (record { section = sections.Headers l; pending = p }, Header key value ∷ [])
 
 abbrev pub some_octets : List ℕ → List Event
 some_octets [] = []
@@ -62,7 +61,8 @@ some_octets (o ∷ os) = Octets (o ∷ os) ∷ []
 
 abbrev pub on_letters : Label → Result (Pending × List ℕ) Reason → Answer
 on_letters l (Err e) = Err e
-on_letters l (Ok (p, octets)) = Ok (record { section = Data l; pending = p }, some_octets octets)
+on_letters l (Ok (p, octets)) =
+    Ok (record { section = sections.Data l; pending = p }, some_octets octets)
 
 abbrev pub waits : Pending → Bool
 waits p = nat_lt 0 (length p.letters)
@@ -72,31 +72,32 @@ unfoldable pub closing : Label → Pending → List ℕ → Answer
 closing l p c =
     if not (bytes_eq c (end_line l)) then Err reason.EndLabel
     else if waits p then Err reason.Padding
-    else Ok (record { section = Outside; pending = no_letters }, End ∷ [])
+    else Ok (record { section = sections.Outside; pending = no_letters }, End ∷ [])
 
 -- a line of a block, by its content
 abbrev pub inside : Section → Pending → List ℕ → Answer
-inside Outside p c = on_begin (label_at begin_line c)
-inside (Headers l) p [] = Ok (record { section = Data l; pending = p }, [])
-inside (Headers l) p (c ∷ cs) = on_header l p (header_of (c ∷ cs))
-inside (Data l) p [] = Ok (record { section = Data l; pending = p }, [])
-inside (Data l) p (c ∷ cs) =
+inside sections.Outside p c = on_begin (label_at begin_line c)
+inside (sections.Headers l) p [] = Ok (record { section = sections.Data l; pending = p }, [])
+inside (sections.Headers l) p (c ∷ cs) = on_header l p (header_of (c ∷ cs))
+inside (sections.Data l) p [] = Ok (record { section = sections.Data l; pending = p }, [])
+inside (sections.Data l) p (c ∷ cs) =
     if is_equals c then (
     if waits p then Err reason.Padding
-    else Ok (record { section = AfterChecksum l; pending = p }, [])
+    else Ok (record { section = sections.AfterChecksum l; pending = p }, [])
     )
     else if is_dash c then closing l p (c ∷ cs)
     else on_letters l (data_line p (c ∷ cs))
-inside (AfterChecksum l) p [] = Ok (record { section = AfterChecksum l; pending = p }, [])
-inside (AfterChecksum l) p (c ∷ cs) =
+inside (sections.AfterChecksum l) p [] =
+    Ok (record { section = sections.AfterChecksum l; pending = p }, [])
+inside (sections.AfterChecksum l) p (c ∷ cs) =
     if is_dash c then closing l p (c ∷ cs) else Err reason.AfterChecksum
 
 -- the line lies outside of all blocks
 abbrev pub passes_by : Section → Line → Bool
-passes_by Outside l = not (starts_with nat_eq l begin_mark)
-passes_by (Headers label) l = false
-passes_by (Data label) l = false
-passes_by (AfterChecksum label) l = false
+passes_by sections.Outside l = not (starts_with nat_eq l begin_mark)
+passes_by (sections.Headers label) l = false
+passes_by (sections.Data label) l = false
+passes_by (sections.AfterChecksum label) l = false
 
 -- one line
 unfoldable pub step : ℕ → State → Line → Answer
@@ -106,7 +107,7 @@ step limit s l =
     else inside s.section s.pending (content l)
 
 abbrev pub start : State
-start = record { section = Outside; pending = no_letters }
+start = record { section = sections.Outside; pending = no_letters }
 
 -- the state after lines, and the events that they made ready
 pub record Run : Type 0 where

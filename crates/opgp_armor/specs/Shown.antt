@@ -4,8 +4,7 @@ use Rattle.std.specs.declared.option.Option.{Option}
 use Rattle.std.specs.declared.option.Option.TheVariants.{None, Some}
 use Rattle.opgp_armor.specs.declared.label.Label.{Label}
 use Rattle.opgp_armor.specs.declared.section.Section.{Section}
-use Rattle.opgp_armor.specs.declared.section.Section.TheVariants.{Outside, Headers, Data}
-use Rattle.opgp_armor.specs.declared.section.Section.TheVariants.{AfterChecksum}
+use Rattle.opgp_armor.specs.declared.section.Section.TheVariants as sections
 use Rattle.opgp_armor.specs.Letters.{is_equals, IsBase64, groups_of}
 use Rattle.opgp_armor.specs.Text.{Line, content, begin_line}
 use Rattle.opgp_armor.specs.Armored.{IsHeader, begins_with, is_dash, label_at, after_content, Opens}
@@ -18,10 +17,10 @@ pub record Standing : Type 0 where
   pub letters : List ℕ
 
 abbrev pub letters_after : Section → List ℕ → List ℕ → List ℕ
-letters_after Outside letters c = []
-letters_after (Headers label) letters c = []
-letters_after (Data label) letters c = letters ++ c
-letters_after (AfterChecksum label) letters c = []
+letters_after sections.Outside letters c = []
+letters_after (sections.Headers label) letters c = []
+letters_after (sections.Data label) letters c = letters ++ c
+letters_after (sections.AfterChecksum label) letters c = []
 
 abbrev pub after_standing : Standing → Line → Standing
 after_standing s l = record {
@@ -43,17 +42,17 @@ pub record EndsGroups (letters c : List ℕ) (events : List Event) : Type 0 wher
 
 -- One line of a text makes one event or none.
 abbrev pub LineMakes : ℕ → Section → List ℕ → Line → List Event → Type 0
-LineMakes limit Outside letters l events = events ≡ begun (label_at begin_line (content l))
-LineMakes limit (Headers label) letters l events =
+LineMakes limit sections.Outside letters l events = events ≡ begun (label_at begin_line (content l))
+LineMakes limit (sections.Headers label) letters l events =
     ((content l ≡ []) × (events ≡ []))
     ⊎ ((header : List ℕ × List ℕ) × IsHeader limit l header
     × (events ≡ Header header.0 header.1 ∷ []))
-LineMakes limit (Data label) letters l events =
+LineMakes limit (sections.Data label) letters l events =
     ((begins_with is_equals (content l) ≡ true) × (events ≡ []))
     ⊎ ((begins_with is_dash (content l) ≡ true) × (events ≡ End ∷ []))
     ⊎ ((begins_with is_equals (content l) ≡ false) × (begins_with is_dash (content l) ≡ false)
     × EndsGroups letters (content l) events)
-LineMakes limit (AfterChecksum label) letters l events =
+LineMakes limit (sections.AfterChecksum label) letters l events =
     events ≡ (if begins_with is_dash (content l) then End ∷ [] else [])
 
 -- the lines make these events, in order
@@ -64,7 +63,7 @@ Makes limit s (l ∷ ls) events =
     × LineMakes limit s.section s.letters l here × Makes limit (after_standing s l) ls rest
 
 abbrev pub at_start : Standing
-at_start = record { section = Outside; letters = [] }
+at_start = record { section = sections.Outside; letters = [] }
 
 -- The events of the longest list of first lines with which an armored text begins.
 pub record Shown (limit : ℕ) (ls : List Line) (events : List Event) : Type 0 where

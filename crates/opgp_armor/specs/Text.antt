@@ -2,8 +2,7 @@
 use Rattle.std.specs.Prelude.{ℕ, ◌+◌, ◌==◌, Bool, if◌then◌else◌, ◌||◌, List, [], ◌∷◌, ◌++◌, length}
 use Rattle.std.specs.Prelude.{codes}
 use Rattle.opgp_armor.specs.declared.label.Label.{Label}
-use Rattle.opgp_armor.specs.declared.label.Label.TheVariants.{Message, PublicKeyBlock}
-use Rattle.opgp_armor.specs.declared.label.Label.TheVariants.{PrivateKeyBlock, Signature}
+use Rattle.opgp_armor.specs.declared.label.Label.TheVariants as labels
 
 -- a line, without its line feed
 abbrev pub Line : Type 0
@@ -37,10 +36,10 @@ content [] = []
 content (c ∷ l) = strip c (content l)
 
 abbrev pub label_text : Label → List ℕ
-label_text Message = codes "MESSAGE"
-label_text PublicKeyBlock = codes "PUBLIC KEY BLOCK"
-label_text PrivateKeyBlock = codes "PRIVATE KEY BLOCK"
-label_text Signature = codes "SIGNATURE"
+label_text labels.Message = codes "MESSAGE"
+label_text labels.PublicKeyBlock = codes "PUBLIC KEY BLOCK"
+label_text labels.PrivateKeyBlock = codes "PRIVATE KEY BLOCK"
+label_text labels.Signature = codes "SIGNATURE"
 
 abbrev pub begin_mark : List ℕ
 begin_mark = codes "-----BEGIN PGP "

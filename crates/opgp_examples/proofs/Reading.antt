@@ -1,13 +1,13 @@
 -- A reader of packets goes on, and its packets are short.
 use Rattle.std.proofs.Common.{◌≡◌, ◌∙◌, arith, ℕ, ◌+◌, ◌≤◌, List, [], ◌∷◌, ◌++◌, length, false}
 use Rattle.std.specs.Prelude.{Option, option_to_list}
-use Rattle.opgp_octets.specs.declared.limits.Limits.{Limits}
-use Rattle.opgp_octets.specs.Limits.{body_limit, pieces_limit}
-use Rattle.opgp_frame.specs.declared.deframe.Deframe.{Deframe}
-use Rattle.opgp_frame.specs.declared.packet.Placed.{Placed}
-use Rattle.opgp_frame.specs.Fed.{KeepsFed, held_of, is_ready, limits_of}
-use Rattle.opgp_frame.specs.Frames.{IsAllowed, StandFrom}
-use Rattle.opgp_frame.specs.Packet.{spelling}
+use Rattle.opgp.specs.Octets.declared.limits.Limits.{Limits}
+use Rattle.opgp.specs.Octets.Limits.{body_limit, pieces_limit}
+use Rattle.opgp.specs.Frame.declared.deframe.Deframe.{Deframe}
+use Rattle.opgp.specs.Frame.declared.packet.Placed.{Placed}
+use Rattle.opgp.specs.Frame.Fed.{KeepsFed, held_of, is_ready, limits_of}
+use Rattle.opgp.specs.Frame.Frames.{IsAllowed, StandFrom}
+use Rattle.opgp.specs.Frame.Packet.{spelling}
 use Rattle.opgp_examples.specs.Feeding.{IsReading}
 
 stands_at : (limits : Limits) (block : ℕ) (before : List Placed) (at : ℕ) (after : List Placed) (p : Placed)

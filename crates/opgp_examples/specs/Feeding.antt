@@ -1,12 +1,12 @@
 -- What readers of a text hold while they read it.
 use Rattle.std.specs.Prelude.{◌≡◌, ℕ, ◌+◌, ◌≤◌, List, false}
-use Rattle.opgp_octets.specs.declared.limits.Limits.{Limits}
-use Rattle.opgp_octets.specs.Limits.{body_limit, cert_limit, pieces_limit}
-use Rattle.opgp_frame.specs.declared.deframe.Deframe.{Deframe}
-use Rattle.opgp_frame.specs.declared.packet.Placed.{Placed}
-use Rattle.opgp_frame.specs.Fed as frame
-use Rattle.opgp_ring.specs.declared.composer.Composer.{Composer}
-use Rattle.opgp_ring.specs.Fed as ring
+use Rattle.opgp.specs.Octets.declared.limits.Limits.{Limits}
+use Rattle.opgp.specs.Octets.Limits.{body_limit, cert_limit, pieces_limit}
+use Rattle.opgp.specs.Frame.declared.deframe.Deframe.{Deframe}
+use Rattle.opgp.specs.Frame.declared.packet.Placed.{Placed}
+use Rattle.opgp.specs.Frame.Fed as frame
+use Rattle.opgp.specs.Ring.declared.composer.Composer.{Composer}
+use Rattle.opgp.specs.Ring.Fed as ring
 
 -- Within these limits the reader was given some octets of a block, and all its packets so far are
 -- taken. It holds no more than the longest packet.

@@ -3,10 +3,10 @@ use Rattle.std.specs.Prelude.{List, if◌then◌else◌, ℕ}
 use Rattle.std.specs.List.{list_any}
 use Rattle.std.specs.Str.{bytes_eq}
 use Rattle.std.specs.Global.{Vec}
-use Rattle.opgp_hash.specs.Digest.{digest_octets}
-use Rattle.opgp_report.specs.RowValue.{JobValue}
-use Rattle.opgp_report.specs.declared.verifier.Verdict.{Verdict}
-use Rattle.opgp_report.specs.declared.verifier.Verdict.TheVariants.{Good, Undecided}
+use Rattle.opgp.specs.Hash.Digest.{digest_octets}
+use Rattle.opgp.specs.Report.RowValue.{JobValue}
+use Rattle.opgp.specs.Report.declared.verifier.Verdict.{Verdict}
+use Rattle.opgp.specs.Report.declared.verifier.Verdict.TheVariants.{Good, Undecided}
 
 -- good where the digest is listed
 abbrev pub says_listed : List (Vec ℕ) → JobValue → Verdict

@@ -1,18 +1,18 @@
 //! The certificates of an armored text, each as soon as it is whole.
 
 ghost use Rattle.std.specs.Prelude.{◌≡◌, ◌≤◌, OnOk, false, length};
-ghost use Rattle.opgp_octets.specs.declared.limits.Limits.{Limits};
-ghost use Rattle.opgp_octets.specs.Limits.{body_limit};
-ghost use Rattle.opgp_ring.specs.Fed.{is_ready};
+ghost use Rattle.opgp.specs.Octets.declared.limits.Limits.{Limits};
+ghost use Rattle.opgp.specs.Octets.Limits.{body_limit};
+ghost use Rattle.opgp.specs.Ring.Fed.{is_ready};
 ghost use Rattle.opgp_examples.specs.Feeding.{IsComposing, IsReading};
 
 use crate::text::{Text, has_room, too_long};
 use anyhow::Result;
-use opgp_armor::{ArmorEvent, Label};
-use opgp_frame::{Deframe, Placed};
-use opgp_hash::fingerprint;
-use opgp_octets::{Fault, Limits};
-use opgp_ring::{Certificate, Composer, Head, Ready};
+use opgp::armor::{ArmorEvent, Label};
+use opgp::frame::{Deframe, Placed};
+use opgp::hash::fingerprint;
+use opgp::octets::{Fault, Limits};
+use opgp::ring::{Certificate, Composer, Head, Ready};
 use std::io::BufRead;
 
 /// The certificates of an armored text of keys: a line for each as soon as it is whole, and in the

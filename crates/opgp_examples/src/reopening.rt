@@ -1,9 +1,9 @@
 //! What hashed octets ask.
 
 use anyhow::Result;
-use opgp_packet::{Walk, fault_in_area};
-use opgp_hash::{Question, Subject, fingerprint_of_view, reopen};
-use opgp_octets::{SignatureType, u32_at};
+use opgp::hash::{Question, Subject, fingerprint_of_view, reopen};
+use opgp::octets::{SignatureType, u32_at};
+use opgp::packet::{Walk, fault_in_area};
 
 /// What the octets ask of a signature's hash, or that they are those of no question.
 pub(crate) fn show_question(rt: &(impl Print + AllocGlobal), octets: &[u8]) -> Result<()> {

@@ -1,12 +1,12 @@
 //! An armored text, read from a source as far as it is asked for.
 
 ghost use Rattle.std.specs.Prelude.{◌≡◌, ◌≤◌, ◌+◌, ◌↔◌, IsTrue, false};
-ghost use Rattle.opgp_armor.specs.Fed.{has_ended, held_of, is_ready, line_limit_of};
-ghost use Rattle.opgp_octets.specs.Limits.{input_limit};
+ghost use Rattle.opgp.specs.Armor.Fed.{has_ended, held_of, is_ready, line_limit_of};
+ghost use Rattle.opgp.specs.Octets.Limits.{input_limit};
 
 use anyhow::{Result, bail};
-use opgp_armor::{ArmorEvent, Dearmor};
-use opgp_octets::{Fault, Layer, Limits, Reason};
+use opgp::armor::{ArmorEvent, Dearmor};
+use opgp::octets::{Fault, Layer, Limits, Reason};
 use std::alloc::Global;
 use std::io::BufRead;
 

@@ -3,9 +3,9 @@
 ghost use Rattle.opgp_examples.specs.Table.{says_listed};
 
 use anyhow::Result;
-use opgp_octets::Limits;
-use opgp_report::{Finding, Job, Place, Row, Verdict, Verifier, check};
-use opgp_stack::{Answer, Mode, Watched, read_keyring};
+use opgp::octets::Limits;
+use opgp::report::{Finding, Job, Place, Row, Verdict, Verifier, check};
+use opgp::stack::{Answer, Mode, Watched, read_keyring};
 use std::alloc::Global;
 use std::io::Read;
 

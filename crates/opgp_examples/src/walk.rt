@@ -1,15 +1,15 @@
 //! Walks an armored text: blocks, packets, keys, signatures and their hashed subpackets.
 
 ghost use Rattle.std.specs.Prelude.{◌≡◌, option_map};
-ghost use Rattle.opgp_packet.specs.Subs.{subs_to_come};
+ghost use Rattle.opgp.specs.Packet.Subs.{subs_to_come};
 ghost use Rattle.opgp_examples.specs.Hashed.{hashed_subs};
 
 use anyhow::Result;
-use opgp_armor::dearmor;
-use opgp_frame::{Deframe, Placed};
-use opgp_hash::fingerprint;
-use opgp_packet::{Key, SigView, Signature, SubMeaning, SubView, Subs};
-use opgp_octets::{HashAlgorithm, KeyAlgorithm, Limits, PacketType, SignatureType, SubpacketKind};
+use opgp::armor::dearmor;
+use opgp::frame::{Deframe, Placed};
+use opgp::hash::fingerprint;
+use opgp::octets::{HashAlgorithm, KeyAlgorithm, Limits, PacketType, SignatureType, SubpacketKind};
+use opgp::packet::{Key, SigView, Signature, SubMeaning, SubView, Subs};
 
 /// The armored blocks of a text, or its fault and no block.
 pub(crate) fn walk(rt: &(impl Print + AllocGlobal), text: &[u8]) -> Result<()> {

@@ -7,28 +7,27 @@ use Rattle.opgp_octets.specs.declared.fault.Layer.TheVariants.{Framing}
 use Rattle.opgp_frame.specs.declared.packet.Placed.{Placed}
 use Rattle.opgp_frame.specs.declared.deframe.Deframe.{Deframe}
 use Rattle.opgp_frame.specs.declared.deframe.State.{State}
-use Rattle.opgp_frame.specs.declared.deframe.State.TheVariants.{Between, InLength, InPiece, Faulty}
-use Rattle.opgp_frame.specs.declared.deframe.State.TheVariants.{Spent}
+use Rattle.opgp_frame.specs.declared.deframe.State.TheVariants as states
 use Rattle.opgp_frame.specs.Frames.{spelled, StandFrom}
 use Rattle.opgp_frame.specs.PacketFault.{PacketFault}
 use Rattle.opgp_frame.specs.ReaderState.{held_in}
 use Rattle.opgp_frame.specs.Unfinished.{IsAtLength, IsInPiece}
 
 abbrev pub is_spent_state : State → Bool
-is_spent_state Between = false
-is_spent_state (InLength header seen count) = false
-is_spent_state (InPiece header l from until) = false
-is_spent_state (Faulty reason inner) = false
-is_spent_state Spent = true
+is_spent_state states.Between = false
+is_spent_state (states.InLength header seen count) = false
+is_spent_state (states.InPiece header l from until) = false
+is_spent_state (states.Faulty reason inner) = false
+is_spent_state states.Spent = true
 
 -- the fault that a state keeps, of a packet that begins at this offset in this block
 abbrev pub fault_of_state : State → ℕ → ℕ → Option Fault
-fault_of_state Between block pos = None
-fault_of_state (InLength header seen count) block pos = None
-fault_of_state (InPiece header l from until) block pos = None
-fault_of_state (Faulty reason inner) block pos =
+fault_of_state states.Between block pos = None
+fault_of_state (states.InLength header seen count) block pos = None
+fault_of_state (states.InPiece header l from until) block pos = None
+fault_of_state (states.Faulty reason inner) block pos =
     Some (record { layer = Framing; reason = reason; block = block; pos = pos; inner = inner })
-fault_of_state Spent block pos = None
+fault_of_state states.Spent block pos = None
 
 -- a push has met want of memory
 abbrev pub is_spent : Deframe → Bool
@@ -61,14 +60,14 @@ packets_of d taken = taken ++ option_to_list d.ready
 
 -- the octets after the last whole packet, as the state keeps them
 abbrev pub IsRest : Limits → State → List ℕ → List ℕ → List ℕ → Type 0
-IsRest limits Between exponents body rest = (rest ≡ []) × (exponents ≡ []) × (body ≡ [])
-IsRest limits (InLength header seen count) exponents body rest =
+IsRest limits states.Between exponents body rest = (rest ≡ []) × (exponents ≡ []) × (body ≡ [])
+IsRest limits (states.InLength header seen count) exponents body rest =
     IsAtLength limits header (take count seen) exponents body rest
-IsRest limits (InPiece header l from until) exponents body rest =
+IsRest limits (states.InPiece header l from until) exponents body rest =
     IsInPiece limits header l from until exponents body rest × (length body < until)
-IsRest limits (Faulty reason inner) exponents body rest =
+IsRest limits (states.Faulty reason inner) exponents body rest =
     (more : List ℕ) → PacketFault limits (rest ++ more) reason inner
-IsRest limits Spent exponents body rest = ⊥
+IsRest limits states.Spent exponents body rest = ⊥
 
 -- Within these limits the reader was given these octets of the block, and these packets were taken
 -- from it.

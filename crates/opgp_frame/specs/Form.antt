@@ -6,8 +6,7 @@ use Rattle.opgp_frame.specs.declared.length.Length.TheVariants as len
 use Rattle.opgp_frame.specs.declared.pieces.LastForm.{LastForm}
 use Rattle.opgp_frame.specs.declared.pieces.LastForm.TheVariants.{One, Two, Five}
 use Rattle.opgp_frame.specs.declared.form.Form.{Form}
-use Rattle.opgp_frame.specs.declared.form.Form.TheVariants.{OldOne, OldTwo, OldFour, NewOne, NewTwo}
-use Rattle.opgp_frame.specs.declared.form.Form.TheVariants.{NewFive, Partial}
+use Rattle.opgp_frame.specs.declared.form.Form.TheVariants as forms
 use Rattle.opgp_frame.specs.Header.{is_data_kind}
 use Rattle.opgp_frame.specs.Length.{LengthFits}
 use Rattle.opgp_frame.specs.PiecesValue.{ArePieces, pieces_sum}
@@ -20,23 +19,23 @@ current_length Five n = len.New (new.Five n)
 
 -- the exponents of the pieces under partial lengths
 abbrev pub exponents_of : Form → List ℕ
-exponents_of (Partial p) = p.exponents
-exponents_of OldOne = []
-exponents_of OldTwo = []
-exponents_of OldFour = []
-exponents_of NewOne = []
-exponents_of NewTwo = []
-exponents_of NewFive = []
+exponents_of (forms.Partial p) = p.exponents
+exponents_of forms.OldOne = []
+exponents_of forms.OldTwo = []
+exponents_of forms.OldFour = []
+exponents_of forms.NewOne = []
+exponents_of forms.NewTwo = []
+exponents_of forms.NewFive = []
 
 -- the last length, which is the only one without pieces, where so many octets are left of the body
 abbrev pub length_of_rest : Form → ℕ → Length
-length_of_rest OldOne n = len.OldOne n
-length_of_rest OldTwo n = len.OldTwo n
-length_of_rest OldFour n = len.OldFour n
-length_of_rest NewOne n = current_length One n
-length_of_rest NewTwo n = current_length Two n
-length_of_rest NewFive n = current_length Five n
-length_of_rest (Partial p) n = current_length p.last n
+length_of_rest forms.OldOne n = len.OldOne n
+length_of_rest forms.OldTwo n = len.OldTwo n
+length_of_rest forms.OldFour n = len.OldFour n
+length_of_rest forms.NewOne n = current_length One n
+length_of_rest forms.NewTwo n = current_length Two n
+length_of_rest forms.NewFive n = current_length Five n
+length_of_rest (forms.Partial p) n = current_length p.last n
 
 -- the last length of a body of n octets
 abbrev pub last_length : Form → ℕ → Length
@@ -44,13 +43,13 @@ last_length form n = length_of_rest form (n - pieces_sum (exponents_of form))
 
 -- the pieces under partial lengths are such as may be
 abbrev pub HasPieces : Form → Type 0
-HasPieces (Partial p) = ArePieces p.exponents
-HasPieces OldOne = Unit {0}
-HasPieces OldTwo = Unit {0}
-HasPieces OldFour = Unit {0}
-HasPieces NewOne = Unit {0}
-HasPieces NewTwo = Unit {0}
-HasPieces NewFive = Unit {0}
+HasPieces (forms.Partial p) = ArePieces p.exponents
+HasPieces forms.OldOne = Unit {0}
+HasPieces forms.OldTwo = Unit {0}
+HasPieces forms.OldFour = Unit {0}
+HasPieces forms.NewOne = Unit {0}
+HasPieces forms.NewTwo = Unit {0}
+HasPieces forms.NewFive = Unit {0}
 
 -- The form spells a body of n octets: it has the pieces, its last length holds what is left, and it
 -- is no longer than a length of four octets says.
@@ -62,22 +61,22 @@ pub record FormSpells (form : Form) (n : ℕ) : Type 0 where
 
 -- packets of a type that is read may have the form
 abbrev pub form_takes : Form → ℕ → Bool
-form_takes OldOne kind = nat_lt kind 16
-form_takes OldTwo kind = nat_lt kind 16
-form_takes OldFour kind = nat_lt kind 16
-form_takes NewOne kind = true
-form_takes NewTwo kind = true
-form_takes NewFive kind = true
-form_takes (Partial p) kind = is_data_kind kind
+form_takes forms.OldOne kind = nat_lt kind 16
+form_takes forms.OldTwo kind = nat_lt kind 16
+form_takes forms.OldFour kind = nat_lt kind 16
+form_takes forms.NewOne kind = true
+form_takes forms.NewTwo kind = true
+form_takes forms.NewFive kind = true
+form_takes (forms.Partial p) kind = is_data_kind kind
 
 -- The octet that begins a packet: bit 7 is set. In the legacy format the type is in bits 5 to 2 and
 -- the kind of length in bits 1 and 0. In the current format bit 6 is set, and the type is in bits 5
 -- to 0.
 abbrev pub header_octet : Form → ℕ → ℕ
-header_octet OldOne kind = 128 + 4 * kind
-header_octet OldTwo kind = 129 + 4 * kind
-header_octet OldFour kind = 130 + 4 * kind
-header_octet NewOne kind = 192 + kind
-header_octet NewTwo kind = 192 + kind
-header_octet NewFive kind = 192 + kind
-header_octet (Partial p) kind = 192 + kind
+header_octet forms.OldOne kind = 128 + 4 * kind
+header_octet forms.OldTwo kind = 129 + 4 * kind
+header_octet forms.OldFour kind = 130 + 4 * kind
+header_octet forms.NewOne kind = 192 + kind
+header_octet forms.NewTwo kind = 192 + kind
+header_octet forms.NewFive kind = 192 + kind
+header_octet (forms.Partial p) kind = 192 + kind

@@ -5,11 +5,7 @@ use Rattle.std.specs.Prelude.{◌∷◌, length, Option, Some, None, if◌then�
 use Rattle.opgp_octets.specs.declared.limits.Limits.{Limits}
 use Rattle.opgp_octets.specs.Limits.{body_limit, pieces_limit}
 use Rattle.opgp_octets.specs.declared.fault.Reason.{Reason}
-use Rattle.opgp_octets.specs.declared.fault.Reason.TheVariants.{NotAPacket, TypeZero, Compressed}
-use Rattle.opgp_octets.specs.declared.fault.Reason.TheVariants.{UnknownCritical, Indeterminate}
-use Rattle.opgp_octets.specs.declared.fault.Reason.TheVariants.{Truncated, PartialKind}
-use Rattle.opgp_octets.specs.declared.fault.Reason.TheVariants.{FirstPartial, TooManyPieces}
-use Rattle.opgp_octets.specs.declared.fault.Reason.TheVariants.{BodyTooLong}
+use Rattle.opgp_octets.specs.declared.fault.Reason.TheVariants as reasons
 use Rattle.opgp_frame.specs.declared.length.Length.{Length}
 use Rattle.opgp_frame.specs.Header.{is_current, is_unknown_critical, is_data_kind, kind_in}
 use Rattle.opgp_frame.specs.Length.{LengthBegins, length_amount, is_partial}
@@ -18,18 +14,19 @@ use Rattle.opgp_frame.specs.PiecesValue.{GoodPieces, pieces_sum}
 
 -- why the octet begins no packet, whatever follows: the first that is true
 abbrev pub header_fault : ℕ → Option Reason
-header_fault header = if nat_lt header 128 then Some NotAPacket else
-    (if kind_in header == 0 then Some TypeZero else
-    (if kind_in header == 8 then Some Compressed else
-    (if is_unknown_critical (kind_in header) then Some UnknownCritical else
-    (if not (is_current header) && (header % 4 == 3) then Some Indeterminate else None))))
+header_fault header = if nat_lt header 128 then Some reasons.NotAPacket else
+    (if kind_in header == 0 then Some reasons.TypeZero else
+    (if kind_in header == 8 then Some reasons.Compressed else
+    (if is_unknown_critical (kind_in header) then Some reasons.UnknownCritical else
+    (if not (is_current header) && (header % 4 == 3) then Some reasons.Indeterminate else None))))
 
 -- why a partial length may not stand behind so many others, in a packet of this type: the first
 -- that is true
 abbrev pub partial_fault : Limits → ℕ → ℕ → ℕ → Option Reason
-partial_fault limits kind before amount = if not (is_data_kind kind) then Some PartialKind else
-    (if (before == 0) && nat_lt amount 512 then Some FirstPartial else
-    (if nat_le (pieces_limit limits) before then Some TooManyPieces else None))
+partial_fault limits kind before amount =
+    if not (is_data_kind kind) then Some reasons.PartialKind else
+    (if (before == 0) && nat_lt amount 512 then Some reasons.FirstPartial else
+    (if nat_le (pieces_limit limits) before then Some reasons.TooManyPieces else None))
 
 abbrev pub or_else : Option Reason → Option Reason → Option Reason
 or_else None other = other
@@ -40,17 +37,17 @@ or_else (Some reason) other = Some reason
 abbrev pub length_fault : Limits → ℕ → ℕ → ℕ → Length → Option Reason
 length_fault limits kind before sum l =
     or_else (if is_partial l then partial_fault limits kind before (length_amount l) else None)
-    (if nat_lt (body_limit limits) (sum + length_amount l) then Some BodyTooLong else None)
+    (if nat_lt (body_limit limits) (sum + length_amount l) then Some reasons.BodyTooLong else None)
 
 -- The next length header is at fault, behind so many partial ones, whose pieces have so many
 -- octets: none is there, or one that may not stand there, or one whose piece isn't all there.
 abbrev pub NextFault : Limits → ℕ → ℕ → ℕ → List ℕ → Reason → Type 0
 NextFault limits header before sum o reason =
-    (((l : Length) (count : ℕ) → LengthBegins header o l count → ⊥) × (reason ≡ Truncated))
+    (((l : Length) (count : ℕ) → LengthBegins header o l count → ⊥) × (reason ≡ reasons.Truncated))
     ⊎ ((l : Length) × (count : ℕ) × LengthBegins header o l count
     × ((length_fault limits (kind_in header) before sum l ≡ Some reason)
     ⊎ ((length_fault limits (kind_in header) before sum l ≡ None)
-    × (length o < count + length_amount l) × (reason ≡ Truncated))))
+    × (length o < count + length_amount l) × (reason ≡ reasons.Truncated))))
 
 -- pieces that may stand, each behind its partial length and whole, and then what is at fault
 pub record FaultBehind (limits : Limits) (header : ℕ) (o : List ℕ) (reason : Reason) (inner : ℕ)

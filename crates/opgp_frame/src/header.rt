@@ -4,7 +4,7 @@ ghost use Rattle.std.specs.Prelude.{◌≡◌};
 ghost use Rattle.opgp_frame.specs.Header.{is_read_kind, is_data_kind, is_unknown_critical, kind_in};
 ghost use Rattle.opgp_frame.specs.PacketFault.{header_fault};
 
-use opgp_octets::Reason;
+use opgp_octets::{PacketType, Reason};
 
 /// Whether the type is critical and unknown (RFC 9580, 4.3).
 pub(crate) fn is_unknown_critical(kind: u8) -> bool
@@ -17,7 +17,10 @@ pub(crate) fn is_unknown_critical(kind: u8) -> bool
 pub(crate) fn is_read_kind(kind: u8) -> bool
     ensures { result ≡ is_read_kind kind }
 {
-    kind != 0 && kind != 8 && kind < 64 && !is_unknown_critical(kind)
+    kind != PacketType::Reserved.number()
+        && kind != PacketType::CompressedData.number()
+        && kind < 64
+        && !is_unknown_critical(kind)
 }
 
 /// Whether packets of the type are data packets, whose bodies may come in pieces.

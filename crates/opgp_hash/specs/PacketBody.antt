@@ -2,9 +2,7 @@
 use Rattle.std.specs.Prelude.{ℕ, List}
 use Rattle.opgp_octets.specs.declared.fault.BodyFault.{BodyFault}
 use Rattle.opgp_octets.specs.declared.packet_type.PacketType.{PacketType}
-use Rattle.opgp_octets.specs.declared.packet_type.PacketType.TheVariants.{Signature, PublicKey}
-use Rattle.opgp_octets.specs.declared.packet_type.PacketType.TheVariants.{PublicSubkey, LiteralData}
-use Rattle.opgp_octets.specs.declared.packet_type.PacketType.TheVariants.{UserAttribute}
+use Rattle.opgp_octets.specs.declared.packet_type.PacketType.TheVariants as packet
 use Rattle.opgp_packet.specs.AttributeBody.{AttributeFault}
 use Rattle.opgp_packet.specs.KeyBody.{KeyFault}
 use Rattle.opgp_packet.specs.LiteralBody.{LiteralFault}
@@ -14,9 +12,9 @@ use Rattle.opgp_packet.specs.SignatureBody.{SignatureFault}
 -- literals and signatures may have one; a user ID is any octets, and of other types nothing is
 -- read.
 abbrev pub HasBodyFault : PacketType → List ℕ → BodyFault → Type 0
-HasBodyFault Signature o f = SignatureFault o f
-HasBodyFault PublicKey o f = KeyFault o f
-HasBodyFault PublicSubkey o f = KeyFault o f
-HasBodyFault LiteralData o f = LiteralFault o f
-HasBodyFault UserAttribute o f = AttributeFault o f
+HasBodyFault packet.Signature o f = SignatureFault o f
+HasBodyFault packet.PublicKey o f = KeyFault o f
+HasBodyFault packet.PublicSubkey o f = KeyFault o f
+HasBodyFault packet.LiteralData o f = LiteralFault o f
+HasBodyFault packet.UserAttribute o f = AttributeFault o f
 HasBodyFault other o f = ⊥

@@ -3,6 +3,9 @@
 use Rattle.std.specs.Prelude.{ℕ, ◌^◌, ◌≤◌, Bool, true, ◌&&◌, ◌||◌, List, ◌∷◌, length}
 use Rattle.std.specs.Prelude.{◌==◌, nat_le, slice_index, Option, Some, None}
 use Rattle.opgp_octets.specs.Octets.{IsOctets, IsBodySized}
+use Rattle.opgp_octets.specs.SignatureType.{signature_type_number}
+use Rattle.opgp_octets.specs.declared.signature_type.SignatureType.{SignatureType}
+use Rattle.opgp_octets.specs.declared.signature_type.SignatureType.TheVariants as signature
 use Rattle.opgp_packet.specs.Fields.{Field, small, Body}
 use Rattle.opgp_packet.specs.AttributeBody.{attribute}
 use Rattle.opgp_packet.specs.KeyBody.{key}
@@ -24,25 +27,33 @@ first_key (on_attribute primary body) = Some primary
 
 -- ---- which types of signatures are about which subject
 
+-- a number is that of this type
+abbrev pub is_type : SignatureType → ℕ → Bool
+is_type t kind = kind == signature_type_number t
+
 -- a document (5.2.1.1)
 abbrev pub is_on_content : ℕ → Bool
-is_on_content kind = kind == 0x00
+is_on_content kind = is_type signature.Binary kind
 
 -- a key alone: a signature directly on it, and its revocation (5.2.1.10, 5.2.1.11)
 abbrev pub is_on_key : ℕ → Bool
-is_on_key kind = (kind == 0x1F) || (kind == 0x20)
+is_on_key kind = is_type signature.DirectKey kind || is_type signature.KeyRevocation kind
 
 -- a primary key and a subkey: the binding of the subkey, the subkey's own binding to the primary
 -- key, and the revocation of the subkey (5.2.1.8, 5.2.1.9, 5.2.1.12)
 abbrev pub is_on_subkey : ℕ → Bool
-is_on_subkey kind = (kind == 0x18) || ((kind == 0x19) || (kind == 0x28))
+is_on_subkey kind = is_type signature.SubkeyBinding kind
+    || (is_type signature.PrimaryKeyBinding kind || is_type signature.SubkeyRevocation kind)
 
 -- a key and a user ID or user attribute: four certifications, and their revocation (5.2.1.4 to
 -- 5.2.1.7, 5.2.1.13)
 abbrev pub is_certification : ℕ → Bool
 is_certification kind =
-    (kind == 0x10)
-    || ((kind == 0x11) || ((kind == 0x12) || ((kind == 0x13) || (kind == 0x30))))
+    is_type signature.GenericCertification kind
+    || (is_type signature.PersonaCertification kind
+    || (is_type signature.CasualCertification kind
+    || (is_type signature.PositiveCertification kind
+    || is_type signature.CertificationRevocation kind)))
 
 abbrev pub is_about : ℕ → SubjectValue → Bool
 is_about kind (binary content) = is_on_content kind

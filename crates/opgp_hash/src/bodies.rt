@@ -1,8 +1,7 @@
 //! The bodies that are hashed, with what is known of them.
 
 ghost use Rattle.std.specs.Prelude.{◌≡◌, ◌⊎◌, ◌≤◌, length};
-ghost use Rattle.opgp_packet.specs.AttributeView.{attribute_view_octets};
-ghost use Rattle.opgp_packet.specs.KeyView.{key_view_octets};
+ghost use Rattle.opgp_packet.specs.Parsed.{body_octets};
 ghost use Rattle.opgp_octets.specs.Octets.{IsOctets, IsBodySized};
 ghost use Rattle.opgp_hash.specs.SubjectValue.{IsKeyOf, IsAttribute, version_of};
 
@@ -10,8 +9,8 @@ use opgp_packet::{AttributeView, KeyView};
 
 /// The body of a key of this version.
 pub(crate) fn key_body<'a>(key: &KeyView<'a>, version: u8) -> &'a [u8]
-    requires { version_of (key_view_octets key.now) ≡ version }
-    ensures value { result.now ≡ key_view_octets key.now }
+    requires { version_of (body_octets key.now) ≡ version }
+    ensures value { result.now ≡ body_octets key.now }
     ensures key { IsKeyOf version result.now }
     ensures small { IsBodySized result.now }
     ensures short { version ≡ 4 → length result.now ≤ 65535 }
@@ -21,7 +20,7 @@ pub(crate) fn key_body<'a>(key: &KeyView<'a>, version: u8) -> &'a [u8]
 
 /// The version of a key, which begins its body.
 pub(crate) fn version_in(key: &KeyView<'_>) -> u8
-    ensures value { result ≡ version_of (key_view_octets key.now) }
+    ensures value { result ≡ version_of (body_octets key.now) }
     ensures known { (result ≡ 4) ⊎ (result ≡ 6) }
 {
     let _body = key.body();
@@ -30,7 +29,7 @@ pub(crate) fn version_in(key: &KeyView<'_>) -> u8
 
 /// The body of a user attribute.
 pub(crate) fn attribute_body<'a>(attribute: &AttributeView<'a>) -> &'a [u8]
-    ensures value { result.now ≡ attribute_view_octets attribute.now }
+    ensures value { result.now ≡ body_octets attribute.now }
     ensures attribute { IsAttribute result.now }
     ensures small { IsBodySized result.now }
 {

@@ -3,7 +3,7 @@
 ghost use Rattle.std.specs.Prelude.{◌≡◌, true, Some};
 ghost use Rattle.std.proofs.Props.{props};
 ghost use Rattle.sha2.specs.Hashers.{Holds224, Holds256, Holds384, Holds512};
-ghost use Rattle.opgp_packet.specs.KeyView.{key_view_octets};
+ghost use Rattle.opgp_packet.specs.Parsed.{body_octets};
 ghost use Rattle.opgp_hash.specs.Hashed.{key_hashed, subject_hashed};
 ghost use Rattle.opgp_hash.specs.Hasher.{HoldsSha1};
 ghost use Rattle.opgp_hash.specs.HoldsProps.{sha1-prop, sha224-prop, sha256-prop};
@@ -19,8 +19,8 @@ use crate::kept::Kept;
 use crate::parts::Parts;
 use crate::question::Question;
 use crate::subject::Subject;
-use opgp_packet::KeyView;
 use opgp_octets::HashAlgorithm;
+use opgp_packet::KeyView;
 use sha2::{Sha224, Sha256, Sha384, Sha512};
 
 /// Makes the digests of one certificate's signatures, about one subject after the other.
@@ -37,17 +37,17 @@ pub struct CertificateHasher<'a> {
     sha256: Kept<Sha256>,
     sha384: Kept<Sha384>,
     sha512: Kept<Sha512>,
-    ghost first: { first_key (subject_value subject) ≡ Some (key_view_octets primary) },
+    ghost first: { first_key (subject_value subject) ≡ Some (body_octets primary) },
     ghost within: { is_within (subject_value subject) ≡ true },
-    ghost keeps_sha1: { Keeps HoldsSha1 sha1 (key_hashed 4 (key_view_octets primary))
+    ghost keeps_sha1: { Keeps HoldsSha1 sha1 (key_hashed 4 (body_octets primary))
         (subject_hashed 4 (subject_value subject)) } by { Prim.hlevel (props, sha1-prop) },
-    ghost keeps_sha224: { Keeps Holds224 sha224 (key_hashed 4 (key_view_octets primary))
+    ghost keeps_sha224: { Keeps Holds224 sha224 (key_hashed 4 (body_octets primary))
         (subject_hashed 4 (subject_value subject)) } by { Prim.hlevel (props, sha224-prop) },
-    ghost keeps_sha256: { Keeps Holds256 sha256 (key_hashed 4 (key_view_octets primary))
+    ghost keeps_sha256: { Keeps Holds256 sha256 (key_hashed 4 (body_octets primary))
         (subject_hashed 4 (subject_value subject)) } by { Prim.hlevel (props, sha256-prop) },
-    ghost keeps_sha384: { Keeps Holds384 sha384 (key_hashed 4 (key_view_octets primary))
+    ghost keeps_sha384: { Keeps Holds384 sha384 (key_hashed 4 (body_octets primary))
         (subject_hashed 4 (subject_value subject)) } by { Prim.hlevel (props, sha384-prop) },
-    ghost keeps_sha512: { Keeps Holds512 sha512 (key_hashed 4 (key_view_octets primary))
+    ghost keeps_sha512: { Keeps Holds512 sha512 (key_hashed 4 (body_octets primary))
         (subject_hashed 4 (subject_value subject)) } by { Prim.hlevel (props, sha512-prop) },
 }
 
@@ -60,7 +60,7 @@ impl<'a> CertificateHasher<'a> {
     /// Of the certificate with this primary key; its subject is that key alone. Nothing is hashed
     /// yet.
     pub fn new(primary: KeyView<'a>) -> CertificateHasher<'a>
-        ensures { hasher_subject result ≡ one (key_view_octets primary.entry) }
+        ensures { hasher_subject result ≡ one (body_octets primary.entry) }
     {
         CertificateHasher {
             primary,

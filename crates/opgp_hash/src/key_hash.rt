@@ -1,8 +1,8 @@
 //! What names a key: a hash of its body.
 
 ghost use Rattle.std.specs.Prelude.{◌≡◌, ◌≤◌, length};
-ghost use Rattle.opgp_packet.specs.Key.{key_octets, key_value};
-ghost use Rattle.opgp_packet.specs.KeyView.{key_view_octets, key_view_value};
+ghost use Rattle.opgp_packet.specs.Parsed.{body_octets};
+ghost use Rattle.opgp_packet.specs.Key.{key_value};
 ghost use Rattle.opgp_hash.specs.Fingerprint.{fingerprint_of, four_hashed, six_hashed};
 ghost use Rattle.opgp_hash.specs.KeyId.{key_id_of};
 ghost use Rattle.sha1.specs.Sha1.{sha1};
@@ -39,7 +39,7 @@ fn six(body: &[u8]) -> [u8; 32]
 /// (RFC 9580, 5.5.4). Takes no memory.
 pub fn fingerprint_of_view(key: KeyView<'_>) -> Fingerprint
     ensures { result
-        ≡ fingerprint_of (key_view_value key.entry).version (key_view_octets key.entry) }
+        ≡ fingerprint_of (key_value key.entry).version (body_octets key.entry) }
 {
     let body = key.body();
     if key.version() == 4 {
@@ -52,14 +52,14 @@ pub fn fingerprint_of_view(key: KeyView<'_>) -> Fingerprint
 /// The fingerprint of the key: a hash of its body, whatever header its packet has (RFC 9580,
 /// 5.5.4). Takes no memory.
 pub fn fingerprint(key: &Key) -> Fingerprint
-    ensures { result ≡ fingerprint_of (key_value key.now).version (key_octets key.now) }
+    ensures { result ≡ fingerprint_of (key_value key.now).version (body_octets key.now) }
 {
     fingerprint_of_view(key.view())
 }
 
 /// The key ID of the key, 8 octets of its fingerprint (RFC 9580, 5.5.4). Takes no memory.
 pub fn key_id(key: &Key) -> KeyId
-    ensures { result.0 ≡ key_id_of (key_value key.now).version (key_octets key.now) }
+    ensures { result.0 ≡ key_id_of (key_value key.now).version (body_octets key.now) }
 {
     fingerprint(key).key_id()
 }

@@ -84,7 +84,7 @@ pub(crate) fn is_about(kind: u8, subject: &Subject<'_>) -> bool
 pub(crate) fn is_asked_at(site: Site, kind: u8, subject: &Subject<'_>) -> bool
     ensures { result ≡ is_asked_at site kind (subject_value subject.now) }
 {
-    let embeds = kind == 0x19;
+    let embeds = kind == SignatureType::PrimaryKeyBinding.number();
     match site {
         Site::Hung => is_about(kind, subject) && !embeds,
         Site::Embedded => is_about(kind, subject) && embeds,

@@ -5,8 +5,8 @@ ghost use Rattle.opgp_octets.specs.declared.fault.BodyFault.{BodyFault};
 ghost use Rattle.opgp_octets.specs.Octets.{IsBodySized};
 ghost use Rattle.opgp_hash.specs.PacketBody.{HasBodyFault};
 
-use opgp_packet::{AttributeView, KeyView, Literal, SigView};
 use opgp_octets::{BodyFault, PacketType};
+use opgp_packet::{AttributeView, KeyView, Literal, SigView};
 
 /// The first fault of the body of a packet of this type, if it has one. Takes no memory.
 ///

@@ -44,8 +44,7 @@ pub(crate) struct Part<'a> {
 impl<'a> Part<'a> {
     ghost use Rattle.std.specs.Int.{w32, to_be_bytes};
     ghost use Rattle.opgp_octets.specs.Octets.{IsBodySized};
-    ghost use Rattle.opgp_packet.specs.AttributeView.{attribute_view_octets};
-    ghost use Rattle.opgp_packet.specs.KeyView.{key_view_octets};
+    ghost use Rattle.opgp_packet.specs.Parsed.{body_octets};
     ghost use Rattle.opgp_hash.specs.Hashed.{key_hashed, id_hashed, attribute_hashed};
     ghost use Rattle.opgp_hash.specs.Hashed.{front_hashed};
     ghost use Rattle.opgp_hash.specs.Part.{part_octets};
@@ -85,8 +84,8 @@ impl<'a> Part<'a> {
 
     /// A key of this version.
     pub(crate) fn key(version: u8, key: &KeyView<'a>) -> Part<'a>
-        requires { version_of (key_view_octets key.now) ≡ version }
-        ensures { part_octets result ≡ key_hashed version (key_view_octets key.now) }
+        requires { version_of (body_octets key.now) ≡ version }
+        ensures { part_octets result ≡ key_hashed version (body_octets key.now) }
     {
         let body = key_body(key, version);
         if version == 4 {
@@ -110,7 +109,7 @@ impl<'a> Part<'a> {
 
     /// A user attribute.
     pub(crate) fn attribute(attribute: &AttributeView<'a>) -> Part<'a>
-        ensures { part_octets result ≡ attribute_hashed (attribute_view_octets attribute.now) }
+        ensures { part_octets result ≡ attribute_hashed (body_octets attribute.now) }
     {
         Part::tagged(0xD1, attribute_body(attribute))
     }

@@ -2,7 +2,7 @@
 
 ghost use Rattle.std.specs.Prelude.{◌≡◌, ◌≢◌, ◌+◌, ◌≤◌, ℕ, length, true, Some, IfSome, IfNone};
 ghost use Rattle.opgp_octets.specs.Octets.{IsBodySized};
-ghost use Rattle.opgp_packet.specs.KeyView.{key_view_octets};
+ghost use Rattle.opgp_packet.specs.Parsed.{body_octets};
 ghost use Rattle.opgp_hash.specs.Hashed.{hashed};
 ghost use Rattle.opgp_hash.specs.Opened.{front_seen, trailer_seen};
 ghost use Rattle.opgp_hash.specs.Question.{question_value};
@@ -19,8 +19,8 @@ ghost use Rattle.opgp_hash.specs.SubjectValue.{are_keys_of, is_within, version_o
 use crate::kinds::{is_certification, is_hash, is_on_content, is_on_key, is_on_subkey};
 use crate::question::Question;
 use crate::subject::Subject;
-use opgp_packet::{AttributeView, KeyView};
 use opgp_octets::{HashAlgorithm, u16_at, u32_at};
+use opgp_packet::{AttributeView, KeyView};
 
 /// What the front of a signature says.
 #[derive(Clone, Copy)]
@@ -190,8 +190,8 @@ fn after(o: &[u8], tag: u8) -> Option<&[u8]>
 /// A key of this version, and what follows.
 #[tactic(auto, unfolding(crate::specs::Reopening::key_at))]
 fn read_key(version: u8, o: &[u8]) -> Option<(KeyView<'_>, &[u8])>
-    ensures exact { Gives (λ x. (key_view_octets x.0, x.1.now)) result (key_at version o.now) }
-    ensures version { IfSome result (λ x. version_of (key_view_octets x.0) ≡ version) }
+    ensures exact { Gives (λ x. (body_octets x.0, x.1.now)) result (key_at version o.now) }
+    ensures version { IfSome result (λ x. version_of (body_octets x.0) ≡ version) }
 {
     let tag = if version == 4 { 0x99 } else { 0x9B };
     let rest = after(o, tag)?;
@@ -271,8 +271,8 @@ fn read_two(version: u8, o: &[u8]) -> Option<Subject<'_>>
 
 /// A user ID or an attribute of this key, and nothing more.
 fn read_named<'a>(version: u8, primary: KeyView<'a>, o: &'a [u8]) -> Option<Subject<'a>>
-    requires { version_of (key_view_octets primary) ≡ version }
-    ensures exact { Gives subject_value result (named_at (key_view_octets primary.entry) o.now) }
+    requires { version_of (body_octets primary) ≡ version }
+    ensures exact { Gives subject_value result (named_at (body_octets primary.entry) o.now) }
     ensures about { IfSome result (λ s. (k : ℕ) → is_certification k ≡ true
         → is_about k (subject_value s) ≡ true) }
     ensures keys { IfSome result (λ s. are_keys_of version (subject_value s) ≡ true) }

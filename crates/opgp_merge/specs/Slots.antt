@@ -8,6 +8,8 @@ use Rattle.std.specs.List.{fold, position_from}
 use Rattle.std.specs.declared.cmp.Ordering.{Ordering}
 use Rattle.std.specs.Ordering.{nat_cmp, ordering_then}
 use Rattle.std.specs.Str.{bytes_eq}
+use Rattle.opgp_octets.specs.PacketType.{packet_type_number}
+use Rattle.opgp_octets.specs.declared.packet_type.PacketType.TheVariants as packet
 use Rattle.opgp_frame.specs.Packet.{PacketValue}
 use Rattle.opgp_ring.specs.Keyring.{CertificateValue, ComponentValue}
 use Rattle.opgp_merge.specs.Merged.{firsts, like, same_packet}
@@ -31,7 +33,7 @@ head_name c = packet_name c.head
 
 -- primary keys are all of one type
 abbrev pub primary_name : CertificateValue → Name
-primary_name c = (6, c.primary.body)
+primary_name c = (packet_type_number packet.PublicKey, c.primary.body)
 
 -- the first stays as it is
 abbrev pub stays : {X : Type 0} → X → X → X

@@ -4,7 +4,7 @@ ghost use Rattle.std.specs.Prelude.{◌≡◌, refl, OnOk};
 ghost use Rattle.opgp_merge.specs.Slots.{Name, head_name, packet_name, primary_name};
 ghost use Rattle.opgp_merge.specs.Slots.{stays, with_hangs, with_parts};
 
-use opgp_octets::OutOfMemory;
+use opgp_octets::{OutOfMemory, PacketType};
 use opgp_ring::{Certificate, Component, Member};
 
 /// An item that is the same as others of its type and body, and takes what they hold.
@@ -70,7 +70,7 @@ impl Joining for Certificate {
     ghost keeps = { λ x y. refl };
 
     fn name(&self) -> (u8, &[u8]) {
-        (6, self.primary().body())
+        (PacketType::PublicKey.number(), self.primary().body())
     }
 
     fn take_in(&mut self, certificate: Certificate) -> Result<(), OutOfMemory> {

@@ -10,8 +10,7 @@ use Rattle.opgp_packet.specs.Fields.{Field, bare, named, subpackets, behind_two,
 use Rattle.opgp_packet.specs.Spans.{octets_in}
 use Rattle.opgp_packet.specs.Subpackets.{subs_octets, Area}
 use Rattle.opgp_packet.proofs.AreaLaws.{area_found, area_anywhere}
-use Rattle.opgp_packet.specs.AreaPlaces.{hashed_start}
-use Rattle.opgp_packet.specs.AreasValue.{AreasValue, IsSound, areas_fields, front_of}
+use Rattle.opgp_packet.specs.AreasValue.{AreasValue, IsSound, areas_fields, front_of, hashed_start}
 use Rattle.opgp_octets.specs.HashAlgorithm.{salt_size}
 use Rattle.opgp_packet.specs.SignatureBody.{extent, with_areas, salt_of_size}
 

@@ -1,12 +1,16 @@
 -- What every key's body keeps.
-use Rattle.std.proofs.Common.{◌≡◌, ◌≤◌, ◌-◌, ◌∷◌, ◌⊎◌, ℕ, Bool, true, false, eqb, cond, inl, inr, List, length, refl, ap, ◌∙◌, arith, Result, Ok, Err}
+use Rattle.std.proofs.Common.{IfOk, ◌≡◌, ◌≤◌, ◌-◌, ◌∷◌, ◌⊎◌, ℕ, Bool, true, false, eqb, cond, inl, inr, List, length, refl, ap, ◌∙◌, arith, Result, Ok, Err}
 use Rattle.opgp_octets.specs.declared.fault.BodyFault.{BodyFault}
+use Rattle.opgp_octets.specs.KeyAlgorithm.{key_algorithm_of}
 use Rattle.opgp_octets.specs.Octets.{IsOctets}
 use Rattle.opgp_octets.specs.Reading.{Reads}
 use Rattle.opgp_packet.specs.FieldReading.{body_at}
 use Rattle.opgp_packet.specs.Fields.{Field, small, wide, octets_of}
 use Rattle.opgp_packet.proofs.GrammarLaws.{body_found}
-use Rattle.opgp_packet.specs.KeyPlaces.{fields_of_size}
+use Rattle.opgp_packet.specs.Key.{fields_of_size, key_in, KeyLies}
+use Rattle.opgp_packet.specs.KeyMaterial.{AreIn, shape}
+use Rattle.opgp_packet.specs.KeyShape.{shape_of}
+use Rattle.opgp_packet.specs.declared.key.KeyPlaces.{KeyPlaces}
 use Rattle.opgp_packet.specs.KeyBody.{key, KeyValue, key_fields, SpellsKey}
 
 pub version_known : (v : KeyValue) (o : List ℕ) → SpellsKey v o → (v.version ≡ 4) ⊎ (v.version ≡ 6)
@@ -34,3 +38,13 @@ counted shown o (Ok x) fits e =
     let v = shown x in
     let b = body_found key o (fields_of_size (length o) v) fits e in
     e ∙ ap (λ (fs : List Field). Ok fs) (size_is (eqb v.version 6) v o b.spelled)
+
+-- where the fields of a key lie that was read
+pub lying : (o : List ℕ) (r : Result KeyPlaces BodyFault) → IsOctets o → Reads (λ p. fields_of_size (length o) (key_in p o)) r (body_at key o)
+    → IfOk r (λ p. AreIn p.material (length o)) → IfOk r (λ p. shape p.material ≡ shape_of (key_algorithm_of p.algorithm)) → IfOk r (λ p. KeyLies p o)
+lying o (Err f) fits e within form = tt
+lying o (Ok p) fits e within form = record {
+  material = within;
+  form = form;
+  short = version_short (key_in p o) o (body_found key o (key_fields (key_in p o)) fits (counted (λ q. key_in q o) o (Ok p) fits e));
+}

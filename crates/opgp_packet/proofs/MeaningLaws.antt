@@ -7,29 +7,7 @@ use Rattle.std.proofs.lemmas.List.{take_at, drop_at, take-append-drop, length-ap
 use Rattle.std.proofs.Math.Seq.{drop-cons, drop-length, get_or-append_seam}
 use Rattle.opgp_octets.specs.declared.fault.BodyFault.{BodyFault}
 use Rattle.opgp_octets.specs.declared.subpacket_kind.SubpacketKind.{SubpacketKind}
-use Rattle.opgp_octets.specs.declared.subpacket_kind.SubpacketKind.TheVariants.{Created, Expires}
-use Rattle.opgp_octets.specs.declared.subpacket_kind.SubpacketKind.TheVariants.{Exportable, Trust}
-use Rattle.opgp_octets.specs.declared.subpacket_kind.SubpacketKind.TheVariants.{RegularExpression}
-use Rattle.opgp_octets.specs.declared.subpacket_kind.SubpacketKind.TheVariants.{Revocable}
-use Rattle.opgp_octets.specs.declared.subpacket_kind.SubpacketKind.TheVariants.{KeyExpires}
-use Rattle.opgp_octets.specs.declared.subpacket_kind.SubpacketKind.TheVariants.{PreferredSymmetric}
-use Rattle.opgp_octets.specs.declared.subpacket_kind.SubpacketKind.TheVariants.{RevocationKey}
-use Rattle.opgp_octets.specs.declared.subpacket_kind.SubpacketKind.TheVariants.{Issuer, Notation}
-use Rattle.opgp_octets.specs.declared.subpacket_kind.SubpacketKind.TheVariants.{PreferredHash}
-use Rattle.opgp_octets.specs.declared.subpacket_kind.SubpacketKind.TheVariants.{PreferredCompression}
-use Rattle.opgp_octets.specs.declared.subpacket_kind.SubpacketKind.TheVariants.{KeyServerPreferences}
-use Rattle.opgp_octets.specs.declared.subpacket_kind.SubpacketKind.TheVariants.{PreferredKeyServer}
-use Rattle.opgp_octets.specs.declared.subpacket_kind.SubpacketKind.TheVariants.{PrimaryUserId}
-use Rattle.opgp_octets.specs.declared.subpacket_kind.SubpacketKind.TheVariants.{PolicyUri, KeyFlags}
-use Rattle.opgp_octets.specs.declared.subpacket_kind.SubpacketKind.TheVariants.{SignersUserId}
-use Rattle.opgp_octets.specs.declared.subpacket_kind.SubpacketKind.TheVariants.{RevocationReason}
-use Rattle.opgp_octets.specs.declared.subpacket_kind.SubpacketKind.TheVariants.{Features}
-use Rattle.opgp_octets.specs.declared.subpacket_kind.SubpacketKind.TheVariants.{SignatureTarget}
-use Rattle.opgp_octets.specs.declared.subpacket_kind.SubpacketKind.TheVariants.{EmbeddedSignature}
-use Rattle.opgp_octets.specs.declared.subpacket_kind.SubpacketKind.TheVariants.{IssuerFingerprint}
-use Rattle.opgp_octets.specs.declared.subpacket_kind.SubpacketKind.TheVariants.{IntendedRecipient}
-use Rattle.opgp_octets.specs.declared.subpacket_kind.SubpacketKind.TheVariants.{PreferredAead}
-use Rattle.opgp_octets.specs.declared.subpacket_kind.SubpacketKind.TheVariants.{Other}
+use Rattle.opgp_octets.specs.declared.subpacket_kind.SubpacketKind.TheVariants as kind
 use Rattle.opgp_octets.specs.Octets.{IsOctets}
 use Rattle.opgp_octets.specs.Reading.{number_at}
 use Rattle.opgp_octets.proofs.Bytes.{chosen, same_some, wide16, wide32, number_takes, number_again}
@@ -274,33 +252,33 @@ by_form f k o (Some x) h = inl (h x refl)
 
 read_written : (k : SubpacketKind) (o : List ℕ) → IsOctets o → IsListed k → Answers k o (meaning_of k o)
 unfolding meaning_of Answers
-read_written Created o fits listed = by_form created Created o (number_in o) (λ x e. (refl, number_found o x fits e))
-read_written Expires o fits listed = by_form expires Expires o (number_in o) (λ x e. (refl, number_found o x fits e))
-read_written Exportable o fits listed = by_form exportable Exportable o (one_in o) (λ x e. (refl, one_found o x e))
-read_written Trust o fits listed = by_form (λ x. trust x.0 x.1) Trust o (two_in o) (λ x e. (refl, two_found o x e))
-read_written RegularExpression o fits listed = by_form regular_expression RegularExpression o (ended_in o) (λ x e. (refl, ended_found o x e))
-read_written Revocable o fits listed = by_form revocable Revocable o (one_in o) (λ x e. (refl, one_found o x e))
-read_written KeyExpires o fits listed = by_form key_expires KeyExpires o (number_in o) (λ x e. (refl, number_found o x fits e))
-read_written PreferredSymmetric o fits listed = inl (refl, refl)
-read_written RevocationKey o fits listed = by_form (λ x. revocation_key x.0 x.1 x.2) RevocationKey o (revoker_in o) (λ x e. let h = revoker_is (behind_two_in o) x e in (refl, behind_two_found o x h.0, h.1))
-read_written Issuer o fits listed = by_form issuer Issuer o (eight_in o) (λ x e. let h = eight_found o x e in (refl, h.0, h.1))
-read_written Notation o fits listed = by_form (λ x. notation x.0 x.1 x.2) Notation o (notation_in o) (λ x e. (refl, notation_found o x fits e))
-read_written PreferredHash o fits listed = inl (refl, refl)
-read_written PreferredCompression o fits listed = inl (refl, refl)
-read_written KeyServerPreferences o fits listed = inl (refl, refl)
-read_written PreferredKeyServer o fits listed = inl (refl, refl)
-read_written PrimaryUserId o fits listed = by_form primary_user_id PrimaryUserId o (one_in o) (λ x e. (refl, one_found o x e))
-read_written PolicyUri o fits listed = inl (refl, refl)
-read_written KeyFlags o fits listed = inl (refl, refl)
-read_written SignersUserId o fits listed = inl (refl, refl)
-read_written RevocationReason o fits listed = by_form (λ x. revocation_reason x.0 x.1) RevocationReason o (behind_one_in o) (λ x e. (refl, behind_one_found o x e))
-read_written Features o fits listed = inl (refl, refl)
-read_written SignatureTarget o fits listed = by_form (λ x. signature_target x.0 x.1 x.2) SignatureTarget o (behind_two_in o) (λ x e. (refl, behind_two_found o x e))
-read_written EmbeddedSignature o fits listed = by_form embedded_signature EmbeddedSignature o (embedded_in o) (λ x e. let h = embedded_found o x fits e in (refl, h.0, h.1))
-read_written IssuerFingerprint o fits listed = by_form (λ x. issuer_fingerprint x.0 x.1) IssuerFingerprint o (named_in o) (λ x e. (refl, named_found o x e))
-read_written IntendedRecipient o fits listed = by_form (λ x. intended_recipient x.0 x.1) IntendedRecipient o (named_in o) (λ x e. (refl, named_found o x e))
-read_written PreferredAead o fits listed = by_form preferred_aead PreferredAead o (pairs_in o) (λ x e. let h = pairs_found o x e in (refl, h.0, h.1))
-read_written (Other n) o fits listed = absurd listed
+read_written kind.Created o fits listed = by_form created kind.Created o (number_in o) (λ x e. (refl, number_found o x fits e))
+read_written kind.Expires o fits listed = by_form expires kind.Expires o (number_in o) (λ x e. (refl, number_found o x fits e))
+read_written kind.Exportable o fits listed = by_form exportable kind.Exportable o (one_in o) (λ x e. (refl, one_found o x e))
+read_written kind.Trust o fits listed = by_form (λ x. trust x.0 x.1) kind.Trust o (two_in o) (λ x e. (refl, two_found o x e))
+read_written kind.RegularExpression o fits listed = by_form regular_expression kind.RegularExpression o (ended_in o) (λ x e. (refl, ended_found o x e))
+read_written kind.Revocable o fits listed = by_form revocable kind.Revocable o (one_in o) (λ x e. (refl, one_found o x e))
+read_written kind.KeyExpires o fits listed = by_form key_expires kind.KeyExpires o (number_in o) (λ x e. (refl, number_found o x fits e))
+read_written kind.PreferredSymmetric o fits listed = inl (refl, refl)
+read_written kind.RevocationKey o fits listed = by_form (λ x. revocation_key x.0 x.1 x.2) kind.RevocationKey o (revoker_in o) (λ x e. let h = revoker_is (behind_two_in o) x e in (refl, behind_two_found o x h.0, h.1))
+read_written kind.Issuer o fits listed = by_form issuer kind.Issuer o (eight_in o) (λ x e. let h = eight_found o x e in (refl, h.0, h.1))
+read_written kind.Notation o fits listed = by_form (λ x. notation x.0 x.1 x.2) kind.Notation o (notation_in o) (λ x e. (refl, notation_found o x fits e))
+read_written kind.PreferredHash o fits listed = inl (refl, refl)
+read_written kind.PreferredCompression o fits listed = inl (refl, refl)
+read_written kind.KeyServerPreferences o fits listed = inl (refl, refl)
+read_written kind.PreferredKeyServer o fits listed = inl (refl, refl)
+read_written kind.PrimaryUserId o fits listed = by_form primary_user_id kind.PrimaryUserId o (one_in o) (λ x e. (refl, one_found o x e))
+read_written kind.PolicyUri o fits listed = inl (refl, refl)
+read_written kind.KeyFlags o fits listed = inl (refl, refl)
+read_written kind.SignersUserId o fits listed = inl (refl, refl)
+read_written kind.RevocationReason o fits listed = by_form (λ x. revocation_reason x.0 x.1) kind.RevocationReason o (behind_one_in o) (λ x e. (refl, behind_one_found o x e))
+read_written kind.Features o fits listed = inl (refl, refl)
+read_written kind.SignatureTarget o fits listed = by_form (λ x. signature_target x.0 x.1 x.2) kind.SignatureTarget o (behind_two_in o) (λ x e. (refl, behind_two_found o x e))
+read_written kind.EmbeddedSignature o fits listed = by_form embedded_signature kind.EmbeddedSignature o (embedded_in o) (λ x e. let h = embedded_found o x fits e in (refl, h.0, h.1))
+read_written kind.IssuerFingerprint o fits listed = by_form (λ x. issuer_fingerprint x.0 x.1) kind.IssuerFingerprint o (named_in o) (λ x e. (refl, named_found o x e))
+read_written kind.IntendedRecipient o fits listed = by_form (λ x. intended_recipient x.0 x.1) kind.IntendedRecipient o (named_in o) (λ x e. (refl, named_found o x e))
+read_written kind.PreferredAead o fits listed = by_form preferred_aead kind.PreferredAead o (pairs_in o) (λ x e. let h = pairs_found o x e in (refl, h.0, h.1))
+read_written (kind.Other n) o fits listed = absurd listed
 
 -- ---- meanings
 
@@ -348,62 +326,62 @@ listed_meaning k o fits listed =
 
 unlisted : (k : SubpacketKind) (o : List ℕ) → IsOctets o → (IsListed k → ⊥) → meaning_of k o ≡ unknown
 unfolding meaning_of
-unlisted Created o fits none = absurd (none tt)
-unlisted Expires o fits none = absurd (none tt)
-unlisted Exportable o fits none = absurd (none tt)
-unlisted Trust o fits none = absurd (none tt)
-unlisted RegularExpression o fits none = absurd (none tt)
-unlisted Revocable o fits none = absurd (none tt)
-unlisted KeyExpires o fits none = absurd (none tt)
-unlisted PreferredSymmetric o fits none = absurd (none tt)
-unlisted RevocationKey o fits none = absurd (none tt)
-unlisted Issuer o fits none = absurd (none tt)
-unlisted Notation o fits none = absurd (none tt)
-unlisted PreferredHash o fits none = absurd (none tt)
-unlisted PreferredCompression o fits none = absurd (none tt)
-unlisted KeyServerPreferences o fits none = absurd (none tt)
-unlisted PreferredKeyServer o fits none = absurd (none tt)
-unlisted PrimaryUserId o fits none = absurd (none tt)
-unlisted PolicyUri o fits none = absurd (none tt)
-unlisted KeyFlags o fits none = absurd (none tt)
-unlisted SignersUserId o fits none = absurd (none tt)
-unlisted RevocationReason o fits none = absurd (none tt)
-unlisted Features o fits none = absurd (none tt)
-unlisted SignatureTarget o fits none = absurd (none tt)
-unlisted EmbeddedSignature o fits none = absurd (none tt)
-unlisted IssuerFingerprint o fits none = absurd (none tt)
-unlisted IntendedRecipient o fits none = absurd (none tt)
-unlisted PreferredAead o fits none = absurd (none tt)
-unlisted (Other n) o fits none = refl
+unlisted kind.Created o fits none = absurd (none tt)
+unlisted kind.Expires o fits none = absurd (none tt)
+unlisted kind.Exportable o fits none = absurd (none tt)
+unlisted kind.Trust o fits none = absurd (none tt)
+unlisted kind.RegularExpression o fits none = absurd (none tt)
+unlisted kind.Revocable o fits none = absurd (none tt)
+unlisted kind.KeyExpires o fits none = absurd (none tt)
+unlisted kind.PreferredSymmetric o fits none = absurd (none tt)
+unlisted kind.RevocationKey o fits none = absurd (none tt)
+unlisted kind.Issuer o fits none = absurd (none tt)
+unlisted kind.Notation o fits none = absurd (none tt)
+unlisted kind.PreferredHash o fits none = absurd (none tt)
+unlisted kind.PreferredCompression o fits none = absurd (none tt)
+unlisted kind.KeyServerPreferences o fits none = absurd (none tt)
+unlisted kind.PreferredKeyServer o fits none = absurd (none tt)
+unlisted kind.PrimaryUserId o fits none = absurd (none tt)
+unlisted kind.PolicyUri o fits none = absurd (none tt)
+unlisted kind.KeyFlags o fits none = absurd (none tt)
+unlisted kind.SignersUserId o fits none = absurd (none tt)
+unlisted kind.RevocationReason o fits none = absurd (none tt)
+unlisted kind.Features o fits none = absurd (none tt)
+unlisted kind.SignatureTarget o fits none = absurd (none tt)
+unlisted kind.EmbeddedSignature o fits none = absurd (none tt)
+unlisted kind.IssuerFingerprint o fits none = absurd (none tt)
+unlisted kind.IntendedRecipient o fits none = absurd (none tt)
+unlisted kind.PreferredAead o fits none = absurd (none tt)
+unlisted (kind.Other n) o fits none = refl
 
 either : (k : SubpacketKind) → IsListed k ⊎ (IsListed k → ⊥)
-either Created = inl tt
-either Expires = inl tt
-either Exportable = inl tt
-either Trust = inl tt
-either RegularExpression = inl tt
-either Revocable = inl tt
-either KeyExpires = inl tt
-either PreferredSymmetric = inl tt
-either RevocationKey = inl tt
-either Issuer = inl tt
-either Notation = inl tt
-either PreferredHash = inl tt
-either PreferredCompression = inl tt
-either KeyServerPreferences = inl tt
-either PreferredKeyServer = inl tt
-either PrimaryUserId = inl tt
-either PolicyUri = inl tt
-either KeyFlags = inl tt
-either SignersUserId = inl tt
-either RevocationReason = inl tt
-either Features = inl tt
-either SignatureTarget = inl tt
-either EmbeddedSignature = inl tt
-either IssuerFingerprint = inl tt
-either IntendedRecipient = inl tt
-either PreferredAead = inl tt
-either (Other n) = inr (λ h. h)
+either kind.Created = inl tt
+either kind.Expires = inl tt
+either kind.Exportable = inl tt
+either kind.Trust = inl tt
+either kind.RegularExpression = inl tt
+either kind.Revocable = inl tt
+either kind.KeyExpires = inl tt
+either kind.PreferredSymmetric = inl tt
+either kind.RevocationKey = inl tt
+either kind.Issuer = inl tt
+either kind.Notation = inl tt
+either kind.PreferredHash = inl tt
+either kind.PreferredCompression = inl tt
+either kind.KeyServerPreferences = inl tt
+either kind.PreferredKeyServer = inl tt
+either kind.PrimaryUserId = inl tt
+either kind.PolicyUri = inl tt
+either kind.KeyFlags = inl tt
+either kind.SignersUserId = inl tt
+either kind.RevocationReason = inl tt
+either kind.Features = inl tt
+either kind.SignatureTarget = inl tt
+either kind.EmbeddedSignature = inl tt
+either kind.IssuerFingerprint = inl tt
+either kind.IntendedRecipient = inl tt
+either kind.PreferredAead = inl tt
+either (kind.Other n) = inr (λ h. h)
 
 pub meanings_are_read : (k : SubpacketKind) (o : List ℕ) → IsOctets o → Means k o (meaning_of k o)
 meanings_are_read k o fits =

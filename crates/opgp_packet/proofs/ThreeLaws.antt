@@ -6,7 +6,7 @@ use Rattle.opgp_octets.specs.KeyAlgorithm.{key_algorithm_of, key_algorithm_numbe
 use Rattle.opgp_packet.specs.Fields.{Field, small, wide, integer, named, bare, subpackets, never, sequence, Follows, Body}
 use Rattle.opgp_packet.specs.SignatureShape.{shape_of}
 use Rattle.opgp_packet.specs.SignatureBody.{old_material_kinds, version_three}
-use Rattle.opgp_packet.specs.ThreeValue.{ThreeValue, three_fields}
+use Rattle.opgp_packet.specs.Three.{ThreeValue, three_fields}
 
 none : (fields : List Field) (after : ℕ) → Follows (sequence (never ∷ [])) fields after → ⊥
 none [] after h = h

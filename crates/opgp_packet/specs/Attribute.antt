@@ -1,13 +1,21 @@
--- What a user attribute that owns its body shows.
-use Rattle.std.specs.Prelude.{ℕ, List}
-use Rattle.opgp_packet.specs.AreaReading.{subs_in}
+-- What a user attribute shows, owned or borrowed.
+use Rattle.std.specs.Prelude.{◌≡◌, ℕ, List, length, None}
+use Rattle.std.proofs.Props.{props}
+use Rattle.opgp_packet.specs.AreaReading.{fault_in, subs_in}
+use Rattle.opgp_packet.specs.Parsed.{body_octets}
 use Rattle.opgp_packet.specs.Subpackets.{Sub}
-use Rattle.opgp_packet.specs.declared.attribute.Attribute.{Attribute}
+use Rattle.opgp_packet.specs.declared.attribute.AttributePlaces.{AttributePlaces}
+use Rattle.opgp_packet.specs.declared.parsed.Octets.{Ghosts as OctetsOf}
+use Rattle.opgp_packet.specs.declared.parsed.Body.{Ghosts as BodyOf}
+use Rattle.opgp_packet.specs.declared.parsed.Parsed.{Parsed}
 
--- the octets of its body
-abbrev pub attribute_octets : Attribute → List ℕ
-attribute_octets a = a.body.items
+-- all of the octets are subpackets
+abbrev pub IsWhole : AttributePlaces → List ℕ → Type 0
+IsWhole p o = fault_in (length o) o ≡ None
+
+pub IsWhole-prop : (p : AttributePlaces) (o : List ℕ) → IsProp (IsWhole p o)
+IsWhole-prop p o = hlevel props
 
 -- the user attribute: its subpackets
-abbrev pub attribute_value : Attribute → List Sub
-attribute_value a = subs_in a.body.items
+abbrev pub attribute_value : {B : Type 0} {b : OctetsOf B} {f : BodyOf AttributePlaces} → Parsed B AttributePlaces b f → List Sub
+attribute_value a = subs_in (body_octets a)

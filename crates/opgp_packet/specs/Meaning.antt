@@ -4,29 +4,7 @@ use Rattle.std.specs.Prelude.{◌≡◌, ℕ, ◌+◌, ◌^◌, ◌<◌, ◌⊎�
 use Rattle.std.specs.Int.{w16, w32, to_be_bytes}
 use Rattle.opgp_octets.specs.Octets.{IsOctets}
 use Rattle.opgp_octets.specs.declared.subpacket_kind.SubpacketKind.{SubpacketKind}
-use Rattle.opgp_octets.specs.declared.subpacket_kind.SubpacketKind.TheVariants.{Created, Expires}
-use Rattle.opgp_octets.specs.declared.subpacket_kind.SubpacketKind.TheVariants.{Exportable, Trust}
-use Rattle.opgp_octets.specs.declared.subpacket_kind.SubpacketKind.TheVariants.{RegularExpression}
-use Rattle.opgp_octets.specs.declared.subpacket_kind.SubpacketKind.TheVariants.{Revocable}
-use Rattle.opgp_octets.specs.declared.subpacket_kind.SubpacketKind.TheVariants.{KeyExpires}
-use Rattle.opgp_octets.specs.declared.subpacket_kind.SubpacketKind.TheVariants.{PreferredSymmetric}
-use Rattle.opgp_octets.specs.declared.subpacket_kind.SubpacketKind.TheVariants.{RevocationKey}
-use Rattle.opgp_octets.specs.declared.subpacket_kind.SubpacketKind.TheVariants.{Issuer, Notation}
-use Rattle.opgp_octets.specs.declared.subpacket_kind.SubpacketKind.TheVariants.{PreferredHash}
-use Rattle.opgp_octets.specs.declared.subpacket_kind.SubpacketKind.TheVariants.{PreferredCompression}
-use Rattle.opgp_octets.specs.declared.subpacket_kind.SubpacketKind.TheVariants.{KeyServerPreferences}
-use Rattle.opgp_octets.specs.declared.subpacket_kind.SubpacketKind.TheVariants.{PreferredKeyServer}
-use Rattle.opgp_octets.specs.declared.subpacket_kind.SubpacketKind.TheVariants.{PrimaryUserId}
-use Rattle.opgp_octets.specs.declared.subpacket_kind.SubpacketKind.TheVariants.{PolicyUri, KeyFlags}
-use Rattle.opgp_octets.specs.declared.subpacket_kind.SubpacketKind.TheVariants.{SignersUserId}
-use Rattle.opgp_octets.specs.declared.subpacket_kind.SubpacketKind.TheVariants.{RevocationReason}
-use Rattle.opgp_octets.specs.declared.subpacket_kind.SubpacketKind.TheVariants.{Features}
-use Rattle.opgp_octets.specs.declared.subpacket_kind.SubpacketKind.TheVariants.{SignatureTarget}
-use Rattle.opgp_octets.specs.declared.subpacket_kind.SubpacketKind.TheVariants.{EmbeddedSignature}
-use Rattle.opgp_octets.specs.declared.subpacket_kind.SubpacketKind.TheVariants.{IssuerFingerprint}
-use Rattle.opgp_octets.specs.declared.subpacket_kind.SubpacketKind.TheVariants.{IntendedRecipient}
-use Rattle.opgp_octets.specs.declared.subpacket_kind.SubpacketKind.TheVariants.{PreferredAead}
-use Rattle.opgp_octets.specs.declared.subpacket_kind.SubpacketKind.TheVariants.{Other}
+use Rattle.opgp_octets.specs.declared.subpacket_kind.SubpacketKind.TheVariants as kind
 use Rattle.opgp_packet.specs.SignatureBody.{SignatureValue, Spells}
 
 -- a meaning: a typed form, or that the kind's octets have none, or that the kind has none
@@ -79,44 +57,44 @@ IsNamed o version fingerprint =
 
 -- The octets of this kind are those of the typed form.
 abbrev pub Writes : SubpacketKind → List ℕ → Meaning → Type 0
-Writes k o (created n) = (k ≡ Created) × IsNumber o n
-Writes k o (expires n) = (k ≡ Expires) × IsNumber o n
-Writes k o (exportable n) = (k ≡ Exportable) × (o ≡ n ∷ [])
-Writes k o (trust level amount) = (k ≡ Trust) × (o ≡ level ∷ amount ∷ [])
-Writes k o (regular_expression text) = (k ≡ RegularExpression) × (o ≡ text ++ 0 ∷ [])
-Writes k o (revocable n) = (k ≡ Revocable) × (o ≡ n ∷ [])
-Writes k o (key_expires n) = (k ≡ KeyExpires) × IsNumber o n
-Writes k o (preferred_symmetric list) = (k ≡ PreferredSymmetric) × (o ≡ list)
+Writes k o (created n) = (k ≡ kind.Created) × IsNumber o n
+Writes k o (expires n) = (k ≡ kind.Expires) × IsNumber o n
+Writes k o (exportable n) = (k ≡ kind.Exportable) × (o ≡ n ∷ [])
+Writes k o (trust level amount) = (k ≡ kind.Trust) × (o ≡ level ∷ amount ∷ [])
+Writes k o (regular_expression text) = (k ≡ kind.RegularExpression) × (o ≡ text ++ 0 ∷ [])
+Writes k o (revocable n) = (k ≡ kind.Revocable) × (o ≡ n ∷ [])
+Writes k o (key_expires n) = (k ≡ kind.KeyExpires) × IsNumber o n
+Writes k o (preferred_symmetric list) = (k ≡ kind.PreferredSymmetric) × (o ≡ list)
 Writes k o (revocation_key class algorithm fingerprint) =
-    (k ≡ RevocationKey) × (o ≡ class ∷ algorithm ∷ fingerprint) × (length fingerprint ≡ 20)
-Writes k o (issuer id) = (k ≡ Issuer) × (o ≡ id) × (length id ≡ 8)
-Writes k o (notation flags name value) = (k ≡ Notation) × IsNotation o flags name value
-Writes k o (preferred_hash list) = (k ≡ PreferredHash) × (o ≡ list)
-Writes k o (preferred_compression list) = (k ≡ PreferredCompression) × (o ≡ list)
-Writes k o (key_server_preferences flags) = (k ≡ KeyServerPreferences) × (o ≡ flags)
-Writes k o (preferred_key_server text) = (k ≡ PreferredKeyServer) × (o ≡ text)
-Writes k o (primary_user_id n) = (k ≡ PrimaryUserId) × (o ≡ n ∷ [])
-Writes k o (policy_uri text) = (k ≡ PolicyUri) × (o ≡ text)
-Writes k o (key_flags flags) = (k ≡ KeyFlags) × (o ≡ flags)
-Writes k o (signers_user_id text) = (k ≡ SignersUserId) × (o ≡ text)
-Writes k o (revocation_reason code text) = (k ≡ RevocationReason) × (o ≡ code ∷ text)
-Writes k o (features flags) = (k ≡ Features) × (o ≡ flags)
+    (k ≡ kind.RevocationKey) × (o ≡ class ∷ algorithm ∷ fingerprint) × (length fingerprint ≡ 20)
+Writes k o (issuer id) = (k ≡ kind.Issuer) × (o ≡ id) × (length id ≡ 8)
+Writes k o (notation flags name value) = (k ≡ kind.Notation) × IsNotation o flags name value
+Writes k o (preferred_hash list) = (k ≡ kind.PreferredHash) × (o ≡ list)
+Writes k o (preferred_compression list) = (k ≡ kind.PreferredCompression) × (o ≡ list)
+Writes k o (key_server_preferences flags) = (k ≡ kind.KeyServerPreferences) × (o ≡ flags)
+Writes k o (preferred_key_server text) = (k ≡ kind.PreferredKeyServer) × (o ≡ text)
+Writes k o (primary_user_id n) = (k ≡ kind.PrimaryUserId) × (o ≡ n ∷ [])
+Writes k o (policy_uri text) = (k ≡ kind.PolicyUri) × (o ≡ text)
+Writes k o (key_flags flags) = (k ≡ kind.KeyFlags) × (o ≡ flags)
+Writes k o (signers_user_id text) = (k ≡ kind.SignersUserId) × (o ≡ text)
+Writes k o (revocation_reason code text) = (k ≡ kind.RevocationReason) × (o ≡ code ∷ text)
+Writes k o (features flags) = (k ≡ kind.Features) × (o ≡ flags)
 Writes k o (signature_target algorithm hash digest) =
-    (k ≡ SignatureTarget) × (o ≡ algorithm ∷ hash ∷ digest)
+    (k ≡ kind.SignatureTarget) × (o ≡ algorithm ∷ hash ∷ digest)
 Writes k o (embedded_signature body) =
-    (k ≡ EmbeddedSignature) × (o ≡ body) × ((value : SignatureValue) × Spells value o)
+    (k ≡ kind.EmbeddedSignature) × (o ≡ body) × ((value : SignatureValue) × Spells value o)
 Writes k o (issuer_fingerprint version fingerprint) =
-    (k ≡ IssuerFingerprint) × IsNamed o version fingerprint
+    (k ≡ kind.IssuerFingerprint) × IsNamed o version fingerprint
 Writes k o (intended_recipient version fingerprint) =
-    (k ≡ IntendedRecipient) × IsNamed o version fingerprint
+    (k ≡ kind.IntendedRecipient) × IsNamed o version fingerprint
 Writes k o (preferred_aead pairs) =
-    (k ≡ PreferredAead) × (o ≡ pairs) × ((n : ℕ) × (length o ≡ n + n))
+    (k ≡ kind.PreferredAead) × (o ≡ pairs) × ((n : ℕ) × (length o ≡ n + n))
 Writes k o unfit = ⊥
 Writes k o unknown = ⊥
 
 -- the kinds that have a typed form
 abbrev pub IsListed : SubpacketKind → Type 0
-IsListed (Other n) = ⊥
+IsListed (kind.Other n) = ⊥
 IsListed k = Unit {0}
 
 -- What the octets of this kind mean: the typed form that writes them, or that none does, or that

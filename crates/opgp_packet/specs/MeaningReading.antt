@@ -3,29 +3,7 @@ use Rattle.std.specs.Prelude.{ℕ, ◌+◌, ◌-◌, ◌%◌, ◌&&◌, ◌||◌
 use Rattle.std.specs.Prelude.{slice_index, is_ok, nat_lt, ◌==◌, if◌then◌else◌}
 use Rattle.std.specs.Prelude.{Option, Some, None}
 use Rattle.std.specs.Int.{w16, w32, from_be_bytes}
-use Rattle.opgp_octets.specs.declared.subpacket_kind.SubpacketKind.TheVariants.{Created, Expires}
-use Rattle.opgp_octets.specs.declared.subpacket_kind.SubpacketKind.TheVariants.{Exportable, Trust}
-use Rattle.opgp_octets.specs.declared.subpacket_kind.SubpacketKind.TheVariants.{RegularExpression}
-use Rattle.opgp_octets.specs.declared.subpacket_kind.SubpacketKind.TheVariants.{Revocable}
-use Rattle.opgp_octets.specs.declared.subpacket_kind.SubpacketKind.TheVariants.{KeyExpires}
-use Rattle.opgp_octets.specs.declared.subpacket_kind.SubpacketKind.TheVariants.{PreferredSymmetric}
-use Rattle.opgp_octets.specs.declared.subpacket_kind.SubpacketKind.TheVariants.{RevocationKey}
-use Rattle.opgp_octets.specs.declared.subpacket_kind.SubpacketKind.TheVariants.{Issuer, Notation}
-use Rattle.opgp_octets.specs.declared.subpacket_kind.SubpacketKind.TheVariants.{PreferredHash}
-use Rattle.opgp_octets.specs.declared.subpacket_kind.SubpacketKind.TheVariants.{PreferredCompression}
-use Rattle.opgp_octets.specs.declared.subpacket_kind.SubpacketKind.TheVariants.{KeyServerPreferences}
-use Rattle.opgp_octets.specs.declared.subpacket_kind.SubpacketKind.TheVariants.{PreferredKeyServer}
-use Rattle.opgp_octets.specs.declared.subpacket_kind.SubpacketKind.TheVariants.{PrimaryUserId}
-use Rattle.opgp_octets.specs.declared.subpacket_kind.SubpacketKind.TheVariants.{PolicyUri, KeyFlags}
-use Rattle.opgp_octets.specs.declared.subpacket_kind.SubpacketKind.TheVariants.{SignersUserId}
-use Rattle.opgp_octets.specs.declared.subpacket_kind.SubpacketKind.TheVariants.{RevocationReason}
-use Rattle.opgp_octets.specs.declared.subpacket_kind.SubpacketKind.TheVariants.{Features}
-use Rattle.opgp_octets.specs.declared.subpacket_kind.SubpacketKind.TheVariants.{SignatureTarget}
-use Rattle.opgp_octets.specs.declared.subpacket_kind.SubpacketKind.TheVariants.{EmbeddedSignature}
-use Rattle.opgp_octets.specs.declared.subpacket_kind.SubpacketKind.TheVariants.{IssuerFingerprint}
-use Rattle.opgp_octets.specs.declared.subpacket_kind.SubpacketKind.TheVariants.{IntendedRecipient}
-use Rattle.opgp_octets.specs.declared.subpacket_kind.SubpacketKind.TheVariants.{PreferredAead}
-use Rattle.opgp_octets.specs.declared.subpacket_kind.SubpacketKind.TheVariants.{Other}
+use Rattle.opgp_octets.specs.declared.subpacket_kind.SubpacketKind.TheVariants as kind
 use Rattle.opgp_octets.specs.declared.subpacket_kind.SubpacketKind.{SubpacketKind}
 use Rattle.opgp_octets.specs.Reading.{number_at}
 use Rattle.opgp_packet.specs.Meaning.{Meaning, created, expires, exportable, trust, regular_expression}
@@ -122,30 +100,30 @@ or_unfit f (Some x) = f x
 
 -- what the octets of this kind mean
 unfoldable pub meaning_of : SubpacketKind → List ℕ → Meaning
-meaning_of Created o = or_unfit created (number_in o)
-meaning_of Expires o = or_unfit expires (number_in o)
-meaning_of Exportable o = or_unfit exportable (one_in o)
-meaning_of Trust o = or_unfit (λ x. trust x.0 x.1) (two_in o)
-meaning_of RegularExpression o = or_unfit regular_expression (ended_in o)
-meaning_of Revocable o = or_unfit revocable (one_in o)
-meaning_of KeyExpires o = or_unfit key_expires (number_in o)
-meaning_of PreferredSymmetric o = preferred_symmetric o
-meaning_of RevocationKey o = or_unfit (λ x. revocation_key x.0 x.1 x.2) (revoker_in o)
-meaning_of Issuer o = or_unfit issuer (eight_in o)
-meaning_of Notation o = or_unfit (λ x. notation x.0 x.1 x.2) (notation_in o)
-meaning_of PreferredHash o = preferred_hash o
-meaning_of PreferredCompression o = preferred_compression o
-meaning_of KeyServerPreferences o = key_server_preferences o
-meaning_of PreferredKeyServer o = preferred_key_server o
-meaning_of PrimaryUserId o = or_unfit primary_user_id (one_in o)
-meaning_of PolicyUri o = policy_uri o
-meaning_of KeyFlags o = key_flags o
-meaning_of SignersUserId o = signers_user_id o
-meaning_of RevocationReason o = or_unfit (λ x. revocation_reason x.0 x.1) (behind_one_in o)
-meaning_of Features o = features o
-meaning_of SignatureTarget o = or_unfit (λ x. signature_target x.0 x.1 x.2) (behind_two_in o)
-meaning_of EmbeddedSignature o = or_unfit embedded_signature (embedded_in o)
-meaning_of IssuerFingerprint o = or_unfit (λ x. issuer_fingerprint x.0 x.1) (named_in o)
-meaning_of IntendedRecipient o = or_unfit (λ x. intended_recipient x.0 x.1) (named_in o)
-meaning_of PreferredAead o = or_unfit preferred_aead (pairs_in o)
-meaning_of (Other n) o = unknown
+meaning_of kind.Created o = or_unfit created (number_in o)
+meaning_of kind.Expires o = or_unfit expires (number_in o)
+meaning_of kind.Exportable o = or_unfit exportable (one_in o)
+meaning_of kind.Trust o = or_unfit (λ x. trust x.0 x.1) (two_in o)
+meaning_of kind.RegularExpression o = or_unfit regular_expression (ended_in o)
+meaning_of kind.Revocable o = or_unfit revocable (one_in o)
+meaning_of kind.KeyExpires o = or_unfit key_expires (number_in o)
+meaning_of kind.PreferredSymmetric o = preferred_symmetric o
+meaning_of kind.RevocationKey o = or_unfit (λ x. revocation_key x.0 x.1 x.2) (revoker_in o)
+meaning_of kind.Issuer o = or_unfit issuer (eight_in o)
+meaning_of kind.Notation o = or_unfit (λ x. notation x.0 x.1 x.2) (notation_in o)
+meaning_of kind.PreferredHash o = preferred_hash o
+meaning_of kind.PreferredCompression o = preferred_compression o
+meaning_of kind.KeyServerPreferences o = key_server_preferences o
+meaning_of kind.PreferredKeyServer o = preferred_key_server o
+meaning_of kind.PrimaryUserId o = or_unfit primary_user_id (one_in o)
+meaning_of kind.PolicyUri o = policy_uri o
+meaning_of kind.KeyFlags o = key_flags o
+meaning_of kind.SignersUserId o = signers_user_id o
+meaning_of kind.RevocationReason o = or_unfit (λ x. revocation_reason x.0 x.1) (behind_one_in o)
+meaning_of kind.Features o = features o
+meaning_of kind.SignatureTarget o = or_unfit (λ x. signature_target x.0 x.1 x.2) (behind_two_in o)
+meaning_of kind.EmbeddedSignature o = or_unfit embedded_signature (embedded_in o)
+meaning_of kind.IssuerFingerprint o = or_unfit (λ x. issuer_fingerprint x.0 x.1) (named_in o)
+meaning_of kind.IntendedRecipient o = or_unfit (λ x. intended_recipient x.0 x.1) (named_in o)
+meaning_of kind.PreferredAead o = or_unfit preferred_aead (pairs_in o)
+meaning_of (kind.Other n) o = unknown

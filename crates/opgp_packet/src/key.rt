@@ -1,141 +1,117 @@
-//! A public key that owns its body.
+//! Public keys.
 
-ghost use Rattle.std.specs.Prelude.{◌≡◌, ◌++◌, ◌≤◌, ◌<◌, ◌⊎◌, ◌+◌, ℕ, List, length, Ok, Err};
-ghost use Rattle.std.specs.Prelude.{OnOk, OnErr, IfOk, IfErr, IsOk, vec_len, vec_capacity};
-ghost use Rattle.opgp_octets.specs.declared.fault.BodyFault.{BodyFault};
+ghost use Rattle.std.specs.Prelude.{◌≡◌, ◌⊎◌, ◌≤◌, ◌<◌, ◌^◌, ℕ, List, length, IfOk};
 ghost use Rattle.opgp_octets.specs.KeyAlgorithm.{key_algorithm_of};
-ghost use Rattle.opgp_octets.specs.Octets.{IsOctets, IsBodySized};
-ghost use Rattle.opgp_octets.specs.ParseFault.{Parses, RefusedBy};
+ghost use Rattle.opgp_octets.specs.Octets.{IsBodySized};
 ghost use Rattle.opgp_octets.specs.Reading.{Reads};
+ghost use Rattle.opgp_packet.specs.Cursor.{body_under, ReadsAll};
 ghost use Rattle.opgp_packet.specs.FieldReading.{body_at};
-ghost use Rattle.opgp_packet.specs.Fields.{Field, Body};
-ghost use Rattle.opgp_packet.specs.KeyBody.{key, key_fields, SpellsKey, KeyFault};
-ghost use Rattle.opgp_packet.specs.KeyPlaces.{key_in};
-ghost use Rattle.opgp_packet.specs.KeyMaterial.{shape, AreIn, AreIn-prop};
-ghost use Rattle.opgp_packet.specs.KeyShape.{shape_of, Shape-set};
+ghost use Rattle.opgp_packet.specs.Key.{key_in, key_value, fields_of_size, KeyLies, KeyLies-prop};
+ghost use Rattle.opgp_packet.specs.KeyBody.{key, key_fields, material_grammar};
+ghost use Rattle.opgp_packet.specs.KeyMaterial.{fields_in, material_fields, shape, AreIn, HasSizes};
+ghost use Rattle.opgp_packet.specs.KeyShape.{shape_of};
 
-use crate::key_material::MaterialView;
-use crate::key_places::KeyPlaces;
-use crate::key_view::KeyView;
-use opgp_octets::{BodyFault, OutOfMemory, ParseFault};
-use std::alloc::Global;
+use crate::Cursor;
+use crate::key_material::{MaterialPlaces, MaterialView};
+use crate::material_places::material_at;
+use crate::parsed::{Body, Octets, Parsed};
+use opgp_octets::{BodyFault, KeyAlgorithm};
+
+/// The fields of a key; of its material, where they lie in the body.
+#[derive(Clone, Copy)]
+pub struct KeyPlaces {
+    version: u8,
+    created: u32,
+    algorithm: u8,
+    material: MaterialPlaces,
+}
 
 /// A public key that owns the octets of its body, and knows where its fields lie in them (RFC 9580,
 /// 5.5.2).
-#[derive(Drop)]
-pub struct Key {
-    body: Vec<u8>,
-    places: KeyPlaces,
-    ghost octets: { IsOctets body.items },
-    ghost small: { IsBodySized body.items },
-    ghost within: { AreIn places.material (length body.items) } by { AreIn-prop places.material (length body.items) },
-    ghost shape: { shape places.material ≡ shape_of (key_algorithm_of places.algorithm) } by { Shape-set (shape places.material) (shape_of (key_algorithm_of places.algorithm)) },
-    ghost parses: { body_at key body.items ≡ Ok (key_fields (key_in places body.items)) },
+///
+/// The faults of its body are those of [`KeyView`].
+pub type Key = Parsed<Vec<u8>, KeyPlaces>;
+
+/// A public key over the octets of its body (RFC 9580, 5.5.2).
+///
+/// The faults of its body are [`Short`], [`KeyVersion`], [`KeyTooLong`] for a version 4 body of
+/// more than 65,535 octets, [`Count`], [`MpiBits`] in version 6, [`OidSize`], [`KdfSize`] and
+/// [`Trailing`], each at the first field that isn't there.
+///
+/// [`Short`]: opgp_octets::Reason::Short
+/// [`KeyVersion`]: opgp_octets::Reason::KeyVersion
+/// [`KeyTooLong`]: opgp_octets::Reason::KeyTooLong
+/// [`Count`]: opgp_octets::Reason::Count
+/// [`MpiBits`]: opgp_octets::Reason::MpiBits
+/// [`OidSize`]: opgp_octets::Reason::OidSize
+/// [`KdfSize`]: opgp_octets::Reason::KdfSize
+/// [`Trailing`]: opgp_octets::Reason::Trailing
+pub type KeyView<'a> = Parsed<&'a [u8], KeyPlaces>;
+
+/// The material of a version and an algorithm, which comes next.
+fn material_of(
+    cursor: &mut Cursor<'_>,
+    version: u8,
+    algorithm: u8,
+) -> Result<MaterialPlaces, BodyFault>
+    ensures reads { ReadsAll (material_grammar version algorithm)
+        (λ m. fields_in m (body_under cursor.old)) cursor.old cursor.new result }
+    ensures shape { IfOk result (λ m. shape m ≡ shape_of (key_algorithm_of algorithm)) }
+    ensures body { body_under cursor.new ≡ body_under cursor.old }
+    ensures within { IfOk result (λ m. AreIn m (length (body_under cursor.old))) }
+{
+    material_at(cursor, version == 6, KeyAlgorithm::from(algorithm))
 }
 
-impl Key {
-    ghost use Rattle.opgp_packet.specs.Key.{key_octets, key_value};
-    ghost use Rattle.opgp_packet.specs.KeyView.{key_view_octets, key_view_value};
-    ghost use Rattle.opgp_packet.specs.KeyMaterial.{material_fields, HasSizes};
+impl Body for KeyPlaces {
+    ghost grammar = { key };
 
-    /// The key that the octets spell, all of them, with octets of its own.
-    ///
-    /// The errors are those of [`KeyView::parse_body`], and want of memory.
-    pub fn parse_body(alloc: Global, o: &[u8]) -> Result<Key, ParseFault>
+    ghost fields = { λ p o. key_fields (key_in p o) };
+
+    ghost lies = { KeyLies };
+
+    ghost lies_prop = { KeyLies-prop };
+
+    fn read(o: &[u8]) -> Result<KeyPlaces, BodyFault> {
+        KeyPlaces::read_fields(o)
+    }
+}
+
+impl KeyPlaces {
+    #[tactic(auto, unfolding(crate::specs::FieldReading::body_at, crate::specs::KeyBody::key))]
+    fn read_fields(o: &[u8]) -> Result<KeyPlaces, BodyFault>
         requires { IsBodySized o.now }
-        // The octets are the fields of the key, one after the other.
-        ensures found { IfOk result (λ k. SpellsKey (key_value k) o.now) }
-        // What is spelled so is read, unless memory runs out.
-        ensures only { (fields : List Field) → Body key fields o.now
-            → Parses (λ k. key_fields (key_value k)) result (Ok fields) }
-        // A fault is that of the first field that has no spelling at its place.
-        ensures fault { IfErr result (RefusedBy (KeyFault o.now)) }
-        // A fault is answered whether or not there is memory.
-        ensures refuses { (f : BodyFault) → KeyFault o.now f → result ≡ Err (ParseFault.Body f) }
-        // It is what a view of the octets shows, or the same fault.
-        ensures exact { Parses (λ k. key_fields (key_value k)) result (body_at key o.now) }
-        ensures body { IfOk result (λ k. key_octets k ≡ o.now) }
+        ensures exact { Reads (λ p. fields_of_size (length o.now) (key_in p o.now)) result
+            (body_at key o.now) }
+        ensures within { IfOk result (λ p. AreIn p.material (length o.now)) }
+        ensures shape { IfOk result
+            (λ p. shape p.material ≡ shape_of (key_algorithm_of p.algorithm)) }
     {
-        Key::read(alloc, o)
-    }
-
-    fn read(alloc: Global, o: &[u8]) -> Result<Key, ParseFault>
-        requires { IsBodySized o.now }
-        ensures exact { Parses (λ k. key_fields (key_value k)) result (body_at key o.now) }
-        ensures refuses { (f : BodyFault) → body_at key o.now ≡ Err f
-            → result ≡ Err (ParseFault.Body f) }
-        ensures body { IfOk result (λ k. key_octets k ≡ o.now) }
-    {
-        let view = KeyView::parse_body(o)?;
-        Ok(Key::of(alloc, view)?)
-    }
-
-    /// The key that the octets spell, all of them, which it keeps. Takes no memory.
-    ///
-    /// The errors are those of [`KeyView::parse_body`].
-    pub fn from_body(body: Vec<u8>) -> Result<Key, BodyFault>
-        requires { IsBodySized body.items }
-        ensures found { IfOk result (λ k. SpellsKey (key_value k) body.items) }
-        // What is spelled so is read.
-        ensures only { (fields : List Field) → Body key fields body.items
-            → Reads (λ x. key_fields (key_value x)) result (Ok fields) }
-        ensures fault { IfErr result (KeyFault body.items) }
-        // It is what a view of the octets shows, or the same fault.
-        ensures exact { Reads (λ k. key_fields (key_value k)) result (body_at key body.items) }
-        ensures body { IfOk result (λ k. key_octets k ≡ body.items) }
-    {
-        Key::keep(body)
-    }
-
-    fn keep(body: Vec<u8>) -> Result<Key, BodyFault>
-        requires { IsBodySized body.items }
-        ensures octets { IsOctets body.items }
-        ensures exact { Reads (λ k. key_fields (key_value k)) result (body_at key body.items) }
-        ensures body { IfOk result (λ k. key_octets k ≡ body.items) }
-    {
-        let places = KeyPlaces::read(&body)?;
-        Ok(Key { body, places })
-    }
-
-    /// The octets of its body, which it gives up. Takes no memory.
-    pub fn into_body(self) -> Vec<u8>
-        ensures value { result.items ≡ key_octets self }
-        ensures small { IsBodySized result.items }
-    {
-        let Key { body, places: _ } = self;
-        body
-    }
-
-    /// The key that a view shows, with octets of its own.
-    ///
-    /// An error is want of memory.
-    pub fn of(alloc: Global, view: KeyView<'_>) -> Result<Key, OutOfMemory>
-        ensures body { IfOk result (λ k. key_octets k ≡ key_view_octets view.entry) }
-        ensures fields { IfOk result (λ k. key_value k ≡ key_view_value view.entry) }
-    {
-        Ok(Key {
-            body: Vec::from_slice(alloc, view.body)?,
-            places: view.places,
+        let mut cursor = Cursor::new(o);
+        let version = cursor.version()?;
+        let created = cursor.four()?;
+        let algorithm = cursor.octet()?;
+        if version == 6 {
+            let _count = cursor.count()?;
+        }
+        let material = material_of(&mut cursor, version, algorithm)?;
+        cursor.end()?;
+        Ok(KeyPlaces {
+            version,
+            created,
+            algorithm,
+            material,
         })
     }
+}
 
-    /// The key over its body. Takes no memory, and reads nothing again.
-    pub fn view(&self) -> KeyView<'_>
-        ensures body { key_view_octets result ≡ key_octets self.now }
-        ensures fields { key_view_value result ≡ key_value self.now }
-    {
-        KeyView {
-            body: &self.body,
-            places: self.places,
-        }
-    }
-
+impl<B: Octets + Drop> Parsed<B, KeyPlaces> {
     /// 4 or 6.
     pub fn version(&self) -> u8
         ensures value { result ≡ (key_value self.now).version }
         ensures known { (result ≡ 4) ⊎ (result ≡ 6) }
     {
-        self.view().version()
+        self.places.version
     }
 
     /// When it was made, in seconds since 1970.
@@ -151,7 +127,9 @@ impl Key {
     {
         self.places.algorithm
     }
+}
 
+impl Parsed<Vec<u8>, KeyPlaces> {
     /// Its public material; which variant it is, its algorithm says.
     pub fn material(&self) -> MaterialView<'_>
         ensures fields { material_fields result ≡ (key_value self.now).material }
@@ -160,44 +138,17 @@ impl Key {
     {
         self.view().material()
     }
+}
 
-    /// The octets of its body.
-    pub fn body(&self) -> &[u8]
-        ensures value { result.now ≡ key_octets self.now }
-        ensures small { IsBodySized result.now }
-        ensures spelled { SpellsKey (key_value self.now) result.now }
-        ensures short { (key_value self.now).version ≡ 4 → length result.now ≤ 65535 }
+impl<'a> Parsed<&'a [u8], KeyPlaces> {
+    /// Its public material; which variant it is, its algorithm says.
+    pub fn material(&self) -> MaterialView<'a>
+        ensures fields { material_fields result ≡ (key_value self.now).material }
+        ensures shape { shape result ≡ shape_of (key_algorithm_of (key_value self.now).algorithm) }
+        // X25519 and Ed25519 have 32 octets, X448 has 56, Ed448 has 57.
+        ensures sizes { HasSizes result }
     {
-        self.view().body()
-    }
-
-    /// How many octets its body has.
-    pub fn body_len(&self) -> u64
-        ensures { result ≡ length (key_octets self.now) }
-    {
-        self.body.len() as u64
-    }
-
-    /// Writes its body at the end of `out`.
-    ///
-    /// An error is want of memory; `out` is then as it was.
-    pub fn write_body(&self, out: &mut Vec<u8>) -> Result<(), OutOfMemory>
-        ensures ok { OnOk result (out.new.items ≡ out.old.items ++ key_octets self.now) }
-        ensures err { OnErr result (out.new.items ≡ out.old.items) }
-        // Room that is there suffices.
-        ensures succeeds { vec_len out.old + length (key_octets self.now) ≤ vec_capacity out.old
-            → IsOk result }
-    {
-        out.extend_from_slice(&self.body)
-    }
-
-    /// An equal key.
-    ///
-    /// An error is want of memory.
-    pub fn copy(&self, alloc: Global) -> Result<Key, OutOfMemory>
-        ensures body { IfOk result (λ k. key_octets k ≡ key_octets self.now) }
-        ensures fields { IfOk result (λ k. key_value k ≡ key_value self.now) }
-    {
-        Key::of(alloc, self.view())
+        let _algorithm = self.places.algorithm;
+        self.places.material.lend(self.body)
     }
 }

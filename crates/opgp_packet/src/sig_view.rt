@@ -6,9 +6,9 @@ ghost use Rattle.opgp_octets.specs.Reading.{Reads};
 ghost use Rattle.opgp_packet.specs.SignatureBody.{SignatureValue, Spells, SignatureFault};
 ghost use Rattle.opgp_packet.specs.SignatureBody.{signature_at};
 
-use crate::areas_view::{FourView, SixView};
+use crate::areas::{FourView, SixView};
 use crate::other_view::OtherView;
-use crate::three_view::ThreeView;
+use crate::three::ThreeView;
 use opgp_octets::{BodyFault, Reason};
 
 /// A signature over the octets of its body (RFC 9580, 5.2).
@@ -70,9 +70,9 @@ impl<'a> SigView<'a> {
             });
         };
         match *version {
-            4 => Ok(SigView::Four(FourView::read(o)?)),
-            6 => Ok(SigView::Six(SixView::read(o)?)),
-            3 => match ThreeView::read(o) {
+            4 => Ok(SigView::Four(FourView::parse_body(o)?)),
+            6 => Ok(SigView::Six(SixView::parse_body(o)?)),
+            3 => match ThreeView::parse_body(o) {
                 Ok(view) => Ok(SigView::Three(view)),
                 Err(_) => Ok(SigView::Other(OtherView { body: o })),
             },

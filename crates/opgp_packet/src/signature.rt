@@ -9,11 +9,11 @@ ghost use Rattle.opgp_octets.specs.Reading.{Reads};
 ghost use Rattle.opgp_packet.specs.SignatureBody.{SignatureValue, Spells, SignatureFault};
 ghost use Rattle.opgp_packet.specs.SignatureBody.{signature_at};
 
-use crate::areas_signature::{FourSignature, SixSignature};
+use crate::areas::{FourSignature, SixSignature};
 use crate::other_signature::OtherSignature;
+use crate::parsed::Body;
 use crate::sig_view::SigView;
-use crate::three_places::ThreePlaces;
-use crate::three_signature::ThreeSignature;
+use crate::three::{ThreePlaces, ThreeSignature};
 use opgp_octets::{BodyFault, OutOfMemory, ParseFault, Reason};
 use std::alloc::Global;
 

@@ -65,7 +65,7 @@ impl<'a> SubView<'a> {
         ensures none { IfNone result (kind_shown (sub_shown self.now).kind ≡ 32
             → (value : SignatureValue) → Spells value (sub_shown self.now).octets → ⊥) }
     {
-        if self.kind() != 32 {
+        if self.kind() != SubpacketKind::EmbeddedSignature.number() {
             return None;
         }
         SigView::parse_body(self.octets()).ok()

@@ -1,8 +1,10 @@
 //! Keys, user IDs, attributes and literals, by the bodies of RFC 9580 and by bodies at fault.
 
 use byteorder::{BigEndian, WriteBytesExt};
-use opgp_packet::{Attribute, AttributeView, Key, KeyView, Literal, Material, MaterialView, UserId};
 use opgp_octets::{BodyFault, ParseFault, Reason, SubLen};
+use opgp_packet::{
+    Attribute, AttributeView, Key, KeyView, Literal, Material, MaterialView, UserId,
+};
 use std::alloc::Global;
 use std::process::Abort;
 use std::test::Fail;

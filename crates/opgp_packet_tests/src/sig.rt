@@ -1,10 +1,10 @@
 //! Signatures, by the certificate of RFC 9580, A.3 and by bodies at fault.
 
 use byteorder::{BigEndian, WriteBytesExt};
+use opgp_octets::{BodyFault, ParseFault, Reason, SubLen};
 use opgp_packet::{
     Key, KeyView, SigView, Signature, SignatureMaterial, SignatureMaterialView, SubMeaning, SubView,
 };
-use opgp_octets::{BodyFault, ParseFault, Reason, SubLen};
 use std::alloc::Global;
 use std::mem::size_of;
 use std::process::Abort;

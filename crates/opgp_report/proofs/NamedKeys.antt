@@ -3,22 +3,22 @@ use Rattle.std.proofs.Common.{◌≡◌, ◌∙◌, ℕ, List, [], ◌∷◌, ma
 use Rattle.std.specs.Option.{option_map, option_and_then}
 use Rattle.std.proofs.lemmas.Option.{slice_get-map}
 use Rattle.opgp_hash.specs.declared.fingerprints.Fingerprint.{Fingerprint}
-use Rattle.opgp_packet.specs.KeyView.{key_view_octets}
+use Rattle.opgp_packet.specs.Parsed.{body_octets}
 use Rattle.opgp_packet.specs.SignatureBody.{SignatureValue}
 use Rattle.opgp_report.specs.declared.signers.Signer.{Signer}
 use Rattle.opgp_report.specs.First.{print_of}
 use Rattle.opgp_report.specs.Report.{signer_in}
 use Rattle.opgp_report.specs.Signer.{signer_of}
 
-twice : (keys : List Signer) → map print_of (map (λ k. key_view_octets k.key) keys) ≡ map (λ k. print_of (key_view_octets k.key)) keys
+twice : (keys : List Signer) → map print_of (map (λ k. body_octets k.key) keys) ≡ map (λ k. print_of (body_octets k.key)) keys
 twice [] = refl
-twice (k ∷ keys) = ap (λ (l : List Fingerprint). print_of (key_view_octets k.key) ∷ l) (twice keys)
+twice (k ∷ keys) = ap (λ (l : List Fingerprint). print_of (body_octets k.key) ∷ l) (twice keys)
 
-by_place : (keys : List Signer) (place : Option ℕ) → option_map (λ k. key_view_octets k.key) (option_and_then (λ i. slice_get keys i) place) ≡ option_and_then (λ i. slice_get (map (λ k. key_view_octets k.key) keys) i) place
+by_place : (keys : List Signer) (place : Option ℕ) → option_map (λ k. body_octets k.key) (option_and_then (λ i. slice_get keys i) place) ≡ option_and_then (λ i. slice_get (map (λ k. body_octets k.key) keys) i) place
 by_place keys None = refl
-by_place keys (Some i) = sym (slice_get-map (λ k. key_view_octets k.key) keys i)
+by_place keys (Some i) = sym (slice_get-map (λ k. body_octets k.key) keys i)
 
-pub found : (keys : List Signer) (prints : List Fingerprint) (v : SignatureValue) (place : Option ℕ) → prints ≡ map (λ k. print_of (key_view_octets k.key)) keys → place ≡ signer_of prints v
-    → option_map (λ k. key_view_octets k.key) (option_and_then (λ i. slice_get keys i) place) ≡ signer_in (map (λ k. key_view_octets k.key) keys) v
+pub found : (keys : List Signer) (prints : List Fingerprint) (v : SignatureValue) (place : Option ℕ) → prints ≡ map (λ k. print_of (body_octets k.key)) keys → place ≡ signer_of prints v
+    → option_map (λ k. body_octets k.key) (option_and_then (λ i. slice_get keys i) place) ≡ signer_in (map (λ k. body_octets k.key) keys) v
 found keys prints v place named e = by_place keys place
-    ∙ ap (λ (p : Option ℕ). option_and_then (λ i. slice_get (map (λ k. key_view_octets k.key) keys) i) p) (e ∙ ap (λ (l : List Fingerprint). signer_of l v) (named ∙ sym (twice keys)))
+    ∙ ap (λ (p : Option ℕ). option_and_then (λ i. slice_get (map (λ k. body_octets k.key) keys) i) p) (e ∙ ap (λ (l : List Fingerprint). signer_of l v) (named ∙ sym (twice keys)))

@@ -2,7 +2,10 @@
 use Rattle.std.specs.Prelude.{◌≡◌, ℕ, ◌+◌, ◌==◌, if◌then◌else◌, List, [], ◌∷◌, ◌++◌, length, map}
 use Rattle.std.specs.Prelude.{Option, Some, None, Result, Ok, Err, slice_get}
 use Rattle.std.specs.List.{flat_map}
+use Rattle.opgp_octets.specs.SignatureType.{signature_type_number}
 use Rattle.opgp_octets.specs.declared.fault.BodyFault.{BodyFault}
+use Rattle.opgp_octets.specs.declared.packet_type.PacketType.TheVariants as packet
+use Rattle.opgp_octets.specs.declared.signature_type.SignatureType.TheVariants as types
 use Rattle.opgp_octets.specs.Reading.{Reads}
 use Rattle.opgp_packet.specs.Subpackets.{Sub}
 use Rattle.opgp_frame.specs.Packet.{PacketValue}
@@ -17,7 +20,7 @@ use Rattle.opgp_hash.specs.Question.{question_value}
 use Rattle.opgp_hash.specs.QuestionValue.{QuestionValue}
 use Rattle.opgp_hash.specs.SignedValue.{SignedValue, signed_of}
 use Rattle.opgp_hash.specs.SubjectValue.{SubjectValue}
-use Rattle.opgp_ring.specs.Keyring.{CertificateValue, ComponentValue, KeyringValue}
+use Rattle.opgp_ring.specs.Keyring.{CertificateValue, ComponentValue, KeyringValue, is_type}
 use Rattle.opgp_report.specs.declared.found.Found.{Found}
 use Rattle.opgp_report.specs.declared.found.Found.TheVariants.{At, Left}
 use Rattle.opgp_report.specs.Report.{embedding_bodies, is_on_two, on_head, on_primary}
@@ -37,7 +40,7 @@ embedded_asked subject bodies = map (λ body. asked_in Embedded subject (signatu
 
 abbrev pub bound_asked : SubjectValue → ℕ → List Sub → List Sub → List Asked
 bound_asked subject kind hashed unhashed =
-    if kind == 0x18
+    if kind == signature_type_number types.SubkeyBinding
     then embedded_asked subject (embedding_bodies hashed ++ embedding_bodies unhashed)
     else []
 
@@ -54,7 +57,8 @@ value_asked subject (Err fault) = Err Opaque ∷ []
 
 -- what hangs somewhere asks
 abbrev pub hang_asked : SubjectValue → PacketValue → List Asked
-hang_asked subject p = if p.kind == 2 then value_asked subject (signature_at p.body) else []
+hang_asked subject p =
+    if is_type packet.Signature p.kind then value_asked subject (signature_at p.body) else []
 
 abbrev pub hangs_asked : SubjectValue → List PacketValue → List Asked
 hangs_asked subject ps = flat_map (hang_asked subject) ps

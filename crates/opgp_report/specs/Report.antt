@@ -4,7 +4,12 @@ use Rattle.std.specs.Prelude.{ℕ, ◌+◌, Bool, true, false, ◌==◌, if◌th
 use Rattle.std.specs.Prelude.{Option, Some, None, Result, Ok, Err, map, slice_get}
 use Rattle.std.specs.List.{flat_map}
 use Rattle.std.specs.Option.{option_map, option_and_then}
+use Rattle.opgp_octets.specs.SignatureType.{signature_type_number}
+use Rattle.opgp_octets.specs.SubpacketKind.{subpacket_kind_number}
 use Rattle.opgp_octets.specs.declared.fault.BodyFault.{BodyFault}
+use Rattle.opgp_octets.specs.declared.packet_type.PacketType.TheVariants as packet
+use Rattle.opgp_octets.specs.declared.signature_type.SignatureType.TheVariants as types
+use Rattle.opgp_octets.specs.declared.subpacket_kind.SubpacketKind.TheVariants as kinds
 use Rattle.opgp_packet.specs.Subpackets.{Sub}
 use Rattle.opgp_frame.specs.Packet.{PacketValue}
 use Rattle.opgp_packet.specs.Areas.{hashed_subs, unhashed_subs}
@@ -20,7 +25,7 @@ use Rattle.opgp_hash.specs.KeyId.{id_of}
 use Rattle.opgp_hash.specs.QuestionValue.{QuestionValue}
 use Rattle.opgp_hash.specs.SignedValue.{SignedValue, signed_of}
 use Rattle.opgp_hash.specs.SubjectValue.{SubjectValue, binary, one, two, on_user_id, on_attribute}
-use Rattle.opgp_ring.specs.Keyring.{CertificateValue, ComponentValue, KeyringValue}
+use Rattle.opgp_ring.specs.Keyring.{CertificateValue, ComponentValue, KeyringValue, is_type}
 use Rattle.opgp_report.specs.declared.place.Place.{Place}
 use Rattle.opgp_report.specs.declared.verifier.Verdict.{Verdict}
 use Rattle.opgp_report.specs.First.{print_of}
@@ -29,7 +34,7 @@ use Rattle.opgp_report.specs.Signer.{signer_of}
 
 -- ---- the keys of a keyring, in order, by their bodies
 abbrev pub subkey_bodies : ComponentValue → List (List ℕ)
-subkey_bodies c = if c.head.kind == 14 then c.head.body ∷ [] else []
+subkey_bodies c = if is_type packet.PublicSubkey c.head.kind then c.head.body ∷ [] else []
 
 abbrev pub certificate_keys : CertificateValue → List (List ℕ)
 certificate_keys c = c.primary.body ∷ flat_map subkey_bodies c.components
@@ -49,8 +54,8 @@ on_primary primary = one primary
 -- on a component, by its head: a user ID, a user attribute, or else a subkey
 abbrev pub on_head : List ℕ → PacketValue → SubjectValue
 on_head primary head =
-    if head.kind == 13 then on_user_id primary head.body
-    else (if head.kind == 17 then on_attribute primary head.body
+    if is_type packet.UserId head.kind then on_user_id primary head.body
+    else (if is_type packet.UserAttribute head.kind then on_attribute primary head.body
     else two primary head.body)
 
 abbrev pub is_on_two : SubjectValue → Bool
@@ -61,9 +66,12 @@ is_on_two (on_user_id primary id) = false
 is_on_two (on_attribute primary body) = false
 
 -- the subpackets that hold a signature (5.2.3.34)
+abbrev pub holds_signature : Sub → Bool
+holds_signature s = kind_shown s.kind == subpacket_kind_number kinds.EmbeddedSignature
+
 abbrev pub embedding_bodies : List Sub → List (List ℕ)
 embedding_bodies subs =
-    flat_map (λ s. if kind_shown s.kind == 32 then s.octets ∷ [] else []) subs
+    flat_map (λ s. if holds_signature s then s.octets ∷ [] else []) subs
 
 -- ---- rows
 -- what a verifier says of a job
@@ -102,7 +110,7 @@ module _ (says : Says) (keys : List (List ℕ)) where
   -- a binding of a subkey (5.2.1.8) has rows for what is embedded in it, the hashed area first
   abbrev pub bound_rows : SubjectValue → Place → ℕ → List Sub → List Sub → List RowValue
   bound_rows subject place kind hashed unhashed =
-      if kind == 0x18
+      if kind == signature_type_number types.SubkeyBinding
       then embedded_rows subject place 0 (embedding_bodies hashed ++ embedding_bodies unhashed)
       else []
 
@@ -123,7 +131,7 @@ module _ (says : Says) (keys : List (List ℕ)) where
   -- of what hangs in a place: fillers have no row
   abbrev pub hang_rows : SubjectValue → Place → PacketValue → List RowValue
   hang_rows subject place p =
-      if p.kind == 2 then value_rows subject place (signature_at p.body) else []
+      if is_type packet.Signature p.kind then value_rows subject place (signature_at p.body) else []
 
   -- of all that hangs on the primary key or on a component, numbered from here
   abbrev pub hangs_rows : SubjectValue → ℕ → Option ℕ → ℕ → List PacketValue → List RowValue

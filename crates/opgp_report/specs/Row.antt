@@ -1,7 +1,7 @@
 -- What the rows of a report show.
 use Rattle.std.specs.Prelude.{List, map}
 use Rattle.std.specs.Option.{option_map}
-use Rattle.opgp_packet.specs.KeyView.{key_view_octets}
+use Rattle.opgp_packet.specs.Parsed.{body_octets}
 use Rattle.opgp_packet.specs.SigView.{sig_view_value}
 use Rattle.opgp_report.specs.declared.report.Report.{Report}
 use Rattle.opgp_report.specs.declared.row.Finding.{Finding}
@@ -14,7 +14,7 @@ abbrev pub job_value : Job → JobValue
 job_value j = record {
   signature = sig_view_value j.signature;
   digest = j.digest;
-  signer = option_map (λ k. key_view_octets k) j.signer;
+  signer = option_map (λ k. body_octets k) j.signer;
 }
 
 abbrev pub finding_value : Finding → FindingValue

@@ -1,6 +1,8 @@
 -- Which key made a signature, as its subpackets say (RFC 9580, 5.2.3.12, 5.2.3.35).
 use Rattle.std.specs.Prelude.{ℕ, ◌==◌, ◌&&◌, ◌||◌, if◌then◌else◌, List, [], ◌∷◌, length, Option}
 use Rattle.std.specs.Prelude.{Some, None}
+use Rattle.opgp_octets.specs.SubpacketKind.{subpacket_kind_number}
+use Rattle.opgp_octets.specs.declared.subpacket_kind.SubpacketKind.TheVariants as kinds
 use Rattle.opgp_packet.specs.Subpackets.{Sub}
 use Rattle.opgp_packet.specs.Areas.{hashed_subs, unhashed_subs}
 use Rattle.opgp_packet.specs.SignatureBody.{SignatureValue}
@@ -17,14 +19,17 @@ print_named (version ∷ o) =
     if ((version == 4) && (length o == 20)) || ((version == 6) && (length o == 32))
     then Some (version, o) else None
 
--- kind 33 names the issuer's fingerprint, where its octets fit
+-- an issuer's fingerprint, where its octets fit
 abbrev pub print_in : Sub → Option (ℕ × List ℕ)
-print_in s = if kind_shown s.kind == 33 then print_named s.octets else None
+print_in s =
+    if kind_shown s.kind == subpacket_kind_number kinds.IssuerFingerprint then print_named s.octets
+    else None
 
--- kind 16 names its key ID
+-- an issuer's key ID
 abbrev pub id_in : Sub → Option (List ℕ)
 id_in s =
-    if (kind_shown s.kind == 16) && (length s.octets == 8) then Some s.octets else None
+    if (kind_shown s.kind == subpacket_kind_number kinds.Issuer) && (length s.octets == 8)
+    then Some s.octets else None
 
 -- ---- the first that names it
 

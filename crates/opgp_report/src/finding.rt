@@ -6,7 +6,7 @@ ghost use Rattle.std.specs.Option.{option_map};
 ghost use Rattle.opgp_hash.specs.Question.{question_value};
 ghost use Rattle.opgp_hash.specs.Subject.{subject_value};
 ghost use Rattle.opgp_hash.specs.SubjectValue.{is_within};
-ghost use Rattle.opgp_packet.specs.KeyView.{key_view_octets};
+ghost use Rattle.opgp_packet.specs.Parsed.{body_octets};
 ghost use Rattle.opgp_packet.specs.Signature.{signature_octets};
 ghost use Rattle.opgp_packet.specs.SignatureBody.{signature_at};
 ghost use Rattle.opgp_packet.specs.SigView.{sig_view_value};
@@ -21,8 +21,8 @@ ghost use Rattle.opgp_report.specs.Report.{embedding_bodies};
 use crate::found::Found;
 use crate::rows::{is_on_two, subject_on};
 use opgp_hash::{Question, Site, Subject, Why, ask_at};
+use opgp_octets::{SignatureType, SubpacketKind};
 use opgp_packet::{KeyView, SigView, Signature, Subs};
-use opgp_octets::SignatureType;
 use opgp_ring::{Certificate, Component, Content, Keyring, Member};
 
 /// Among what is embedded.
@@ -33,7 +33,7 @@ fn in_embedded<'a>(subject: Subject<'a>, mut subpackets: Subs<'a>, row: usize) -
 {
     let mut left = row;
     'subpackets: while let Some(subpacket) = subpackets.next() {
-        if subpacket.kind() == 32 {
+        if subpacket.kind() == SubpacketKind::EmbeddedSignature.number() {
             if left == 0 {
                 return Found::At(embedded(subject, subpacket.octets()));
             }
@@ -147,7 +147,7 @@ fn in_hangs<'a>(subject: Subject<'a>, hangs: &'a [Member], row: usize) -> Found<
 
 /// Among the components of a certificate.
 fn in_components<'a>(primary: KeyView<'a>, components: &'a [Component], row: usize) -> Found<'a>
-    ensures { Finds result (components_asked (key_view_octets primary.entry) components.now) row }
+    ensures { Finds result (components_asked (body_octets primary.entry) components.now) row }
 {
     let mut left = row;
     let mut rest = components;

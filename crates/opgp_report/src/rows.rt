@@ -5,7 +5,7 @@ ghost use Rattle.std.specs.Prelude.{Some, None, OnOk, IfOk};
 ghost use Rattle.opgp_hash.specs.CertificateHasher.{hasher_subject};
 ghost use Rattle.opgp_hash.specs.Subject.{subject_value};
 ghost use Rattle.opgp_hash.specs.SubjectValue.{first_key, is_within};
-ghost use Rattle.opgp_packet.specs.KeyView.{key_view_octets};
+ghost use Rattle.opgp_packet.specs.Parsed.{body_octets};
 ghost use Rattle.opgp_packet.specs.Signature.{signature_octets};
 ghost use Rattle.opgp_packet.specs.SignatureBody.{signature_at};
 ghost use Rattle.opgp_packet.specs.SigView.{sig_view_value};
@@ -22,8 +22,8 @@ use crate::place::Place;
 use crate::row::Row;
 use crate::verifier::Verifier;
 use opgp_hash::{CertificateHasher, Site, Subject};
+use opgp_octets::{OutOfMemory, SignatureType, SubpacketKind};
 use opgp_packet::{KeyView, SigView, Signature, Subs};
-use opgp_octets::{OutOfMemory, SignatureType};
 use opgp_ring::{Certificate, Component, Content, Head, Member};
 
 /// Adds a row for each signature that is embedded in the one that hangs in a place, numbered from
@@ -48,7 +48,7 @@ fn add_embedded<V: Verifier>(
 {
     let mut number = first;
     'subpackets: while let Some(subpacket) = subpackets.next() {
-        if subpacket.kind() == 32 {
+        if subpacket.kind() == SubpacketKind::EmbeddedSignature.number() {
             let nested = Place {
                 nested: Some(number),
                 ..place
@@ -205,8 +205,8 @@ fn add_hangs<V: Verifier>(
 /// What signatures that hang on a component are about.
 pub(crate) fn subject_on<'a>(primary: KeyView<'a>, component: &'a Component) -> Subject<'a>
     ensures value { subject_value result
-        ≡ on_head (key_view_octets primary.entry) component.now.head }
-    ensures first { first_key (subject_value result) ≡ Some (key_view_octets primary.entry) }
+        ≡ on_head (body_octets primary.entry) component.now.head }
+    ensures first { first_key (subject_value result) ≡ Some (body_octets primary.entry) }
     ensures within { is_within (subject_value result) ≡ true }
 {
     match component.head().head() {
@@ -225,10 +225,10 @@ fn add_components<'a, V: Verifier>(
     certificate: usize,
     components: &'a [Component],
 ) -> Result<(), OutOfMemory>
-    requires { first_key (hasher_subject hasher.old) ≡ Some (key_view_octets primary) }
+    requires { first_key (hasher_subject hasher.old) ≡ Some (body_octets primary) }
     ensures { OnOk result (map row_value rows.new.items ≡ map row_value rows.old.items
         ++ components_rows (V.says asker.now.verifier.now) (asker_keys asker.now)
-        (key_view_octets primary.entry) certificate 0 components.now) }
+        (body_octets primary.entry) certificate 0 components.now) }
 {
     let mut number = 0usize;
     let mut rest = components;

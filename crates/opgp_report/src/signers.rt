@@ -4,7 +4,7 @@ ghost use Rattle.std.specs.Prelude.{◌≡◌, ◌++◌, ◌∷◌, [], map, IfO
 ghost use Rattle.std.specs.List.{flat_map};
 ghost use Rattle.std.specs.Option.{option_map};
 ghost use Rattle.opgp_hash.specs.KeyId.{id_of};
-ghost use Rattle.opgp_packet.specs.KeyView.{key_view_octets};
+ghost use Rattle.opgp_packet.specs.Parsed.{body_octets};
 ghost use Rattle.opgp_packet.specs.SigView.{sig_view_value};
 ghost use Rattle.opgp_report.specs.First.{print_of};
 ghost use Rattle.opgp_report.specs.Names.{prints_shown};
@@ -13,8 +13,8 @@ ghost use Rattle.opgp_report.specs.Report.{certificate_keys, keys_in, signer_in,
 use crate::names::Names;
 use crate::signing::signer;
 use opgp_hash::{Fingerprint, KeyId, fingerprint_of_view};
-use opgp_packet::{KeyView, SigView};
 use opgp_octets::OutOfMemory;
+use opgp_packet::{KeyView, SigView};
 use opgp_ring::{Certificate, Component, Head, Keyring};
 use std::alloc::Global;
 
@@ -23,7 +23,7 @@ use std::alloc::Global;
 pub(crate) struct Signer<'a> {
     key: KeyView<'a>,
     id: KeyId,
-    ghost named: { id.0 ≡ id_of (print_of (key_view_octets key)) },
+    ghost named: { id.0 ≡ id_of (print_of (body_octets key)) },
 }
 
 /// Keys in order, with an index of their names.
@@ -31,7 +31,7 @@ pub(crate) struct Signer<'a> {
 pub(crate) struct Signers<'a> {
     keys: Vec<Signer<'a>>,
     names: Names,
-    ghost named: { prints_shown names ≡ map (λ s. print_of (key_view_octets s.key)) keys.items },
+    ghost named: { prints_shown names ≡ map (λ s. print_of (body_octets s.key)) keys.items },
 }
 
 impl<'a> Signers<'a> {
@@ -50,7 +50,7 @@ impl<'a> Signers<'a> {
     /// With one more key, behind the others. An error is want of memory.
     fn with(self, key: KeyView<'a>) -> Result<Signers<'a>, OutOfMemory>
         ensures { IfOk result (λ s.
-            signers_keys s ≡ signers_keys self.entry ++ key_view_octets key.entry ∷ []) }
+            signers_keys s ≡ signers_keys self.entry ++ body_octets key.entry ∷ []) }
     {
         let Signers { mut keys, names } = self;
         let print = print_of(&key);
@@ -103,7 +103,7 @@ impl<'a> Signers<'a> {
 
     /// The first key that the signature names as its maker.
     pub(crate) fn find(&self, signature: SigView<'_>) -> Option<Signer<'a>>
-        ensures { option_map (λ s. key_view_octets s.key) result
+        ensures { option_map (λ s. body_octets s.key) result
             ≡ signer_in (signers_keys self.now) (sig_view_value signature.entry) }
     {
         match signer(&self.names, signature) {
@@ -118,8 +118,8 @@ impl<'a> Signers<'a> {
 
 /// The key of a signer, if there is one.
 pub(crate) fn key_of<'a>(signer: Option<Signer<'a>>) -> Option<KeyView<'a>>
-    ensures { option_map (λ k. key_view_octets k) result
-        ≡ option_map (λ s. key_view_octets s.key) signer.entry }
+    ensures { option_map (λ k. body_octets k) result
+        ≡ option_map (λ s. body_octets s.key) signer.entry }
 {
     let signer = signer?;
     Some(signer.key)
@@ -128,7 +128,7 @@ pub(crate) fn key_of<'a>(signer: Option<Signer<'a>>) -> Option<KeyView<'a>>
 /// Its key ID, if there is one.
 pub(crate) fn id_of(signer: Option<Signer<'_>>) -> Option<KeyId>
     ensures { option_map (λ id. id.0) result ≡ option_map (λ body. id_of (print_of body))
-        (option_map (λ s. key_view_octets s.key) signer.entry) }
+        (option_map (λ s. body_octets s.key) signer.entry) }
 {
     let signer = signer?;
     Some(signer.id)
@@ -136,7 +136,7 @@ pub(crate) fn id_of(signer: Option<Signer<'_>>) -> Option<KeyId>
 
 /// The fingerprint of a key.
 fn print_of(key: &KeyView<'_>) -> Fingerprint
-    ensures { result ≡ print_of (key_view_octets key.now) }
+    ensures { result ≡ print_of (body_octets key.now) }
 {
     let _body = key.body();
     let _version = key.version();

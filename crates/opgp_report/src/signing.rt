@@ -9,6 +9,7 @@ ghost use Rattle.opgp_report.specs.Names.{prints_shown};
 ghost use Rattle.opgp_report.specs.Signer.{print_in, id_in, first_some, signer_by, signer_of};
 
 use crate::names::Names;
+use opgp_octets::SubpacketKind;
 use opgp_packet::{SigView, SubView, Subs};
 
 /// The place of the key that made the signature: the first key with the fingerprint that its hashed
@@ -67,7 +68,7 @@ fn first_id(subs: Subs<'_>) -> Option<[u8; 8]>
 fn print_in<'a>(sub: SubView<'a>) -> Option<(u8, &'a [u8])>
     ensures { option_map (λ x. (x.0, x.1.now)) result ≡ print_in (sub_shown sub.entry) }
 {
-    if sub.kind() != 33 {
+    if sub.kind() != SubpacketKind::IssuerFingerprint.number() {
         return None;
     }
     match sub.octets() {
@@ -85,7 +86,7 @@ fn print_in<'a>(sub: SubView<'a>) -> Option<(u8, &'a [u8])>
 fn id_in(sub: SubView<'_>) -> Option<[u8; 8]>
     ensures { result ≡ id_in (sub_shown sub.entry) }
 {
-    if sub.kind() != 16 {
+    if sub.kind() != SubpacketKind::Issuer.number() {
         return None;
     }
     match <[u8; 8]>::try_from(sub.octets()) {

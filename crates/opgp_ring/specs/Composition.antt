@@ -1,19 +1,19 @@
 -- Composition: which keyring a list of packets is, and what the first is that ends every one (RFC
 -- 9580, 10.1).
-use Rattle.std.specs.Prelude.{◌≡◌, ℕ, ◌≤◌, Bool, true, false, ◌||◌, ◌&&◌, not, ◌==◌, List, []}
+use Rattle.std.specs.Prelude.{◌≡◌, ℕ, ◌≤◌, Bool, true, false, ◌||◌, ◌&&◌, not, List, []}
 use Rattle.std.specs.Prelude.{◌∷◌, ◌++◌, All, if◌then◌else◌}
 use Rattle.std.specs.List.{list_any}
 use Rattle.opgp_octets.specs.declared.limits.Limits.{Limits}
 use Rattle.opgp_octets.specs.Limits.{cert_limit}
+use Rattle.opgp_octets.specs.declared.packet_type.PacketType.TheVariants as packet
 use Rattle.opgp_octets.specs.declared.fault.Fault.{Fault}
 use Rattle.opgp_octets.specs.declared.fault.Layer.TheVariants.{Composition}
 use Rattle.opgp_octets.specs.declared.fault.Reason.{Reason}
-use Rattle.opgp_octets.specs.declared.fault.Reason.TheVariants.{NoPrimary, NotInKeyring}
-use Rattle.opgp_octets.specs.declared.fault.Reason.TheVariants.{CertTooLong, BlockLabel}
+use Rattle.opgp_octets.specs.declared.fault.Reason.TheVariants as reasons
 use Rattle.opgp_frame.specs.declared.packet.Placed.{Placed}
 use Rattle.opgp_frame.specs.Packet.{PacketValue}
 use Rattle.opgp_ring.specs.Keyring.{KeyringValue, IsKeyring, flat, certificate_packets, octets_of}
-use Rattle.opgp_ring.specs.Keyring.{is_primary, is_head, is_hung}
+use Rattle.opgp_ring.specs.Keyring.{is_primary, is_head, is_hung, is_type}
 
 -- the lead and each certificate are spelled in no more octets than the limit
 pub record FitsLimits (limits : Limits) (r : KeyringValue) : Type 0 where
@@ -38,7 +38,7 @@ stands_in_keyring kind = is_primary kind || (is_head kind || is_hung kind)
 
 -- signatures and heads of components come after a primary key
 abbrev pub needs_primary : ℕ → Bool
-needs_primary kind = (kind == 2) || is_head kind
+needs_primary kind = is_type packet.Signature kind || is_head kind
 
 abbrev pub has_primary : List PacketValue → Bool
 has_primary ps = list_any (λ p. is_primary p.kind) ps
@@ -46,9 +46,9 @@ has_primary ps = list_any (λ p. is_primary p.kind) ps
 -- why packets followed by this one are no keyring, where they alone are: the first that is true
 abbrev pub order_reason : List PacketValue → PacketValue → Reason
 order_reason ps p =
-    if not (stands_in_keyring p.kind) then NotInKeyring
-    else (if needs_primary p.kind && not (has_primary ps) then NoPrimary
-    else CertTooLong)
+    if not (stands_in_keyring p.kind) then reasons.NotInKeyring
+    else (if needs_primary p.kind && not (has_primary ps) then reasons.NoPrimary
+    else reasons.CertTooLong)
 
 -- What is composed, in order: of each block its label, which is the wanted one or not, and then its
 -- packets.
@@ -78,7 +78,8 @@ fault_at reason block pos =
 
 -- behind packets that are a keyring, this is at fault
 abbrev pub IsFaultAt : Limits → List PacketValue → Item → Fault → Type 0
-IsFaultAt limits ps (of_label block fits) f = (fits ≡ false) × (f ≡ fault_at BlockLabel block 0)
+IsFaultAt limits ps (of_label block fits) f =
+    (fits ≡ false) × (f ≡ fault_at reasons.BlockLabel block 0)
 IsFaultAt limits ps (of_packet p) f =
     (AreKeyring limits (ps ++ p.packet ∷ []) → ⊥)
     × (f ≡ fault_at (order_reason ps p.packet) p.block p.pos)

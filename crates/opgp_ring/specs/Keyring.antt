@@ -1,24 +1,33 @@
 -- Keyrings of public keys (RFC 9580, 10.1): what they are made of, and the packets that they are.
 use Rattle.std.specs.Prelude.{◌≡◌, ℕ, Bool, true, ◌||◌, ◌==◌, nat_le, List, ◌∷◌, ◌++◌, length, All}
 use Rattle.std.specs.List.{flat_map}
+use Rattle.opgp_octets.specs.PacketType.{packet_type_number}
+use Rattle.opgp_octets.specs.declared.packet_type.PacketType.{PacketType}
+use Rattle.opgp_octets.specs.declared.packet_type.PacketType.TheVariants as packet
 use Rattle.opgp_frame.specs.Packet.{PacketValue, spelling}
+
+-- a number is that of this type
+abbrev pub is_type : PacketType → ℕ → Bool
+is_type t kind = kind == packet_type_number t
 
 -- marker, trust and padding packets (5.8, 5.10, 5.14), and those of types that aren't critical
 -- (4.3): they stay in place
 abbrev pub is_filler : ℕ → Bool
-is_filler kind = (kind == 10) || ((kind == 12) || ((kind == 21) || nat_le 40 kind))
+is_filler kind = is_type packet.Marker kind
+    || (is_type packet.Trust kind || (is_type packet.Padding kind || nat_le 40 kind))
 
 -- a public key
 abbrev pub is_primary : ℕ → Bool
-is_primary kind = kind == 6
+is_primary kind = is_type packet.PublicKey kind
 
 -- a user ID, a user attribute or a public subkey
 abbrev pub is_head : ℕ → Bool
-is_head kind = (kind == 13) || ((kind == 17) || (kind == 14))
+is_head kind = is_type packet.UserId kind
+    || (is_type packet.UserAttribute kind || is_type packet.PublicSubkey kind)
 
 -- a signature or a filler
 abbrev pub is_hung : ℕ → Bool
-is_hung kind = (kind == 2) || is_filler kind
+is_hung kind = is_type packet.Signature kind || is_filler kind
 
 abbrev pub IsFiller : PacketValue → Type 0
 IsFiller p = is_filler p.kind ≡ true

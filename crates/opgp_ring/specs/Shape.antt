@@ -1,19 +1,22 @@
 -- How far packets have come that begin a signed literal.
-use Rattle.std.specs.Prelude.{◌≡◌, ℕ, ◌+◌, ◌<◌, ◌==◌, Bool, false, List, ◌∷◌, ◌++◌, replicate}
+use Rattle.std.specs.Prelude.{◌≡◌, ℕ, ◌+◌, ◌<◌, ◌==◌, Bool, false, List, ◌∷◌, ◌++◌}
+use Rattle.opgp_octets.specs.PacketType.{packet_type_number}
+use Rattle.opgp_octets.specs.declared.packet_type.PacketType.TheVariants as packet
 use Rattle.opgp_frame.specs.Packet.{PacketValue}
 use Rattle.opgp_ring.specs.declared.shape.Shape.{Shape}
 use Rattle.opgp_ring.specs.declared.shape.Shape.TheVariants.{Opening, Closing}
-use Rattle.opgp_ring.specs.Signed.{types_of}
+use Rattle.opgp_ring.specs.Signed.{types_of, opening_types, closing_types}
 
 -- so many signatures are still to come behind the literal
 pub record IsClosing (left : ℕ) (ps : List PacketValue) : Type 0 where
   pub done : ℕ
   pub some : 0 < done + left
-  pub whole : types_of ps ≡ replicate (done + left) 4 ++ 11 ∷ replicate done 2
+  pub whole : types_of ps
+      ≡ opening_types (done + left) ++ packet_type_number packet.LiteralData ∷ closing_types done
 
 -- the packets have come so far
 abbrev pub Stands : Shape → List PacketValue → Type 0
-Stands (Opening n) ps = types_of ps ≡ replicate n 4
+Stands (Opening n) ps = types_of ps ≡ opening_types n
 Stands (Closing left) ps = IsClosing left ps
 
 -- how many one-pass signatures it counts

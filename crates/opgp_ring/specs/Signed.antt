@@ -3,6 +3,8 @@
 use Rattle.std.specs.Prelude.{◌≡◌, ℕ, ◌+◌, ◌-◌, ◌^◌, ◌<◌, min, ◌⊎◌, true, false, not, ◌==◌, List, [], ◌∷◌}
 use Rattle.std.specs.Prelude.{◌++◌, All, map, replicate, length}
 use Rattle.std.specs.List.{filter}
+use Rattle.opgp_octets.specs.PacketType.{packet_type_number}
+use Rattle.opgp_octets.specs.declared.packet_type.PacketType.TheVariants as packet
 use Rattle.opgp_octets.specs.declared.fault.Fault.{Fault}
 use Rattle.opgp_octets.specs.declared.fault.Reason.TheVariants.{NotASignedLiteral, BlockLabel}
 use Rattle.opgp_frame.specs.Packet.{PacketValue, spelling}
@@ -15,10 +17,16 @@ use Rattle.opgp_ring.specs.Keyring.{is_filler}
 abbrev pub types_of : List PacketValue → List ℕ
 types_of ps = filter (λ k. not (is_filler k)) (map (λ p. p.kind) ps)
 
--- for so many signatures: as many one-pass signatures (5.4), the literal (5.9), the signatures
--- themselves (5.2)
+-- so many one-pass signatures (5.4), and so many signatures (5.2)
+abbrev pub opening_types : ℕ → List ℕ
+opening_types n = replicate n (packet_type_number packet.OnePassSignature)
+
+abbrev pub closing_types : ℕ → List ℕ
+closing_types n = replicate n (packet_type_number packet.Signature)
+
+-- for so many signatures: as many one-pass signatures, the literal (5.9), the signatures themselves
 abbrev pub signed_types : ℕ → List ℕ
-signed_types n = replicate n 4 ++ 11 ∷ replicate n 2
+signed_types n = opening_types n ++ packet_type_number packet.LiteralData ∷ closing_types n
 
 -- the packets are those of a literal and at least one signature of it
 pub record IsSigned (ps : List PacketValue) : Type 0 where
@@ -105,3 +113,9 @@ pub record IsSignedOf (items : List Item) (ps : List PacketValue) : Type 0 where
 -- the bodies of the packets of a type, in order
 abbrev pub bodies_of : ℕ → List PacketValue → List (List ℕ)
 bodies_of kind ps = map (λ p. p.body) (filter (λ p. p.kind == kind) ps)
+
+abbrev pub literal_bodies : List PacketValue → List (List ℕ)
+literal_bodies ps = bodies_of (packet_type_number packet.LiteralData) ps
+
+abbrev pub signature_bodies : List PacketValue → List (List ℕ)
+signature_bodies ps = bodies_of (packet_type_number packet.Signature) ps

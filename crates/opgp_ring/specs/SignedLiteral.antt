@@ -3,7 +3,7 @@ use Rattle.std.specs.Prelude.{ℕ, List}
 use Rattle.opgp_frame.specs.Packet.{PacketValue}
 use Rattle.opgp_ring.specs.declared.signatures.Signatures.{Signatures}
 use Rattle.opgp_ring.specs.declared.signed_literal.SignedLiteral.{SignedLiteral}
-use Rattle.opgp_ring.specs.Signed.{bodies_of}
+use Rattle.opgp_ring.specs.Signed.{signature_bodies}
 
 -- all its packets, in order
 abbrev pub signed_packets : SignedLiteral → List PacketValue
@@ -11,4 +11,4 @@ signed_packets l = l.flat.items
 
 -- the bodies of the signatures that are left, in order
 abbrev pub signatures_left : Signatures → List (List ℕ)
-signatures_left s = bodies_of 2 s.packets.now
+signatures_left s = signature_bodies s.packets.now

@@ -3,8 +3,7 @@ use Rattle.std.specs.Prelude.{◌≡◌, ℕ, Bool, true, false, List, All}
 use Rattle.opgp_frame.specs.Packet.{PacketValue}
 use Rattle.opgp_ring.specs.declared.shape.Shape.{Shape}
 use Rattle.opgp_ring.specs.declared.signed_gathering.SignedState.{SignedState}
-use Rattle.opgp_ring.specs.declared.signed_gathering.SignedState.TheVariants.{Open, Disordered}
-use Rattle.opgp_ring.specs.declared.signed_gathering.SignedState.TheVariants.{Broken}
+use Rattle.opgp_ring.specs.declared.signed_gathering.SignedState.TheVariants as state
 use Rattle.opgp_ring.specs.Bodies.{IsSound, IsFirstBodyFault}
 use Rattle.opgp_ring.specs.Composition.{Item, placed_in, packets_in, labels_fit}
 use Rattle.opgp_ring.specs.Shape.{Stands, opened}
@@ -19,18 +18,18 @@ pub record IsOpen (shape : Shape) (items : List Item) (kept : List PacketValue) 
 
 -- what a state says of the items given and of the packets kept
 abbrev pub IsSignedIn : SignedState → List Item → List PacketValue → Type 0
-IsSignedIn (Open shape) items kept = IsOpen shape items kept
-IsSignedIn (Disordered f) items kept = All IsSound (placed_in items) × StopsAt items f
-IsSignedIn (Broken f) items kept = IsFirstBodyFault (placed_in items) f
+IsSignedIn (state.Open shape) items kept = IsOpen shape items kept
+IsSignedIn (state.Disordered f) items kept = All IsSound (placed_in items) × StopsAt items f
+IsSignedIn (state.Broken f) items kept = IsFirstBodyFault (placed_in items) f
 
 -- how many one-pass signatures a state counts
 abbrev pub opened_in : SignedState → ℕ
-opened_in (Open shape) = opened shape
-opened_in (Disordered f) = 0
-opened_in (Broken f) = 0
+opened_in (state.Open shape) = opened shape
+opened_in (state.Disordered f) = 0
+opened_in (state.Broken f) = 0
 
 -- no fault has come
 abbrev pub is_open : SignedState → Bool
-is_open (Open shape) = true
-is_open (Disordered f) = false
-is_open (Broken f) = false
+is_open (state.Open shape) = true
+is_open (state.Disordered f) = false
+is_open (state.Broken f) = false

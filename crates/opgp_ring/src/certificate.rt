@@ -12,8 +12,8 @@ use crate::copying::copy_all;
 use crate::member::Member;
 use crate::reframing::{reframe_components, reframe_members};
 use opgp_frame::Packet;
-use opgp_packet::Key;
 use opgp_octets::OutOfMemory;
+use opgp_packet::Key;
 use std::alloc::Global;
 use std::marker::Model;
 
@@ -45,7 +45,7 @@ impl Model for Certificate {
 }
 
 impl Certificate {
-    ghost use Rattle.opgp_packet.specs.Key.{key_octets};
+    ghost use Rattle.opgp_packet.specs.Parsed.{body_octets};
 
     /// A certificate of a primary key alone. Takes no memory.
     pub(crate) fn new(alloc: Global, primary: Member) -> Certificate
@@ -182,7 +182,7 @@ impl Certificate {
 
     /// The primary key itself (5.5.1.1).
     pub fn key(&self) -> &Key
-        ensures { key_octets result.now ≡ self.now.primary.body }
+        ensures { body_octets result.now ≡ self.now.primary.body }
     {
         match self.primary.content() {
             Content::Primary(_, key) => key,

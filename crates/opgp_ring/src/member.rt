@@ -9,7 +9,7 @@ ghost use Rattle.opgp_ring.specs.Lent.{IsLentHang, hang_packet, head_packet};
 use crate::content::Content;
 use crate::lent::{Hang, Head};
 use opgp_frame::{Form, Packet, reframe, spelled_len_of};
-use opgp_octets::OutOfMemory;
+use opgp_octets::{OutOfMemory, PacketType};
 use std::alloc::Global;
 use std::marker::Model;
 use std::mem;
@@ -80,11 +80,11 @@ impl Member {
         ensures packet { IsPacket self.now }
     {
         match &self.content {
-            Content::Primary(_, _) => 6,
-            Content::Subkey(_, _) => 14,
-            Content::UserId(_, _) => 13,
-            Content::Attribute(_, _) => 17,
-            Content::Signature(_, _) => 2,
+            Content::Primary(_, _) => PacketType::PublicKey.number(),
+            Content::Subkey(_, _) => PacketType::PublicSubkey.number(),
+            Content::UserId(_, _) => PacketType::UserId.number(),
+            Content::Attribute(_, _) => PacketType::UserAttribute.number(),
+            Content::Signature(_, _) => PacketType::Signature.number(),
             Content::Filler(packet) => packet.kind(),
         }
     }
@@ -93,7 +93,10 @@ impl Member {
     pub(crate) fn begins_component(&self) -> bool
         ensures { result ≡ is_head self.now.kind }
     {
-        matches!(self.kind(), 13 | 14 | 17)
+        matches!(
+            self.content,
+            Content::UserId(_, _) | Content::Subkey(_, _) | Content::Attribute(_, _)
+        )
     }
 
     /// The packet's body.
@@ -229,7 +232,7 @@ impl Member {
 pub(crate) fn blank(alloc: Global) -> Packet
     ensures { IsFiller result }
 {
-    match Packet::new(Form::NewOne, 21, Vec::new(alloc)) {
+    match Packet::new(Form::NewOne, PacketType::Padding.number(), Vec::new(alloc)) {
         Some(packet) => packet,
         None => unreachable!(),
     }

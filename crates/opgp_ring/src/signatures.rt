@@ -3,9 +3,10 @@
 ghost use Rattle.std.specs.Prelude.{◌≡◌, ◌∷◌, [], All, IfSome, MatchOption};
 ghost use Rattle.opgp_packet.specs.SigView.{sig_view_octets};
 ghost use Rattle.opgp_ring.specs.Bodies.{HasNoFault};
-ghost use Rattle.opgp_ring.specs.Signed.{bodies_of};
+ghost use Rattle.opgp_ring.specs.Signed.{bodies_of, signature_bodies};
 
 use opgp_frame::Packet;
+use opgp_octets::PacketType;
 use opgp_packet::SigView;
 
 /// The signatures that are left, in order. Takes no memory.
@@ -21,7 +22,7 @@ impl<'a> Signatures<'a> {
     /// Those among packets whose bodies are sound.
     pub(crate) fn new(packets: &'a [Packet]) -> Signatures<'a>
         requires { All HasNoFault packets.now }
-        ensures { signatures_left result ≡ bodies_of 2 packets.now }
+        ensures { signatures_left result ≡ signature_bodies packets.now }
     {
         Signatures { packets }
     }
@@ -32,7 +33,7 @@ impl<'a> Signatures<'a> {
             (λ view. signatures_left self.old
             ≡ sig_view_octets view ∷ signatures_left self.new) }
     {
-        match first_of(self.packets, 2) {
+        match first_of(self.packets, PacketType::Signature.number()) {
             Some((packet, rest)) => {
                 self.packets = rest;
                 match SigView::parse_body(packet.body()) {

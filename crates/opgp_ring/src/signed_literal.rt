@@ -1,15 +1,15 @@
 //! A literal and the signatures of it.
 
 ghost use Rattle.std.specs.Prelude.{◌≡◌, ◌∷◌, [], List, length, All, IfOk};
-ghost use Rattle.opgp_packet.specs.LiteralView.{literal_view_octets};
+ghost use Rattle.opgp_packet.specs.Parsed.{body_octets};
 ghost use Rattle.opgp_ring.specs.Bodies.{HasNoFault};
-ghost use Rattle.opgp_ring.specs.Signed.{IsSigned, bodies_of};
+ghost use Rattle.opgp_ring.specs.Signed.{IsSigned, literal_bodies, signature_bodies};
 
 use crate::copying::copy_all;
 use crate::signatures::{Signatures, first_of};
 use opgp_frame::Packet;
+use opgp_octets::{OutOfMemory, PacketType};
 use opgp_packet::LiteralView;
-use opgp_octets::OutOfMemory;
 use std::alloc::Global;
 
 /// A literal with one-pass signatures before it and as many signatures behind it; fillers may stand
@@ -18,7 +18,7 @@ use std::alloc::Global;
 pub struct SignedLiteral {
     flat: Vec<Packet>,
     ghost sound: { All HasNoFault flat.items },
-    ghost one: { length (bodies_of 11 flat.items) ≡ 1 },
+    ghost one: { length (literal_bodies flat.items) ≡ 1 },
 }
 
 impl SignedLiteral {
@@ -41,9 +41,9 @@ impl SignedLiteral {
 
     /// The literal: the body of the one packet of that type. Takes no memory.
     pub fn literal(&self) -> LiteralView<'_>
-        ensures { bodies_of 11 (signed_packets self.now) ≡ literal_view_octets result ∷ [] }
+        ensures { literal_bodies (signed_packets self.now) ≡ body_octets result ∷ [] }
     {
-        match first_of(&self.flat, 11) {
+        match first_of(&self.flat, PacketType::LiteralData.number()) {
             Some((packet, _)) => match LiteralView::parse_body(packet.body()) {
                 Ok(view) => view,
                 Err(_) => unreachable!(),
@@ -54,7 +54,7 @@ impl SignedLiteral {
 
     /// The signatures behind the literal, in order; fillers are left out. Takes no memory.
     pub fn signatures(&self) -> Signatures<'_>
-        ensures { signatures_left result ≡ bodies_of 2 (signed_packets self.now) }
+        ensures { signatures_left result ≡ signature_bodies (signed_packets self.now) }
     {
         Signatures::new(&self.flat)
     }

@@ -9,8 +9,8 @@ ghost use Rattle.opgp_ring.specs.Sorted.{IsSorted, sorted_packet};
 use crate::content::Content;
 use crate::member::Member;
 use opgp_frame::Packet;
-use opgp_packet::{Attribute, Key, Literal, Signature, UserId};
 use opgp_octets::{BodyFault, PacketType};
+use opgp_packet::{Attribute, Key, Literal, Signature, UserId};
 
 /// A packet by the place that it has in keyrings.
 #[derive(Drop)]

@@ -3,6 +3,6 @@
 
 pub use opgp_packet::{
     AreasSignature, AreasView, FourSignature, FourView, KeyId8, OtherSignature, OtherView, SigView,
-    Signature, SignatureMaterial, SignatureMaterialView, SixSignature, SixView, SubMeaning, SubView,
-    Subs, ThreeSignature, ThreeView,
+    Signature, SignatureMaterial, SignatureMaterialView, SixSignature, SixView, SubMeaning,
+    SubView, Subs, ThreeSignature, ThreeView,
 };

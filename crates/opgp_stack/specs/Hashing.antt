@@ -9,7 +9,7 @@ use Rattle.opgp_hash.specs.Asking.{ask_of}
 use Rattle.opgp_hash.specs.SubjectValue.{binary}
 use Rattle.opgp_packet.specs.LiteralBody.{literal}
 use Rattle.opgp_report.specs.Asked.{Asked}
-use Rattle.opgp_ring.specs.Signed.{bodies_of}
+use Rattle.opgp_ring.specs.Signed.{literal_bodies, signature_bodies}
 use Rattle.opgp_packet.specs.SignatureBody.{SignatureValue, signature_at}
 
 -- the fourth field of a literal is its content (5.9)
@@ -23,7 +23,7 @@ first_content (body ∷ bodies) = content_of (body_at literal body)
 
 -- the content of the literal among packets
 abbrev pub content_in : List PacketValue → List ℕ
-content_in packets = first_content (bodies_of 11 packets)
+content_in packets = first_content (literal_bodies packets)
 
 -- what a signature asks about content
 abbrev pub asked_about : List ℕ → Result SignatureValue BodyFault → Asked
@@ -33,4 +33,4 @@ asked_about content (Err fault) = Err Opaque
 -- what the signatures among packets ask about the literal, in order
 abbrev pub message_asked : List PacketValue → List Asked
 message_asked packets =
-    map (λ body. asked_about (content_in packets) (signature_at body)) (bodies_of 2 packets)
+    map (λ body. asked_about (content_in packets) (signature_at body)) (signature_bodies packets)

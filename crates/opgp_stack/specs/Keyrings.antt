@@ -2,8 +2,7 @@
 use Rattle.std.specs.Prelude.{Bool, true, false, List, Option, Some, None}
 use Rattle.opgp_octets.specs.declared.limits.Limits.{Limits}
 use Rattle.opgp_armor.specs.declared.label.Label.{Label}
-use Rattle.opgp_armor.specs.declared.label.Label.TheVariants.{Message, PublicKeyBlock}
-use Rattle.opgp_armor.specs.declared.label.Label.TheVariants.{PrivateKeyBlock, Signature}
+use Rattle.opgp_armor.specs.declared.label.Label.TheVariants as label
 use Rattle.opgp_ring.specs.Composed.{IsKeyringOf, IsFault}
 use Rattle.opgp_ring.specs.Composition.{Item}
 use Rattle.opgp_ring.specs.Keyring.{KeyringValue}
@@ -14,10 +13,10 @@ use Rattle.opgp_stack.specs.Reading.{Outcome, Whole, Refused}
 -- a block of public keys, or a binary one
 abbrev pub key_label : Option Label → Bool
 key_label None = true
-key_label (Some PublicKeyBlock) = true
-key_label (Some Message) = false
-key_label (Some PrivateKeyBlock) = false
-key_label (Some Signature) = false
+key_label (Some label.PublicKeyBlock) = true
+key_label (Some label.Message) = false
+key_label (Some label.PrivateKeyBlock) = false
+key_label (Some label.Signature) = false
 
 -- the labels and packets are those of the keyring; or this is their fault: that of the first body
 -- that has one, else the first of the order

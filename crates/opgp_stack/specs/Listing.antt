@@ -1,10 +1,11 @@
 -- The lines of a keyring's listing, one for each packet.
-use Rattle.std.specs.Prelude.{ℕ, zero, suc, ◌==◌, if◌then◌else◌, List, [], ◌∷◌, ◌++◌, length, codes}
+use Rattle.std.specs.Prelude.{ℕ, zero, suc, if◌then◌else◌, List, [], ◌∷◌, ◌++◌, length, codes}
 use Rattle.std.specs.Prelude.{Result, Ok, Err}
 use Rattle.std.specs.Fmt.{decimal}
 use Rattle.std.specs.List.{flat_map}
 use Rattle.hex.specs.Hex.{encode_upper}
 use Rattle.opgp_octets.specs.declared.fault.BodyFault.{BodyFault}
+use Rattle.opgp_octets.specs.declared.packet_type.PacketType.TheVariants as packet
 use Rattle.opgp_packet.specs.AreaReading.{subs_in}
 use Rattle.opgp_packet.specs.FieldReading.{body_at}
 use Rattle.opgp_packet.specs.Fields.{Field, small, wide, integer, named, bare, subpackets}
@@ -12,6 +13,7 @@ use Rattle.opgp_frame.specs.Packet.{PacketValue}
 use Rattle.opgp_hash.specs.Fingerprint.{fingerprint_of, print_octets}
 use Rattle.opgp_hash.specs.KeyId.{key_id_of}
 use Rattle.opgp_packet.specs.KeyBody.{key}
+use Rattle.opgp_ring.specs.Keyring.{is_type}
 use Rattle.opgp_packet.specs.SignatureBody.{SignatureValue, of_three, of_four, of_six, of_other}
 use Rattle.opgp_packet.specs.SignatureBody.{signature_at}
 use Rattle.opgp_stream.specs.Texts.{escaped}
@@ -100,11 +102,11 @@ filler_line kind n = codes "pkt " ++ decimal kind ++ codes " " ++ decimal n ++ c
 -- the line of a packet of a keyring, by its type
 abbrev pub packet_line : PacketValue → List ℕ
 packet_line p =
-    if p.kind == 6 then key_line (codes "pub") p.body
-    else (if p.kind == 14 then key_line (codes "sub") p.body
-    else (if p.kind == 13 then user_id_line p.body
-    else (if p.kind == 17 then attribute_line p.body
-    else (if p.kind == 2 then signature_line p.body
+    if is_type packet.PublicKey p.kind then key_line (codes "pub") p.body
+    else (if is_type packet.PublicSubkey p.kind then key_line (codes "sub") p.body
+    else (if is_type packet.UserId p.kind then user_id_line p.body
+    else (if is_type packet.UserAttribute p.kind then attribute_line p.body
+    else (if is_type packet.Signature p.kind then signature_line p.body
     else filler_line p.kind (length p.body)))))
 
 abbrev pub listing : List PacketValue → List ℕ

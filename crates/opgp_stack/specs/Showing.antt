@@ -1,21 +1,22 @@
 -- The lines that show packets: one for each packet, and one for each subpacket of a signature.
-use Rattle.std.specs.Prelude.{ℕ, ◌==◌, if◌then◌else◌, Bool, true, false, List, [], ◌++◌, length}
+use Rattle.std.specs.Prelude.{ℕ, if◌then◌else◌, Bool, true, false, List, [], ◌++◌, length}
 use Rattle.std.specs.Prelude.{codes, Result, Ok, Err}
 use Rattle.std.specs.Fmt.{decimal}
 use Rattle.std.specs.List.{flat_map}
 use Rattle.opgp_octets.specs.declared.fault.BodyFault.{BodyFault}
+use Rattle.opgp_octets.specs.declared.packet_type.PacketType.TheVariants as packet
 use Rattle.opgp_octets.specs.SubLen.{sub_len_amount}
 use Rattle.opgp_octets.specs.SubpacketKind.{subpacket_kind_of}
 use Rattle.opgp_packet.specs.Subpackets.{Sub}
 use Rattle.opgp_frame.specs.declared.form.Form.{Form}
-use Rattle.opgp_frame.specs.declared.form.Form.TheVariants.{OldOne, OldTwo, OldFour, NewOne, NewTwo}
-use Rattle.opgp_frame.specs.declared.form.Form.TheVariants.{NewFive, Partial}
+use Rattle.opgp_frame.specs.declared.form.Form.TheVariants as forms
 use Rattle.opgp_frame.specs.declared.packet.Placed.{Placed}
 use Rattle.opgp_packet.specs.Areas.{hashed_subs, unhashed_subs}
 use Rattle.opgp_packet.specs.Meaning.{Meaning, unfit, unknown}
 use Rattle.opgp_packet.specs.MeaningReading.{meaning_of}
 use Rattle.opgp_packet.specs.SignatureBody.{SignatureValue, signature_at}
 use Rattle.opgp_packet.specs.SubView.{is_critical, kind_shown}
+use Rattle.opgp_ring.specs.Keyring.{is_type}
 use Rattle.opgp_stack.specs.Packets.{BlockValue}
 use Rattle.opgp_stack.specs.declared.showing.Area.{Area}
 use Rattle.opgp_stack.specs.declared.showing.Area.TheVariants.{Hashed, Unhashed}
@@ -23,13 +24,13 @@ use Rattle.opgp_stack.specs.declared.showing.Area.TheVariants.{Hashed, Unhashed}
 -- ---- names
 -- of the forms of a packet's length (RFC 9580, 4.2)
 abbrev pub form_name : Form → List ℕ
-form_name OldOne = codes "old1"
-form_name OldTwo = codes "old2"
-form_name OldFour = codes "old4"
-form_name NewOne = codes "new1"
-form_name NewTwo = codes "new2"
-form_name NewFive = codes "new5"
-form_name (Partial pieces) = codes "part"
+form_name forms.OldOne = codes "old1"
+form_name forms.OldTwo = codes "old2"
+form_name forms.OldFour = codes "old4"
+form_name forms.NewOne = codes "new1"
+form_name forms.NewTwo = codes "new2"
+form_name forms.NewFive = codes "new5"
+form_name (forms.Partial pieces) = codes "part"
 
 -- of the areas of a signature (RFC 9580, 5.2.3)
 abbrev pub area_name : Area → List ℕ
@@ -83,7 +84,7 @@ abbrev pub signature_lines : List ℕ → List ℕ
 signature_lines body = value_lines (signature_at body)
 
 abbrev pub content_lines : ℕ → List ℕ → List ℕ
-content_lines kind body = if kind == 2 then signature_lines body else []
+content_lines kind body = if is_type packet.Signature kind then signature_lines body else []
 
 abbrev pub packet_lines : Placed → List ℕ
 packet_lines p = header_line p ++ content_lines p.packet.kind p.packet.body

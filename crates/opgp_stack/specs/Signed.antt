@@ -1,8 +1,7 @@
 -- The signed literal of an input (RFC 9580, 10.3).
 use Rattle.std.specs.Prelude.{Bool, true, false, List, Option, Some, None}
 use Rattle.opgp_armor.specs.declared.label.Label.{Label}
-use Rattle.opgp_armor.specs.declared.label.Label.TheVariants.{Message, PublicKeyBlock}
-use Rattle.opgp_armor.specs.declared.label.Label.TheVariants.{PrivateKeyBlock, Signature}
+use Rattle.opgp_armor.specs.declared.label.Label.TheVariants as label
 use Rattle.opgp_frame.specs.Packet.{PacketValue}
 use Rattle.opgp_ring.specs.declared.signed_literal.SignedLiteral.{SignedLiteral}
 use Rattle.opgp_ring.specs.Composition.{Item}
@@ -15,10 +14,10 @@ use Rattle.opgp_stack.specs.Reading.{Outcome, Whole, Refused}
 -- a message's block, or a binary one
 abbrev pub message_label : Option Label → Bool
 message_label None = true
-message_label (Some Message) = true
-message_label (Some PublicKeyBlock) = false
-message_label (Some PrivateKeyBlock) = false
-message_label (Some Signature) = false
+message_label (Some label.Message) = true
+message_label (Some label.PublicKeyBlock) = false
+message_label (Some label.PrivateKeyBlock) = false
+message_label (Some label.Signature) = false
 
 -- the labels and packets are those of the signed literal with these packets; or this is their
 -- fault: that of the first body that has one, else the first of the order

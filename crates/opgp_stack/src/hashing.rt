@@ -17,8 +17,8 @@ use crate::running::end;
 use crate::writing::Text;
 use crate::writing_keyring::write;
 use opgp_hash::{Question, Subject, ask_view, write_octets};
-use opgp_ring::SignedLiteral;
 use opgp_packet::SigView;
+use opgp_ring::SignedLiteral;
 use opgp_stream::Sink;
 use std::alloc::Global;
 

@@ -2,8 +2,7 @@
 
 ghost use Rattle.std.specs.Prelude.{◌≡◌, ◌++◌, false, codes, length};
 ghost use Rattle.hex.specs.Hex.{encode_upper};
-ghost use Rattle.opgp_packet.specs.Attribute.{attribute_octets};
-ghost use Rattle.opgp_packet.specs.Key.{key_octets};
+ghost use Rattle.opgp_packet.specs.Parsed.{body_octets};
 ghost use Rattle.opgp_ring.specs.Packets.{IsLent, packets_left, part_packet};
 ghost use Rattle.opgp_packet.specs.Signature.{signature_octets};
 ghost use Rattle.opgp_stack.specs.Listing.{attribute_line, filler_line, key_line, listing};
@@ -81,9 +80,9 @@ fn add_id<W: Sink>(output: &mut Output<'_, W>, id: &[u8]) -> io::Result<()>
 fn add_key<W: Sink>(output: &mut Output<'_, W>, role: Role, key: &Key) -> io::Result<()>
     requires { W.has_failed (sink_of output.old) ≡ false }
     ensures { Extends W.held W.has_failed output.old output.new result
-        (key_line (role_name role) (key_octets key.now)) }
+        (key_line (role_name role) (body_octets key.now)) }
 {
-    opgp_packet::key_laws::written_key();
+    opgp_packet::key_laws::written(key);
     let print = fingerprint(key);
     let KeyId(id) = print.key_id();
     add_role(output, role)?;
@@ -107,7 +106,7 @@ fn add_user_id<W: Sink>(output: &mut Output<'_, W>, octets: &[u8]) -> io::Result
 fn add_attribute<W: Sink>(output: &mut Output<'_, W>, attribute: &Attribute) -> io::Result<()>
     requires { W.has_failed (sink_of output.old) ≡ false }
     ensures { Extends W.held W.has_failed output.old output.new result
-        (attribute_line (attribute_octets attribute.now)) }
+        (attribute_line (body_octets attribute.now)) }
 {
     let count = attribute.subpackets().count() as u64;
     output.add_words(&[Word::Text(b"uat "), Word::Decimal(count), Word::Text(b"\n")])

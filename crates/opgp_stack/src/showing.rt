@@ -12,8 +12,9 @@ ghost use Rattle.opgp_stack.specs.Showing.{shown, shown_blocks, signature_lines,
 ghost use Rattle.opgp_stream.specs.Output.{Extends, sink_of};
 
 use opgp_frame::{Form, Placed};
-use opgp_ring::BlockOf;
+use opgp_octets::PacketType;
 use opgp_packet::{SigView, SubMeaning, SubView, Subs};
+use opgp_ring::BlockOf;
 use opgp_stream::{Output, Sink, Word};
 use std::io;
 
@@ -165,7 +166,7 @@ fn add_content<W: Sink>(output: &mut Output<'_, W>, kind: u8, body: &[u8]) -> io
     ensures { Extends W.held W.has_failed output.old output.new result
         (content_lines kind body.now) }
 {
-    if kind == 2 {
+    if kind == PacketType::Signature.number() {
         return add_signature(output, body);
     }
     Ok(())

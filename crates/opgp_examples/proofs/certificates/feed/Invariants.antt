@@ -1,5 +1,5 @@
 use Rattle.std.proofs.Common.{length, ◌-◌, ◌+◌, ◌<◌, ◌≤◌, ◌^◌}
-use Rattle.opgp_frame.specs.Fed.{count_of}
+use Rattle.opgp.specs.Frame.Fed.{count_of}
 use Rattle.opgp_examples.specs.Feeding.{IsComposing, IsReading}
 use Rattle.opgp_examples.proofs.certificates.feed.Given as goal
 

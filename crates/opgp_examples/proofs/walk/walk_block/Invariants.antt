@@ -1,5 +1,5 @@
 use Rattle.std.proofs.Common.{◌-◌, ◌≡◌, ◌≤◌, false, length}
-use Rattle.opgp_frame.specs.Fed.{count_of, is_ready}
+use Rattle.opgp.specs.Frame.Fed.{count_of, is_ready}
 use Rattle.opgp_examples.proofs.walk.walk_block.Given as goal
 
 -- what the reader was given, it has handed out

@@ -1,7 +1,7 @@
 use Rattle.std.proofs.Common.{◌≡◌, false, take}
 use Rattle.std.specs.List.{list_any}
 use Rattle.std.specs.Str.{bytes_eq}
-use Rattle.opgp_hash.specs.Digest.{digest_octets}
+use Rattle.opgp.specs.Hash.Digest.{digest_octets}
 use Rattle.opgp_examples.proofs.verifying.TableVerifier.verify.Given as goal
 
 -- none of the digests so far is that of the job

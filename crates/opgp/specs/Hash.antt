@@ -1,0 +1,25 @@
+-- The definitions of `opgp_hash`, and its types as they are declared.
+pub use Rattle.opgp_hash.specs.declared
+pub use Rattle.opgp_hash.specs.Asking
+pub use Rattle.opgp_hash.specs.CertificateHasher
+pub use Rattle.opgp_hash.specs.Digest
+pub use Rattle.opgp_hash.specs.Fingerprint
+pub use Rattle.opgp_hash.specs.Hashed
+pub use Rattle.opgp_hash.specs.Hasher
+pub use Rattle.opgp_hash.specs.HoldsProps
+pub use Rattle.opgp_hash.specs.Kept
+pub use Rattle.opgp_hash.specs.KeyId
+pub use Rattle.opgp_hash.specs.Opened
+pub use Rattle.opgp_hash.specs.PacketBody
+pub use Rattle.opgp_hash.specs.Part
+pub use Rattle.opgp_hash.specs.Parts
+pub use Rattle.opgp_hash.specs.Question
+pub use Rattle.opgp_hash.specs.QuestionValue
+pub use Rattle.opgp_hash.specs.Reading
+pub use Rattle.opgp_hash.specs.Reopening
+pub use Rattle.opgp_hash.specs.Signed
+pub use Rattle.opgp_hash.specs.SignedValue
+pub use Rattle.opgp_hash.specs.Site
+pub use Rattle.opgp_hash.specs.Subject
+pub use Rattle.opgp_hash.specs.SubjectValue
+pub use Rattle.opgp_hash.specs.Why

@@ -1,0 +1,10 @@
+pub mod Armor
+pub mod Frame
+pub mod Hash
+pub mod Merge
+pub mod Octets
+pub mod Packet
+pub mod Report
+pub mod Ring
+pub mod Stack
+pub mod Stream

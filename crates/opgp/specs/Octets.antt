@@ -1,0 +1,19 @@
+-- The definitions of `opgp_octets`, and its types as they are declared.
+pub use Rattle.opgp_octets.specs.declared
+pub use Rattle.opgp_octets.specs.Fault
+pub use Rattle.opgp_octets.specs.HashAlgorithm
+pub use Rattle.opgp_octets.specs.KeyAlgorithm
+pub use Rattle.opgp_octets.specs.Limits
+pub use Rattle.opgp_octets.specs.Mpi
+pub use Rattle.opgp_octets.specs.MpiOwned
+pub use Rattle.opgp_octets.specs.MpiView
+pub use Rattle.opgp_octets.specs.Octets
+pub use Rattle.opgp_octets.specs.PacketLen
+pub use Rattle.opgp_octets.specs.PacketType
+pub use Rattle.opgp_octets.specs.ParseFault
+pub use Rattle.opgp_octets.specs.Ranges
+pub use Rattle.opgp_octets.specs.Reading
+pub use Rattle.opgp_octets.specs.Refusal
+pub use Rattle.opgp_octets.specs.SignatureType
+pub use Rattle.opgp_octets.specs.SubLen
+pub use Rattle.opgp_octets.specs.SubpacketKind

@@ -1,0 +1,22 @@
+-- The definitions of `opgp_ring`, and its types as they are declared.
+pub use Rattle.opgp_ring.specs.declared
+pub use Rattle.opgp_ring.specs.Block
+pub use Rattle.opgp_ring.specs.Bodies
+pub use Rattle.opgp_ring.specs.Composed
+pub use Rattle.opgp_ring.specs.Composition
+pub use Rattle.opgp_ring.specs.Fed
+pub use Rattle.opgp_ring.specs.Gathering
+pub use Rattle.opgp_ring.specs.Keyring
+pub use Rattle.opgp_ring.specs.Member
+pub use Rattle.opgp_ring.specs.Sorted
+pub use Rattle.opgp_ring.specs.State
+pub use Rattle.opgp_ring.specs.Taken
+pub use Rattle.opgp_ring.specs.Joining
+pub use Rattle.opgp_ring.specs.Lent
+pub use Rattle.opgp_ring.specs.Normal
+pub use Rattle.opgp_ring.specs.Packets
+pub use Rattle.opgp_ring.specs.Shape
+pub use Rattle.opgp_ring.specs.Signed
+pub use Rattle.opgp_ring.specs.SignedGathering
+pub use Rattle.opgp_ring.specs.SignedLiteral
+pub use Rattle.opgp_ring.specs.SignedState

@@ -1,0 +1,90 @@
+//! OpenPGP certificates and keyrings (RFC 9580), read, shown, checked and rewritten: all crates
+//! under one name.
+//!
+//! [`stack::read_keyring`] reads a keyring, [`ring`] has its certificates and their parts,
+//! [`report::check`] what can be said of each signature, and [`stack::write_keyring`] writes it.
+//! Each `laws` has facts about the definitions, for proofs.
+#![tactic(auto)]
+
+/// ASCII armor (RFC 9580, 6).
+pub mod armor {
+    pub use opgp_armor::{ArmorEvent, Block, Dearmor, Label, armor, dearmor, encode_row, laws};
+}
+
+/// Packets and their framing (RFC 9580, 4).
+pub mod frame {
+    pub use opgp_frame::{
+        Deframe, Form, HeaderOctets, LastForm, Packet, Pieces, Placed, Spelling, laws, reframe,
+        spelled_len_of, write_packet, write_parts,
+    };
+}
+
+/// Fingerprints, and what a signature hashes (RFC 9580, 5.2.4, 5.5.4).
+pub mod hash {
+    pub use opgp_hash::{
+        CertificateHasher, Digest, Fingerprint, KeyId, Question, Site, Subject, Why, ask, ask_at,
+        ask_view, body_fault, digest, fingerprint, fingerprint_of_view, key_id, laws, reopen,
+        write_octets,
+    };
+}
+
+/// Keyrings merged: one certificate for each primary key.
+pub mod merge {
+    pub use opgp_merge::merge;
+}
+
+/// Limits, faults, lengths, and registered numbers with their names (RFC 9580, 3, 9).
+pub mod octets {
+    pub use opgp_octets::{
+        BodyFault, Fault, HashAlgorithm, KeyAlgorithm, Layer, Limits, Mpi, MpiFault, MpiView,
+        OutOfMemory, PacketLen, PacketType, ParseFault, PushFault, Reason, SignatureType, SubLen,
+        SubpacketKind, fault_line, laws, read_len, read_sub_len, shortest, u16_at, u32_at,
+        write_digits, write_hexadecimal, write_len, write_sub_len,
+    };
+}
+
+/// Bodies of keys, user IDs, attributes, literals and signatures (RFC 9580, 5).
+pub mod packet {
+    pub use opgp_packet::{
+        AreaLength, AreaPlaces, AreasSignature, AreasView, Attribute, AttributeSub, AttributeView,
+        Body, Cursor, FourSignature, FourView, Key, KeyId8, KeyView, Literal, LiteralView,
+        Material, MaterialView, MpiSpan, Octets, OtherSignature, OtherView, Parsed, SigView,
+        Signature, SignatureMaterial, SignatureMaterialView, SixSignature, SixView, Span,
+        SubMeaning, SubView, Subpacket, Subs, ThreePlaces, ThreeSignature, ThreeView, UserId, Walk,
+        fault_in_area, field_laws, key_laws, signature_laws,
+    };
+}
+
+/// What can be said of each signature of a keyring.
+pub mod report {
+    pub use opgp_report::{
+        Finding, Job, LeftOctets, Names, Place, Report, Row, Verdict, Verifier, check, laws,
+        question_at, signer,
+    };
+}
+
+/// Keyrings, certificates and signed literals (RFC 9580, 10).
+pub mod ring {
+    pub use opgp_ring::{
+        BlockOf, Certificate, Component, Composed, Composer, Content, Gathering, Hang, Head,
+        Keyring, Member, Packets, Part, Ready, Signatures, SignedGathering, SignedLiteral,
+        check_bodies, compose, compose_signed, end_fits, flatten, join, laws, normalise, nth,
+    };
+}
+
+/// Keyrings read from a reader and written to a writer, and the commands of the program.
+pub mod stack {
+    pub use opgp_stack::{
+        Action, Answer, EngineError, Mode, Out, PacketsAnswer, Pipeline, Receiver, RunFault,
+        SignedAnswer, Sink, Source, Task, Top, Watched, laws, read_keyring, read_packets,
+        read_signed, read_with, run, run_last, write_certificate, write_certificates,
+        write_keyring, write_listing, write_report, write_shown,
+    };
+}
+
+/// Lines, octets and armor through one buffer into a writer.
+pub mod stream {
+    pub use opgp_stream::{
+        Armoring, Buffer, Output, Sink, Source, Watched, Word, laws, put_all, put_block,
+    };
+}

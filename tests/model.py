@@ -1,9 +1,11 @@
-"""What list, show, check and octets answer to an input, written from docs/FORMAT.md and RFC 9580 alone and as plainly as it goes: an
-answer to hold the program's against."""
+"""What list, show, check and octets answer to an input, written from docs/FORMAT.md, tests/vectors and RFC 9580 alone and as plainly as it
+goes: an answer to hold the program's against."""
 
 import base64
 import collections
 import hashlib
+import os
+import re
 
 ALPHABET = b"ABCDEFGHIJKLMNOPQRSTUVWXYZabcdefghijklmnopqrstuvwxyz0123456789+/"
 LABELS = (b"MESSAGE", b"PUBLIC KEY BLOCK", b"PRIVATE KEY BLOCK", b"SIGNATURE")
@@ -377,28 +379,35 @@ def signature_fits(octets):
     return True
 
 
+def kinds():
+    """The form of each kind, as tests/vectors/subpackets.txt has it."""
+    with open(f"{os.path.dirname(os.path.realpath(__file__))}/vectors/subpackets.txt", encoding="ascii") as it:
+        rows = [re.split("  +", line.strip()) for line in it if line[0].isdigit()]
+    return {int(kind): row[1] for row in rows if len(row) == 2 for kind in row[0].split()}
+
+
+FORMS = {
+    "number": lambda it: len(it) == 4,
+    "octet": lambda it: len(it) == 1,
+    "two octets": lambda it: len(it) == 2,
+    "ended text": lambda it: it[-1:] == b"\0",
+    "octets": lambda it: True,
+    "revoker": lambda it: len(it) == 22,
+    "key ID": lambda it: len(it) == 8,
+    "notation": lambda it: len(it) >= 8 and len(it) == 8 + number(it[4:6]) + number(it[6:8]),
+    "code and text": lambda it: len(it) >= 1,
+    "target": lambda it: len(it) >= 2,
+    "signature": signature_fits,
+    "fingerprint": lambda it: (it[:1], len(it)) in ((b"\4", 21), (b"\6", 33)),
+    "pairs": lambda it: len(it) % 2 == 0,
+}
+KINDS = kinds()
+
+
 def meaning(kind, octets):
-    n = len(octets)
-    exact = {2: 4, 3: 4, 9: 4, 4: 1, 7: 1, 25: 1, 5: 2, 12: 22, 16: 8}
-    if kind in exact:
-        fits = n == exact[kind]
-    elif kind in (11, 21, 22, 23, 24, 26, 27, 28, 30):
-        fits = True
-    elif kind == 6:
-        fits = octets[-1:] == b"\0"
-    elif kind == 20:
-        fits = n >= 8 and n == 8 + number(octets[4:6]) + number(octets[6:8])
-    elif kind in (29, 31):
-        fits = n >= (1 if kind == 29 else 2)
-    elif kind == 32:
-        fits = signature_fits(octets)
-    elif kind in (33, 35):
-        fits = (octets[:1], n) in ((b"\4", 21), (b"\6", 33))
-    elif kind == 39:
-        fits = n % 2 == 0
-    else:
+    if kind not in KINDS:
         return "unknown"
-    return "typed" if fits else "unfit"
+    return "typed" if FORMS[KINDS[kind]](octets) else "unfit"
 
 
 # Keyrings.

@@ -10,7 +10,6 @@ pub use Rattle.opgp_hash.specs.HoldsProps
 pub use Rattle.opgp_hash.specs.Kept
 pub use Rattle.opgp_hash.specs.KeyId
 pub use Rattle.opgp_hash.specs.Opened
-pub use Rattle.opgp_hash.specs.PacketBody
 pub use Rattle.opgp_hash.specs.Part
 pub use Rattle.opgp_hash.specs.Parts
 pub use Rattle.opgp_hash.specs.Question

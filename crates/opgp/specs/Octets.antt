@@ -14,6 +14,7 @@ pub use Rattle.opgp_octets.specs.ParseFault
 pub use Rattle.opgp_octets.specs.Ranges
 pub use Rattle.opgp_octets.specs.Reading
 pub use Rattle.opgp_octets.specs.Refusal
+pub use Rattle.opgp_octets.specs.Rows
 pub use Rattle.opgp_octets.specs.SignatureType
 pub use Rattle.opgp_octets.specs.SubLen
 pub use Rattle.opgp_octets.specs.SubpacketKind

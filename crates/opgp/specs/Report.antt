@@ -12,3 +12,4 @@ pub use Rattle.opgp_report.specs.Signer
 pub use Rattle.opgp_report.specs.Signers
 pub use Rattle.opgp_report.specs.Standing
 pub use Rattle.opgp_report.specs.Told
+pub use Rattle.opgp_report.specs.Visitor

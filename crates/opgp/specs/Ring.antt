@@ -4,6 +4,7 @@ pub use Rattle.opgp_ring.specs.Block
 pub use Rattle.opgp_ring.specs.Bodies
 pub use Rattle.opgp_ring.specs.Composed
 pub use Rattle.opgp_ring.specs.Composition
+pub use Rattle.opgp_ring.specs.Content
 pub use Rattle.opgp_ring.specs.Fed
 pub use Rattle.opgp_ring.specs.Gathering
 pub use Rattle.opgp_ring.specs.Keyring
@@ -14,6 +15,7 @@ pub use Rattle.opgp_ring.specs.Taken
 pub use Rattle.opgp_ring.specs.Joining
 pub use Rattle.opgp_ring.specs.Lent
 pub use Rattle.opgp_ring.specs.Normal
+pub use Rattle.opgp_ring.specs.PacketBody
 pub use Rattle.opgp_ring.specs.Packets
 pub use Rattle.opgp_ring.specs.Shape
 pub use Rattle.opgp_ring.specs.Signed

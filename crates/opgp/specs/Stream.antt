@@ -2,7 +2,6 @@
 pub use Rattle.opgp_stream.specs.declared
 pub use Rattle.opgp_stream.specs.Added
 pub use Rattle.opgp_stream.specs.Armoring
-pub use Rattle.opgp_stream.specs.Block
 pub use Rattle.opgp_stream.specs.Line
 pub use Rattle.opgp_stream.specs.Output
 pub use Rattle.opgp_stream.specs.Place

@@ -23,8 +23,7 @@ pub mod frame {
 pub mod hash {
     pub use opgp_hash::{
         CertificateHasher, Digest, Fingerprint, KeyId, Question, Site, Subject, Why, ask, ask_at,
-        ask_view, body_fault, digest, fingerprint, fingerprint_of_view, key_id, laws, reopen,
-        write_octets,
+        ask_view, digest, fingerprint, fingerprint_of_view, key_id, laws, reopen, write_octets,
     };
 }
 
@@ -37,8 +36,8 @@ pub mod merge {
 pub mod octets {
     pub use opgp_octets::{
         BodyFault, Fault, HashAlgorithm, KeyAlgorithm, Layer, Limits, Mpi, MpiFault, MpiView,
-        OutOfMemory, PacketLen, PacketType, ParseFault, PushFault, Reason, SignatureType, SubLen,
-        SubpacketKind, fault_line, laws, read_len, read_sub_len, shortest, u16_at, u32_at,
+        OutOfMemory, PacketLen, PacketType, ParseFault, PushFault, Range, Reason, SignatureType,
+        SubLen, SubpacketKind, fault_line, laws, read_len, read_sub_len, shortest, u16_at, u32_at,
         write_digits, write_hexadecimal, write_len, write_sub_len,
     };
 }
@@ -66,25 +65,23 @@ pub mod report {
 /// Keyrings, certificates and signed literals (RFC 9580, 10).
 pub mod ring {
     pub use opgp_ring::{
-        BlockOf, Certificate, Component, Composed, Composer, Content, Gathering, Hang, Head,
-        Keyring, Member, Packets, Part, Ready, Signatures, SignedGathering, SignedLiteral,
-        check_bodies, compose, compose_signed, end_fits, flatten, join, laws, normalise, nth,
+        BlockOf, Certificate, Component, Composer, Content, Gathering, Head, Keyring, Member,
+        Packets, Part, Ready, Signatures, SignedGathering, SignedLiteral, body_fault, check_bodies,
+        compose, compose_signed, end_fits, flatten, join, laws, normalise, nth,
     };
 }
 
 /// Keyrings read from a reader and written to a writer, and the commands of the program.
 pub mod stack {
     pub use opgp_stack::{
-        Action, Answer, EngineError, Mode, Out, PacketsAnswer, Pipeline, Receiver, RunFault,
-        SignedAnswer, Sink, Source, Task, Top, Watched, laws, read_keyring, read_packets,
-        read_signed, read_with, run, run_last, write_certificate, write_certificates,
-        write_keyring, write_listing, write_report, write_shown,
+        Action, Answer, EngineError, Mode, Out, Pipeline, ReadError, Receiver, RunFault, Sink,
+        Source, Task, Top, Watched, laws, read_keyring, read_packets, read_signed, read_with, run,
+        run_last, write_certificate, write_certificates, write_keyring, write_listing,
+        write_report, write_shown,
     };
 }
 
 /// Lines, octets and armor through one buffer into a writer.
 pub mod stream {
-    pub use opgp_stream::{
-        Armoring, Buffer, Output, Sink, Source, Watched, Word, laws, put_all, put_block,
-    };
+    pub use opgp_stream::{Armoring, Buffer, Output, Sink, Source, Watched, Word, laws, put_all};
 }

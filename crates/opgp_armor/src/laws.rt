@@ -28,6 +28,7 @@ pub fn one_fault()
 {}
 
 /// An armored text has no fault.
+#[tactic(auto, using(crate::proofs::Wholes::no_whole_fault))]
 pub fn no_fault()
     ensures { (limit : ℕ) (text : List ℕ) (blocks : List Block) (f : Fault) → IsOctets text
         → Armored limit text blocks → ¬ IsArmorFault limit text f }
@@ -54,6 +55,7 @@ pub fn a_block_has_no_more_octets_than_the_text()
 
 /// However a text is cut into pieces, what was taken and what is ready are the events of the
 /// longest list of first ended lines with which an armored text begins.
+#[tactic(auto, using(crate::proofs::Pushing::shown))]
 pub fn events_are_those_of_the_longest_opening()
     ensures { (d : Dearmor) (given : List ℕ) (taken : List Event) → Fed d given taken
         → Shown (line_limit_of d) (lines_ended (has_ended d) given) (events_so_far d taken) }
@@ -67,12 +69,14 @@ pub fn one_list_of_events()
 
 /// What was taken and what is ready come in the order of blocks: a begin line, its headers, its
 /// octets, its end line.
+#[tactic(auto, using(crate::proofs::Order::in_order))]
 pub fn events_are_in_order()
     ensures { (d : Dearmor) (given : List ℕ) (taken : List Event) → Fed d given taken
         → AreInOrder false (events_so_far d taken) }
 {}
 
 /// What was taken and what is ready has no more octets than were given.
+#[tactic(auto, using(crate::proofs::Sizes::fed_all))]
 pub fn events_have_no_more_octets_than_given()
     ensures { (d : Dearmor) (given : List ℕ) (taken : List Event) → Fed d given taken
         → event_octets (events_so_far d taken) ≤ length given }
@@ -80,6 +84,7 @@ pub fn events_have_no_more_octets_than_given()
 
 /// The octets of the open block, and of the events behind those that built it, are no more than the
 /// octets given.
+#[tactic(auto, using(crate::proofs::Sizes::fed_few))]
 pub fn no_more_octets_than_given()
     ensures { (d : Dearmor) (given : List ℕ) (taken more : List Event) → Fed d given (taken ++ more)
         → length (built taken).octets + event_octets more ≤ length given }
@@ -87,18 +92,21 @@ pub fn no_more_octets_than_given()
 
 /// The octets of the blocks that events build, the open one among them, are no more than those of
 /// the events.
+#[tactic(auto, using(crate::proofs::Sizes::blocks_few))]
 pub fn blocks_have_no_more_octets_than_events()
     ensures { (events : List Event) → sum_by (λ b. length b.octets) (built events).blocks
         + length (built events).octets ≤ event_octets events }
 {}
 
 /// Each finished block takes an octet at least.
+#[tactic(auto, using(crate::proofs::Sizes::fed_blocks))]
 pub fn no_more_blocks_than_octets()
     ensures { (d : Dearmor) (given : List ℕ) (taken : List Event) → Fed d given taken
         → length (built taken).blocks ≤ length given }
 {}
 
 /// The fault that a reader keeps is that of the octets given, whatever follows them.
+#[tactic(auto, using(crate::proofs::Lasting::a_fault_stays))]
 pub fn a_fault_stays()
     ensures { (d : Dearmor) (given more : List ℕ) (taken : List Event) (f : Fault) → IsOctets more
         → has_ended d ≡ false → Fed d given taken → fault_of d ≡ Some f
@@ -114,11 +122,13 @@ pub fn written_armor_is_read_again()
 {}
 
 /// No octets have no data lines.
+#[tactic(auto, using(crate::proofs::JoinedRows::no_lines))]
 pub fn no_octets_have_no_data_lines()
     ensures { data_lines [] ≡ [] }
 {}
 
 /// A row of at most 48 octets has one data line: its letters and a line feed.
+#[tactic(auto, using(crate::proofs::JoinedRows::one_line))]
 pub fn a_row_has_one_data_line()
     ensures { (row : List ℕ) → 0 < length row → length row ≤ 48
         → data_lines row ≡ base64_of row ++ 10 ∷ [] }
@@ -126,6 +136,7 @@ pub fn a_row_has_one_data_line()
 
 /// The data lines of whole rows of 48 octets, and then those of the octets behind them, are the
 /// data lines of all these octets.
+#[tactic(auto, using(crate::proofs::JoinedRows::rows_join))]
 pub fn data_lines_of_whole_rows_join()
     ensures { (rows more : List ℕ) → length rows % 48 ≡ 0
         → data_lines (rows ++ more) ≡ data_lines rows ++ data_lines more }

@@ -156,7 +156,7 @@ fn show_certificate(rt: &(impl Print + AllocGlobal), certificate: &Certificate) 
     let print = fingerprint(certificate.key());
     print!(rt; "{print}")?;
     for component in certificate.components() {
-        if let Head::UserId(_, id) = component.head().head() {
+        if let Head::UserId(id) = component.head().head() {
             let text = String::from_utf8_lossy(rt.alloc(), id.octets())?;
             let text = text.as_str();
             print!(rt; " {text:?}")?;

@@ -83,7 +83,7 @@ packet_whole limits header l from until ks body rest form at full octets is =
         packet = record {
           kind = header_read_kind header at.begun.octet at.begun.read;
           takes = is.takes;
-          spells = record { stand = is.stand; pieces = omega (arith, sums, at.begins, at.least); rest = subst LengthFits (sym last) at.fits; most = omega (arith, room, full, at.begins, at.ends, limits.allowed.body_most) };
+          spells = record { stand = is.stand; pieces = omega (arith, sums, at.begins, at.least); rest = subst LengthFits (sym last) at.fits; most = omega (arith, room, full, at.begins, at.ends, limits.allowed.body_in.1) };
           octets = octets;
         };
         body = omega (arith, room, full, at.begins, at.ends);

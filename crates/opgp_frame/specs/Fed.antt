@@ -1,6 +1,6 @@
 -- What a reader of packets has been given, and what was taken from it.
 use Rattle.std.specs.Prelude.{◌≡◌, ℕ, ◌<◌, Bool, true, false, List, [], ◌++◌, length, take, Option}
-use Rattle.std.specs.Prelude.{Some, None, is_some, option_to_list, IsSome}
+use Rattle.std.specs.Prelude.{Some, None, is_some, option_to_list, IsSome, ◌+◌, ◌≤◌, take, Result, Ok, IfOk, OnOk, OnErr}
 use Rattle.opgp_octets.specs.declared.limits.Limits.{Limits}
 use Rattle.opgp_octets.specs.declared.fault.Fault.{Fault}
 use Rattle.opgp_octets.specs.declared.fault.Layer.TheVariants.{Framing}
@@ -89,3 +89,17 @@ abbrev pub KeepsFed : Deframe → Deframe → List ℕ → List Placed → Type 
 KeepsFed old new octets packets =
     (limits : Limits) (block : ℕ) (given : List ℕ) (taken : List Placed)
     → Fed limits block old given taken → Fed limits block new (given ++ octets) (taken ++ packets)
+
+-- The first octets of a piece are taken, up to the one that makes a packet ready, or all of it.
+-- After a fault all are taken, and nothing becomes ready.
+pub record Takes {E : Type 0} (old new : Deframe) (piece : List ℕ) (result : Result ℕ E) : Type 0 where
+  pub fed : IfOk result (λ n. KeepsFed old new (take n piece) [])
+  pub within : IfOk result (λ n. n ≤ length piece)
+  pub moves : IfOk result (λ n. 0 < length piece → 0 < n)
+  pub stops : IfOk result (λ n. n < length piece → is_ready new ≡ true)
+  pub count : IfOk result (λ n. count_of new ≡ count_of old + n)
+  pub faulty : (fault : Fault) → fault_of old ≡ Some fault
+      → (result ≡ Ok (length piece)) × (fault_of new ≡ Some fault) × (is_ready new ≡ false)
+  pub sound : OnOk result (is_spent new ≡ false)
+  pub free : OnErr result (is_ready new ≡ false)
+  pub limits : limits_of new ≡ limits_of old

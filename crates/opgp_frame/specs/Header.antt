@@ -1,6 +1,13 @@
 -- The octet that begins a packet (RFC 9580, 4.2), and packet types (RFC 9580, 5).
 use Rattle.std.specs.Prelude.{ℕ, ◌-◌, ◌/◌, Bool, ◌&&◌, ◌||◌, not, ◌==◌, nat_lt, nat_le}
 use Rattle.std.specs.Prelude.{if◌then◌else◌}
+use Rattle.opgp_octets.specs.PacketType.{packet_type_number}
+use Rattle.opgp_octets.specs.declared.packet_type.PacketType.{PacketType}
+use Rattle.opgp_octets.specs.declared.packet_type.PacketType.TheVariants as packet
+
+-- a number is that of this type
+abbrev pub is_type : PacketType → ℕ → Bool
+is_type t kind = kind == packet_type_number t
 
 -- critical types that aren't known (RFC 9580, 4.3), and the reserved ones among them
 abbrev pub is_unknown_critical : ℕ → Bool
@@ -10,13 +17,15 @@ is_unknown_critical kind = (kind == 15) || (kind == 16) || (kind == 19) || (kind
 -- packets of the type are read: not the reserved type 0, not compressed data, no critical type that
 -- isn't known
 abbrev pub is_read_kind : ℕ → Bool
-is_read_kind kind = not (kind == 0) && not (kind == 8) && nat_lt kind 64
-    && not (is_unknown_critical kind)
+is_read_kind kind = not (is_type packet.Reserved kind) && not (is_type packet.CompressedData kind)
+    && nat_lt kind 64 && not (is_unknown_critical kind)
 
 -- data packets, whose bodies may come in pieces (RFC 9580, 4.2.1.4): encrypted data, literals,
 -- encrypted and protected data
 abbrev pub is_data_kind : ℕ → Bool
-is_data_kind kind = (kind == 9) || (kind == 11) || (kind == 18)
+is_data_kind kind =
+    (is_type packet.SymmetricallyEncryptedData kind || is_type packet.LiteralData kind)
+    || is_type packet.EncryptedIntegrityProtectedData kind
 
 -- bit 6 is set: the current format
 abbrev pub is_current : ℕ → Bool

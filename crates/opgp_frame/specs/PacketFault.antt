@@ -7,7 +7,8 @@ use Rattle.opgp_octets.specs.Limits.{body_limit, pieces_limit}
 use Rattle.opgp_octets.specs.declared.fault.Reason.{Reason}
 use Rattle.opgp_octets.specs.declared.fault.Reason.TheVariants as reasons
 use Rattle.opgp_frame.specs.declared.length.Length.{Length}
-use Rattle.opgp_frame.specs.Header.{is_current, is_unknown_critical, is_data_kind, kind_in}
+use Rattle.opgp_octets.specs.declared.packet_type.PacketType.TheVariants as packet
+use Rattle.opgp_frame.specs.Header.{is_current, is_unknown_critical, is_data_kind, kind_in, is_type}
 use Rattle.opgp_frame.specs.Length.{LengthBegins, length_amount, is_partial}
 use Rattle.opgp_frame.specs.Packet.{cut_body}
 use Rattle.opgp_frame.specs.PiecesValue.{GoodPieces, pieces_sum}
@@ -15,8 +16,8 @@ use Rattle.opgp_frame.specs.PiecesValue.{GoodPieces, pieces_sum}
 -- why the octet begins no packet, whatever follows: the first that is true
 abbrev pub header_fault : ℕ → Option Reason
 header_fault header = if nat_lt header 128 then Some reasons.NotAPacket else
-    (if kind_in header == 0 then Some reasons.TypeZero else
-    (if kind_in header == 8 then Some reasons.Compressed else
+    (if is_type packet.Reserved (kind_in header) then Some reasons.TypeZero else
+    (if is_type packet.CompressedData (kind_in header) then Some reasons.Compressed else
     (if is_unknown_critical (kind_in header) then Some reasons.UnknownCritical else
     (if not (is_current header) && (header % 4 == 3) then Some reasons.Indeterminate else None))))
 

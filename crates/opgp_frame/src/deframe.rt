@@ -69,7 +69,7 @@ pub struct Deframe {
 
 impl Deframe {
     ghost use Rattle.opgp_frame.specs.Fed.{Fed, KeepsFed, is_spent, fault_of, is_ready, count_of};
-    ghost use Rattle.opgp_frame.specs.Fed.{limits_of, held_of};
+    ghost use Rattle.opgp_frame.specs.Fed.{limits_of, held_of, Takes};
     ghost use Rattle.opgp_frame.specs.Frames.{Frames, IsFramingFault};
     ghost use Rattle.opgp_frame.specs.Length.{LengthFits, is_partial};
     ghost use Rattle.opgp_frame.specs.ReaderState.{IsInLength};
@@ -235,17 +235,7 @@ impl Deframe {
         requires free { is_ready self.old ≡ false }
         requires sound { is_spent self.old ≡ false }
         requires room { count_of self.old + length piece.now < 2 ^ 63 }
-        ensures fed { IfOk result (λ n. KeepsFed self.old self.new (take n piece.now) []) }
-        ensures within { IfOk result (λ n. n ≤ length piece.now) }
-        ensures moves { IfOk result (λ n. 0 < length piece.now → 0 < n) }
-        ensures stops { IfOk result (λ n. n < length piece.now → is_ready self.new ≡ true) }
-        ensures count { IfOk result (λ n. count_of self.new ≡ count_of self.old + n) }
-        ensures faulty { (fault : Fault) → fault_of self.old ≡ Some fault
-            → (result ≡ Ok (length piece.now)) × (fault_of self.new ≡ Some fault)
-            × (is_ready self.new ≡ false) }
-        ensures sound { OnOk result (is_spent self.new ≡ false) }
-        ensures free { OnErr result (is_ready self.new ≡ false) }
-        ensures limits { limits_of self.new ≡ limits_of self.old }
+        ensures { Takes self.old self.new piece.now result }
     {
         // Nearly always a whole packet is there.
         if let State::Between = self.state {
@@ -263,17 +253,7 @@ impl Deframe {
         requires free { is_ready self.old ≡ false }
         requires sound { is_spent self.old ≡ false }
         requires room { count_of self.old + length piece.now < 2 ^ 63 }
-        ensures fed { IfOk result (λ n. KeepsFed self.old self.new (take n piece.now) []) }
-        ensures within { IfOk result (λ n. n ≤ length piece.now) }
-        ensures moves { IfOk result (λ n. 0 < length piece.now → 0 < n) }
-        ensures stops { IfOk result (λ n. n < length piece.now → is_ready self.new ≡ true) }
-        ensures count { IfOk result (λ n. count_of self.new ≡ count_of self.old + n) }
-        ensures faulty { (fault : Fault) → fault_of self.old ≡ Some fault
-            → (result ≡ Ok (length piece.now)) × (fault_of self.new ≡ Some fault)
-            × (is_ready self.new ≡ false) }
-        ensures sound { OnOk result (is_spent self.new ≡ false) }
-        ensures free { OnErr result (is_ready self.new ≡ false) }
-        ensures limits { limits_of self.new ≡ limits_of self.old }
+        ensures { Takes self.old self.new piece.now result }
     {
         let mut at = 0;
         'steps: while at < piece.len() && self.ready.is_none() {

@@ -27,7 +27,9 @@ pub(crate) fn is_read_kind(kind: u8) -> bool
 pub(crate) fn is_data_kind(kind: u8) -> bool
     ensures { result ≡ is_data_kind kind }
 {
-    matches!(kind, 9 | 11 | 18)
+    kind == PacketType::SymmetricallyEncryptedData.number()
+        || kind == PacketType::LiteralData.number()
+        || kind == PacketType::EncryptedIntegrityProtectedData.number()
 }
 
 /// The type that a packet's first octet shows.
@@ -49,8 +51,8 @@ pub(crate) fn header_fault(header: u8) -> Option<Reason>
         return Some(Reason::NotAPacket);
     }
     match kind_in(header) {
-        0 => Some(Reason::TypeZero),
-        8 => Some(Reason::Compressed),
+        kind if kind == PacketType::Reserved.number() => Some(Reason::TypeZero),
+        kind if kind == PacketType::CompressedData.number() => Some(Reason::Compressed),
         kind if is_unknown_critical(kind) => Some(Reason::UnknownCritical),
         _ if header < 192 && header % 4 == 3 => Some(Reason::Indeterminate),
         _ => None,

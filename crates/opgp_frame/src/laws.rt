@@ -102,6 +102,7 @@ pub fn nothing_is_held_after_a_fault()
 
 /// Octets, of which there are some, begin with an allowed packet where they have no fault of a
 /// packet.
+#[tactic(auto, using(crate::proofs::Answered::begins_without_fault))]
 pub fn no_fault_begins_a_packet()
     ensures { (limits : Limits) (header : ℕ) (o : List ℕ) → IsOctets (header ∷ o)
         → ((reason : Reason) (inner : ℕ) → ¬ PacketFault limits (header ∷ o) reason inner)
@@ -109,6 +110,7 @@ pub fn no_fault_begins_a_packet()
 {}
 
 /// Octets with a fault of a packet begin with no allowed packet.
+#[tactic(auto, using(crate::proofs::OneFault::fault_no_packet))]
 pub fn a_fault_begins_no_packet()
     ensures { (limits : Limits) (octets : List ℕ) (reason : Reason) (inner : ℕ)
         → PacketFault limits octets reason inner → ¬ BeginsPacket limits octets }

@@ -2,6 +2,7 @@
 
 ghost use Rattle.std.specs.Prelude.{◌≡◌, ◌↔◌, IsSome, IfSome, IfOk, length};
 ghost use Rattle.opgp_frame.specs.Packet.{PacketValue, IsPacket, spelling};
+ghost use Rattle.opgp_frame.specs.Reframed.{reframed};
 
 use crate::form::Form;
 use crate::header::is_read_kind;
@@ -9,6 +10,7 @@ use crate::writing::size_in;
 use opgp_octets::OutOfMemory;
 use std::alloc::Global;
 use std::marker::Model;
+use std::mem;
 
 /// A packet (RFC 9580, 4): the form of its header, its type and its body. It doesn't contain its
 /// place.
@@ -76,6 +78,16 @@ impl Packet {
     {
         let Packet { form, kind, body } = self;
         (form, kind, body)
+    }
+
+    /// Gives it the current format with its shortest length (RFC 9580, 4.2.1), never partial.
+    ///
+    /// Takes no memory.
+    pub fn reframe(&mut self)
+        ensures { self.new ≡ reframed self.old }
+    {
+        let form = Form::shortest(self.body.len() as u32);
+        drop(mem::replace(&mut self.form, form));
     }
 
     /// An equal packet.

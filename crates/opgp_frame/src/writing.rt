@@ -85,7 +85,7 @@ fn append(mut spelling: Spelling, out: &mut Vec<u8>)
 /// The same packet in the current format with its shortest length (RFC 9580, 4.2.1), never partial.
 ///
 /// Takes no memory.
-pub fn reframe(packet: Packet) -> Packet
+pub fn reframe(mut packet: Packet) -> Packet
     ensures same { (result.kind ≡ packet.kind) × (result.body ≡ packet.body) }
     ensures current { IsCurrent result.form }
     ensures least { (other : PacketValue) → IsPacket other → IsCurrent other.form
@@ -93,10 +93,6 @@ pub fn reframe(packet: Packet) -> Packet
         → length (spelling result) ≤ length (spelling other) }
     ensures exact { result ≡ reframed packet }
 {
-    let (_, kind, body) = packet.into_parts();
-    let form = Form::shortest(body.len() as u32);
-    match Packet::new(form, kind, body) {
-        Some(packet) => packet,
-        None => unreachable!(),
-    }
+    packet.reframe();
+    packet
 }

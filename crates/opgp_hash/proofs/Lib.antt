@@ -1,7 +1,6 @@
 pub mod Again
 pub mod Asks
 pub mod Fields
-pub mod OneBodyFault
 pub mod Questions
 pub mod Sorts
 pub mod Steps

@@ -8,7 +8,6 @@ pub mod HoldsProps
 pub mod Kept
 pub mod KeyId
 pub mod Opened
-pub mod PacketBody
 pub mod Part
 pub mod Parts
 pub mod Question

@@ -1,23 +1,10 @@
-//! What the definitions imply: a packet's body has one fault at most, and hashed octets are those
-//! of one question, which is read again.
+//! What the definitions imply: hashed octets are those of one question, which is read again.
 
 ghost use Rattle.std.specs.Prelude.{◌≡◌, ◌↔◌, ℕ, List, Some};
 ghost use Rattle.opgp_octets.specs.Octets.{IsOctets};
-ghost use Rattle.opgp_octets.specs.declared.fault.BodyFault.{BodyFault};
-ghost use Rattle.opgp_octets.specs.declared.packet_type.PacketType.{PacketType};
 ghost use Rattle.opgp_hash.specs.Hashed.{hashed};
-ghost use Rattle.opgp_hash.specs.PacketBody.{HasBodyFault};
 ghost use Rattle.opgp_hash.specs.QuestionValue.{QuestionValue, IsQuestion};
 ghost use Rattle.opgp_hash.specs.Reopening.{question_at};
-
-/// A packet's body has one fault at most.
-pub fn one_body_fault()
-    ensures { (kind : PacketType) (o : List ℕ) (f g : BodyFault) → IsOctets o
-        → HasBodyFault kind o f → HasBodyFault kind o g → f ≡ g }
-{
-    opgp_packet::field_laws::one_fault();
-    opgp_packet::signature_laws::one_fault();
-}
 
 /// A question is read of octets exactly where they are its hashed octets.
 pub fn questions_are_reopened()

@@ -3,9 +3,11 @@ use Rattle.std.proofs.Common.{◌≡◌, ◌∙◌, ℕ, List, [], sym, ap, subs
 use Rattle.std.specs.List.{flat_map}
 use Rattle.opgp_frame.specs.Packet.{PacketValue}
 use Rattle.opgp_ring.specs.Keyring.{CertificateValue, ComponentValue, KeyringValue}
-use Rattle.opgp_hash.specs.SubjectValue.{SubjectValue}
-use Rattle.opgp_report.specs.Asked.{Asked, hang_asked, hangs_asked, component_asked, components_asked, certificate_asked, asked_of}
-use Rattle.opgp_report.specs.Report.{certificate_keys, keys_in, on_head, on_primary, subkey_bodies}
+use Rattle.opgp_hash.specs.SubjectValue.{SubjectValue, one}
+use Rattle.opgp_report.specs.Asked.{Asked, asked_of}
+use Rattle.opgp_report.specs.Report.{certificate_keys, keys_in, subkey_bodies}
+use Rattle.opgp_report.specs.Standing.{on_head}
+use Rattle.opgp_report.proofs.Asking.{certificate_asked, component_asked, components_asked, hang_asked, hangs_asked, ring_asks}
 use Rattle.opgp_merge.specs.Merged.{firsts, like, merged_of, same_head, same_packet, same_primary, united_certificate, united_component, united_components}
 use Rattle.opgp_merge.proofs.Firsts.{from_filter, from_firsts, has_first, in_filter}
 use Rattle.opgp_merge.proofs.Twice.{decides_head, decides_packet, decides_primary, head_key, packet_key, primary_key}
@@ -65,8 +67,8 @@ components_all primary cs a w =
 abbrev gathered : List CertificateValue → CertificateValue → List ComponentValue
 gathered cs c = flat_map (λ d. d.components) (like same_primary c cs)
 
-pub asked_only : (r : KeyringValue) (a : Asked) → Within (asked_of (merged_of r)) a → Within (asked_of r) a
-asked_only r a w =
+certificates_only : (r : KeyringValue) (a : Asked) → Within (flat_map certificate_asked (merged_of r).certificates) a → Within (flat_map certificate_asked r.certificates) a
+certificates_only r a w =
     let cs : List CertificateValue = r.certificates in
     let at = from_flat certificate_asked (merged_of r).certificates a w in
     let made = from_map (united_certificate cs) (firsts same_primary cs) at.0 at.1 in
@@ -75,28 +77,28 @@ asked_only r a w =
     let hangs : List PacketValue = flat_map (λ d. d.hangs) (like same_primary c cs) in
     let asked : Within (certificate_asked (united_certificate cs c)) a = subst (λ d. Within (certificate_asked d) a) (sym made.2) at.2 in
     ⊎_elim
-    (λ (v : Within (hangs_asked (on_primary body) (firsts same_packet hangs)) a).
-    let hang = from_flat (hang_asked (on_primary body)) hangs a (hangs_only (on_primary body) hangs a v) in
+    (λ (v : Within (hangs_asked (one body) (firsts same_packet hangs)) a).
+    let hang = from_flat (hang_asked (one body)) hangs a (hangs_only (one body) hangs a v) in
     let member = from_flat (λ d. d.hangs) (like same_primary c cs) hang.0 hang.1 in
     let found = from_filter (same_primary c) member.0 cs member.1 in
     let own = (decides_primary c member.0).0 found.1 in
     in_flat certificate_asked cs member.0 a found.0
-    (in_append_left (hangs_asked (on_primary member.0.primary.body) member.0.hangs) (components_asked member.0.primary.body member.0.components) a
-    (in_flat (hang_asked (on_primary member.0.primary.body)) member.0.hangs hang.0 a member.2
-    (subst (λ b. Within (hang_asked (on_primary b) hang.0) a) own hang.2))))
+    (in_append_left (hangs_asked (one member.0.primary.body) member.0.hangs) (components_asked member.0.primary.body member.0.components) a
+    (in_flat (hang_asked (one member.0.primary.body)) member.0.hangs hang.0 a member.2
+    (subst (λ b. Within (hang_asked (one b) hang.0) a) own hang.2))))
     (λ (v : Within (components_asked body (united_components (gathered cs c))) a).
     let part = from_flat (component_asked body) (gathered cs c) a (components_only body (gathered cs c) a v) in
     let member = from_flat (λ d. d.components) (like same_primary c cs) part.0 part.1 in
     let found = from_filter (same_primary c) member.0 cs member.1 in
     let own = (decides_primary c member.0).0 found.1 in
     in_flat certificate_asked cs member.0 a found.0
-    (in_append_right (hangs_asked (on_primary member.0.primary.body) member.0.hangs) (components_asked member.0.primary.body member.0.components) a
+    (in_append_right (hangs_asked (one member.0.primary.body) member.0.hangs) (components_asked member.0.primary.body member.0.components) a
     (in_flat (component_asked member.0.primary.body) member.0.components part.0 a member.2
     (subst (λ b. Within (component_asked b part.0) a) own part.2))))
-    (from_append (hangs_asked (on_primary body) (firsts same_packet hangs)) (components_asked body (united_components (gathered cs c))) a asked)
+    (from_append (hangs_asked (one body) (firsts same_packet hangs)) (components_asked body (united_components (gathered cs c))) a asked)
 
-pub asked_all : (r : KeyringValue) (a : Asked) → Within (asked_of r) a → Within (asked_of (merged_of r)) a
-asked_all r a w =
+certificates_all : (r : KeyringValue) (a : Asked) → Within (flat_map certificate_asked r.certificates) a → Within (flat_map certificate_asked (merged_of r).certificates) a
+certificates_all r a w =
     let cs : List CertificateValue = r.certificates in
     let at = from_flat certificate_asked cs a w in
     let d : CertificateValue = at.0 in
@@ -109,20 +111,26 @@ asked_all r a w =
     in_flat certificate_asked (merged_of r).certificates (united_certificate cs c) a
     (in_map (united_certificate cs) (firsts same_primary cs) c first.1)
     (⊎_elim
-    (λ (v : Within (hangs_asked (on_primary d.primary.body) d.hangs) a).
-    let hang = from_flat (hang_asked (on_primary d.primary.body)) d.hangs a v in
-    in_append_left (hangs_asked (on_primary body) (firsts same_packet hangs)) (components_asked body (united_components (gathered cs c))) a
-    (hangs_all (on_primary body) hangs hang.0 a
+    (λ (v : Within (hangs_asked (one d.primary.body) d.hangs) a).
+    let hang = from_flat (hang_asked (one d.primary.body)) d.hangs a v in
+    in_append_left (hangs_asked (one body) (firsts same_packet hangs)) (components_asked body (united_components (gathered cs c))) a
+    (hangs_all (one body) hangs hang.0 a
     (in_flat (λ e. e.hangs) (like same_primary c cs) d hang.0 member hang.1)
-    (subst (λ b. Within (hang_asked (on_primary b) hang.0) a) (sym own) hang.2)))
+    (subst (λ b. Within (hang_asked (one b) hang.0) a) (sym own) hang.2)))
     (λ (v : Within (components_asked d.primary.body d.components) a).
     let part = from_flat (component_asked d.primary.body) d.components a v in
-    in_append_right (hangs_asked (on_primary body) (firsts same_packet hangs)) (components_asked body (united_components (gathered cs c))) a
+    in_append_right (hangs_asked (one body) (firsts same_packet hangs)) (components_asked body (united_components (gathered cs c))) a
     (components_all body (gathered cs c) a
     (in_flat (component_asked body) (gathered cs c) part.0 a
     (in_flat (λ e. e.components) (like same_primary c cs) d part.0 member part.1)
     (subst (λ b. Within (component_asked b part.0) a) (sym own) part.2))))
-    (from_append (hangs_asked (on_primary d.primary.body) d.hangs) (components_asked d.primary.body d.components) a at.2))
+    (from_append (hangs_asked (one d.primary.body) d.hangs) (components_asked d.primary.body d.components) a at.2))
+
+pub asked_only : (r : KeyringValue) (a : Asked) → Within (asked_of (merged_of r)) a → Within (asked_of r) a
+asked_only r a w = subst (λ l. Within l a) (sym (ring_asks r)) (certificates_only r a (subst (λ l. Within l a) (ring_asks (merged_of r)) w))
+
+pub asked_all : (r : KeyringValue) (a : Asked) → Within (asked_of r) a → Within (asked_of (merged_of r)) a
+asked_all r a w = subst (λ l. Within l a) (sym (ring_asks (merged_of r))) (certificates_all r a (subst (λ l. Within l a) (ring_asks r) w))
 
 -- ---- keys
 same_subkeys : (c d : ComponentValue) → head_key c ≡ head_key d → subkey_bodies c ≡ subkey_bodies d

@@ -13,6 +13,7 @@ pub fn merged_keyrings_are_keyrings()
 {}
 
 /// Merging twice is merging once.
+#[tactic(auto, using(crate::proofs::Twice::merged_twice))]
 pub fn merged_twice()
     ensures { (r : KeyringValue) → merged_of (merged_of r) ≡ merged_of r }
 {}

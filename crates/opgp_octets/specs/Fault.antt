@@ -2,115 +2,66 @@
 use Rattle.std.specs.Prelude.{ℕ, List, ◌++◌, codes}
 use Rattle.std.specs.Fmt.{decimal}
 use Rattle.opgp_octets.specs.declared.fault.Layer.{Layer}
-use Rattle.opgp_octets.specs.declared.fault.Layer.TheVariants.{Input, Armor, Framing, Body}
-use Rattle.opgp_octets.specs.declared.fault.Layer.TheVariants.{Composition}
+use Rattle.opgp_octets.specs.declared.fault.Layer.TheVariants as layer
 use Rattle.opgp_octets.specs.declared.fault.Reason.{Reason}
-use Rattle.opgp_octets.specs.declared.fault.Reason.TheVariants.{Spent, Short, MpiBits, NoBlock}
-use Rattle.opgp_octets.specs.declared.fault.Reason.TheVariants.{Label, Header, Letters, Padding}
-use Rattle.opgp_octets.specs.declared.fault.Reason.TheVariants.{AfterChecksum, EndLabel, Unfinished}
-use Rattle.opgp_octets.specs.declared.fault.Reason.TheVariants.{LineTooLong, InputTooLong}
-use Rattle.opgp_octets.specs.declared.fault.Reason.TheVariants.{NotAPacket, TypeZero, Compressed}
-use Rattle.opgp_octets.specs.declared.fault.Reason.TheVariants.{UnknownCritical, Indeterminate}
-use Rattle.opgp_octets.specs.declared.fault.Reason.TheVariants.{Truncated, PartialKind}
-use Rattle.opgp_octets.specs.declared.fault.Reason.TheVariants.{FirstPartial, BodyTooLong}
-use Rattle.opgp_octets.specs.declared.fault.Reason.TheVariants.{TooManyPieces, KeyVersion}
-use Rattle.opgp_octets.specs.declared.fault.Reason.TheVariants.{KeyTooLong, Count, OidSize, KdfSize}
-use Rattle.opgp_octets.specs.declared.fault.Reason.TheVariants.{Trailing, SubEmpty, SubShort}
-use Rattle.opgp_octets.specs.declared.fault.Reason.TheVariants.{AreaShort, SaltSize, NoPrimary}
-use Rattle.opgp_octets.specs.declared.fault.Reason.TheVariants.{NotInKeyring, CertTooLong}
-use Rattle.opgp_octets.specs.declared.fault.Reason.TheVariants.{NotASignedLiteral, BlockLabel}
+use Rattle.opgp_octets.specs.declared.fault.Reason.TheVariants as reason
 use Rattle.opgp_octets.specs.declared.fault.Fault.{Fault}
 use Rattle.opgp_octets.specs.declared.fault.BodyFault.{BodyFault}
 
 -- the name of a layer
 unfoldable pub layer_name : Layer → List ℕ
-layer_name Input = codes "input"
-layer_name Armor = codes "armor"
-layer_name Framing = codes "framing"
-layer_name Body = codes "body"
-layer_name Composition = codes "composition"
+layer_name layer.Input = codes "input"
+layer_name layer.Armor = codes "armor"
+layer_name layer.Framing = codes "framing"
+layer_name layer.Body = codes "body"
+layer_name layer.Composition = codes "composition"
 
--- the number of a reason
+-- the number and the name of a reason
+abbrev pub reason_row : Reason → ℕ × List ℕ
+reason_row reason.Spent = (1, codes "Spent")
+reason_row reason.Short = (2, codes "Short")
+reason_row reason.MpiBits = (3, codes "MpiBits")
+reason_row reason.NoBlock = (10, codes "NoBlock")
+reason_row reason.Label = (11, codes "Label")
+reason_row reason.Header = (12, codes "Header")
+reason_row reason.Letters = (13, codes "Letters")
+reason_row reason.Padding = (14, codes "Padding")
+reason_row reason.AfterChecksum = (15, codes "AfterChecksum")
+reason_row reason.EndLabel = (16, codes "EndLabel")
+reason_row reason.Unfinished = (17, codes "Unfinished")
+reason_row reason.LineTooLong = (18, codes "LineTooLong")
+reason_row reason.InputTooLong = (19, codes "InputTooLong")
+reason_row reason.NotAPacket = (20, codes "NotAPacket")
+reason_row reason.TypeZero = (21, codes "TypeZero")
+reason_row reason.Compressed = (22, codes "Compressed")
+reason_row reason.UnknownCritical = (23, codes "UnknownCritical")
+reason_row reason.Indeterminate = (24, codes "Indeterminate")
+reason_row reason.Truncated = (25, codes "Truncated")
+reason_row reason.PartialKind = (26, codes "PartialKind")
+reason_row reason.FirstPartial = (27, codes "FirstPartial")
+reason_row reason.BodyTooLong = (28, codes "BodyTooLong")
+reason_row reason.TooManyPieces = (29, codes "TooManyPieces")
+reason_row reason.KeyVersion = (30, codes "KeyVersion")
+reason_row reason.KeyTooLong = (31, codes "KeyTooLong")
+reason_row reason.Count = (32, codes "Count")
+reason_row reason.OidSize = (33, codes "OidSize")
+reason_row reason.KdfSize = (34, codes "KdfSize")
+reason_row reason.Trailing = (35, codes "Trailing")
+reason_row reason.SubEmpty = (36, codes "SubEmpty")
+reason_row reason.SubShort = (37, codes "SubShort")
+reason_row reason.AreaShort = (40, codes "AreaShort")
+reason_row reason.SaltSize = (41, codes "SaltSize")
+reason_row reason.NoPrimary = (50, codes "NoPrimary")
+reason_row reason.NotInKeyring = (51, codes "NotInKeyring")
+reason_row reason.CertTooLong = (52, codes "CertTooLong")
+reason_row reason.NotASignedLiteral = (53, codes "NotASignedLiteral")
+reason_row reason.BlockLabel = (54, codes "BlockLabel")
+
 abbrev pub reason_number : Reason → ℕ
-reason_number Spent = 1
-reason_number Short = 2
-reason_number MpiBits = 3
-reason_number NoBlock = 10
-reason_number Label = 11
-reason_number Header = 12
-reason_number Letters = 13
-reason_number Padding = 14
-reason_number AfterChecksum = 15
-reason_number EndLabel = 16
-reason_number Unfinished = 17
-reason_number LineTooLong = 18
-reason_number InputTooLong = 19
-reason_number NotAPacket = 20
-reason_number TypeZero = 21
-reason_number Compressed = 22
-reason_number UnknownCritical = 23
-reason_number Indeterminate = 24
-reason_number Truncated = 25
-reason_number PartialKind = 26
-reason_number FirstPartial = 27
-reason_number BodyTooLong = 28
-reason_number TooManyPieces = 29
-reason_number KeyVersion = 30
-reason_number KeyTooLong = 31
-reason_number Count = 32
-reason_number OidSize = 33
-reason_number KdfSize = 34
-reason_number Trailing = 35
-reason_number SubEmpty = 36
-reason_number SubShort = 37
-reason_number AreaShort = 40
-reason_number SaltSize = 41
-reason_number NoPrimary = 50
-reason_number NotInKeyring = 51
-reason_number CertTooLong = 52
-reason_number NotASignedLiteral = 53
-reason_number BlockLabel = 54
+reason_number r = (reason_row r).0
 
--- the name of a reason
 unfoldable pub reason_name : Reason → List ℕ
-reason_name Spent = codes "Spent"
-reason_name Short = codes "Short"
-reason_name MpiBits = codes "MpiBits"
-reason_name NoBlock = codes "NoBlock"
-reason_name Label = codes "Label"
-reason_name Header = codes "Header"
-reason_name Letters = codes "Letters"
-reason_name Padding = codes "Padding"
-reason_name AfterChecksum = codes "AfterChecksum"
-reason_name EndLabel = codes "EndLabel"
-reason_name Unfinished = codes "Unfinished"
-reason_name LineTooLong = codes "LineTooLong"
-reason_name InputTooLong = codes "InputTooLong"
-reason_name NotAPacket = codes "NotAPacket"
-reason_name TypeZero = codes "TypeZero"
-reason_name Compressed = codes "Compressed"
-reason_name UnknownCritical = codes "UnknownCritical"
-reason_name Indeterminate = codes "Indeterminate"
-reason_name Truncated = codes "Truncated"
-reason_name PartialKind = codes "PartialKind"
-reason_name FirstPartial = codes "FirstPartial"
-reason_name BodyTooLong = codes "BodyTooLong"
-reason_name TooManyPieces = codes "TooManyPieces"
-reason_name KeyVersion = codes "KeyVersion"
-reason_name KeyTooLong = codes "KeyTooLong"
-reason_name Count = codes "Count"
-reason_name OidSize = codes "OidSize"
-reason_name KdfSize = codes "KdfSize"
-reason_name Trailing = codes "Trailing"
-reason_name SubEmpty = codes "SubEmpty"
-reason_name SubShort = codes "SubShort"
-reason_name AreaShort = codes "AreaShort"
-reason_name SaltSize = codes "SaltSize"
-reason_name NoPrimary = codes "NoPrimary"
-reason_name NotInKeyring = codes "NotInKeyring"
-reason_name CertTooLong = codes "CertTooLong"
-reason_name NotASignedLiteral = codes "NotASignedLiteral"
-reason_name BlockLabel = codes "BlockLabel"
+reason_name r = (reason_row r).1
 
 -- the line of a fault, without its end
 abbrev pub fault_text : Fault → List ℕ

@@ -12,6 +12,7 @@ pub mod ParseFault
 pub mod Ranges
 pub mod Reading
 pub mod Refusal
+pub mod Rows
 pub mod SignatureType
 pub mod SubLen
 pub mod SubpacketKind

@@ -1,62 +1,43 @@
 -- The types of signatures (RFC 9580, 5.2.1).
-use Rattle.std.specs.Prelude.{ℕ, List, codes, ◌==◌, if◌then◌else◌}
+use Rattle.std.specs.Prelude.{ℕ, List, [], ◌∷◌, codes}
 use Rattle.opgp_octets.specs.declared.signature_type.SignatureType.{SignatureType}
 use Rattle.opgp_octets.specs.declared.signature_type.SignatureType.TheVariants as signature
+use Rattle.opgp_octets.specs.Rows.{numbered}
 
--- the number of each
+-- the number and the name of each
+abbrev pub signature_type_row : SignatureType → ℕ × List ℕ
+signature_type_row signature.Binary = (0, codes "Binary Signature")
+signature_type_row signature.Text = (1, codes "Text Signature")
+signature_type_row signature.Standalone = (2, codes "Standalone Signature")
+signature_type_row signature.GenericCertification = (16, codes "Generic Certification Signature")
+signature_type_row signature.PersonaCertification = (17, codes "Persona Certification Signature")
+signature_type_row signature.CasualCertification = (18, codes "Casual Certification Signature")
+signature_type_row signature.PositiveCertification = (19, codes "Positive Certification Signature")
+signature_type_row signature.SubkeyBinding = (24, codes "Subkey Binding Signature")
+signature_type_row signature.PrimaryKeyBinding = (25, codes "Primary Key Binding Signature")
+signature_type_row signature.DirectKey = (31, codes "Direct Key Signature")
+signature_type_row signature.KeyRevocation = (32, codes "Key Revocation Signature")
+signature_type_row signature.SubkeyRevocation = (40, codes "Subkey Revocation Signature")
+signature_type_row signature.CertificationRevocation =
+    (48, codes "Certification Revocation Signature")
+signature_type_row signature.Timestamp = (64, codes "Timestamp Signature")
+signature_type_row signature.ThirdPartyConfirmation =
+    (80, codes "Third-Party Confirmation Signature")
+signature_type_row (signature.Other n) = (n, codes "unknown")
+
 abbrev pub signature_type_number : SignatureType → ℕ
-signature_type_number signature.Binary = 0
-signature_type_number signature.Text = 1
-signature_type_number signature.Standalone = 2
-signature_type_number signature.GenericCertification = 16
-signature_type_number signature.PersonaCertification = 17
-signature_type_number signature.CasualCertification = 18
-signature_type_number signature.PositiveCertification = 19
-signature_type_number signature.SubkeyBinding = 24
-signature_type_number signature.PrimaryKeyBinding = 25
-signature_type_number signature.DirectKey = 31
-signature_type_number signature.KeyRevocation = 32
-signature_type_number signature.SubkeyRevocation = 40
-signature_type_number signature.CertificationRevocation = 48
-signature_type_number signature.Timestamp = 64
-signature_type_number signature.ThirdPartyConfirmation = 80
-signature_type_number (signature.Other n) = n
+signature_type_number x = (signature_type_row x).0
+
+unfoldable pub signature_type_name : SignatureType → List ℕ
+signature_type_name x = (signature_type_row x).1
 
 -- what a number stands for
 unfoldable pub signature_type_of : ℕ → SignatureType
 signature_type_of n =
-    if n == 0 then signature.Binary
-    else (if n == 1 then signature.Text
-    else (if n == 2 then signature.Standalone
-    else (if n == 16 then signature.GenericCertification
-    else (if n == 17 then signature.PersonaCertification
-    else (if n == 18 then signature.CasualCertification
-    else (if n == 19 then signature.PositiveCertification
-    else (if n == 24 then signature.SubkeyBinding
-    else (if n == 25 then signature.PrimaryKeyBinding
-    else (if n == 31 then signature.DirectKey
-    else (if n == 32 then signature.KeyRevocation
-    else (if n == 40 then signature.SubkeyRevocation
-    else (if n == 48 then signature.CertificationRevocation
-    else (if n == 64 then signature.Timestamp
-    else (if n == 80 then signature.ThirdPartyConfirmation
-    else signature.Other n))))))))))))))
-
--- the name of each
-unfoldable pub signature_type_name : SignatureType → List ℕ
-signature_type_name signature.Binary = codes "Binary Signature"
-signature_type_name signature.Text = codes "Text Signature"
-signature_type_name signature.Standalone = codes "Standalone Signature"
-signature_type_name signature.GenericCertification = codes "Generic Certification Signature"
-signature_type_name signature.PersonaCertification = codes "Persona Certification Signature"
-signature_type_name signature.CasualCertification = codes "Casual Certification Signature"
-signature_type_name signature.PositiveCertification = codes "Positive Certification Signature"
-signature_type_name signature.SubkeyBinding = codes "Subkey Binding Signature"
-signature_type_name signature.PrimaryKeyBinding = codes "Primary Key Binding Signature"
-signature_type_name signature.DirectKey = codes "Direct Key Signature"
-signature_type_name signature.KeyRevocation = codes "Key Revocation Signature"
-signature_type_name signature.SubkeyRevocation = codes "Subkey Revocation Signature"
-signature_type_name signature.CertificationRevocation = codes "Certification Revocation Signature"
-signature_type_name signature.Timestamp = codes "Timestamp Signature"
-signature_type_name signature.ThirdPartyConfirmation = codes "Third-Party Confirmation Signature"
-signature_type_name (signature.Other n) = codes "unknown"
+    numbered signature_type_number n (signature.Other n)
+    (signature.Binary ∷ signature.Text ∷ signature.Standalone ∷ signature.GenericCertification
+    ∷ signature.PersonaCertification ∷ signature.CasualCertification
+    ∷ signature.PositiveCertification ∷ signature.SubkeyBinding ∷ signature.PrimaryKeyBinding
+    ∷ signature.DirectKey ∷ signature.KeyRevocation ∷ signature.SubkeyRevocation
+    ∷ signature.CertificationRevocation ∷ signature.Timestamp ∷ signature.ThirdPartyConfirmation
+    ∷ [])

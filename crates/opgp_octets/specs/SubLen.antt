@@ -5,32 +5,31 @@ use Rattle.std.specs.Prelude.{take, Option, Some, None, option_map, nat_lt, if�
 use Rattle.std.specs.Int.{w32, to_be_bytes}
 use Rattle.std.proofs.Props.{props}
 use Rattle.opgp_octets.specs.declared.sub_len.SubLen.{SubLen}
-use Rattle.opgp_octets.specs.declared.sub_len.SubLen.TheVariants.{One, Two, Five}
+use Rattle.opgp_octets.specs.declared.sub_len.SubLen.TheVariants as len
 use Rattle.opgp_octets.specs.Reading.{number_at}
 
 -- what each form may hold
 abbrev pub SubLenFits : SubLen → Type 0
-SubLenFits (One n) = n ≤ 191
-SubLenFits (Two n) = (192 ≤ n) × (n ≤ 16319)
-SubLenFits (Five n) = n < 2 ^ 32
+SubLenFits (len.One n) = n ≤ 191
+SubLenFits (len.Two n) = (192 ≤ n) × (n ≤ 16319)
+SubLenFits (len.Five n) = n < 2 ^ 32
 
 -- there is one proof of it at most
 pub SubLenFits-prop : (len : SubLen) → IsProp (SubLenFits len)
-SubLenFits-prop (One n) = hlevel props
-SubLenFits-prop (Two n) = hlevel props
-SubLenFits-prop (Five n) = hlevel props
+SubLenFits-prop (len.One n) = hlevel props
+SubLenFits-prop other = hlevel props
 
 -- the spelling
 abbrev pub sub_len_octets : SubLen → List ℕ
-sub_len_octets (One n) = n ∷ []
-sub_len_octets (Two n) = ((n - 192) / 256 + 192) ∷ (n - 192) % 256 ∷ []
-sub_len_octets (Five n) = 255 ∷ to_be_bytes w32 n
+sub_len_octets (len.One n) = n ∷ []
+sub_len_octets (len.Two n) = ((n - 192) / 256 + 192) ∷ (n - 192) % 256 ∷ []
+sub_len_octets (len.Five n) = 255 ∷ to_be_bytes w32 n
 
 -- how many octets of the subpacket it announces, its type octet counted
 abbrev pub sub_len_amount : SubLen → ℕ
-sub_len_amount (One n) = n
-sub_len_amount (Two n) = n
-sub_len_amount (Five n) = n
+sub_len_amount (len.One n) = n
+sub_len_amount (len.Two n) = n
+sub_len_amount (len.Five n) = n
 
 -- the octets begin with the spelling of the length, which takes so many
 pub record SubLenBegins (o : List ℕ) (len : SubLen) (count : ℕ) : Type 0 where
@@ -41,14 +40,14 @@ pub record SubLenBegins (o : List ℕ) (len : SubLen) (count : ℕ) : Type 0 whe
 
 -- the length that begins a list, and how many octets it takes
 abbrev pub sub_five_at : List ℕ → Option (SubLen × ℕ)
-sub_five_at o = option_map (λ x. (Five x.0, 5)) (number_at w32 o)
+sub_five_at o = option_map (λ x. (len.Five x.0, 5)) (number_at w32 o)
 
 abbrev pub sub_two_at : ℕ → List ℕ → Option (SubLen × ℕ)
 sub_two_at a [] = None
-sub_two_at a (b ∷ rest) = Some (Two ((a - 192) * 256 + b + 192), 2)
+sub_two_at a (b ∷ rest) = Some (len.Two ((a - 192) * 256 + b + 192), 2)
 
 unfoldable pub sub_len_at : List ℕ → Option (SubLen × ℕ)
 sub_len_at [] = None
 sub_len_at (a ∷ rest) =
-    if nat_lt a 192 then Some (One a, 1) else
+    if nat_lt a 192 then Some (len.One a, 1) else
     (if nat_lt a 255 then sub_two_at a rest else sub_five_at rest)

@@ -162,6 +162,15 @@ impl Layer {
     }
 }
 
+/// The name of a variant, which is the variant's own.
+macro_rules! names {
+    ($value:expr, $table:ident; $($variant:ident)*) => {
+        match $value {
+            $($table::$variant => stringify!($variant),)*
+        }
+    };
+}
+
 impl Reason {
     /// The number.
     pub fn number(self) -> u8
@@ -175,45 +184,12 @@ impl Reason {
     pub fn name(self) -> &'static str
         ensures { result.now ≡ reason_name self }
     {
-        match self {
-            Reason::Spent => "Spent",
-            Reason::Short => "Short",
-            Reason::MpiBits => "MpiBits",
-            Reason::NoBlock => "NoBlock",
-            Reason::Label => "Label",
-            Reason::Header => "Header",
-            Reason::Letters => "Letters",
-            Reason::Padding => "Padding",
-            Reason::AfterChecksum => "AfterChecksum",
-            Reason::EndLabel => "EndLabel",
-            Reason::Unfinished => "Unfinished",
-            Reason::LineTooLong => "LineTooLong",
-            Reason::InputTooLong => "InputTooLong",
-            Reason::NotAPacket => "NotAPacket",
-            Reason::TypeZero => "TypeZero",
-            Reason::Compressed => "Compressed",
-            Reason::UnknownCritical => "UnknownCritical",
-            Reason::Indeterminate => "Indeterminate",
-            Reason::Truncated => "Truncated",
-            Reason::PartialKind => "PartialKind",
-            Reason::FirstPartial => "FirstPartial",
-            Reason::BodyTooLong => "BodyTooLong",
-            Reason::TooManyPieces => "TooManyPieces",
-            Reason::KeyVersion => "KeyVersion",
-            Reason::KeyTooLong => "KeyTooLong",
-            Reason::Count => "Count",
-            Reason::OidSize => "OidSize",
-            Reason::KdfSize => "KdfSize",
-            Reason::Trailing => "Trailing",
-            Reason::SubEmpty => "SubEmpty",
-            Reason::SubShort => "SubShort",
-            Reason::AreaShort => "AreaShort",
-            Reason::SaltSize => "SaltSize",
-            Reason::NoPrimary => "NoPrimary",
-            Reason::NotInKeyring => "NotInKeyring",
-            Reason::CertTooLong => "CertTooLong",
-            Reason::NotASignedLiteral => "NotASignedLiteral",
-            Reason::BlockLabel => "BlockLabel",
+        names! { self, Reason;
+            Spent Short MpiBits NoBlock Label Header Letters Padding AfterChecksum EndLabel
+            Unfinished LineTooLong InputTooLong NotAPacket TypeZero Compressed UnknownCritical
+            Indeterminate Truncated PartialKind FirstPartial BodyTooLong TooManyPieces KeyVersion
+            KeyTooLong Count OidSize KdfSize Trailing SubEmpty SubShort AreaShort SaltSize
+            NoPrimary NotInKeyring CertTooLong NotASignedLiteral BlockLabel
         }
     }
 }

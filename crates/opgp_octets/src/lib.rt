@@ -27,7 +27,7 @@ pub use fault_text::fault_line;
 pub use hash_algorithm::HashAlgorithm;
 pub use hexadecimal::{write_digits, write_hexadecimal};
 pub use key_algorithm::KeyAlgorithm;
-pub use limits::Limits;
+pub use limits::{Limits, Range};
 pub use mpi::Mpi;
 pub use mpi_view::MpiView;
 pub use number::{u16_at, u32_at};

@@ -1,7 +1,27 @@
 //! The limits of what is read.
 
-ghost use Rattle.std.specs.Prelude.{◌≡◌, ◌≤◌, ◌↔◌, IsSome, IfSome, IsTrue};
-ghost use Rattle.opgp_octets.specs.Ranges.{AreAllowed};
+ghost use Rattle.std.specs.Prelude.{◌≡◌, ◌↔◌, IsSome, IfSome, IsTrue};
+ghost use Rattle.opgp_octets.specs.Ranges.{AreAllowed, IsIn, line_range, body_range, cert_range};
+ghost use Rattle.opgp_octets.specs.Ranges.{input_range, pieces_range};
+
+/// What a limit may be, from the least to the most, and what it usually is.
+#[derive(Clone, Copy, Debug)]
+pub struct Range {
+    /// The least that it may be.
+    pub least: u64,
+    /// The most that it may be.
+    pub most: u64,
+    /// What it usually is.
+    pub usual: u64,
+}
+
+impl Range {
+    fn has(self, n: u64) -> bool
+        ensures { IsTrue result ↔ IsIn self n }
+    {
+        self.least <= n && n <= self.most
+    }
+}
 
 /// The limits of what is read; a value equal to a limit is accepted.
 #[derive(Clone, Copy, Debug)]
@@ -18,14 +38,42 @@ impl Limits {
     ghost use Rattle.opgp_octets.specs.Limits.{line_limit, body_limit, cert_limit, input_limit};
     ghost use Rattle.opgp_octets.specs.Limits.{pieces_limit};
 
-    /// These limits, or None where one is out of its range:
-    ///
-    /// - `line`, 128 to 1,048,576: octets of an armored line without its line feed;
-    /// - `body`, 512 to 4,294,967,295: octets of a packet's body, its pieces joined;
-    /// - `cert`, 512 to 2^40: octets that a certificate's packets are spelled in, or those before
-    ///   the first;
-    /// - `input`, 0 to 2^62: octets of the input;
-    /// - `pieces`, 1 to 16,777,216: partial lengths of one packet.
+    /// Octets of an armored line without its line feed.
+    pub const LINE: Range = Range {
+        least: 128,
+        most: 1_048_576,
+        usual: 8_192,
+    };
+
+    /// Octets of a packet's body, its pieces joined.
+    pub const BODY: Range = Range {
+        least: 512,
+        most: 4_294_967_295,
+        usual: 16_777_216,
+    };
+
+    /// Octets that a certificate's packets are spelled in, or those before the first.
+    pub const CERT: Range = Range {
+        least: 512,
+        most: 1_099_511_627_776,
+        usual: 67_108_864,
+    };
+
+    /// Octets of the input.
+    pub const INPUT: Range = Range {
+        least: 0,
+        most: 4_611_686_018_427_387_904,
+        usual: 1_099_511_627_776,
+    };
+
+    /// Partial lengths of one packet.
+    pub const PIECES: Range = Range {
+        least: 1,
+        most: 16_777_216,
+        usual: 1_048_576,
+    };
+
+    /// These limits, or None where one is out of its range: [`Limits::LINE`] to [`Limits::PIECES`].
     pub fn new(line: u64, body: u64, cert: u64, input: u64, pieces: u64) -> Option<Limits>
         ensures some { IsSome result ↔ AreAllowed line body cert input pieces }
         ensures line { IfSome result (λ l. line_limit l ≡ line) }
@@ -34,11 +82,11 @@ impl Limits {
         ensures input { IfSome result (λ l. input_limit l ≡ input) }
         ensures pieces { IfSome result (λ l. pieces_limit l ≡ pieces) }
     {
-        let allowed = (128..=1_048_576).contains(&line)
-            && (512..=4_294_967_295).contains(&body)
-            && (512..=1_099_511_627_776).contains(&cert)
-            && input <= 4_611_686_018_427_387_904
-            && (1..=16_777_216).contains(&pieces);
+        let allowed = Limits::LINE.has(line)
+            && Limits::BODY.has(body)
+            && Limits::CERT.has(cert)
+            && Limits::INPUT.has(input)
+            && Limits::PIECES.has(pieces);
         if allowed {
             Some(Limits {
                 line,
@@ -55,26 +103,25 @@ impl Limits {
     /// The usual limits: lines of 8,192 octets, bodies of 16,777,216, certificates of 67,108,864,
     /// an input of 2^40, and 1,048,576 partial lengths of a packet.
     pub fn usual() -> Limits
-        ensures line { line_limit result ≡ 8192 }
-        ensures body { body_limit result ≡ 16777216 }
-        ensures cert { cert_limit result ≡ 67108864 }
-        ensures input { input_limit result ≡ 1099511627776 }
-        ensures pieces { pieces_limit result ≡ 1048576 }
+        ensures line { line_limit result ≡ line_range.usual }
+        ensures body { body_limit result ≡ body_range.usual }
+        ensures cert { cert_limit result ≡ cert_range.usual }
+        ensures input { input_limit result ≡ input_range.usual }
+        ensures pieces { pieces_limit result ≡ pieces_range.usual }
     {
         Limits {
-            line: 8_192,
-            body: 16_777_216,
-            cert: 67_108_864,
-            input: 1_099_511_627_776,
-            pieces: 1_048_576,
+            line: Limits::LINE.usual,
+            body: Limits::BODY.usual,
+            cert: Limits::CERT.usual,
+            input: Limits::INPUT.usual,
+            pieces: Limits::PIECES.usual,
         }
     }
 
     /// The most octets of an armored line, without its line feed.
     pub fn line(self) -> u64
         ensures value { result ≡ line_limit self }
-        ensures least { 128 ≤ result }
-        ensures most { result ≤ 1048576 }
+        ensures range { IsIn line_range result }
     {
         self.line
     }
@@ -82,8 +129,7 @@ impl Limits {
     /// The most octets of a packet's body.
     pub fn body(self) -> u64
         ensures value { result ≡ body_limit self }
-        ensures least { 512 ≤ result }
-        ensures most { result ≤ 4294967295 }
+        ensures range { IsIn body_range result }
     {
         self.body
     }
@@ -91,8 +137,7 @@ impl Limits {
     /// The most octets that a certificate's packets are spelled in.
     pub fn cert(self) -> u64
         ensures value { result ≡ cert_limit self }
-        ensures least { 512 ≤ result }
-        ensures most { result ≤ 1099511627776 }
+        ensures range { IsIn cert_range result }
     {
         self.cert
     }
@@ -100,7 +145,7 @@ impl Limits {
     /// The most octets of the input.
     pub fn input(self) -> u64
         ensures value { result ≡ input_limit self }
-        ensures most { result ≤ 4611686018427387904 }
+        ensures range { IsIn input_range result }
     {
         self.input
     }
@@ -108,8 +153,7 @@ impl Limits {
     /// The most partial lengths of a packet.
     pub fn pieces(self) -> u64
         ensures value { result ≡ pieces_limit self }
-        ensures least { 1 ≤ result }
-        ensures most { result ≤ 16777216 }
+        ensures range { IsIn pieces_range result }
     {
         self.pieces
     }

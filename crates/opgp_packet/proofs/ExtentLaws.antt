@@ -10,7 +10,7 @@ use Rattle.opgp_octets.specs.Octets.{IsOctets}
 use Rattle.opgp_octets.specs.Reading.{◌>>=◌, number_at, or_short}
 use Rattle.opgp_octets.proofs.Bytes.{IsOctets-drop, IsOctets-take, IsWide, wide16, wide32, number_takes, number_again, chosen, bind_ok, bind_err, or_short_ok, same_ok, Takes, Takes-then}
 use Rattle.opgp_packet.specs.Subpackets.{Sub, subs_octets, AreSubs}
-use Rattle.opgp_packet.specs.Fields.{Extent, to_end, behind_two, behind_four, Field, small, wide, integer, named, bare, subpackets, framed, field_octets, Extends, StandsAsArea, HasNoArea, area_reason, fault_at}
+use Rattle.opgp_packet.specs.Fields.{Extent, to_end, behind_two, behind_four, Field, subpackets, framed, field_octets, Extends, StandsAsArea, HasNoArea, area_reason, fault_at}
 use Rattle.opgp_packet.specs.AreaReading.{placed, area_at, fault_of, fault_in, subs_in}
 use Rattle.opgp_packet.specs.FieldReading.{area_as, extent_at, area_step_at}
 use Rattle.opgp_packet.proofs.KindLaws.{or_short_err}
@@ -157,11 +157,7 @@ pub area_step_again : (total : ℕ) (extent : Extent) (x : Field) (rest : List �
 area_step_again total extent (subpackets e z) rest h =
     subst (λ (d : Extent). area_step_at total d (framed e (subs_octets z) ++ rest) ≡ Ok (subpackets e z, rest)) h.0
     (area_step_same total e z rest h.1 (subst (λ (d : Extent). Extends d (subs_octets z) (length rest)) (sym h.0) h.2))
-area_step_again total extent (small n) rest h = absurd h
-area_step_again total extent (wide n) rest h = absurd h
-area_step_again total extent (integer n) rest h = absurd h
-area_step_again total extent (named o) rest h = absurd h
-area_step_again total extent (bare o) rest h = absurd h
+area_step_again total extent other rest h = absurd h
 
 -- ---- an area's octets, as a reader delimits them
 

@@ -9,7 +9,7 @@ use Rattle.opgp_octets.specs.declared.refusal.ParseFault.TheVariants as faults
 use Rattle.opgp_octets.specs.Octets.{IsOctets}
 use Rattle.opgp_octets.specs.Reading.{◌>>=◌, Reads}
 use Rattle.opgp_octets.proofs.Bytes.{chosen, bind_ok}
-use Rattle.opgp_packet.specs.Fields.{exact, Field, small, wide, integer, named, bare, subpackets, octets_of, Grammar, field, Body}
+use Rattle.opgp_packet.specs.Fields.{exact, Field, small, octets_of, Grammar, field, Body}
 use Rattle.opgp_packet.specs.FieldReading.{body_at}
 use Rattle.opgp_octets.specs.ParseFault.{Parses, RefusedBy}
 use Rattle.opgp_packet.proofs.AreaLaws.{same_read}
@@ -27,11 +27,7 @@ bind_err (Err d) g f e = cc
 head_exact : (k : ℕ) (next : Field → Grammar) (fields : List Field) (o : List ℕ) → Body (field (exact Short k) next) fields o → (rest : List ℕ) × (o ≡ k ∷ rest)
 head_exact k next [] o b = absurd b.follows
 head_exact k next (small n ∷ fs) o b = (octets_of fs, b.spelled ∙ ap (λ (x : ℕ). x ∷ octets_of fs) b.follows.0.1)
-head_exact k next (wide n ∷ fs) o b = absurd b.follows.0
-head_exact k next (integer n ∷ fs) o b = absurd b.follows.0
-head_exact k next (named n ∷ fs) o b = absurd b.follows.0
-head_exact k next (bare n ∷ fs) o b = absurd b.follows.0
-head_exact k next (subpackets d subs ∷ fs) o b = absurd b.follows.0
+head_exact k next (f ∷ fs) o b = absurd b.follows.0
 
 -- ---- what is read is spelled so
 

@@ -1,17 +1,13 @@
 -- The areas of subpackets of a signature (RFC 9580, 5.2.3).
 use Rattle.std.specs.Prelude.{ℕ, zero, suc, List, [], ◌∷◌}
-use Rattle.opgp_packet.specs.Fields.{Field, small, wide, integer, named, bare, subpackets}
+use Rattle.opgp_packet.specs.Fields.{Field, subpackets}
 use Rattle.opgp_packet.specs.Subpackets.{Sub}
 use Rattle.opgp_packet.specs.SignatureBody.{SignatureValue, of_three, of_four, of_six, of_other}
 
 -- the subpackets that a field is
 abbrev pub subs_of : Field → List Sub
 subs_of (subpackets extent subs) = subs
-subs_of (small n) = []
-subs_of (wide n) = []
-subs_of (integer m) = []
-subs_of (named o) = []
-subs_of (bare o) = []
+subs_of other = []
 
 -- those that the field of this place is, from 0
 abbrev pub subs_at : List Field → ℕ → List Sub

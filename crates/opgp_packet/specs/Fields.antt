@@ -112,9 +112,7 @@ Follows (field kind next) (x ∷ xs) after =
     Stands kind x (length (octets_of xs) + after) × Follows (next x) xs after
 Follows (area extent next) (x ∷ xs) after =
     StandsAsArea extent x (length (octets_of xs) + after) × Follows next xs after
-Follows done (x ∷ xs) after = ⊥
-Follows (field kind next) [] after = ⊥
-Follows (area extent next) [] after = ⊥
+Follows grammar fields after = ⊥
 
 -- fields of these kinds, one after the other
 abbrev pub sequence : List Kind → Grammar
@@ -125,10 +123,7 @@ sequence (kind ∷ kinds) = field kind (λ _. sequence kinds)
 abbrev pub amount : Field → ℕ
 amount (small n) = n
 amount (wide n) = n
-amount (integer m) = 0
-amount (named o) = 0
-amount (bare o) = 0
-amount (subpackets e subs) = 0
+amount other = 0
 
 -- a multiprecision integer as a field
 abbrev pub integer_of : MpiView → Field
@@ -152,20 +147,13 @@ HasNone kind o =
 
 -- the reason then: the first that is true of the octets
 abbrev pub reason_of : Kind → List ℕ → Reason
-reason_of version [] = Short
 reason_of version (n ∷ o) = if n == 4 then KeyTooLong else KeyVersion
-reason_of octet o = Short
-reason_of (exact reason wanted) [] = Short
 reason_of (exact reason wanted) (n ∷ o) = reason
-reason_of four o = Short
 reason_of count o = if nat_lt (length o) 4 then Short else Count
 reason_of (mpi strict) o = if is_ok (mpi_at false o) then MpiBits else Short
-reason_of (sized reason least most) [] = Short
 reason_of (sized reason least most) (n ∷ o) =
     if nat_lt n least || nat_lt most n then reason else Short
-reason_of (fixed n) o = Short
-reason_of whole o = Short
-reason_of never o = Short
+reason_of kind o = Short
 
 -- no area of this extent begins the octets, whatever it holds
 abbrev pub HasNoArea : Extent → List ℕ → Type 0

@@ -9,40 +9,37 @@ use Rattle.opgp_packet.specs.declared.spans.MpiSpan.{MpiSpan}
 use Rattle.opgp_packet.specs.Fields.{Field, named, bare, integer_of}
 use Rattle.opgp_packet.specs.Spans.{octets_in, integer_in, IsIn, IsMpiIn}
 use Rattle.opgp_packet.specs.declared.key_material.Material.{Material}
-use Rattle.opgp_packet.specs.declared.key_material.Material.TheVariants.{Rsa, Elgamal, Dsa, Ecdh, Ecdsa}
-use Rattle.opgp_packet.specs.declared.key_material.Material.TheVariants.{Eddsa}
-use Rattle.opgp_packet.specs.declared.key_material.Material.TheVariants.{X25519, X448, Ed25519, Ed448}
-use Rattle.opgp_packet.specs.declared.key_material.Material.TheVariants.{Opaque}
+use Rattle.opgp_packet.specs.declared.key_material.Material.TheVariants as material
 use Rattle.opgp_packet.specs.KeyShape.{Shape, rsa, elgamal, dsa, ecdh, ecdsa, eddsa, x25519, x448}
 use Rattle.opgp_packet.specs.KeyShape.{ed25519, ed448, opaque}
 
 -- its fields, by what an integer and octets stand for
 abbrev pub fields_by : {I O : Type 0} → (I → Field) → (O → List ℕ) → Material I O → List Field
-fields_by f g (Rsa n e) = f n ∷ f e ∷ []
-fields_by f g (Elgamal p b y) = f p ∷ f b ∷ f y ∷ []
-fields_by f g (Dsa p q b y) = f p ∷ f q ∷ f b ∷ f y ∷ []
-fields_by f g (Ecdh oid point kdf) = named (g oid) ∷ f point ∷ named (g kdf) ∷ []
-fields_by f g (Ecdsa oid point) = named (g oid) ∷ f point ∷ []
-fields_by f g (Eddsa oid point) = named (g oid) ∷ f point ∷ []
-fields_by f g (X25519 octets) = bare (g octets) ∷ []
-fields_by f g (X448 octets) = bare (g octets) ∷ []
-fields_by f g (Ed25519 octets) = bare (g octets) ∷ []
-fields_by f g (Ed448 octets) = bare (g octets) ∷ []
-fields_by f g (Opaque octets) = bare (g octets) ∷ []
+fields_by f g (material.Rsa n e) = f n ∷ f e ∷ []
+fields_by f g (material.Elgamal p b y) = f p ∷ f b ∷ f y ∷ []
+fields_by f g (material.Dsa p q b y) = f p ∷ f q ∷ f b ∷ f y ∷ []
+fields_by f g (material.Ecdh oid point kdf) = named (g oid) ∷ f point ∷ named (g kdf) ∷ []
+fields_by f g (material.Ecdsa oid point) = named (g oid) ∷ f point ∷ []
+fields_by f g (material.Eddsa oid point) = named (g oid) ∷ f point ∷ []
+fields_by f g (material.X25519 octets) = bare (g octets) ∷ []
+fields_by f g (material.X448 octets) = bare (g octets) ∷ []
+fields_by f g (material.Ed25519 octets) = bare (g octets) ∷ []
+fields_by f g (material.Ed448 octets) = bare (g octets) ∷ []
+fields_by f g (material.Opaque octets) = bare (g octets) ∷ []
 
 -- its form
 abbrev pub shape : {I O : Type 0} → Material I O → Shape
-shape (Rsa n e) = rsa
-shape (Elgamal p g y) = elgamal
-shape (Dsa p q g y) = dsa
-shape (Ecdh oid point kdf) = ecdh
-shape (Ecdsa oid point) = ecdsa
-shape (Eddsa oid point) = eddsa
-shape (X25519 octets) = x25519
-shape (X448 octets) = x448
-shape (Ed25519 octets) = ed25519
-shape (Ed448 octets) = ed448
-shape (Opaque octets) = opaque
+shape (material.Rsa n e) = rsa
+shape (material.Elgamal p g y) = elgamal
+shape (material.Dsa p q g y) = dsa
+shape (material.Ecdh oid point kdf) = ecdh
+shape (material.Ecdsa oid point) = ecdsa
+shape (material.Eddsa oid point) = eddsa
+shape (material.X25519 octets) = x25519
+shape (material.X448 octets) = x448
+shape (material.Ed25519 octets) = ed25519
+shape (material.Ed448 octets) = ed448
+shape (material.Opaque octets) = opaque
 
 -- the fields that views show
 abbrev pub material_fields : Material MpiView (Bor (List ℕ)) → List Field
@@ -50,10 +47,10 @@ material_fields = fields_by integer_of (λ o. o.now)
 
 -- octets of one size have it
 abbrev pub HasSizes : Material MpiView (Bor (List ℕ)) → Type 0
-HasSizes (X25519 octets) = length octets.now ≡ 32
-HasSizes (X448 octets) = length octets.now ≡ 56
-HasSizes (Ed25519 octets) = length octets.now ≡ 32
-HasSizes (Ed448 octets) = length octets.now ≡ 57
+HasSizes (material.X25519 octets) = length octets.now ≡ 32
+HasSizes (material.X448 octets) = length octets.now ≡ 56
+HasSizes (material.Ed25519 octets) = length octets.now ≡ 32
+HasSizes (material.Ed448 octets) = length octets.now ≡ 57
 HasSizes other = Unit {0}
 
 -- the fields at places in a body
@@ -66,28 +63,20 @@ IsSizedIn size p total = IsIn p total × (p.end ≡ p.start + size)
 
 -- all of them lie in so many octets
 abbrev pub AreIn : Material MpiSpan Span → ℕ → Type 0
-AreIn (Rsa n e) total = IsMpiIn n total × IsMpiIn e total
-AreIn (Elgamal p g y) total = IsMpiIn p total × IsMpiIn g total × IsMpiIn y total
-AreIn (Dsa p q g y) total = IsMpiIn p total × IsMpiIn q total × IsMpiIn g total × IsMpiIn y total
-AreIn (Ecdh oid point kdf) total = IsIn oid total × IsMpiIn point total × IsIn kdf total
-AreIn (Ecdsa oid point) total = IsIn oid total × IsMpiIn point total
-AreIn (Eddsa oid point) total = IsIn oid total × IsMpiIn point total
-AreIn (X25519 octets) total = IsSizedIn 32 octets total
-AreIn (X448 octets) total = IsSizedIn 56 octets total
-AreIn (Ed25519 octets) total = IsSizedIn 32 octets total
-AreIn (Ed448 octets) total = IsSizedIn 57 octets total
-AreIn (Opaque octets) total = IsIn octets total
+AreIn (material.Rsa n e) total = IsMpiIn n total × IsMpiIn e total
+AreIn (material.Elgamal p g y) total = IsMpiIn p total × IsMpiIn g total × IsMpiIn y total
+AreIn (material.Dsa p q g y) total =
+    IsMpiIn p total × IsMpiIn q total × IsMpiIn g total × IsMpiIn y total
+AreIn (material.Ecdh oid point kdf) total = IsIn oid total × IsMpiIn point total × IsIn kdf total
+AreIn (material.Ecdsa oid point) total = IsIn oid total × IsMpiIn point total
+AreIn (material.Eddsa oid point) total = IsIn oid total × IsMpiIn point total
+AreIn (material.X25519 octets) total = IsSizedIn 32 octets total
+AreIn (material.X448 octets) total = IsSizedIn 56 octets total
+AreIn (material.Ed25519 octets) total = IsSizedIn 32 octets total
+AreIn (material.Ed448 octets) total = IsSizedIn 57 octets total
+AreIn (material.Opaque octets) total = IsIn octets total
 
 -- there is one proof of it at most
 pub AreIn-prop : (m : Material MpiSpan Span) (total : ℕ) → IsProp (AreIn m total)
-AreIn-prop (Rsa n e) total = hlevel props
-AreIn-prop (Elgamal p g y) total = hlevel props
-AreIn-prop (Dsa p q g y) total = hlevel props
-AreIn-prop (Ecdh oid point kdf) total = hlevel props
-AreIn-prop (Ecdsa oid point) total = hlevel props
-AreIn-prop (Eddsa oid point) total = hlevel props
-AreIn-prop (X25519 octets) total = hlevel props
-AreIn-prop (X448 octets) total = hlevel props
-AreIn-prop (Ed25519 octets) total = hlevel props
-AreIn-prop (Ed448 octets) total = hlevel props
-AreIn-prop (Opaque octets) total = hlevel props
+AreIn-prop (material.Rsa n e) total = hlevel props
+AreIn-prop other total = hlevel props

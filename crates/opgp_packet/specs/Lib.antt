@@ -7,6 +7,7 @@ pub mod AttributeBody
 pub mod Cursor
 pub mod FieldReading
 pub mod Fields
+pub mod Forms
 pub mod Key
 pub mod KeyBody
 pub mod KeyMaterial

@@ -9,30 +9,29 @@ use Rattle.opgp_packet.specs.declared.spans.MpiSpan.{MpiSpan}
 use Rattle.opgp_packet.specs.Fields.{Field, bare, integer_of}
 use Rattle.opgp_packet.specs.Spans.{octets_in, integer_in, IsIn, IsMpiIn}
 use Rattle.opgp_packet.specs.declared.signature_material.SignatureMaterial.{SignatureMaterial}
-use Rattle.opgp_packet.specs.declared.signature_material.SignatureMaterial.TheVariants.{Rsa, Dsa, Ecdsa, Eddsa}
-use Rattle.opgp_packet.specs.declared.signature_material.SignatureMaterial.TheVariants.{Ed25519, Ed448, Opaque}
+use Rattle.opgp_packet.specs.declared.signature_material.SignatureMaterial.TheVariants as material
 use Rattle.opgp_packet.specs.SignatureShape.{Shape, rsa, dsa, ecdsa, eddsa, ed25519, ed448, opaque}
 
 -- its fields, by what an integer and octets stand for
 abbrev pub fields_by : {I O : Type 0} → (I → Field) → (O → List ℕ) → SignatureMaterial I O
     → List Field
-fields_by f g (Rsa s) = f s ∷ []
-fields_by f g (Dsa r s) = f r ∷ f s ∷ []
-fields_by f g (Ecdsa r s) = f r ∷ f s ∷ []
-fields_by f g (Eddsa r s) = f r ∷ f s ∷ []
-fields_by f g (Ed25519 octets) = bare (g octets) ∷ []
-fields_by f g (Ed448 octets) = bare (g octets) ∷ []
-fields_by f g (Opaque octets) = bare (g octets) ∷ []
+fields_by f g (material.Rsa s) = f s ∷ []
+fields_by f g (material.Dsa r s) = f r ∷ f s ∷ []
+fields_by f g (material.Ecdsa r s) = f r ∷ f s ∷ []
+fields_by f g (material.Eddsa r s) = f r ∷ f s ∷ []
+fields_by f g (material.Ed25519 octets) = bare (g octets) ∷ []
+fields_by f g (material.Ed448 octets) = bare (g octets) ∷ []
+fields_by f g (material.Opaque octets) = bare (g octets) ∷ []
 
 -- its form
 abbrev pub shape : {I O : Type 0} → SignatureMaterial I O → Shape
-shape (Rsa s) = rsa
-shape (Dsa r s) = dsa
-shape (Ecdsa r s) = ecdsa
-shape (Eddsa r s) = eddsa
-shape (Ed25519 octets) = ed25519
-shape (Ed448 octets) = ed448
-shape (Opaque octets) = opaque
+shape (material.Rsa s) = rsa
+shape (material.Dsa r s) = dsa
+shape (material.Ecdsa r s) = ecdsa
+shape (material.Eddsa r s) = eddsa
+shape (material.Ed25519 octets) = ed25519
+shape (material.Ed448 octets) = ed448
+shape (material.Opaque octets) = opaque
 
 -- the fields that views show
 abbrev pub material_fields : SignatureMaterial MpiView (Bor (List ℕ)) → List Field
@@ -40,8 +39,8 @@ material_fields = fields_by integer_of (λ o. o.now)
 
 -- octets of one size have it
 abbrev pub HasSizes : SignatureMaterial MpiView (Bor (List ℕ)) → Type 0
-HasSizes (Ed25519 octets) = length octets.now ≡ 64
-HasSizes (Ed448 octets) = length octets.now ≡ 114
+HasSizes (material.Ed25519 octets) = length octets.now ≡ 64
+HasSizes (material.Ed448 octets) = length octets.now ≡ 114
 HasSizes other = Unit {0}
 
 -- the fields at places in a body
@@ -54,20 +53,15 @@ IsSizedIn size p total = IsIn p total × (p.end ≡ p.start + size)
 
 -- all of them lie in so many octets
 abbrev pub AreIn : SignatureMaterial MpiSpan Span → ℕ → Type 0
-AreIn (Rsa s) total = IsMpiIn s total
-AreIn (Dsa r s) total = IsMpiIn r total × IsMpiIn s total
-AreIn (Ecdsa r s) total = IsMpiIn r total × IsMpiIn s total
-AreIn (Eddsa r s) total = IsMpiIn r total × IsMpiIn s total
-AreIn (Ed25519 octets) total = IsSizedIn 64 octets total
-AreIn (Ed448 octets) total = IsSizedIn 114 octets total
-AreIn (Opaque octets) total = IsIn octets total
+AreIn (material.Rsa s) total = IsMpiIn s total
+AreIn (material.Dsa r s) total = IsMpiIn r total × IsMpiIn s total
+AreIn (material.Ecdsa r s) total = IsMpiIn r total × IsMpiIn s total
+AreIn (material.Eddsa r s) total = IsMpiIn r total × IsMpiIn s total
+AreIn (material.Ed25519 octets) total = IsSizedIn 64 octets total
+AreIn (material.Ed448 octets) total = IsSizedIn 114 octets total
+AreIn (material.Opaque octets) total = IsIn octets total
 
 -- there is one proof of it at most
 pub AreIn-prop : (m : SignatureMaterial MpiSpan Span) (total : ℕ) → IsProp (AreIn m total)
-AreIn-prop (Rsa s) total = hlevel props
-AreIn-prop (Dsa r s) total = hlevel props
-AreIn-prop (Ecdsa r s) total = hlevel props
-AreIn-prop (Eddsa r s) total = hlevel props
-AreIn-prop (Ed25519 octets) total = hlevel props
-AreIn-prop (Ed448 octets) total = hlevel props
-AreIn-prop (Opaque octets) total = hlevel props
+AreIn-prop (material.Rsa s) total = hlevel props
+AreIn-prop other total = hlevel props

@@ -1,45 +1,43 @@
 -- What a meaning over borrowed octets shows.
-use Rattle.opgp_packet.specs.Meaning.{Meaning, created, expires, exportable, trust, regular_expression}
-use Rattle.opgp_packet.specs.Meaning.{revocable, key_expires, preferred_symmetric, revocation_key}
-use Rattle.opgp_packet.specs.Meaning.{issuer, notation, preferred_hash, preferred_compression}
-use Rattle.opgp_packet.specs.Meaning.{key_server_preferences, preferred_key_server, primary_user_id}
-use Rattle.opgp_packet.specs.Meaning.{policy_uri, key_flags, signers_user_id, revocation_reason}
-use Rattle.opgp_packet.specs.Meaning.{features, signature_target, embedded_signature}
-use Rattle.opgp_packet.specs.Meaning.{issuer_fingerprint, intended_recipient, preferred_aead, unfit}
-use Rattle.opgp_packet.specs.Meaning.{unknown}
+use Rattle.opgp_octets.specs.declared.subpacket_kind.SubpacketKind.TheVariants as kind
+use Rattle.opgp_packet.specs.Meaning.{Meaning, typed, unfit, unknown}
+use Rattle.opgp_packet.specs.Forms as form
 use Rattle.opgp_packet.specs.declared.sub_meaning.SubMeaning.{SubMeaning}
 use Rattle.opgp_packet.specs.declared.sub_meaning.SubMeaning.TheVariants as sub
 
 abbrev pub meaning_shown : SubMeaning → Meaning
-meaning_shown (sub.Created n) = created n
-meaning_shown (sub.Expires n) = expires n
-meaning_shown (sub.Exportable n) = exportable n
-meaning_shown (sub.Trust level amount) = trust level amount
-meaning_shown (sub.RegularExpression text) = regular_expression text.now
-meaning_shown (sub.Revocable n) = revocable n
-meaning_shown (sub.KeyExpires n) = key_expires n
-meaning_shown (sub.PreferredSymmetric list) = preferred_symmetric list.now
+meaning_shown (sub.Created n) = typed kind.Created form.number n
+meaning_shown (sub.Expires n) = typed kind.Expires form.number n
+meaning_shown (sub.Exportable n) = typed kind.Exportable form.octet n
+meaning_shown (sub.Trust level amount) = typed kind.Trust form.two_octets (level, amount)
+meaning_shown (sub.RegularExpression text) = typed kind.RegularExpression form.ended_text text.now
+meaning_shown (sub.Revocable n) = typed kind.Revocable form.octet n
+meaning_shown (sub.KeyExpires n) = typed kind.KeyExpires form.number n
+meaning_shown (sub.PreferredSymmetric list) = typed kind.PreferredSymmetric form.octets list.now
 meaning_shown (sub.RevocationKey class algorithm fingerprint) =
-    revocation_key class algorithm fingerprint.now
-meaning_shown (sub.Issuer id) = issuer id
-meaning_shown (sub.Notation flags name value) = notation flags name.now value.now
-meaning_shown (sub.PreferredHash list) = preferred_hash list.now
-meaning_shown (sub.PreferredCompression list) = preferred_compression list.now
-meaning_shown (sub.KeyServerPreferences flags) = key_server_preferences flags.now
-meaning_shown (sub.PreferredKeyServer text) = preferred_key_server text.now
-meaning_shown (sub.PrimaryUserId n) = primary_user_id n
-meaning_shown (sub.PolicyUri text) = policy_uri text.now
-meaning_shown (sub.KeyFlags flags) = key_flags flags.now
-meaning_shown (sub.SignersUserId text) = signers_user_id text.now
-meaning_shown (sub.RevocationReason code text) = revocation_reason code text.now
-meaning_shown (sub.Features flags) = features flags.now
+    typed kind.RevocationKey form.revoker (class, algorithm, fingerprint.now)
+meaning_shown (sub.Issuer id) = typed kind.Issuer form.key_id id
+meaning_shown (sub.Notation flags name value) =
+    typed kind.Notation form.notation (flags, name.now, value.now)
+meaning_shown (sub.PreferredHash list) = typed kind.PreferredHash form.octets list.now
+meaning_shown (sub.PreferredCompression list) = typed kind.PreferredCompression form.octets list.now
+meaning_shown (sub.KeyServerPreferences flags) =
+    typed kind.KeyServerPreferences form.octets flags.now
+meaning_shown (sub.PreferredKeyServer text) = typed kind.PreferredKeyServer form.octets text.now
+meaning_shown (sub.PrimaryUserId n) = typed kind.PrimaryUserId form.octet n
+meaning_shown (sub.PolicyUri text) = typed kind.PolicyUri form.octets text.now
+meaning_shown (sub.KeyFlags flags) = typed kind.KeyFlags form.octets flags.now
+meaning_shown (sub.SignersUserId text) = typed kind.SignersUserId form.octets text.now
+meaning_shown (sub.RevocationReason code text) =
+    typed kind.RevocationReason form.code_and_text (code, text.now)
+meaning_shown (sub.Features flags) = typed kind.Features form.octets flags.now
 meaning_shown (sub.SignatureTarget algorithm hash digest) =
-    signature_target algorithm hash digest.now
-meaning_shown (sub.EmbeddedSignature body) = embedded_signature body.now
+    typed kind.SignatureTarget form.target (algorithm, hash, digest.now)
+meaning_shown (sub.EmbeddedSignature body) = typed kind.EmbeddedSignature form.signature body.now
 meaning_shown (sub.IssuerFingerprint version fingerprint) =
-    issuer_fingerprint version fingerprint.now
+    typed kind.IssuerFingerprint form.fingerprint (version, fingerprint.now)
 meaning_shown (sub.IntendedRecipient version fingerprint) =
-    intended_recipient version fingerprint.now
-meaning_shown (sub.PreferredAead pairs) = preferred_aead pairs.now
+    typed kind.IntendedRecipient form.fingerprint (version, fingerprint.now)
+meaning_shown (sub.PreferredAead pairs) = typed kind.PreferredAead form.pairs pairs.now
 meaning_shown sub.Unfit = unfit
 meaning_shown sub.Unknown = unknown

@@ -75,6 +75,7 @@ impl<const V: u8> Body for AreaPlaces<V> {
 
     ghost lies_prop = { AreasLie-prop };
 
+    #[inline(always)]
     #[tactic(auto, unfolding(crate::specs::FieldReading::body_at, crate::specs::SignatureBody::with_areas))]
     fn read(o: &[u8]) -> Result<AreaPlaces<V>, BodyFault> {
         let mut cursor = Cursor::new(o);

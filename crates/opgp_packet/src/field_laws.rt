@@ -22,18 +22,21 @@ pub fn the_first_fault_is_answered()
 {}
 
 /// A body is that of one list of fields.
+#[tactic(auto, using(crate::proofs::GrammarLaws::one_body))]
 pub fn one_body()
     ensures { (grammar : Grammar) (fields others : List Field) (o : List ℕ) → Body grammar fields o
         → Body grammar others o → fields ≡ others }
 {}
 
 /// Octets have one first fault.
+#[tactic(auto, using(crate::proofs::GrammarLaws::one_fault))]
 pub fn one_fault()
     ensures { (grammar : Grammar) (o : List ℕ) (f g : BodyFault) → IsOctets o
         → FirstFault (length o) grammar o f → FirstFault (length o) grammar o g → f ≡ g }
 {}
 
 /// A body has no fault.
+#[tactic(auto, using(crate::proofs::GrammarLaws::no_fault))]
 pub fn no_fault()
     ensures { (grammar : Grammar) (fields : List Field) (o : List ℕ) (f : BodyFault) → IsOctets o
         → Body grammar fields o → FirstFault (length o) grammar o f → ⊥ }
@@ -60,6 +63,7 @@ pub fn the_area_fault_is_answered()
 {}
 
 /// No spelling of a subpacket begins another.
+#[tactic(auto, using(crate::proofs::AreaLaws::one_sub))]
 pub fn one_subpacket()
     ensures { (s t : Sub) (x y : List ℕ) → IsSub s → IsSub t
         → sub_octets s ++ x ≡ sub_octets t ++ y → (s ≡ t) × (x ≡ y) }

@@ -27,7 +27,6 @@ mod sub_view;
 mod subpacket;
 mod subs;
 mod three;
-mod typed;
 mod user_id;
 mod walk;
 

@@ -1,13 +1,13 @@
 //! A subpacket of a signature.
 
-ghost use Rattle.std.specs.Prelude.{◌≡◌, ◌≤◌, length, IfSome, IfNone};
+ghost use Rattle.std.specs.Prelude.{◌≡◌, ◌≤◌, length};
+ghost use Rattle.std.specs.Option.{option_map};
 ghost use Rattle.opgp_octets.specs.Octets.{IsOctets, IsBodySized};
 ghost use Rattle.opgp_octets.specs.SubpacketKind.{subpacket_kind_of};
 
 use crate::Subpacket;
-use crate::sig_view::SigView;
-use crate::sub_meaning::SubMeaning;
-use crate::typed::typed;
+use crate::forms::{key_id, named};
+use crate::sub_meaning::{KeyId8, SubMeaning, typed};
 use opgp_octets::{SubLen, SubpacketKind};
 
 /// A subpacket of a signature, over the octets of its area (RFC 9580, 5.2.3.7).
@@ -19,10 +19,9 @@ pub struct SubView<'a> {
 impl<'a> SubView<'a> {
     ghost use Rattle.opgp_packet.specs.Subpackets.{IsSub};
     ghost use Rattle.opgp_packet.specs.SubView.{sub_shown, is_critical, kind_shown};
+    ghost use Rattle.opgp_packet.specs.SubView.{issuer_in, issuer_fingerprint_in};
     ghost use Rattle.opgp_packet.specs.Meaning.{Means};
     ghost use Rattle.opgp_packet.specs.MeaningReading.{meaning_of};
-    ghost use Rattle.opgp_packet.specs.SigView.{sig_view_value, sig_view_octets};
-    ghost use Rattle.opgp_packet.specs.SignatureBody.{SignatureValue, Spells};
     ghost use Rattle.opgp_packet.specs.SubMeaning.{meaning_shown};
 
     /// Its length, which counts the type octet, and the form of the length.
@@ -55,23 +54,30 @@ impl<'a> SubView<'a> {
         self.sub.octets()
     }
 
-    /// The signature that a subpacket of kind 32 holds (RFC 9580, 5.2.3.34); None for other kinds,
-    /// and where its octets are no signature's body. Takes no memory; the work is linear in its
-    /// octets.
-    pub fn embedded(&self) -> Option<SigView<'a>>
-        ensures found { IfSome result (λ v. (kind_shown (sub_shown self.now).kind ≡ 32)
-            × Spells (sig_view_value v) (sub_shown self.now).octets
-            × (sig_view_octets v ≡ (sub_shown self.now).octets)) }
-        ensures none { IfNone result (kind_shown (sub_shown self.now).kind ≡ 32
-            → (value : SignatureValue) → Spells value (sub_shown self.now).octets → ⊥) }
+    /// The key ID of who made the signature, where the kind is 16 and there are 8 octets (RFC 9580,
+    /// 5.2.3.12).
+    pub fn issuer(&self) -> Option<KeyId8>
+        ensures { result ≡ issuer_in (sub_shown self.now) }
     {
-        if self.kind() != SubpacketKind::EmbeddedSignature.number() {
+        if self.kind() != SubpacketKind::Issuer.number() {
             return None;
         }
-        SigView::parse_body(self.octets()).ok()
+        key_id(self.octets())
     }
 
-    /// What it means: the typed form that its octets have, or [`SubMeaning::Unfit`], or
+    /// The version and the fingerprint of the key that made the signature, where the kind is 33
+    /// and the fingerprint has 20 octets in version 4, or 32 in version 6 (RFC 9580, 5.2.3.35).
+    pub fn issuer_fingerprint(&self) -> Option<(u8, &'a [u8])>
+        ensures { option_map (λ x. (x.0, x.1.now)) result
+            ≡ issuer_fingerprint_in (sub_shown self.now) }
+    {
+        if self.kind() != SubpacketKind::IssuerFingerprint.number() {
+            return None;
+        }
+        named(self.octets())
+    }
+
+    /// What it means: its octets in the form of its kind, or [`SubMeaning::Unfit`], or
     /// [`SubMeaning::Unknown`]. Takes no memory; the work is linear in its octets. For kind 32 it
     /// reads a whole signature: whoever looks for another kind asks for [`SubView::kind`] first.
     pub fn meaning(&self) -> SubMeaning<'a>

@@ -1,8 +1,7 @@
-mod Embedded
+pub mod Asking
 mod FirstLaws
-mod Looking
 mod NamedKeys
+mod Numbered
 mod Rewriting
 mod Scanning
 mod Standing
-mod Telling

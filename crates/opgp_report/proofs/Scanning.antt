@@ -6,11 +6,12 @@ use Rattle.std.proofs.lemmas.Bool.{eqb-true}
 use Rattle.std.proofs.lemmas.List.Concat.{flat_map-append}
 use Rattle.std.proofs.lemmas.List.Elements.{All-head, All-tail}
 use Rattle.opgp_frame.specs.Packet.{PacketValue}
-use Rattle.opgp_hash.specs.SubjectValue.{SubjectValue}
+use Rattle.opgp_hash.specs.SubjectValue.{SubjectValue, one}
 use Rattle.opgp_ring.specs.Keyring.{CertificateValue, ComponentValue, KeyringValue, IsComponent, IsCertificate, IsKeyring, IsHung, IsHead, IsFiller, IsPrimary, is_primary, is_hung, is_filler, component_packets, certificate_packets, flat}
-use Rattle.opgp_report.specs.Asked.{Asked, hang_asked, hangs_asked, component_asked, components_asked, certificate_asked, asked_of}
-use Rattle.opgp_report.specs.Report.{certificate_keys, keys_in, on_head, on_primary, subkey_bodies}
-use Rattle.opgp_report.specs.Standing.{is_key}
+use Rattle.opgp_report.specs.Asked.{Asked, asked_of}
+use Rattle.opgp_report.specs.Report.{certificate_keys, keys_in, subkey_bodies}
+use Rattle.opgp_report.specs.Standing.{is_key, on_head}
+use Rattle.opgp_report.proofs.Asking.{certificate_asked, component_asked, components_asked, hang_asked, hangs_asked, ring_asks}
 
 -- where packets stand: before all certificates, or within one, about a subject
 data Spot : Type 0 where
@@ -26,7 +27,7 @@ head_step outside p = outside
 head_step (within primary subject) p = within primary (on_head primary p)
 
 abbrev step : Spot → PacketValue → Spot
-step spot p = if is_hung p.kind then spot else (if is_primary p.kind then within p.body (on_primary p.body) else head_step spot p)
+step spot p = if is_hung p.kind then spot else (if is_primary p.kind then within p.body (one p.body) else head_step spot p)
 
 abbrev scan : Spot → List PacketValue → List Asked
 scan spot [] = []
@@ -65,7 +66,7 @@ head_kind P x y z p e = heads P x y z true (p.kind == 13) (p.kind == 17) (p.kind
 
 -- ---- one packet more
 hung : (spot : Spot) (p : PacketValue) (ps : List PacketValue) → IsHung p → scan spot (p ∷ ps) ≡ here spot p ++ scan spot ps
-hung spot p ps e = ap (λ (b : Bool). here spot p ++ scan (if b then spot else (if is_primary p.kind then within p.body (on_primary p.body) else head_step spot p)) ps) e
+hung spot p ps e = ap (λ (b : Bool). here spot p ++ scan (if b then spot else (if is_primary p.kind then within p.body (one p.body) else head_step spot p)) ps) e
 
 nothing_here : (spot : Spot) (p : PacketValue) → (p.kind == 2) ≡ false → here spot p ≡ []
 nothing_here outside p e = refl
@@ -74,11 +75,11 @@ nothing_here (within primary subject) p e = rw e refl
 filler : (spot : Spot) (p : PacketValue) (ps : List PacketValue) → IsFiller p → scan spot (p ∷ ps) ≡ scan spot ps
 filler spot p ps e = hung spot p ps (filler_is_hung p e) ∙ ap (λ (l : List Asked). l ++ scan spot ps) (nothing_here spot p (filler_signs_nothing p e))
 
-primary : (spot : Spot) (p : PacketValue) (ps : List PacketValue) → IsPrimary p → scan spot (p ∷ ps) ≡ scan (within p.body (on_primary p.body)) ps
+primary : (spot : Spot) (p : PacketValue) (ps : List PacketValue) → IsPrimary p → scan spot (p ∷ ps) ≡ scan (within p.body (one p.body)) ps
 primary spot p ps e =
     let kind : p.kind ≡ 6 = primary_kind p e in
     ap (λ (l : List Asked). l ++ scan (step spot p) ps) (nothing_here spot p (ap (λ (k : ℕ). k == 2) kind))
-    ∙ ap (λ (k : ℕ). scan (if is_hung k then spot else (if is_primary k then within p.body (on_primary p.body) else head_step spot p)) ps) kind
+    ∙ ap (λ (k : ℕ). scan (if is_hung k then spot else (if is_primary k then within p.body (one p.body) else head_step spot p)) ps) kind
 
 head : (body : List ℕ) (subject : SubjectValue) (p : PacketValue) (ps : List PacketValue) → IsHead p → scan (within body subject) (p ∷ ps) ≡ scan (within body (on_head body p)) ps
 head body subject p ps e =
@@ -86,8 +87,8 @@ head body subject p ps e =
     let no_hang : is_hung p.kind ≡ false = head_kind (λ k. is_hung k ≡ false) refl refl refl p e in
     let no_primary : is_primary p.kind ≡ false = head_kind (λ k. is_primary k ≡ false) refl refl refl p e in
     ap (λ (l : List Asked). l ++ scan (step (within body subject) p) ps) (nothing_here (within body subject) p other)
-    ∙ ap (λ (b : Bool). scan (if b then within body subject else (if is_primary p.kind then within p.body (on_primary p.body) else within body (on_head body p))) ps) no_hang
-    ∙ ap (λ (b : Bool). scan (if b then within p.body (on_primary p.body) else within body (on_head body p)) ps) no_primary
+    ∙ ap (λ (b : Bool). scan (if b then within body subject else (if is_primary p.kind then within p.body (one p.body) else within body (on_head body p))) ps) no_hang
+    ∙ ap (λ (b : Bool). scan (if b then within p.body (one p.body) else within body (on_head body p)) ps) no_primary
 
 -- ---- parts of a keyring
 fillers : (spot : Spot) (fs rest : List PacketValue) → All IsFiller fs → scan spot (fs ++ rest) ≡ scan spot rest
@@ -119,17 +120,17 @@ components body subject (c ∷ cs) rest all =
     ∙ sym (append_assoc (component_asked body c) (components_asked body cs) (scan (within body (last_subject body about cs)) rest))
 
 abbrev end_of : CertificateValue → Spot
-end_of c = within c.primary.body (last_subject c.primary.body (on_primary c.primary.body) c.components)
+end_of c = within c.primary.body (last_subject c.primary.body (one c.primary.body) c.components)
 
 certificate : (spot : Spot) (c : CertificateValue) (rest : List PacketValue) → IsCertificate c → scan spot (certificate_packets c ++ rest) ≡ certificate_asked c ++ scan (end_of c) rest
 certificate spot c rest is =
     let body : List ℕ = c.primary.body in
     let parts : List PacketValue = flat_map component_packets c.components in
     primary spot c.primary ((c.hangs ++ parts) ++ rest) is.primary
-    ∙ ap (λ (l : List PacketValue). scan (within body (on_primary body)) l) (append_assoc c.hangs parts rest)
-    ∙ hangs body (on_primary body) c.hangs (parts ++ rest) is.hangs
-    ∙ ap (λ (l : List Asked). hangs_asked (on_primary body) c.hangs ++ l) (components body (on_primary body) c.components rest is.components)
-    ∙ sym (append_assoc (hangs_asked (on_primary body) c.hangs) (components_asked body c.components) (scan (end_of c) rest))
+    ∙ ap (λ (l : List PacketValue). scan (within body (one body)) l) (append_assoc c.hangs parts rest)
+    ∙ hangs body (one body) c.hangs (parts ++ rest) is.hangs
+    ∙ ap (λ (l : List Asked). hangs_asked (one body) c.hangs ++ l) (components body (one body) c.components rest is.components)
+    ∙ sym (append_assoc (hangs_asked (one body) c.hangs) (components_asked body c.components) (scan (end_of c) rest))
 
 abbrev behind_all : Spot → List CertificateValue → Spot
 behind_all spot [] = spot
@@ -149,6 +150,7 @@ ring spot r rest is =
     ap (λ (l : List PacketValue). scan spot l) (append_assoc r.lead (flat_map certificate_packets r.certificates) rest)
     ∙ fillers spot r.lead (flat_map certificate_packets r.certificates ++ rest) is.lead
     ∙ certificates spot r.certificates rest is.certificates
+    ∙ ap (λ (l : List Asked). l ++ scan (behind_all spot r.certificates) rest) (sym (ring_asks r))
 
 whole : (spot : Spot) (r : KeyringValue) → IsKeyring r → scan spot (flat r) ≡ asked_of r
 whole spot r is = ap (λ (l : List PacketValue). scan spot l) (sym (append-nil (flat r))) ∙ ring spot r [] is ∙ append-nil (asked_of r)

@@ -1,8 +1,18 @@
--- What rows are made with.
-use Rattle.std.specs.Prelude.{ℕ, List}
+-- What rows are made with, and which are added.
+use Rattle.std.specs.Prelude.{◌≡◌, ℕ, ⊤, List, ◌++◌, map, Result, Ok, Err}
 use Rattle.opgp_report.specs.declared.asker.Asker.{Asker}
+use Rattle.opgp_report.specs.Report.{Says, row_of}
+use Rattle.opgp_report.specs.Row.{row_value}
 use Rattle.opgp_report.specs.Signers.{signers_keys}
+use Rattle.opgp_report.specs.Standing.{Standing}
 
 -- the bodies of the keys that may be signers
 abbrev pub asker_keys : {V : Type 0} → Asker V → List (List ℕ)
 asker_keys a = signers_keys a.signers
+
+-- a row is added for each that it is shown, unless memory is wanting
+abbrev pub AddsRows : {V E : Type 0} → (V → Says) → Asker V → List Standing
+    → Result (Asker V) E → Type 0
+AddsRows says a list (Ok b) = map row_value b.rows.items
+    ≡ map row_value a.rows.items ++ map (row_of (says a.verifier.now) (asker_keys a)) list
+AddsRows says a list (Err refusal) = ⊤

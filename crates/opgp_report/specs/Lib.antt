@@ -10,3 +10,4 @@ pub mod Signer
 pub mod Signers
 pub mod Standing
 pub mod Told
+pub mod Visitor

@@ -1,37 +1,11 @@
 -- Which key made a signature, as its subpackets say (RFC 9580, 5.2.3.12, 5.2.3.35).
-use Rattle.std.specs.Prelude.{ℕ, ◌==◌, ◌&&◌, ◌||◌, if◌then◌else◌, List, [], ◌∷◌, length, Option}
-use Rattle.std.specs.Prelude.{Some, None}
-use Rattle.opgp_octets.specs.SubpacketKind.{subpacket_kind_number}
-use Rattle.opgp_octets.specs.declared.subpacket_kind.SubpacketKind.TheVariants as kinds
+use Rattle.std.specs.Prelude.{ℕ, List, [], ◌∷◌, Option, Some, None}
 use Rattle.opgp_packet.specs.Subpackets.{Sub}
 use Rattle.opgp_packet.specs.Areas.{hashed_subs, unhashed_subs}
 use Rattle.opgp_packet.specs.SignatureBody.{SignatureValue}
-use Rattle.opgp_packet.specs.SubView.{kind_shown}
+use Rattle.opgp_packet.specs.SubView.{issuer_in, issuer_fingerprint_in}
 use Rattle.opgp_hash.specs.declared.fingerprints.Fingerprint.{Fingerprint}
 use Rattle.opgp_report.specs.First.{first_by_id, first_by_print}
-
--- ---- what a subpacket names
-
--- a version, and a fingerprint of its size
-abbrev pub print_named : List ℕ → Option (ℕ × List ℕ)
-print_named [] = None
-print_named (version ∷ o) =
-    if ((version == 4) && (length o == 20)) || ((version == 6) && (length o == 32))
-    then Some (version, o) else None
-
--- an issuer's fingerprint, where its octets fit
-abbrev pub print_in : Sub → Option (ℕ × List ℕ)
-print_in s =
-    if kind_shown s.kind == subpacket_kind_number kinds.IssuerFingerprint then print_named s.octets
-    else None
-
--- an issuer's key ID
-abbrev pub id_in : Sub → Option (List ℕ)
-id_in s =
-    if (kind_shown s.kind == subpacket_kind_number kinds.Issuer) && (length s.octets == 8)
-    then Some s.octets else None
-
--- ---- the first that names it
 
 abbrev pub some_or : {B : Type 0} → Option B → Option B → Option B
 some_or (Some y) other = Some y
@@ -50,8 +24,8 @@ key_named prints None None = None
 -- a fingerprint counts in the hashed area alone, and then no key ID is asked; a key ID counts in
 -- both, in the hashed area first
 abbrev pub signer_by : List Fingerprint → List Sub → List Sub → Option ℕ
-signer_by prints hashed unhashed = key_named prints (first_some print_in hashed)
-    (some_or (first_some id_in hashed) (first_some id_in unhashed))
+signer_by prints hashed unhashed = key_named prints (first_some issuer_fingerprint_in hashed)
+    (some_or (first_some issuer_in hashed) (first_some issuer_in unhashed))
 
 -- the place, in a list of keys, of the key that made the signature
 abbrev pub signer_of : List Fingerprint → SignatureValue → Option ℕ

@@ -6,9 +6,9 @@ ghost use Rattle.opgp_report.specs.Row.{report_rows};
 
 use crate::asker::Asker;
 use crate::report::Report;
-use crate::rows::add_certificates;
 use crate::signers::Signers;
 use crate::verifier::Verifier;
+use crate::walk::visit;
 use opgp_octets::OutOfMemory;
 use opgp_ring::Keyring;
 use std::alloc::Global;
@@ -36,8 +36,7 @@ pub fn check<V: Verifier>(
         report_rows r ≡ report_of (V.says verifier.now) keyring.now) }
 {
     let signers = Signers::of(alloc, keyring)?;
-    let asker = Asker::new(signers, verifier);
-    let mut rows = Vec::new(alloc);
-    add_certificates(&mut rows, &asker, keyring.certificates())?;
-    Ok(Report { rows })
+    let mut asker = Asker::new(alloc, signers, verifier);
+    visit(&mut asker, keyring)?;
+    Ok(Report { rows: asker.rows })
 }

@@ -5,9 +5,10 @@ ghost use Rattle.std.specs.List.{slice_get};
 ghost use Rattle.opgp_ring.specs.Joining.{nth_of};
 ghost use Rattle.opgp_ring.specs.Keyring.{CertificateValue, KeyringValue, IsKeyring, flat};
 ghost use Rattle.opgp_ring.specs.Normal.{normal_of};
-ghost use Rattle.opgp_report.specs.Asked.{asked_of, certificate_asked};
+ghost use Rattle.opgp_report.specs.Asked.{asked_by, asked_of};
 ghost use Rattle.opgp_report.specs.Report.{Says, certificate_keys, keys_in, report_of};
-ghost use Rattle.opgp_report.specs.Standing.{hang_at, is_key, is_outer, is_signature};
+ghost use Rattle.opgp_report.specs.Standing.{certificate_standing, hang_at, is_key, is_outer};
+ghost use Rattle.opgp_report.specs.Standing.{is_signature};
 ghost use Rattle.opgp_report.specs.Told.{asked_told, row_told};
 
 /// The rows of a keyring's report, whoever the verifier is, are those of what its signatures ask, in
@@ -19,6 +20,7 @@ pub fn rows_are_those_of_questions()
 
 /// The rows of a keyring's report that aren't of embedded signatures stand for its signature packets,
 /// in their order: each packet has one row, and hangs in that row's place.
+#[tactic(auto, using(crate::proofs::Standing::rows_stand))]
 pub fn rows_stand_where_signatures_hang()
     ensures { (says : Says) (r : KeyringValue) → IsKeyring r
         → map (λ row. hang_at r row.place) (filter is_outer (report_of says r))
@@ -26,12 +28,14 @@ pub fn rows_stand_where_signatures_hang()
 {}
 
 /// The keys of a keyring are those of its key and subkey packets, in their order.
+#[tactic(auto, using(crate::proofs::Scanning::packet_keys))]
 pub fn keys_of_a_keyring_are_those_of_its_packets()
     ensures { (r : KeyringValue) → IsKeyring r
         → keys_in r ≡ map (λ p. p.body) (filter is_key (flat r)) }
 {}
 
 /// In the current format a keyring has the report that it had, whoever the verifier is.
+#[tactic(auto, using(crate::proofs::Rewriting::normal_rows))]
 pub fn normal_keyrings_have_the_same_report()
     ensures { (says : Says) (r : KeyringValue) → report_of says (normal_of r) ≡ report_of says r }
 {}
@@ -55,7 +59,7 @@ pub fn joined_keyrings_ask_what_both_ask()
 pub fn one_certificate_asks_the_same()
     ensures questions { (r s : KeyringValue) (c : CertificateValue) (n : ℕ)
         → slice_get r.certificates n ≡ Some c → nth_of r n ≡ Some s
-        → asked_of s ≡ certificate_asked c }
+        → asked_of s ≡ map asked_by (certificate_standing n c) }
     ensures keys { (r s : KeyringValue) (c : CertificateValue) (n : ℕ)
         → slice_get r.certificates n ≡ Some c → nth_of r n ≡ Some s
         → keys_in s ≡ certificate_keys c }

@@ -5,17 +5,16 @@
 mod asker;
 mod checking;
 mod finding;
-mod found;
 pub mod laws;
 mod left_octets;
 mod names;
 mod place;
 mod report;
 mod row;
-mod rows;
 mod signers;
 mod signing;
 mod verifier;
+mod walk;
 
 pub use checking::check;
 pub use finding::question_at;

@@ -21,8 +21,8 @@ use std::alloc::Global;
 /// A key, with its key ID.
 #[derive(Clone, Copy)]
 pub(crate) struct Signer<'a> {
-    key: KeyView<'a>,
-    id: KeyId,
+    pub(crate) key: KeyView<'a>,
+    pub(crate) id: KeyId,
     ghost named: { id.0 ≡ id_of (print_of (body_octets key)) },
 }
 
@@ -70,7 +70,7 @@ impl<'a> Signers<'a> {
         let mut signers = self;
         let mut rest = components;
         'components: while let [component, more @ ..] = rest {
-            if let Head::Subkey(_, key) = component.head().head() {
+            if let Head::Subkey(key) = component.head().head() {
                 signers = signers.with(key.view())?;
             }
             rest = more;
@@ -116,28 +116,11 @@ impl<'a> Signers<'a> {
     }
 }
 
-/// The key of a signer, if there is one.
-pub(crate) fn key_of<'a>(signer: Option<Signer<'a>>) -> Option<KeyView<'a>>
-    ensures { option_map (λ k. body_octets k) result
-        ≡ option_map (λ s. body_octets s.key) signer.entry }
-{
-    let signer = signer?;
-    Some(signer.key)
-}
-
-/// Its key ID, if there is one.
-pub(crate) fn id_of(signer: Option<Signer<'_>>) -> Option<KeyId>
-    ensures { option_map (λ id. id.0) result ≡ option_map (λ body. id_of (print_of body))
-        (option_map (λ s. body_octets s.key) signer.entry) }
-{
-    let signer = signer?;
-    Some(signer.id)
-}
-
 /// The fingerprint of a key.
 fn print_of(key: &KeyView<'_>) -> Fingerprint
     ensures { result ≡ print_of (body_octets key.now) }
 {
+    // What these promise ties the version that is hashed to the body's first octet.
     let _body = key.body();
     let _version = key.version();
     fingerprint_of_view(*key)

@@ -11,6 +11,7 @@ pub mod Keeping
 pub mod KindTests
 pub mod Longer
 pub mod Normalised
+pub mod OneBodyFault
 pub mod OneFault
 pub mod Parts
 pub mod Prefixes

@@ -1,7 +1,7 @@
 -- Keyrings in the current format.
-use Rattle.std.proofs.Common.{◌≡◌, ℕ, true, false, nat_lt, if◌then◌else◌, List, [], ◌∷◌, ◌++◌, length, get_or, map, take, drop, All, refl, sym, ap, ◌∙◌}
+use Rattle.std.proofs.Common.{◌≡◌, ℕ, true, false, nat_lt, if◌then◌else◌, List, [], ◌∷◌, ◌++◌, length, get_or, map, All, refl, sym, ap, ◌∙◌}
 use Rattle.std.specs.List.{flat_map}
-use Rattle.std.proofs.lemmas.List.{map-append, take_at, length-map}
+use Rattle.std.proofs.lemmas.List.{map-append}
 use Rattle.std.proofs.lemmas.List.Elements.{All-map, All-weaker}
 use Rattle.opgp_frame.specs.declared.form.Form.TheVariants.{NewOne, NewTwo, NewFive}
 use Rattle.opgp_frame.specs.Packet.{PacketValue}
@@ -86,9 +86,3 @@ keyring_normal r k = record {
   lead = All-map IsFiller reframed r.lead k.lead;
   certificates = All-map IsCertificate normal_certificate r.certificates (All-weaker IsCertificate (λ c. IsCertificate (normal_certificate c)) certificate_normal r.certificates k.certificates);
 }
-
--- ---- in place
-
--- each element of a vector, written through its slice
-pub over_slice : {X : Type 0} (f : X → X) (new items : List X) (n : ℕ) → n ≡ length items → new ≡ map f items → take n (new ++ drop (length new) items) ≡ map f items
-over_slice {X} f new items n len e = take_at new (drop (length new) items) n (ap (length {A = X}) e ∙ length-map items f ∙ sym len) ∙ e

@@ -8,7 +8,7 @@ use Rattle.opgp_octets.specs.PacketType.{packet_type_of}
 use Rattle.opgp_octets.specs.declared.packet_type.PacketType.{PacketType}
 use Rattle.opgp_frame.specs.declared.packet.Placed.{Placed}
 use Rattle.opgp_frame.specs.Packet.{PacketValue}
-use Rattle.opgp_hash.specs.PacketBody.{HasBodyFault}
+use Rattle.opgp_ring.specs.PacketBody.{HasBodyFault}
 use Rattle.opgp_ring.specs.Bodies.{IsSound, IsFirstBodyFault, HasFault, HasNoFault, placed_fault}
 use Rattle.opgp_ring.specs.Composed.{IsFault}
 use Rattle.opgp_ring.specs.Composition.{Item, of_label, of_packet, placed_in, packets_in, labels_fit, AreKeyring, IsOrderFault, IsFaultAt}

@@ -9,7 +9,7 @@ use Rattle.opgp_octets.specs.PacketType.{packet_type_of}
 use Rattle.opgp_octets.specs.declared.fault.BodyFault.{BodyFault}
 use Rattle.opgp_packet.specs.LiteralBody.{LiteralFault}
 use Rattle.opgp_packet.specs.SignatureBody.{SignatureFault}
-use Rattle.opgp_hash.specs.PacketBody.{HasBodyFault}
+use Rattle.opgp_ring.specs.PacketBody.{HasBodyFault}
 use Rattle.opgp_ring.specs.Bodies.{HasNoFault}
 use Rattle.opgp_ring.specs.Keyring.{is_filler}
 use Rattle.opgp_ring.specs.Signed.{types_of, signed_types, bodies_of, IsSigned}

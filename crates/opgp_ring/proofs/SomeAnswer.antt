@@ -19,7 +19,7 @@ use Rattle.opgp_packet.specs.AttributeBody.{attribute}
 use Rattle.opgp_packet.specs.KeyBody.{key}
 use Rattle.opgp_packet.specs.LiteralBody.{literal}
 use Rattle.opgp_packet.specs.SignatureBody.{SignatureValue, Spells, SignatureFault}
-use Rattle.opgp_hash.specs.PacketBody.{HasBodyFault}
+use Rattle.opgp_ring.specs.PacketBody.{HasBodyFault}
 use Rattle.opgp_ring.specs.Bodies.{HasNoFault, placed_fault}
 use Rattle.opgp_ring.specs.Composed.{HasOctets, IsFault, IsKeyringOf}
 use Rattle.opgp_ring.specs.Composition.{FitsLimits, Item, IsFaultAt, fault_at, has_primary, needs_primary, of_label, of_packet, packets_in, stands_in_keyring}

@@ -9,7 +9,7 @@ use Rattle.opgp_octets.specs.Octets.{IsOctets}
 use Rattle.opgp_packet.specs.Fields.{Grammar, Field, Body, FirstFault}
 use Rattle.opgp_frame.specs.Packet.{PacketValue}
 use Rattle.opgp_ring.specs.Bodies.{HasFault}
-use Rattle.opgp_hash.specs.PacketBody.{HasBodyFault}
+use Rattle.opgp_ring.specs.PacketBody.{HasBodyFault}
 use Rattle.opgp_ring.specs.Composition.{stands_in_keyring}
 use Rattle.opgp_ring.specs.Keyring.{is_filler, is_head, is_hung, is_primary}
 use Rattle.opgp_ring.proofs.KindTests.{or_false}

@@ -7,7 +7,7 @@ use Rattle.opgp_octets.specs.declared.fault.BodyFault.{BodyFault}
 use Rattle.opgp_octets.specs.declared.fault.Layer.TheVariants.{Body}
 use Rattle.opgp_frame.specs.declared.packet.Placed.{Placed}
 use Rattle.opgp_frame.specs.Packet.{PacketValue}
-use Rattle.opgp_hash.specs.PacketBody.{HasBodyFault}
+use Rattle.opgp_ring.specs.PacketBody.{HasBodyFault}
 
 -- the packet's body is none of its type, and this is its first fault
 abbrev pub HasFault : PacketValue → BodyFault → Type 0

@@ -13,7 +13,8 @@ use Rattle.opgp_octets.specs.declared.fault.Reason.TheVariants as reasons
 use Rattle.opgp_frame.specs.declared.packet.Placed.{Placed}
 use Rattle.opgp_frame.specs.Packet.{PacketValue}
 use Rattle.opgp_ring.specs.Keyring.{KeyringValue, IsKeyring, flat, certificate_packets, octets_of}
-use Rattle.opgp_ring.specs.Keyring.{is_primary, is_head, is_hung, is_type}
+use Rattle.opgp_frame.specs.Header.{is_type}
+use Rattle.opgp_ring.specs.Keyring.{is_primary, is_head, is_hung}
 
 -- the lead and each certificate are spelled in no more octets than the limit
 pub record FitsLimits (limits : Limits) (r : KeyringValue) : Type 0 where

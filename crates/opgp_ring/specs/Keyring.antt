@@ -1,14 +1,9 @@
 -- Keyrings of public keys (RFC 9580, 10.1): what they are made of, and the packets that they are.
-use Rattle.std.specs.Prelude.{◌≡◌, ℕ, Bool, true, ◌||◌, ◌==◌, nat_le, List, ◌∷◌, ◌++◌, length, All}
+use Rattle.std.specs.Prelude.{◌≡◌, ℕ, Bool, true, ◌||◌, nat_le, List, ◌∷◌, ◌++◌, length, All}
 use Rattle.std.specs.List.{flat_map}
-use Rattle.opgp_octets.specs.PacketType.{packet_type_number}
-use Rattle.opgp_octets.specs.declared.packet_type.PacketType.{PacketType}
 use Rattle.opgp_octets.specs.declared.packet_type.PacketType.TheVariants as packet
+use Rattle.opgp_frame.specs.Header.{is_type}
 use Rattle.opgp_frame.specs.Packet.{PacketValue, spelling}
-
--- a number is that of this type
-abbrev pub is_type : PacketType → ℕ → Bool
-is_type t kind = kind == packet_type_number t
 
 -- marker, trust and padding packets (5.8, 5.10, 5.14), and those of types that aren't critical
 -- (4.3): they stay in place

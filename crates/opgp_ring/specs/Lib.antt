@@ -2,6 +2,7 @@ pub mod Block
 pub mod Bodies
 pub mod Composed
 pub mod Composition
+pub mod Content
 pub mod Fed
 pub mod Gathering
 pub mod Keyring
@@ -12,6 +13,7 @@ pub mod Taken
 pub mod Joining
 pub mod Lent
 pub mod Normal
+pub mod PacketBody
 pub mod Packets
 pub mod Shape
 pub mod Signed

@@ -4,13 +4,12 @@ ghost use Rattle.std.specs.Prelude.{◌≡◌, ◌||◌, ◌++◌, ◌∷◌, []
 ghost use Rattle.opgp_ring.specs.Keyring.{CertificateValue, IsCertificate, certificate_packets};
 ghost use Rattle.opgp_ring.specs.Keyring.{IsPrimary, IsHead, IsHung, IsFiller};
 ghost use Rattle.opgp_ring.specs.Keyring.{IsComponent, is_head, is_hung};
-ghost use Rattle.opgp_ring.specs.Normal.{normal_certificate};
 
 use crate::component::Component;
 use crate::content::Content;
 use crate::copying::copy_all;
 use crate::member::Member;
-use crate::reframing::{reframe_components, reframe_members};
+use crate::reframing::{Reframe, reframe_all};
 use opgp_frame::Packet;
 use opgp_octets::OutOfMemory;
 use opgp_packet::Key;
@@ -185,7 +184,7 @@ impl Certificate {
         ensures { body_octets result.now ≡ self.now.primary.body }
     {
         match self.primary.content() {
-            Content::Primary(_, key) => key,
+            Content::Primary(key) => key,
             _ => unreachable!(),
         }
     }
@@ -236,13 +235,16 @@ impl Certificate {
             components,
         })
     }
+}
 
-    /// Gives each of its packets the current format with its shortest length. Takes no memory.
-    pub(crate) fn reframe(&mut self, alloc: Global)
-        ensures { self.new ≡ normal_certificate self.old }
-    {
-        self.primary.reframe(alloc);
-        reframe_members(alloc, &mut self.hangs);
-        reframe_components(alloc, &mut self.components);
+impl Reframe for Certificate {
+    ghost use Rattle.opgp_ring.specs.Normal.{normal_certificate};
+
+    ghost normal = { normal_certificate };
+
+    fn reframe(&mut self) {
+        self.primary.reframe();
+        reframe_all(&mut self.hangs);
+        reframe_all(&mut self.components);
     }
 }

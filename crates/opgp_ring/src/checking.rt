@@ -5,8 +5,8 @@ ghost use Rattle.opgp_ring.specs.Bodies.{IsSound, IsFirstBodyFault};
 ghost use Rattle.opgp_ring.specs.Block.{placed_of};
 
 use crate::block_of::BlockOf;
+use crate::packet_body::body_fault;
 use opgp_frame::Placed;
-use opgp_hash::body_fault;
 use opgp_octets::{Fault, PacketType};
 
 /// The fault of the first packet whose body has one, in order of blocks (RFC 9580, 5). Takes no

@@ -3,11 +3,10 @@
 ghost use Rattle.std.specs.Prelude.{◌≡◌, ◌++◌, ◌∷◌, [], All, OnOk, OnErr, IfOk};
 ghost use Rattle.opgp_ring.specs.Keyring.{ComponentValue, IsComponent, IsHead};
 ghost use Rattle.opgp_ring.specs.Keyring.{IsHung};
-ghost use Rattle.opgp_ring.specs.Normal.{normal_component};
 
 use crate::copying::copy_all;
 use crate::member::Member;
-use crate::reframing::reframe_members;
+use crate::reframing::{Reframe, reframe_all};
 use opgp_octets::OutOfMemory;
 use std::alloc::Global;
 use std::marker::Model;
@@ -115,12 +114,15 @@ impl Component {
         let head = self.head.copy(alloc)?;
         Ok(Component { head, hangs })
     }
+}
 
-    /// Gives each of its packets the current format with its shortest length. Takes no memory.
-    pub(crate) fn reframe(&mut self, alloc: Global)
-        ensures { self.new ≡ normal_component self.old }
-    {
-        self.head.reframe(alloc);
-        reframe_members(alloc, &mut self.hangs);
+impl Reframe for Component {
+    ghost use Rattle.opgp_ring.specs.Normal.{normal_component};
+
+    ghost normal = { normal_component };
+
+    fn reframe(&mut self) {
+        self.head.reframe();
+        reframe_all(&mut self.hangs);
     }
 }

@@ -1,14 +1,14 @@
 //! Composing blocks of packets to a keyring.
 
-ghost use Rattle.std.specs.Prelude.{IfOk};
-ghost use Rattle.opgp_ring.specs.Block.{IsComposed, items_of};
+ghost use Rattle.std.specs.Prelude.{IfOk, MatchResult};
+ghost use Rattle.opgp_ring.specs.Block.{items_of};
 ghost use Rattle.opgp_ring.specs.Composed.{IsFault, IsKeyringOf};
 ghost use Rattle.opgp_ring.specs.Gathering.{Gathers};
 
 use crate::block_of::BlockOf;
-use crate::composed::Composed;
 use crate::gathering::Gathering;
-use opgp_octets::{Limits, OutOfMemory};
+use crate::keyring::Keyring;
+use opgp_octets::{Fault, Limits, OutOfMemory};
 use std::alloc::Global;
 
 /// The keyring of the packets of all blocks, in order (RFC 9580, 10.1), or the one fault: that of
@@ -19,13 +19,12 @@ pub fn compose(
     alloc: Global,
     blocks: Vec<BlockOf>,
     limits: &Limits,
-) -> Result<Composed, OutOfMemory>
-    ensures { IfOk result (IsComposed (IsKeyringOf limits.now (items_of blocks.items))
+) -> Result<Result<Keyring, Fault>, OutOfMemory>
+    ensures { IfOk result (λ r. MatchResult r
+        (IsKeyringOf limits.now (items_of blocks.items))
         (IsFault limits.now (items_of blocks.items))) }
 {
-    let gathering = gather(alloc, blocks, *limits)?;
-    let composed = gathering.finish()?;
-    Ok(composed)
+    gather(alloc, blocks, *limits)?.finish()
 }
 
 /// The parts of all blocks' packets but the last.

@@ -1,6 +1,6 @@
 //! Gathering the parts of a keyring.
 
-ghost use Rattle.std.specs.Prelude.{◌≡◌, ◌++◌, ◌∷◌, [], List, map, false, IfOk, OnOk};
+ghost use Rattle.std.specs.Prelude.{◌≡◌, ◌++◌, ◌∷◌, [], List, map, false, IfOk, MatchResult, OnOk};
 ghost use Rattle.opgp_octets.specs.declared.limits.Limits.{Limits};
 ghost use Rattle.opgp_ring.specs.Composed.{IsFault, IsKeyringOf, parts_of};
 ghost use Rattle.opgp_ring.specs.Composition.{Item, of_label, of_packet};
@@ -8,12 +8,11 @@ ghost use Rattle.opgp_ring.specs.Fed.{Fed, is_ready, is_spent};
 
 use crate::block_of::BlockOf;
 use crate::certificate::Certificate;
-use crate::composed::Composed;
 use crate::composer::Composer;
 use crate::keyring::Keyring;
 use crate::ready::Ready;
 use opgp_frame::{Packet, Placed};
-use opgp_octets::{Limits, OutOfMemory};
+use opgp_octets::{Fault, Limits, OutOfMemory};
 use std::alloc::{AllocError, Global};
 
 /// A keyring in the making (RFC 9580, 10.1): a composer, and the parts that were taken from it. For
@@ -28,7 +27,7 @@ pub struct Gathering {
 }
 
 impl Gathering {
-    ghost use Rattle.opgp_ring.specs.Block.{IsComposed, block_items};
+    ghost use Rattle.opgp_ring.specs.Block.{block_items};
     ghost use Rattle.opgp_ring.specs.Gathering.{Gathers};
     ghost use Rattle.opgp_frame.specs.declared.packet.Placed.{Placed};
 
@@ -91,11 +90,11 @@ impl Gathering {
     /// was refused.
     ///
     /// An error is want of memory.
-    pub fn finish(self) -> Result<Composed, OutOfMemory>
+    pub fn finish(self) -> Result<Result<Keyring, Fault>, OutOfMemory>
         requires { (limits : Limits) × (items : List Item) × Gathers limits self items }
-        ensures { IfOk result (λ composed. (limits : Limits) (items : List Item)
+        ensures { IfOk result (λ r. (limits : Limits) (items : List Item)
             → Gathers limits self items
-            → IsComposed (IsKeyringOf limits items) (IsFault limits items) composed) }
+            → MatchResult r (IsKeyringOf limits items) (IsFault limits items)) }
     {
         let Gathering {
             alloc,
@@ -104,15 +103,13 @@ impl Gathering {
             mut certificates,
         } = self;
         match composer.finish() {
-            Ok(None) => Ok(Composed::Ring(Keyring::new(alloc, lead, certificates))),
-            Ok(Some(Ready::Lead(lead))) => {
-                Ok(Composed::Ring(Keyring::new(alloc, lead, certificates)))
-            }
+            Ok(None) => Ok(Ok(Keyring::new(alloc, lead, certificates))),
+            Ok(Some(Ready::Lead(lead))) => Ok(Ok(Keyring::new(alloc, lead, certificates))),
             Ok(Some(Ready::Certificate(certificate))) => {
                 certificates.push(certificate)?;
-                Ok(Composed::Ring(Keyring::new(alloc, lead, certificates)))
+                Ok(Ok(Keyring::new(alloc, lead, certificates)))
             }
-            Err(fault) => Ok(Composed::Refused(fault)),
+            Err(fault) => Ok(Err(fault)),
         }
     }
 }

@@ -1,14 +1,18 @@
 //! What the definitions imply.
 
-ghost use Rattle.std.specs.Prelude.{◌≡◌, ◌⊎◌, ◌↔◌, All, ◌++◌, ◌∷◌, [], List, Some, true, false};
+ghost use Rattle.std.specs.Prelude.{◌≡◌, ◌⊎◌, ◌↔◌, All, ◌++◌, ◌∷◌, [], ℕ, List, Some, true, false};
 ghost use Rattle.opgp_octets.specs.declared.limits.Limits.{Limits};
+ghost use Rattle.opgp_octets.specs.Octets.{IsOctets};
+ghost use Rattle.opgp_octets.specs.declared.fault.BodyFault.{BodyFault};
 ghost use Rattle.opgp_octets.specs.declared.fault.Fault.{Fault};
 ghost use Rattle.opgp_octets.specs.declared.fault.Reason.TheVariants.{CertTooLong};
+ghost use Rattle.opgp_octets.specs.declared.packet_type.PacketType.{PacketType};
 ghost use Rattle.opgp_frame.specs.Packet.{PacketValue};
 ghost use Rattle.opgp_ring.specs.Composed.{HasOctets, IsKeyringOf, IsFault, PartValue, parts_of};
 ghost use Rattle.opgp_ring.specs.Composition.{Item, AreKeyring, order_reason};
 ghost use Rattle.opgp_ring.specs.Keyring.{KeyringValue, IsKeyring, flat};
 ghost use Rattle.opgp_ring.specs.Normal.{normal_of};
+ghost use Rattle.opgp_ring.specs.PacketBody.{HasBodyFault};
 ghost use Rattle.opgp_ring.specs.Signed.{IsSignedFault, IsSignedOf};
 ghost use Rattle.opgp_ring.specs.declared.composer.Composer.{Composer};
 ghost use Rattle.opgp_ring.specs.Fed.{Fed, fault_of, held_of, is_ready, is_spent};
@@ -40,6 +44,15 @@ pub fn prefixes_are_keyrings()
         → AreKeyring limits ps }
 {}
 
+/// A packet's body has one fault at most.
+pub fn one_body_fault()
+    ensures { (kind : PacketType) (o : List ℕ) (f g : BodyFault) → IsOctets o
+        → HasBodyFault kind o f → HasBodyFault kind o g → f ≡ g }
+{
+    opgp_packet::field_laws::one_fault();
+    opgp_packet::signature_laws::one_fault();
+}
+
 /// Items that are a keyring have no fault.
 pub fn no_fault()
     ensures { (limits : Limits) (items : List Item) (r : KeyringValue) (f : Fault)
@@ -51,7 +64,7 @@ pub fn one_fault()
     ensures { (limits : Limits) (items : List Item) (f g : Fault) → IsFault limits items f
         → IsFault limits items g → f ≡ g }
 {
-    opgp_hash::laws::one_body_fault();
+    one_body_fault();
 }
 
 /// Items whose bodies are octets are a keyring's or have a fault.
@@ -75,6 +88,7 @@ pub fn too_long_is_told_of_what_would_be_a_keyring()
 {}
 
 /// Normalising twice is normalising once.
+#[tactic(auto, using(crate::proofs::Normalised::twice))]
 pub fn normalised_twice()
     ensures { (r : KeyringValue) → normal_of (normal_of r) ≡ normal_of r }
 {}
@@ -96,7 +110,7 @@ pub fn one_signed_fault()
     ensures { (items : List Item) (f g : Fault) → IsSignedFault items f → IsSignedFault items g
         → f ≡ g }
 {
-    opgp_hash::laws::one_body_fault();
+    one_body_fault();
 }
 
 /// Items whose bodies are octets are a signed literal or have a fault as one.

@@ -1,49 +1,33 @@
-//! Packets in the current format, in place.
+//! What is given the current format, in place.
 
 ghost use Rattle.std.specs.Prelude.{◌≡◌, map};
 ghost use Rattle.opgp_frame.specs.Reframed.{reframed};
-ghost use Rattle.opgp_ring.specs.Normal.{normal_certificate, normal_component};
 
-use crate::certificate::Certificate;
-use crate::component::Component;
-use crate::member::{Member, blank};
-use opgp_frame::{Packet, reframe};
-use std::alloc::Global;
-use std::mem;
+use opgp_frame::Packet;
 
-/// Gives each packet the current format with its shortest length. Takes no memory.
-pub(crate) fn reframe_packets(alloc: Global, packets: &mut [Packet])
-    ensures { packets.new ≡ map reframed packets.old }
-{
-    for slot in packets.iter_mut() {
-        let packet = mem::replace(slot, blank(alloc));
-        *slot = reframe(packet);
+/// A packet, or what is made of packets.
+pub(crate) trait Reframe {
+    // What it becomes.
+    ghost normal: { Self → Self };
+
+    /// Gives each of its packets the current format with its shortest length. Takes no memory.
+    fn reframe(&mut self)
+        ensures { self.new ≡ normal self.old };
+}
+
+impl Reframe for Packet {
+    ghost normal = { reframed };
+
+    fn reframe(&mut self) {
+        Packet::reframe(self);
     }
 }
 
-/// Gives each packet the current format with its shortest length. Takes no memory.
-pub(crate) fn reframe_members(alloc: Global, members: &mut [Member])
-    ensures { members.new ≡ map reframed members.old }
+/// Gives each packet of each item the current format with its shortest length. Takes no memory.
+pub(crate) fn reframe_all<T: Reframe>(items: &mut Vec<T>)
+    ensures { items.new.items ≡ map T.normal items.old.items }
 {
-    for member in members.iter_mut() {
-        member.reframe(alloc);
-    }
-}
-
-/// Gives each packet the current format with its shortest length. Takes no memory.
-pub(crate) fn reframe_components(alloc: Global, components: &mut [Component])
-    ensures { components.new ≡ map normal_component components.old }
-{
-    for component in components.iter_mut() {
-        component.reframe(alloc);
-    }
-}
-
-/// Gives each packet the current format with its shortest length. Takes no memory.
-pub(crate) fn reframe_certificates(alloc: Global, certificates: &mut [Certificate])
-    ensures { certificates.new ≡ map normal_certificate certificates.old }
-{
-    for certificate in certificates.iter_mut() {
-        certificate.reframe(alloc);
+    for item in items.iter_mut() {
+        item.reframe();
     }
 }

@@ -39,12 +39,12 @@ pub(crate) fn sort(packet: Packet) -> Result<Sorted, BodyFault>
         PacketType::Signature => {
             let (form, _, body) = packet.into_parts();
             let signature = Signature::from_body(body)?;
-            Ok(Sorted::Behind(Member::new(Content::Signature(form, signature))))
+            Ok(Sorted::Behind(Member::new(form, Content::Signature(signature))))
         }
         PacketType::PublicKey => {
             let (form, _, body) = packet.into_parts();
             let key = Key::from_body(body)?;
-            Ok(Sorted::Primary(Member::new(Content::Primary(form, key))))
+            Ok(Sorted::Primary(Member::new(form, Content::Primary(key))))
         }
         PacketType::LiteralData => match Literal::check_body(packet.body()) {
             Some(fault) => Err(fault),
@@ -53,17 +53,17 @@ pub(crate) fn sort(packet: Packet) -> Result<Sorted, BodyFault>
         PacketType::UserId => {
             let (form, _, body) = packet.into_parts();
             let id = UserId::from_body(body);
-            Ok(Sorted::Behind(Member::new(Content::UserId(form, id))))
+            Ok(Sorted::Behind(Member::new(form, Content::UserId(id))))
         }
         PacketType::PublicSubkey => {
             let (form, _, body) = packet.into_parts();
             let key = Key::from_body(body)?;
-            Ok(Sorted::Behind(Member::new(Content::Subkey(form, key))))
+            Ok(Sorted::Behind(Member::new(form, Content::Subkey(key))))
         }
         PacketType::UserAttribute => {
             let (form, _, body) = packet.into_parts();
             let attribute = Attribute::from_body(body)?;
-            Ok(Sorted::Behind(Member::new(Content::Attribute(form, attribute))))
+            Ok(Sorted::Behind(Member::new(form, Content::Attribute(attribute))))
         }
         _ if is_filler(packet.kind()) => Ok(Sorted::Filler(packet)),
         _ => Ok(Sorted::Stray(packet)),

@@ -6,8 +6,8 @@ use opgp_merge::merge;
 use opgp_octets::{Fault, Layer, Limits, PushFault, Reason};
 use opgp_report::{LeftOctets, check};
 use opgp_ring::{
-    BlockOf, Certificate, Composed, Composer, Keyring, Ready, SignedLiteral, compose,
-    compose_signed, end_fits, flatten, join, nth,
+    BlockOf, Certificate, Composer, Keyring, Ready, SignedLiteral, compose, compose_signed,
+    end_fits, flatten, join, nth,
 };
 use std::alloc::Global;
 use std::process::Abort;
@@ -127,8 +127,8 @@ fn ring(rt: &impl Abort, alloc: Global, times: usize) -> Option<Keyring> {
         })
         .ok()?;
     match compose(alloc, blocks, &Limits::usual()) {
-        Ok(Composed::Ring(ring)) => Some(ring),
-        Ok(Composed::Refused(_)) => panic!(rt; "refused"),
+        Ok(Ok(ring)) => Some(ring),
+        Ok(Err(_)) => panic!(rt; "refused"),
         Err(_) => None,
     }
 }

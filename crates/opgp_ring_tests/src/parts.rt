@@ -2,7 +2,7 @@
 
 use crate::reading::{KEY, SIGNATURE, blocks_of, joined, octets_of, ring_of};
 use opgp_frame::Form;
-use opgp_ring::{Certificate, Component, Hang, Head, Keyring, Member};
+use opgp_ring::{Certificate, Component, Content, Head, Keyring, Member};
 use std::alloc::Global;
 use std::process::Abort;
 use std::test::Fail;
@@ -54,21 +54,24 @@ fn hang_there(rt: &impl Abort, name: &Component) {
         _ => panic!(rt; "other packets"),
     }
     for member in name.hangs() {
-        match member.hang() {
-            Hang::Signature(_, signature) => assert_eq!(rt; signature.body_len(), 14),
-            Hang::Filler(packet) => assert_eq!(rt; packet.kind(), 12),
+        match member.content() {
+            Content::Signature(signature) => assert_eq!(rt; signature.body_len(), 14),
+            Content::Filler(kind, body) => assert!(rt;
+                *kind == 12 && body.as_slice() == b"\x07".as_slice()
+            ),
+            _ => panic!(rt; "another content"),
         }
     }
 }
 
 fn component_there(rt: &impl Abort, component: &Component) {
     match component.head().head() {
-        Head::UserId(_, id) => {
+        Head::UserId(id) => {
             assert_eq!(rt; id.octets(), b"a".as_slice());
             hang_there(rt, component);
         }
-        Head::Attribute(_, attribute) => assert_eq!(rt; attribute.subpackets().count(), 1),
-        Head::Subkey(_, key) => assert_eq!(rt; key.algorithm(), 22),
+        Head::Attribute(attribute) => assert_eq!(rt; attribute.subpackets().count(), 1),
+        Head::Subkey(key) => assert_eq!(rt; key.algorithm(), 22),
     }
 }
 

@@ -2,7 +2,7 @@
 
 use opgp_frame::{Deframe, Packet, Placed, write_packet};
 use opgp_octets::{Limits, fault_line};
-use opgp_ring::{BlockOf, Composed, Keyring, compose, flatten};
+use opgp_ring::{BlockOf, Keyring, compose, flatten};
 use std::alloc::Global;
 use std::test::Fail;
 
@@ -82,8 +82,8 @@ pub fn octets_of(alloc: Global, ring: &Keyring) -> Result<Vec<u8>, Fail> {
 pub fn ring_of(alloc: Global, octets: &[u8]) -> Result<Keyring, Fail> {
     let blocks = blocks_of(alloc, &[(true, octets)])?;
     match compose(alloc, blocks, &Limits::usual())? {
-        Composed::Ring(ring) => Ok(ring),
-        Composed::Refused(_) => Err("no keyring".into()),
+        Ok(ring) => Ok(ring),
+        Err(_) => Err("no keyring".into()),
     }
 }
 
@@ -91,11 +91,11 @@ pub fn ring_of(alloc: Global, octets: &[u8]) -> Result<Keyring, Fail> {
 /// fault.
 pub fn answer(alloc: Global, blocks: &[(bool, &[u8])], limits: &Limits) -> Result<String, Fail> {
     match compose(alloc, blocks_of(alloc, blocks)?, limits)? {
-        Composed::Ring(ring) => {
+        Ok(ring) => {
             let lead = ring.lead().len();
             let certificates = ring.certificates().len();
             Ok(format!(in alloc; "lead {lead} certificates {certificates}")?)
         }
-        Composed::Refused(fault) => Ok(fault_line(alloc, &fault)?),
+        Err(fault) => Ok(fault_line(alloc, &fault)?),
     }
 }

@@ -1,5 +1,5 @@
 -- What is written of a keyring are the octets of the blocks that it was read of.
-use Rattle.std.proofs.Common.{◌≡◌, ◌∙◌, ℕ, ◌+◌, Bool, true, false, List, [], ◌∷◌, ◌++◌, map, refl, sym, ap, append_assoc, append-nil}
+use Rattle.std.proofs.Common.{◌≡◌, ◌∙◌, ℕ, ◌+◌, Bool, true, false, List, [], ◌∷◌, ◌++◌, map, refl, sym, ap, append_assoc, append-nil, Ok}
 use Rattle.opgp_octets.specs.declared.limits.Limits.{Limits}
 use Rattle.opgp_frame.specs.Frames.{spelled}
 use Rattle.opgp_frame.specs.Packet.{packets_octets, spelling}
@@ -7,7 +7,7 @@ use Rattle.opgp_frame.specs.declared.packet.Placed.{Placed}
 use Rattle.opgp_ring.specs.Composition.{Item, of_packet, packets_in}
 use Rattle.opgp_ring.specs.Keyring.{KeyringValue, flat}
 use Rattle.opgp_stack.specs.Keyrings.{ComposesTo, key_label}
-use Rattle.opgp_stack.specs.Reading.{TextBlock, Wanted, AreFramed, AnswerOf, at_length, at_armor, at_framing, at_top, Holds, Whole, blocks_octets, is_binary}
+use Rattle.opgp_stack.specs.Reading.{TextBlock, Wanted, AreFramed, AnswerOf, at_length, at_armor, at_framing, at_top, Holds, blocks_octets, is_binary}
 use Rattle.opgp_stack.specs.declared.mode.Mode.{Mode}
 
 packets_again : (ps : List Placed) (more : List Item) → packets_octets (packets_in (map of_packet ps ++ more)) ≡ spelled ps ++ packets_octets (packets_in more)
@@ -23,7 +23,7 @@ blocks_again limits wanted n (b ∷ bs) items (packets, more, framed, rest, is) 
     ∙ ap (λ (l : List ℕ). l ++ packets_octets (packets_in more)) (sym framed.whole)
     ∙ ap (λ (l : List ℕ). b.octets ++ l) (blocks_again limits wanted (n + 1) bs more rest)
 
-pub again : (mode : Mode) (limits : Limits) (input : List ℕ) (r : KeyringValue) → AnswerOf key_label (ComposesTo limits) mode limits input (Whole r)
+pub again : (mode : Mode) (limits : Limits) (input : List ℕ) (r : KeyringValue) → AnswerOf key_label (ComposesTo limits) mode limits input (Ok r)
     → (blocks : List TextBlock) × Holds (is_binary mode input) limits input blocks × (packets_octets (flat r) ≡ blocks_octets blocks)
 again mode limits input r (at_length l is) = cc
 again mode limits input r (at_armor l f k is) = cc
@@ -35,7 +35,7 @@ held_by : (binary : Bool) (limits : Limits) (input : List ℕ) (blocks : List Te
 held_by true limits input blocks e h = ap blocks_octets h ∙ append-nil input
 held_by false limits input blocks e h = cc
 
-pub again_in_binary : (mode : Mode) (limits : Limits) (input : List ℕ) (r : KeyringValue) → AnswerOf key_label (ComposesTo limits) mode limits input (Whole r)
+pub again_in_binary : (mode : Mode) (limits : Limits) (input : List ℕ) (r : KeyringValue) → AnswerOf key_label (ComposesTo limits) mode limits input (Ok r)
     → is_binary mode input ≡ true → packets_octets (flat r) ≡ input
 again_in_binary mode limits input r h binary = let (blocks, holds, is) = again mode limits input r h in
     is ∙ held_by (is_binary mode input) limits input blocks binary holds

@@ -1,18 +1,13 @@
 -- Labels and packets, in order.
-use Rattle.std.proofs.Common.{◌≡◌, ℕ, zero, suc, ◌+◌, ◌<◌, arith, get_or, set, append-nil, Bool, true, false, List, [], ◌∷◌, ◌++◌, length, map, All, refl, sym, ap, subst, ◌∙◌, Option, None, Some, IfSome, append_assoc}
-use Rattle.std.specs.Global.{Vec}
-use Rattle.opgp_octets.specs.declared.fault.Fault.{Fault}
-use Rattle.opgp_octets.specs.declared.limits.Limits.{Limits}
+use Rattle.std.proofs.Common.{◌≡◌, ℕ, zero, suc, ◌+◌, ◌<◌, arith, get_or, set, append-nil, Bool, true, false, List, [], ◌∷◌, ◌++◌, length, map, refl, sym, ap, ◌∙◌, append_assoc}
 use Rattle.opgp_frame.specs.declared.packet.Placed.{Placed}
 use Rattle.opgp_ring.specs.declared.block_of.BlockOf.{BlockOf}
 use Rattle.std.proofs.lemmas.List.{map-append}
 use Rattle.std.proofs.lemmas.List.Concat.{flat_map-append}
 use Rattle.opgp_ring.specs.Block.{block_items, items_of, placed_of}
 use Rattle.opgp_ring.specs.Composition.{Item, of_label, of_packet, placed_in}
-use Rattle.opgp_ring.specs.Bodies.{IsSound, IsFirstBodyFault}
-use Rattle.opgp_stack.specs.declared.mode.Mode.{Mode}
-use Rattle.opgp_stack.specs.Packets.{from_label, GathersPackets, ArePackets, block_value, items_in}
-use Rattle.opgp_stack.specs.Reading.{TextBlock, Wanted, AreFramed, Outcome, Whole, Refused, AnswerOf, at_length, at_armor, at_framing, at_top}
+use Rattle.opgp_stack.specs.Packets.{block_value, items_in}
+use Rattle.opgp_stack.specs.Receiver.{from_label}
 
 pub from_label-label : (items : List Item) (n : ℕ) (fits : Bool) → from_label (items ++ of_label n fits ∷ []) ≡ from_label items ++ of_label n fits ∷ []
 from_label-label [] n fits = refl
@@ -30,16 +25,8 @@ from_label-packet [] p i rest e = cc
 from_label-packet (of_label n fits ∷ items) p i rest e = refl
 from_label-packet (of_packet q ∷ items) p i rest e = from_label-packet items p i rest e
 
--- framed blocks begin with a label
-framed_label : (limits : Limits) (wanted : Wanted) (n : ℕ) (bs : List TextBlock) (items : List Item) → AreFramed limits wanted n bs items → from_label items ≡ items
-framed_label limits wanted n [] items f = ap from_label f ∙ sym f
-framed_label limits wanted n (b ∷ bs) items f = ap from_label f.4 ∙ sym f.4
-
-refused_is : {A B : Type 0} (f g : Fault) → ◌≡◌ {A = Outcome A} (Refused f) (Refused g) → ◌≡◌ {A = Outcome B} (Refused f) (Refused g)
-refused_is f g e = let same : f ≡ g = cc in cc
-
 -- ---- blocks as values
-items_values : (bs : List BlockOf) → items_in (map block_value bs) ≡ items_of bs
+pub items_values : (bs : List BlockOf) → items_in (map block_value bs) ≡ items_of bs
 items_values [] = refl
 items_values (b ∷ bs) = ap (λ (l : List Item). block_items b ++ l) (items_values bs)
 
@@ -47,30 +34,9 @@ placed_packets : (ps : List Placed) (items : List Item) → placed_in (map of_pa
 placed_packets [] items = refl
 placed_packets (p ∷ ps) items = ap (λ (l : List Placed). p ∷ l) (placed_packets ps items)
 
-placed_items : (bs : List BlockOf) → placed_in (items_of bs) ≡ placed_of bs
+pub placed_items : (bs : List BlockOf) → placed_in (items_of bs) ≡ placed_of bs
 placed_items [] = refl
 placed_items (b ∷ bs) = placed_packets b.packets.items (items_of bs) ∙ ap (λ (l : List Placed). b.packets.items ++ l) (placed_items bs)
-
-module _ (wanted : Wanted) (mode : Mode) (limits : Limits) (input : List ℕ) where
-  pub packets_are : (blocks : Vec BlockOf) → AnswerOf wanted GathersPackets mode limits input (Whole blocks) → AnswerOf wanted ArePackets mode limits input (Whole (map block_value blocks.items))
-  packets_are blocks (at_length x e) = cc
-  packets_are blocks (at_armor x f h e) = cc
-  packets_are blocks (at_framing x bs h f i e) = cc
-  packets_are blocks (at_top x bs h items i t) =
-      let same : items_of blocks.items ≡ items = t.0 ∙ framed_label limits wanted 0 bs items i in
-      at_top x bs h items i (items_values blocks.items ∙ same, subst (All IsSound) (sym (placed_items blocks.items) ∙ ap placed_in same) t.1)
-
-  pub packets_refused : (f : Fault) → AnswerOf wanted GathersPackets mode limits input (Refused f) → AnswerOf wanted ArePackets mode limits input (Refused f)
-  packets_refused f (at_length x e) = at_length x (refused_is f _ e)
-  packets_refused f (at_armor x g h e) = at_armor x g h (refused_is f g e)
-  packets_refused f (at_framing x bs h g i e) = at_framing x bs h g i (refused_is f g e)
-  packets_refused f (at_top x bs h items i t) =
-      let same : items_of t.0 ≡ items = t.1 ∙ framed_label limits wanted 0 bs items i in
-      at_top x bs h items i (subst (λ (ps : List Placed). IsFirstBodyFault ps f) (sym (placed_items t.0) ∙ ap placed_in same) t.2)
-
-pub some_gives : (o : Option (List ℕ)) (P Q : List ℕ → Type 0) → ((x : List ℕ) → P x → Q x) → IfSome o P → IfSome o Q
-some_gives None P Q f h = tt
-some_gives (Some x) P Q f h = f x h
 
 -- ---- blocks that grow
 pub items_push : (bs : List BlockOf) (b : BlockOf) → items_of (bs ++ b ∷ []) ≡ items_of bs ++ block_items b

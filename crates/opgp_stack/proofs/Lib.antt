@@ -2,7 +2,7 @@ mod Loops
 mod MadeOnce
 mod Put
 mod Again
-mod Armored
+mod Ends
 mod Framing
 mod Handing
 mod KeyLines
@@ -12,7 +12,6 @@ mod OneTop
 mod Passing
 mod Pulling
 mod Runs
-mod SignedTop
 mod SomeAnswer
 mod Texts
 mod Ways

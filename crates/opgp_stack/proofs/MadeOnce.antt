@@ -1,16 +1,19 @@
 -- A task makes one thing of octets.
-use Rattle.std.proofs.Common.{◌≡◌, ◌∙◌, ℕ, List, sym, ap, refl}
+use Rattle.std.proofs.Common.{◌≡◌, ◌∙◌, ℕ, true, false, List, Some, None, sym, ap, refl}
 use Rattle.opgp_octets.specs.Octets.{IsOctets}
 use Rattle.opgp_octets.specs.declared.limits.Limits.{Limits}
+use Rattle.opgp_frame.specs.Packet.{PacketValue}
 use Rattle.opgp_ring.specs.Composition.{Item}
+use Rattle.opgp_ring.specs.Keyring.{KeyringValue}
 use Rattle.opgp_stack.specs.Keyrings.{ComposesTo, key_label}
-use Rattle.opgp_stack.specs.Packets.{ArePackets, any_label}
+use Rattle.opgp_stack.specs.Packets.{ArePackets, BlockValue, any_label}
 use Rattle.opgp_stack.specs.Reading.{AnswerOf, Outcome, Wanted}
-use Rattle.opgp_stack.specs.Running.{Made, MakesBy, made_of_answer, message_answer, shown_answer}
+use Rattle.opgp_stack.specs.Running.{Made, Makes, MakesBy, OfLiteral, OfPackets, OfRing, on_value}
 use Rattle.opgp_stack.specs.Signed.{AreSigned, message_label}
 use Rattle.opgp_stack.specs.declared.mode.Mode.{Mode}
-use Rattle.opgp_stack.specs.declared.running.Reading.{Reading}
-use Rattle.opgp_stack.specs.declared.running.Reading.TheVariants as reading
+use Rattle.opgp_stack.specs.declared.task.Action.{Action}
+use Rattle.opgp_stack.specs.declared.task.Action.TheVariants as action
+use Rattle.opgp_stack.specs.declared.task.Top.TheVariants as top
 use Rattle.opgp_stack.specs.declared.task.Task.{Task}
 
 -- all octets have one answer at most
@@ -36,12 +39,28 @@ one_of : {A : Type 0} (Answers : Outcome A → Type 0) (make : Outcome A → Mad
     → ((x : Outcome A) × Answers x × (a ≡ make x)) → ((x : Outcome A) × Answers x × (b ≡ make x)) → a ≡ b
 one_of Answers make one a b (x, h, e) (y, k, d) = e ∙ ap make (one x y h k) ∙ sym d
 
-pub one_made : AnswersAreOne → (r : Reading) (task : Task) (octets : List ℕ) → IsOctets octets → (a b : Made) → MakesBy r task octets a → MakesBy r task octets b → a ≡ b
-one_made w reading.Packets task octets each a b h k = one_of (λ x. AnswerOf any_label ArePackets task.mode task.limits octets x) shown_answer (w.packets task.mode task.limits octets each) a b h k
-one_made w reading.Keyring task octets each a b h k = one_of (λ x. AnswerOf key_label (ComposesTo task.limits) task.mode task.limits octets x) (made_of_answer task.action) (w.ring task.mode task.limits octets each) a b h k
-one_made w reading.Message task octets each a b h k = one_of (λ x. AnswerOf message_label AreSigned task.mode task.limits octets x) (message_answer task.action) (w.signed task.mode task.limits octets each) a b h k
+-- what is so whatever is made of packets, of a keyring or of a signed literal, is so of each action
+by_top : (P : (Task → List ℕ → Made → Type 0) → Type 0) → ((make : List BlockValue → Made) → P (OfPackets make)) → ((make : KeyringValue → Made) → P (OfRing make)) → ((make : List PacketValue → Made) → P (OfLiteral make)) → (a : Action) → P (MakesBy a)
+by_top P packets ring literal action.Show = packets _
+by_top P packets ring literal action.List = ring _
+by_top P packets ring literal action.Check = ring _
+by_top P packets ring literal (action.Octets row top.Ring) = ring _
+by_top P packets ring literal (action.Octets row top.Literal) = literal _
+by_top P packets ring literal (action.Write out) = ring _
+by_top P packets ring literal (action.Normalise out) = ring _
+by_top P packets ring literal (action.Split out None) = ring _
+by_top P packets ring literal (action.Split out (Some n)) = ring _
+by_top P packets ring literal (action.Join out false) = ring _
+by_top P packets ring literal (action.Join out true) = ring _
 
-pub some_made : AnswersAreSome → (r : Reading) (task : Task) (octets : List ℕ) → IsOctets octets → (made : Made) × MakesBy r task octets made
-some_made w reading.Packets task octets each = let (x, h) = w.packets task.mode task.limits octets each in (_, (x, h, refl))
-some_made w reading.Keyring task octets each = let (x, h) = w.ring task.mode task.limits octets each in (_, (x, h, refl))
-some_made w reading.Message task octets each = let (x, h) = w.signed task.mode task.limits octets each in (_, (x, h, refl))
+pub one_made : AnswersAreOne → (task : Task) (octets : List ℕ) → IsOctets octets → (a b : Made) → Makes task octets a → Makes task octets b → a ≡ b
+one_made w task octets each a b = by_top (λ makes. makes task octets a → makes task octets b → a ≡ b)
+    (λ make. one_of (λ x. AnswerOf any_label ArePackets task.mode task.limits octets x) (on_value make) (w.packets task.mode task.limits octets each) a b)
+    (λ make. one_of (λ x. AnswerOf key_label (ComposesTo task.limits) task.mode task.limits octets x) (on_value make) (w.ring task.mode task.limits octets each) a b)
+    (λ make. one_of (λ x. AnswerOf message_label AreSigned task.mode task.limits octets x) (on_value make) (w.signed task.mode task.limits octets each) a b) task.action
+
+pub some_made : AnswersAreSome → (task : Task) (octets : List ℕ) → IsOctets octets → (made : Made) × Makes task octets made
+some_made w task octets each = by_top (λ makes. (made : Made) × makes task octets made)
+    (λ make. let (x, h) = w.packets task.mode task.limits octets each in (on_value make x, (x, h, refl)))
+    (λ make. let (x, h) = w.ring task.mode task.limits octets each in (on_value make x, (x, h, refl)))
+    (λ make. let (x, h) = w.signed task.mode task.limits octets each in (on_value make x, (x, h, refl))) task.action

@@ -1,5 +1,5 @@
 -- An input has one answer at most.
-use Rattle.std.proofs.Common.{◌≡◌, ℕ, ◌+◌, Bool, true, false, List, [], ◌∷◌, ◌++◌, map, sym, ap, ◌∙◌, subst, inl, inr, arith}
+use Rattle.std.proofs.Common.{◌≡◌, ℕ, ◌+◌, Bool, true, false, List, [], ◌∷◌, ◌++◌, map, sym, ap, ◌∙◌, subst, inl, inr, arith, Err}
 use Rattle.opgp_octets.specs.Octets.{IsOctets}
 use Rattle.opgp_octets.specs.declared.fault.Fault.{Fault}
 use Rattle.opgp_octets.specs.declared.limits.Limits.{Limits}
@@ -9,7 +9,7 @@ use Rattle.opgp_frame.specs.declared.packet.Placed.{Placed}
 use Rattle.opgp_frame.specs.Frames.{Frames, IsFramingFault}
 use Rattle.opgp_stack.specs.declared.mode.Mode.{Mode}
 use Rattle.opgp_ring.specs.Composition.{Item}
-use Rattle.opgp_stack.specs.Reading.{TextBlock, Wanted, armored_block, block_items, is_binary, Holds, IsTextFault, AreFramed, FirstFault, Outcome, Refused, AnswerOf, at_length, at_armor, at_framing, at_top, IsOne}
+use Rattle.opgp_stack.specs.Reading.{TextBlock, Wanted, armored_block, block_items, is_binary, Holds, IsTextFault, AreFramed, FirstFault, Outcome, AnswerOf, at_length, at_armor, at_framing, at_top, IsOne}
 
 -- what the layers promise of their definitions
 pub record LayersAreOne : Type 0 where
@@ -60,14 +60,14 @@ one_answer wanted top one w mode limits input octets a b (at_length x e) (at_arm
 one_answer wanted top one w mode limits input octets a b (at_length x e) (at_framing y cs k g l d) = absurd (omega arith)
 one_answer wanted top one w mode limits input octets a b (at_length x e) (at_top y cs k qs l d) = absurd (omega arith)
 one_answer wanted top one w mode limits input octets a b (at_armor x f h e) (at_length y d) = absurd (omega arith)
-one_answer wanted top one w mode limits input octets a b (at_armor x f h e) (at_armor y g k d) = e ∙ ap Refused (one_text_fault w limits (is_binary mode input) input f g h k) ∙ sym d
+one_answer wanted top one w mode limits input octets a b (at_armor x f h e) (at_armor y g k d) = e ∙ ap Err (one_text_fault w limits (is_binary mode input) input f g h k) ∙ sym d
 one_answer wanted top one w mode limits input octets a b (at_armor x f h e) (at_framing y cs k g l d) = absurd (text_or_fault w limits (is_binary mode input) input cs f octets k h)
 one_answer wanted top one w mode limits input octets a b (at_armor x f h e) (at_top y cs k qs l d) = absurd (text_or_fault w limits (is_binary mode input) input cs f octets k h)
 one_answer wanted top one w mode limits input octets a b (at_framing x bs h f i e) (at_length y d) = absurd (omega arith)
 one_answer wanted top one w mode limits input octets a b (at_framing x bs h f i e) (at_armor y g k d) = absurd (text_or_fault w limits (is_binary mode input) input bs g octets h k)
 one_answer wanted top one w mode limits input octets a b (at_framing x bs h f i e) (at_framing y cs k g l d) =
     let blocks = one_text w limits (is_binary mode input) input bs cs h k in
-    e ∙ ap Refused (one_first_fault w limits 0 cs f g (subst (λ (v : List TextBlock). FirstFault limits 0 v f) blocks i) l) ∙ sym d
+    e ∙ ap Err (one_first_fault w limits 0 cs f g (subst (λ (v : List TextBlock). FirstFault limits 0 v f) blocks i) l) ∙ sym d
 one_answer wanted top one w mode limits input octets a b (at_framing x bs h f i e) (at_top y cs k qs l d) =
     let blocks = one_text w limits (is_binary mode input) input bs cs h k in
     absurd (framed_or_fault w limits wanted 0 cs qs f l (subst (λ (v : List TextBlock). FirstFault limits 0 v f) blocks i))

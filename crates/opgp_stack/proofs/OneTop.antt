@@ -1,5 +1,5 @@
 -- A top has one answer at most.
-use Rattle.std.proofs.Common.{◌≡◌, ℕ, Bool, List, [], ◌∷◌, ◌++◌, All, map, refl, sym, ap, subst, ◌∙◌, inl}
+use Rattle.std.proofs.Common.{◌≡◌, ℕ, Bool, List, [], ◌∷◌, ◌++◌, All, map, refl, sym, ap, subst, ◌∙◌, inl, Ok, Err}
 use Rattle.std.proofs.lemmas.List.Elements.{All-head, All-tail}
 use Rattle.opgp_octets.specs.declared.fault.Fault.{Fault}
 use Rattle.opgp_octets.specs.declared.limits.Limits.{Limits}
@@ -8,9 +8,12 @@ use Rattle.opgp_ring.specs.Bodies.{IsSound, IsFirstBodyFault}
 use Rattle.opgp_ring.specs.Composed.{IsKeyringOf, IsFault}
 use Rattle.opgp_ring.specs.Composition.{Item, of_label, of_packet, placed_in}
 use Rattle.opgp_ring.specs.Keyring.{KeyringValue, IsKeyring, flat}
+use Rattle.opgp_ring.specs.Signed.{IsSignedFault, IsSignedOf}
+use Rattle.opgp_frame.specs.Packet.{PacketValue}
 use Rattle.opgp_stack.specs.Keyrings.{ComposesTo}
 use Rattle.opgp_stack.specs.Packets.{ArePackets, BlockValue, items_in}
-use Rattle.opgp_stack.specs.Reading.{Whole, Refused, IsOne}
+use Rattle.opgp_stack.specs.Reading.{IsOne}
+use Rattle.opgp_stack.specs.Signed.{AreSigned}
 
 -- what composition promises of its definitions
 pub record RingIsOne : Type 0 where
@@ -19,10 +22,10 @@ pub record RingIsOne : Type 0 where
   pub no_fault : (limits : Limits) (items : List Item) (r : KeyringValue) (f : Fault) → IsKeyringOf limits items r → IsFault limits items f → ⊥
 
 pub one_ring : RingIsOne → (limits : Limits) → IsOne (ComposesTo limits)
-one_ring w limits items (Whole r) (Whole s) h k = ap Whole (w.ring r s h.composes.keyring k.composes.keyring (h.composes.whole ∙ sym k.composes.whole))
-one_ring w limits items (Whole r) (Refused f) h k = absurd (w.no_fault limits items r f h k)
-one_ring w limits items (Refused f) (Whole r) h k = absurd (w.no_fault limits items r f k h)
-one_ring w limits items (Refused f) (Refused g) h k = ap Refused (w.fault limits items f g h k)
+one_ring w limits items (Ok r) (Ok s) h k = ap Ok (w.ring r s h.composes.keyring k.composes.keyring (h.composes.whole ∙ sym k.composes.whole))
+one_ring w limits items (Ok r) (Err f) h k = absurd (w.no_fault limits items r f h k)
+one_ring w limits items (Err f) (Ok r) h k = absurd (w.no_fault limits items r f k h)
+one_ring w limits items (Err f) (Err g) h k = ap Err (w.fault limits items f g h k)
 
 -- ---- blocks of packets
 same_block : (a b : BlockValue) → a.number ≡ b.number → a.fits ≡ b.fits → a.packets ≡ b.packets → a ≡ b
@@ -65,7 +68,20 @@ sound_or_fault : (ps : List Placed) (f : Fault) → All IsSound ps → IsFirstBo
 sound_or_fault ps f a b = sound_at b.before b.at b.after (subst (All IsSound) b.whole a) b.why b.here
 
 pub one_packets : RingIsOne → Limits → IsOne ArePackets
-one_packets w limits items (Whole a) (Whole b) h k = ap Whole (one_blocks a b (h.0 ∙ sym k.0))
-one_packets w limits items (Whole a) (Refused f) h k = absurd (sound_or_fault (placed_in items) f h.1 k)
-one_packets w limits items (Refused f) (Whole a) h k = absurd (sound_or_fault (placed_in items) f k.1 h)
-one_packets w limits items (Refused f) (Refused g) h k = ap Refused (w.fault limits items f g (inl h) (inl k))
+one_packets w limits items (Ok a) (Ok b) h k = ap Ok (one_blocks a b (h.0 ∙ sym k.0))
+one_packets w limits items (Ok a) (Err f) h k = absurd (sound_or_fault (placed_in items) f h.1 k)
+one_packets w limits items (Err f) (Ok a) h k = absurd (sound_or_fault (placed_in items) f k.1 h)
+one_packets w limits items (Err f) (Err g) h k = ap Err (w.fault limits items f g (inl h) (inl k))
+
+-- ---- signed literals
+-- what composition promises of its definitions
+pub record SignedIsOne : Type 0 where
+  pub literal : (items : List Item) (ps qs : List PacketValue) → IsSignedOf items ps → IsSignedOf items qs → ps ≡ qs
+  pub fault : (items : List Item) (f g : Fault) → IsSignedFault items f → IsSignedFault items g → f ≡ g
+  pub no_fault : (items : List Item) (ps : List PacketValue) (f : Fault) → IsSignedOf items ps → IsSignedFault items f → ⊥
+
+pub one_signed : SignedIsOne → IsOne AreSigned
+one_signed w items (Ok a) (Ok b) h k = ap Ok (w.literal items a b h k)
+one_signed w items (Ok a) (Err f) h k = absurd (w.no_fault items a f h k)
+one_signed w items (Err f) (Ok a) h k = absurd (w.no_fault items a f k h)
+one_signed w items (Err f) (Err g) h k = ap Err (w.fault items f g h k)

@@ -1,5 +1,5 @@
 -- What the reading loop keeps, and that the octets read decide the answer to all that a source had.
-use Rattle.std.proofs.Common.{◌≡◌, ℕ, zero, suc, ◌∷◌, ◌+◌, ◌<◌, ◌≤◌, ◌⊎◌, take, refl, inl, inr, List, [], ◌++◌, length, Option, Some, None, IfSome, sym, ap, ◌∙◌, subst, append-nil, length-append, arith}
+use Rattle.std.proofs.Common.{◌≡◌, ℕ, zero, suc, ◌∷◌, Bool, false, Result, Ok, Err, ◌+◌, ◌<◌, ◌≤◌, ◌⊎◌, take, refl, inl, inr, List, [], ◌++◌, length, Option, Some, None, IfSome, sym, ap, ◌∙◌, subst, append-nil, length-append, arith}
 use Rattle.std.specs.Io.KnownBytes.{Consumes, IsAtEnd}
 use Rattle.std.proofs.KnownBytes.{Consumes-trans}
 use Rattle.opgp_octets.specs.declared.limits.Limits.{Limits}
@@ -8,9 +8,11 @@ use Rattle.opgp_octets.specs.Octets.{IsOctets}
 use Rattle.opgp_stack.specs.declared.mode.Mode.{Mode}
 use Rattle.opgp_stack.specs.declared.pipeline.Pipeline.{Pipeline}
 use Rattle.opgp_stack.specs.Pipeline.{Fed, count_of}
-use Rattle.opgp_stack.specs.Pulled.{Pulls}
+use Rattle.opgp_stack.specs.Pulled.{Answers, OfAll, Pulls, ReadsAs}
+use Rattle.opgp_stack.specs.declared.read_error.ReadError.{ReadError}
+use Rattle.opgp_stack.specs.declared.read_error.ReadError.TheVariants as read
 use Rattle.opgp_ring.specs.Composition.{Item}
-use Rattle.opgp_stack.specs.Reading.{Wanted, Outcome, AnswerOf, at_length, at_armor, at_framing, at_top}
+use Rattle.opgp_stack.specs.Reading.{Wanted, Outcome, AnswerOf, at_length, at_armor, at_framing, at_top, shown}
 
 pub octets_take : (n : ℕ) (o : List ℕ) → IsOctets o → IsOctets (take n o)
 octets_take zero o h i = omega arith
@@ -51,6 +53,10 @@ module _ {A : Type 0} (wanted : Wanted) (top : List Item → Outcome A → Type 
   answer_known (Some before) None octets a r h = absurd r.taken
   answer_known (Some before) (Some after) octets a r h = known_of before after octets a r.taken r.all h
 
+some_gives : (o : Option (List ℕ)) (P Q : List ℕ → Type 0) → ((x : List ℕ) → P x → Q x) → IfSome o P → IfSome o Q
+some_gives None P Q f h = tt
+some_gives (Some x) P Q f h = f x h
+
 -- nothing was read yet
 none_taken : (left : Option (List ℕ)) → Consumes left left []
 none_taken None = tt
@@ -73,3 +79,29 @@ module _ {T : Type 0} (fed_top : Limits → T → List Item → Type 0) (wanted 
   pub pulled_many : (before now : Option (List ℕ)) (p : Pipeline T) (count limit : ℕ) (r : Progress fed_top wanted before now mode limits p count) → count ≤ limit + 1 → limit < count → limit ≡ input_limit limits
       → Pulls before now (input_limit limits) r.octets
   pulled_many before now p count limit r within past is = record { each = r.each; taken = r.taken; all = inr (omega (arith, r.size)) }
+
+-- ---- what reading gives
+pub of_all : {R : Type 0} (left : R → Option (List ℕ)) (failed : R → Bool) (old new : R) (limits : Limits) (P Q : List ℕ → Type 0) → ((octets : List ℕ) → P octets → Q octets) → OfAll left failed old new limits P → OfAll left failed old new limits Q
+of_all left failed old new limits P Q f h = record { sound = h.sound; came = (h.came.0, h.came.1, f h.came.0 h.came.2); known = some_gives (left old) P Q f h.known }
+
+pub reads_of : {R A : Type 0} (left : R → Option (List ℕ)) (failed : R → Bool) (old new : R) (limits : Limits) (wanted : Wanted) (top : List Item → Outcome A → Type 0) (mode : Mode) (result : Result A ReadError) (octets : List ℕ)
+    → failed new ≡ false → Pulls (left old) (left new) (input_limit limits) octets → Answers (AnswerOf wanted top mode limits octets) result → ReadsAs left failed old new limits (AnswerOf wanted top mode limits) result
+reads_of left failed old new limits wanted top mode (Ok value) octets sound pulled h = record { sound = sound; came = (octets, pulled, h); known = answer_known wanted top mode limits (left old) (left new) octets (Ok value) pulled h }
+reads_of left failed old new limits wanted top mode (Err (read.Refused fault)) octets sound pulled h = record { sound = sound; came = (octets, pulled, h); known = answer_known wanted top mode limits (left old) (left new) octets (Err fault) pulled h }
+reads_of left failed old new limits wanted top mode (Err read.Read) octets sound pulled h = absurd h
+reads_of left failed old new limits wanted top mode (Err read.Memory) octets sound pulled h = sound
+
+-- the answer of what the value shows
+pub answer_shown : {A B : Type 0} (wanted : Wanted) (top : List Item → Outcome B → Type 0) (show : A → B) (mode : Mode) (limits : Limits) (input : List ℕ) (a : Outcome A)
+    → AnswerOf wanted (λ items r. top items (shown show r)) mode limits input a → AnswerOf wanted top mode limits input (shown show a)
+answer_shown wanted top show mode limits input a (at_length x e) = at_length x (ap (shown show) e)
+answer_shown wanted top show mode limits input a (at_armor x f h e) = at_armor x f h (ap (shown show) e)
+answer_shown wanted top show mode limits input a (at_framing x bs h f i e) = at_framing x bs h f i (ap (shown show) e)
+answer_shown wanted top show mode limits input a (at_top x bs h items i t) = at_top x bs h items i t
+
+pub reads_shown : {R A B : Type 0} (left : R → Option (List ℕ)) (failed : R → Bool) (old new : R) (limits : Limits) (wanted : Wanted) (top : List Item → Outcome B → Type 0) (show : A → B) (mode : Mode) (result : Result A ReadError)
+    → ReadsAs left failed old new limits (AnswerOf wanted (λ items r. top items (shown show r)) mode limits) result → ReadsAs left failed old new limits (λ octets a. AnswerOf wanted top mode limits octets (shown show a)) result
+reads_shown left failed old new limits wanted top show mode (Ok value) h = of_all left failed old new limits _ _ (λ octets. answer_shown wanted top show mode limits octets (Ok value)) h
+reads_shown left failed old new limits wanted top show mode (Err (read.Refused fault)) h = of_all left failed old new limits _ _ (λ octets. answer_shown wanted top show mode limits octets (Err fault)) h
+reads_shown left failed old new limits wanted top show mode (Err read.Read) h = h
+reads_shown left failed old new limits wanted top show mode (Err read.Memory) h = h

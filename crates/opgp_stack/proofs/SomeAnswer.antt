@@ -1,5 +1,5 @@
 -- An input has some answer.
-use Rattle.std.proofs.Common.{◌≡◌, ◌∙◌, ap, ℕ, ◌+◌, ◌≤◌, ◌⊎◌, Bool, true, false, List, [], ◌∷◌, ◌++◌, length, map, refl, sym, subst, inl, inr}
+use Rattle.std.proofs.Common.{◌≡◌, ◌∙◌, ap, ℕ, ◌+◌, ◌≤◌, ◌⊎◌, Bool, true, false, List, [], ◌∷◌, ◌++◌, length, map, refl, sym, subst, inl, inr, Ok, Err}
 use Rattle.std.proofs.lemmas.Bool.{cases_lt}
 use Rattle.std.specs.List.{All, AllByRecursion}
 use Rattle.std.proofs.lemmas.List.Elements.{All-append, All-nil, All-cons}
@@ -20,7 +20,7 @@ use Rattle.opgp_ring.specs.Signed.{IsSignedFault, IsSignedOf}
 use Rattle.opgp_stack.specs.Keyrings.{ComposesTo, key_label}
 use Rattle.opgp_stack.specs.Packets.{ArePackets, BlockValue, any_label, items_in}
 use Rattle.opgp_stack.specs.Signed.{AreSigned, message_label}
-use Rattle.opgp_stack.specs.Reading.{TextBlock, Wanted, armored_block, block_items, is_binary, Holds, IsTextFault, AreFramed, FirstFault, Outcome, Whole, Refused, too_long, AnswerOf, at_length, at_armor, at_framing, at_top}
+use Rattle.opgp_stack.specs.Reading.{TextBlock, Wanted, armored_block, block_items, is_binary, Holds, IsTextFault, AreFramed, FirstFault, Outcome, too_long, AnswerOf, at_length, at_armor, at_framing, at_top}
 
 -- to the labels and packets of blocks that are framed within these limits, whose bodies are octets, a
 -- top has some answer
@@ -48,7 +48,7 @@ text_octets w limits false input bs octets h = subst HaveOctets (sym h.2) (mappe
 
 some_text : LayersAnswer → (limits : Limits) (binary : Bool) (input : List ℕ) → IsOctets input → ((bs : List TextBlock) × Holds binary limits input bs) ⊎ ((f : Fault) × IsTextFault binary limits input f)
 some_text w limits true input octets = inl (_, refl)
-some_text w limits false input octets = elim (w.armor (line_limit limits) input limits.allowed.line_least octets) [
+some_text w limits false input octets = elim (w.armor (line_limit limits) input limits.allowed.line_in.0 octets) [
   | inl h ↦ inl (map armored_block h.0, (h.0, h.1, refl))
   | inr k ↦ inr k
 ]
@@ -80,11 +80,11 @@ framed_octets limits wanted n (b ∷ bs) items (packets, more, framed, rest, is)
 pub some_answer : {A : Type 0} (limits : Limits) (wanted : Wanted) (top : List Item → Outcome A → Type 0) → IsSome limits wanted top → LayersAnswer → (mode : Mode) (input : List ℕ) → IsOctets input
     → (a : Outcome A) × AnswerOf wanted top mode limits input a
 some_answer {A} limits wanted top some w mode input octets = elim (cases_lt (input_limit limits) (length input)) [
-  | inl long ↦ (Refused (too_long limits), at_length long refl)
+  | inl long ↦ (Err (too_long limits), at_length long refl)
   | inr within ↦ elim (some_text w limits (is_binary mode input) input octets) [
-    | inr f ↦ (Refused f.0, at_armor within f.0 f.1 refl)
+    | inr f ↦ (Err f.0, at_armor within f.0 f.1 refl)
     | inl bs ↦ elim (some_framed w limits wanted 0 bs.0 (text_octets w limits (is_binary mode input) input bs.0 octets bs.1)) [
-      | inr f ↦ (Refused f.0, at_framing within bs.0 bs.1 f.0 f.1 refl)
+      | inr f ↦ (Err f.0, at_framing within bs.0 bs.1 f.0 f.1 refl)
       | inl ps ↦ let a = some bs.0 ps.0 ps.1 (framed_octets limits wanted 0 bs.0 ps.0 ps.1) in (a.0, at_top within bs.0 bs.1 ps.0 ps.1 a.1)
     ]
   ]
@@ -96,8 +96,8 @@ some_answer {A} limits wanted top some w mode input octets = elim (cases_lt (inp
 pub some_ring : ((limits : Limits) (items : List Item) → All HasOctets items → ((r : KeyringValue) × IsKeyringOf limits items r) ⊎ ((f : Fault) × IsFault limits items f))
     → (limits : Limits) → IsSome limits key_label (ComposesTo limits)
 some_ring law limits blocks items framed octets = elim (law limits items octets) [
-  | inl r ↦ (Whole r.0, r.1)
-  | inr f ↦ (Refused f.0, f.1)
+  | inl r ↦ (Ok r.0, r.1)
+  | inr f ↦ (Err f.0, f.1)
 ]
 
 -- what the composition of signed literals promises
@@ -106,8 +106,8 @@ SomeSigned = (items : List Item) → All HasOctets items → ((ps : List PacketV
 
 pub some_signed : SomeSigned → (limits : Limits) → IsSome limits message_label AreSigned
 some_signed law limits blocks items framed octets = elim (law items octets) [
-  | inl r ↦ (Whole r.0, r.1)
-  | inr f ↦ (Refused f.0, f.1)
+  | inl r ↦ (Ok r.0, r.1)
+  | inr f ↦ (Err f.0, f.1)
 ]
 
 -- packets that are framed stand in blocks
@@ -131,6 +131,6 @@ pub some_packets : SomeSigned → (limits : Limits) → IsSome limits any_label 
 some_packets law limits blocks items framed octets =
     let (values, whole) = blocks_of limits any_label 0 blocks items framed in
     elim (sound_or_fault law items octets) [
-      | inl sound ↦ (Whole values, (whole, sound))
-      | inr f ↦ (Refused f.0, f.1)
+      | inl sound ↦ (Ok values, (whole, sound))
+      | inr f ↦ (Err f.0, f.1)
     ]

@@ -1,78 +1,132 @@
--- Octets added in steps, bare or in rows.
-use Rattle.std.proofs.Common.{◌≡◌, ℕ, false, List, [], ◌++◌, refl, sym, ap, subst, ◌∙◌, Option, Some, None, Result, Ok, Err, IsErr, append_assoc}
-use Rattle.opgp_stream.specs.Added.{State, Breaks, Writes}
-use Rattle.opgp_stream.specs.Rows.{BreaksRows}
-use Rattle.opgp_armor.proofs.JoinedRows.{no_lines, rows_join}
-use Rattle.opgp_stream.proofs.Added.{adds_nothing, adds_then, breaks_then, breaks_more}
-use Rattle.opgp_stream.proofs.Rows.{rows_nothing, rows_then, rows_broken, rows_broken_more}
-use Rattle.opgp_stack.specs.Via.{Way, AddsBy, BreaksBy, AddsVia, BreaksVia, WritesVia, rows}
+-- Octets added in steps, bare or in a block of armor.
+use Rattle.std.proofs.Common.{◌≡◌, ℕ, Bool, true, false, if◌then◌else◌, List, [], ◌++◌, refl, sym, ap, subst, ◌∙◌, Option, Some, None, Result, Ok, Err, IsErr, append_assoc, append-nil}
+use Rattle.std.specs.Prelude.{is_some}
+use Rattle.opgp_armor.specs.declared.label.Label.{Label}
+use Rattle.opgp_armor.specs.Written.{armor_text}
+use Rattle.opgp_stream.specs.declared.armoring.Armoring.{Armoring}
+use Rattle.opgp_stream.specs.declared.output.Output.{Output}
+use Rattle.opgp_stream.specs.Added.{State, Adds, Breaks}
+use Rattle.opgp_stream.specs.Armoring.{Begins, Ends, ExtendsArmor}
+use Rattle.opgp_stream.specs.Output.{Extends, sink_name, sink_of, state_of}
+use Rattle.opgp_stream.proofs.Added.{adds_nothing, adds_then, breaks_then, breaks_more, stop}
+use Rattle.opgp_stack.specs.Via.{AddsVia, BreaksVia, ExtendsVia, Fails, Holds}
 
--- all was added but what is left
-pub record AllBut (a b : Way) (all left : List ℕ) : Type 0 where
-  pub done : List ℕ
-  pub added : AddsVia a b done
-  pub whole : all ≡ done ++ left
+bare_adds : (block : Option Label) (s a b : State) (given xs : List ℕ) → Adds a b xs → Holds block s a None given → Holds block s b None (given ++ xs)
+bare_adds None s a b given xs p h = adds_then s a b given xs h p
+bare_adds (Some label) s a b given xs p h = absurd h
 
-then_by : (a b c : State) (q r s : Option (List ℕ)) (xs ys : List ℕ) → AddsBy a b q r xs → AddsBy b c r s ys → AddsBy a c q s (xs ++ ys)
-then_by a b c None None None xs ys h k = adds_then a b c xs ys h k
-then_by a b c None None (Some s) xs ys h k = absurd k
-then_by a b c None (Some r) s xs ys h k = absurd h
-then_by a b c (Some q) None s xs ys h k = absurd h
-then_by a b c (Some q) (Some r) None xs ys h k = absurd k
-then_by a b c (Some q) (Some r) (Some s) xs ys h k = rows_then rows_join (rows a q) (rows b r) (rows c s) xs ys h k
+bare_breaks : (block : Option Label) (s a b : State) (given xs : List ℕ) → Breaks a b xs → Holds block s a None given → Fails block s b (given ++ xs)
+bare_breaks None s a b given xs p h = breaks_then s a b given xs h p
+bare_breaks (Some label) s a b given xs p h = absurd h
 
-behind_by : (a b c : State) (q r s : Option (List ℕ)) (xs ys : List ℕ) → AddsBy a b q r xs → BreaksBy b c r s ys → BreaksBy a c q s (xs ++ ys)
-behind_by a b c None None None xs ys h k = breaks_then a b c xs ys h k
-behind_by a b c None None (Some s) xs ys h k = absurd k
-behind_by a b c None (Some r) s xs ys h k = absurd h
-behind_by a b c (Some q) None s xs ys h k = absurd h
-behind_by a b c (Some q) (Some r) None xs ys h k = absurd k
-behind_by a b c (Some q) (Some r) (Some s) xs ys h k = rows_broken rows_join (rows a q) (rows b r) (rows c s) xs ys h k
+pub bare : {W T E : Type 0} {held : W → Option (List ℕ)} {has_failed : W → Bool} {a b : Output W} {xs : List ℕ} (r : Result T E) → Extends held has_failed a b r xs → ExtendsVia held has_failed a None b None r xs
+bare {xs} (Ok x) p = record { same = p.same; sound = p.written.sound; added = λ block start given h. bare_adds block start _ _ given xs p.written h }
+bare {xs} (Err e) p = record { same = p.same; broken = λ block start given h. bare_breaks block start _ _ given xs p.written h }
 
-front_by : (a b : State) (q r : Option (List ℕ)) (xs ys : List ℕ) → BreaksBy a b q r xs → BreaksBy a b q r (xs ++ ys)
-front_by a b None None xs ys h = breaks_more a b xs ys h
-front_by a b None (Some r) xs ys h = absurd h
-front_by a b (Some q) None xs ys h = absurd h
-front_by a b (Some q) (Some r) xs ys h = rows_broken_more (rows a q) (rows b r) xs ys h
+pub bare_none : {W T E : Type 0} {held : W → Option (List ℕ)} {has_failed : W → Bool} {a b : Output W} {xs : List ℕ} (m : Option Armoring) (r : Result T E) → is_some m ≡ false → Extends held has_failed a b r xs → ExtendsVia held has_failed a m b m r xs
+bare_none None r none p = bare r p
+bare_none (Some x) r none p = cc
 
-pub via_then : (a b c : Way) (xs ys : List ℕ) → AddsVia a b xs → AddsVia b c ys → AddsVia a c (xs ++ ys)
-via_then a b c xs ys h k = then_by a.output b.output c.output a.row b.row c.row xs ys h k
+armor_adds : {W T E : Type 0} {held : W → Option (List ℕ)} {has_failed : W → Bool} {a b : Output W} {m n : Armoring} {xs : List ℕ} (x : T) → ExtendsArmor {E = E} held has_failed a m b n (Ok x) xs
+    → (block : Option Label) (start : State) (given : List ℕ) → Holds block start (state_of held has_failed a) (Some m) given → Holds block start (state_of held has_failed b) (Some n) (given ++ xs)
+armor_adds x p None start given h = absurd h
+armor_adds x p (Some label) start given h = p.added label start given h
 
-pub via_behind : (a b c : Way) (xs ys : List ℕ) → AddsVia a b xs → BreaksVia b c ys → BreaksVia a c (xs ++ ys)
-via_behind a b c xs ys h k = behind_by a.output b.output c.output a.row b.row c.row xs ys h k
+armor_breaks : {W T E : Type 0} {held : W → Option (List ℕ)} {has_failed : W → Bool} {a b : Output W} {m n : Armoring} {xs : List ℕ} (d : E) → ExtendsArmor {T = T} held has_failed a m b n (Err d) xs
+    → (block : Option Label) (start : State) (given : List ℕ) → Holds block start (state_of held has_failed a) (Some m) given → Fails block start (state_of held has_failed b) (given ++ xs)
+armor_breaks d p None start given h = absurd h
+armor_breaks d p (Some label) start given h = p.added label start given h
 
-pub via_front : (a b : Way) (xs ys : List ℕ) → BreaksVia a b xs → BreaksVia a b (xs ++ ys)
-via_front a b xs ys h = front_by a.output b.output a.row b.row xs ys h
+pub in_armor : {W T E : Type 0} {held : W → Option (List ℕ)} {has_failed : W → Bool} {a b : Output W} {m n : Armoring} {xs : List ℕ} (r : Result T E) → ExtendsArmor held has_failed a m b n r xs → ExtendsVia held has_failed a (Some m) b (Some n) r xs
+in_armor (Ok x) p = record { same = p.same; sound = p.told; added = armor_adds x p }
+in_armor (Err d) p = record { same = p.same; broken = armor_breaks d p }
 
--- ---- all but what is left
-pub more_added : (a b c : Way) (all left part more : List ℕ) (h : AllBut a b all left) → left ≡ part ++ more → AddsVia b c part → AllBut a c all more
-more_added a b c all left part more h cut k = record {
-  done = h.done ++ part;
-  added = via_then a b c h.done part h.added k;
-  whole = h.whole ∙ ap (λ (l : List ℕ). h.done ++ l) cut ∙ sym (append_assoc h.done part more);
+-- ---- in steps
+fails_more : (block : Option Label) (start now : State) (xs ys : List ℕ) → Fails block start now xs → Fails block start now (xs ++ ys)
+fails_more None start now xs ys h = breaks_more start now xs ys h
+fails_more (Some label) start now xs ys h = λ more. subst (λ (v : List ℕ). Breaks start now (armor_text label [] v)) (sym (append_assoc xs ys more)) (h (ys ++ more))
+
+pub via_nothing : {W : Type 0} {held : W → Option (List ℕ)} {has_failed : W → Bool} {a : Output W} {m : Option Armoring} → has_failed (sink_of a) ≡ false → AddsVia held has_failed a m a m []
+via_nothing {held} {has_failed} {a} {m} sound = record { same = refl; sound = sound; added = λ block start given h. subst (Holds block start (state_of held has_failed a) m) (sym (append-nil given)) h }
+
+pub via_then : {W : Type 0} {held : W → Option (List ℕ)} {has_failed : W → Bool} {a b c : Output W} {m n o : Option Armoring} {xs ys zs : List ℕ} → zs ≡ xs ++ ys
+    → AddsVia held has_failed a m b n xs → AddsVia held has_failed b n c o ys → AddsVia held has_failed a m c o zs
+via_then {held} {has_failed} {c} {o} {xs} {ys} e p q = record {
+  same = q.same ∙ p.same;
+  sound = q.sound;
+  added = λ block start given h. subst (Holds block start (state_of held has_failed c) o) (append_assoc given xs ys ∙ ap (λ (v : List ℕ). given ++ v) (sym e)) (q.added block start (given ++ xs) (p.added block start given h));
 }
 
-pub broken_in : (a b c : Way) (all left part more : List ℕ) (h : AllBut a b all left) → left ≡ part ++ more → BreaksVia b c part → BreaksVia a c all
-broken_in a b c all left part more h cut k =
-    subst (BreaksVia a c) (append_assoc h.done part more ∙ ap (λ (l : List ℕ). h.done ++ l) (sym cut) ∙ sym h.whole) (via_front a c (h.done ++ part) more (via_behind a b c h.done part h.added k))
+pub via_broken : {W : Type 0} {held : W → Option (List ℕ)} {has_failed : W → Bool} {a b c : Output W} {m n : Option Armoring} {xs ys zs : List ℕ} (rest : List ℕ) → zs ≡ xs ++ (ys ++ rest)
+    → AddsVia held has_failed a m b n xs → BreaksVia held has_failed b n c ys → BreaksVia held has_failed a m c zs
+via_broken {held} {has_failed} {c} {xs} {ys} rest e p q = record {
+  same = q.same ∙ p.same;
+  broken = λ block start given h. subst (Fails block start (state_of held has_failed c)) (append_assoc (given ++ xs) ys rest ∙ append_assoc given xs (ys ++ rest) ∙ ap (λ (v : List ℕ). given ++ v) (sym e))
+      (fails_more block start (state_of held has_failed c) ((given ++ xs) ++ ys) rest (q.broken block start (given ++ xs) (p.added block start given h)));
+}
 
-none_by : (a : State) (q : Option (List ℕ)) → a.failed ≡ false → AddsBy a a q q []
-none_by a None sound = adds_nothing a sound
-none_by a (Some q) sound = rows_nothing no_lines (rows a q) sound
+-- ---- all but what is left
+pub record ViaAllBut {W : Type 0} (held : W → Option (List ℕ)) (has_failed : W → Bool) (old : Output W) (before : Option Armoring) (new : Output W) (after : Option Armoring) (left all : List ℕ) : Type 0 where
+  pub done : List ℕ
+  pub added : AddsVia held has_failed old before new after done
+  pub joined : done ++ left ≡ all
 
-pub all_but_none : (a : Way) (all : List ℕ) → a.output.failed ≡ false → AllBut a a all all
-all_but_none a all sound = record { done = []; added = none_by a.output a.row sound; whole = refl }
+pub via_all_left : {W : Type 0} {held : W → Option (List ℕ)} {has_failed : W → Bool} {a : Output W} {m : Option Armoring} {all : List ℕ} → has_failed (sink_of a) ≡ false → ViaAllBut held has_failed a m a m all all
+via_all_left sound = record { done = []; added = via_nothing sound; joined = refl }
 
-pub fails : {T E : Type 0} (a b : Way) (r : Result T E) (xs : List ℕ) → IsErr r → BreaksVia a b xs → WritesVia a b r xs
-fails a b (Ok x) xs e h = cc
-fails a b (Err x) xs e h = h
+pub via_less_left : {W : Type 0} {held : W → Option (List ℕ)} {has_failed : W → Bool} {a b c : Output W} {m n o : Option Armoring} {left xs rest all : List ℕ} → ViaAllBut held has_failed a m b n left all → left ≡ xs ++ rest
+    → AddsVia held has_failed b n c o xs → ViaAllBut held has_failed a m c o rest all
+via_less_left {xs} {rest} h e p = record {
+  done = h.done ++ xs;
+  added = via_then refl h.added p;
+  joined = append_assoc h.done xs rest ∙ ap (λ (v : List ℕ). h.done ++ v) (sym e) ∙ h.joined;
+}
 
--- ---- a way in a block
-pub rows_breaks : (a b : State) (q r : Option (List ℕ)) (row : List ℕ) (xs : List ℕ) → q ≡ Some row → BreaksBy a b q r xs → (rest : List ℕ) × BreaksRows (rows a row) (rows b rest) xs
-rows_breaks a b None r row xs e h = cc
-rows_breaks a b (Some q) None row xs e h = absurd h
-rows_breaks a b (Some q) (Some r) row xs e h = let same : q ≡ row = cc in (r, subst (λ (l : List ℕ). BreaksRows (rows a l) (rows b r) xs) same h)
+pub via_broken_left : {W : Type 0} {held : W → Option (List ℕ)} {has_failed : W → Bool} {a b c : Output W} {m n : Option Armoring} {left xs all : List ℕ} (rest : List ℕ) → ViaAllBut held has_failed a m b n left all → left ≡ xs ++ rest
+    → BreaksVia held has_failed b n c xs → BreaksVia held has_failed a m c all
+via_broken_left rest h e p = via_broken rest (sym h.joined ∙ ap (λ (v : List ℕ). h.done ++ v) e) h.added p
 
-pub stops : {T E : Type 0} (a b : State) (r : Result T E) (xs : List ℕ) → IsErr r → Breaks a b xs → Writes a b r xs
-stops a b (Ok x) xs e h = cc
-stops a b (Err x) xs e h = h
+pub via_nothing_left : {W : Type 0} {held : W → Option (List ℕ)} {has_failed : W → Bool} {a b : Output W} {m n : Option Armoring} {left all : List ℕ} → ViaAllBut held has_failed a m b n left all → left ≡ [] → AddsVia held has_failed a m b n all
+via_nothing_left {held} {has_failed} {a} {b} {m} {n} h e = subst (AddsVia held has_failed a m b n) (sym (append-nil h.done) ∙ ap (λ (v : List ℕ). h.done ++ v) (sym e) ∙ h.joined) h.added
+
+-- ---- from and to outputs
+pub held_bare : {W : Type 0} (held : W → Option (List ℕ)) (has_failed : W → Bool) (a b : Output W) (m : Option Armoring) (r : Bool) (xs : List ℕ) → is_some m ≡ false → has_failed (sink_of a) ≡ false → sink_name b ≡ sink_name a
+    → (r ≡ true → Adds (state_of held has_failed a) (state_of held has_failed b) xs) → (r ≡ false → state_of held has_failed b ≡ state_of held has_failed a) → AddsVia held has_failed a m b m (if r then xs else [])
+held_bare held has_failed a b (Some x) r xs none sound same h left = cc
+held_bare held has_failed a b None true xs none sound same h left = record { same = same; sound = (h refl).sound; added = λ block start given k. bare_adds block start _ _ given xs (h refl) k }
+held_bare held has_failed a b None false xs none sound same h left =
+    let old : State = state_of held has_failed a in
+    let e : state_of held has_failed b ≡ old = left refl in
+    record { same = same; sound = ap (λ (s : State). s.failed) e ∙ sound; added = λ block start given k. bare_adds block start old _ given [] (subst (λ (s : State). Adds old s []) (sym e) (adds_nothing old sound)) k }
+
+bare_held : (s b : State) (m : Option Armoring) (xs : List ℕ) → Holds None s b m xs → Adds s b xs
+bare_held s b None xs h = h
+bare_held s b (Some x) xs h = absurd h
+
+pub bare_back : {W T E : Type 0} {held : W → Option (List ℕ)} {has_failed : W → Bool} {a b : Output W} {xs : List ℕ} (m : Option Armoring) (r : Result T E) → has_failed (sink_of a) ≡ false
+    → ExtendsVia held has_failed a None b m r xs → Extends held has_failed a b r xs
+bare_back {held} {has_failed} {a} {xs = xs} m (Ok x) sound p = record { same = p.same; written = bare_held _ _ m xs (p.added None _ [] (adds_nothing (state_of held has_failed a) sound)) }
+bare_back {held} {has_failed} {a} m (Err e) sound p = record { same = p.same; written = p.broken None _ [] (adds_nothing (state_of held has_failed a) sound) }
+
+-- ---- a block
+pub block_unbegun : {W E T F : Type 0} {held : W → Option (List ℕ)} {has_failed : W → Bool} {a b : Output W} {label : Label} {d : E} (xs : List ℕ) (r : Result T F) → IsErr r → Begins held has_failed a b label (Err d)
+    → Extends held has_failed a b r (armor_text label [] xs)
+block_unbegun xs r h p = record { same = p.same; written = stop _ _ r _ h (p.begun xs) }
+
+pub block_broken : {W E T F : Type 0} {held : W → Option (List ℕ)} {has_failed : W → Bool} {a b c : Output W} {label : Label} {x : Armoring} {xs : List ℕ} (r : Result T F) → IsErr r → Begins {E = E} held has_failed a b label (Ok x)
+    → BreaksVia held has_failed b (Some x) c xs → Extends held has_failed a c r (armor_text label [] xs)
+block_broken {held} {has_failed} {a} {c} {label} {xs = xs} r h p q = record {
+  same = q.same ∙ p.same;
+  written = stop _ _ r _ h (subst (λ (v : List ℕ). Breaks (state_of held has_failed a) (state_of held has_failed c) (armor_text label [] v)) (append-nil xs) (q.broken (Some label) _ [] p.begun []));
+}
+
+pub block_stays : {W E : Type 0} {held : W → Option (List ℕ)} {has_failed : W → Bool} {a b c : Output W} {label : Label} {x : Armoring} {m : Option Armoring} {xs : List ℕ} → Begins {E = E} held has_failed a b label (Ok x)
+    → AddsVia held has_failed b (Some x) c m xs → m ≡ None → ⊥
+block_stays {held} {has_failed} {a} {c} {label} {xs = xs} p q e = subst (λ (v : Option Armoring). Holds (Some label) (state_of held has_failed a) (state_of held has_failed c) v xs) e (q.added (Some label) _ [] p.begun)
+
+pub block_ended : {W E T F : Type 0} {held : W → Option (List ℕ)} {has_failed : W → Bool} {a b c d : Output W} {label : Label} {x y : Armoring} {m : Option Armoring} {xs : List ℕ} {r : Result T F} → Begins {E = E} held has_failed a b label (Ok x)
+    → AddsVia held has_failed b (Some x) c m xs → m ≡ Some y → Ends held has_failed c y d r → Extends held has_failed a d r (armor_text label [] xs)
+block_ended {held} {has_failed} {a} {c} {label} {xs = xs} p q e z = record {
+  same = z.same ∙ q.same ∙ p.same;
+  written = z.ended label _ xs (subst (λ (v : Option Armoring). Holds (Some label) (state_of held has_failed a) (state_of held has_failed c) v xs) e (q.added (Some label) _ [] p.begun));
+}

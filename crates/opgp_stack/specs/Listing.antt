@@ -13,7 +13,7 @@ use Rattle.opgp_frame.specs.Packet.{PacketValue}
 use Rattle.opgp_hash.specs.Fingerprint.{fingerprint_of, print_octets}
 use Rattle.opgp_hash.specs.KeyId.{key_id_of}
 use Rattle.opgp_packet.specs.KeyBody.{key}
-use Rattle.opgp_ring.specs.Keyring.{is_type}
+use Rattle.opgp_frame.specs.Header.{is_type}
 use Rattle.opgp_packet.specs.SignatureBody.{SignatureValue, of_three, of_four, of_six, of_other}
 use Rattle.opgp_packet.specs.SignatureBody.{signature_at}
 use Rattle.opgp_stream.specs.Texts.{escaped}

@@ -75,14 +75,14 @@ FirstFault limits n (b ∷ bs) f = IsFramingFault limits n b.octets f
     × FirstFault limits (n + 1) bs f)
 
 -- ---- the answer
--- what the layer on top makes of labels and packets: a value, or a fault of its own
-pub data Outcome (A : Type 0) : Type 0 where
-  Whole : A → Outcome A
-  Refused : Fault → Outcome A
+-- a value, or the fault that refuses the input
+abbrev pub Outcome : Type 0 → Type 0
+Outcome A = Result A Fault
 
-abbrev pub outcome_of : {A : Type 0} → Result A Fault → Outcome A
-outcome_of (Ok value) = Whole value
-outcome_of (Err fault) = Refused fault
+-- the same of what the value shows
+abbrev pub shown : {A B : Type 0} → (A → B) → Outcome A → Outcome B
+shown show (Ok value) = Ok (show value)
+shown show (Err fault) = Err fault
 
 abbrev pub too_long : Limits → Fault
 too_long limits = record {
@@ -97,14 +97,14 @@ too_long limits = record {
 -- first framing fault of its blocks; else what the top says of the labels and packets of all blocks.
 pub data AnswerOf {A : Type 0} (wanted : Wanted) (top : List Item → Outcome A → Type 0) (mode : Mode)
     (limits : Limits) (input : List ℕ) (answer : Outcome A) : Type 0 where
-  at_length : input_limit limits < length input → answer ≡ Refused (too_long limits)
+  at_length : input_limit limits < length input → answer ≡ Err (too_long limits)
       → AnswerOf wanted top mode limits input answer
   at_armor : length input ≤ input_limit limits → (f : Fault)
-      → IsTextFault (is_binary mode input) limits input f → answer ≡ Refused f
+      → IsTextFault (is_binary mode input) limits input f → answer ≡ Err f
       → AnswerOf wanted top mode limits input answer
   at_framing : length input ≤ input_limit limits → (blocks : List TextBlock)
       → Holds (is_binary mode input) limits input blocks → (f : Fault)
-      → FirstFault limits 0 blocks f → answer ≡ Refused f
+      → FirstFault limits 0 blocks f → answer ≡ Err f
       → AnswerOf wanted top mode limits input answer
   at_top : length input ≤ input_limit limits → (blocks : List TextBlock)
       → Holds (is_binary mode input) limits input blocks → (items : List Item)

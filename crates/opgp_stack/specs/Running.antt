@@ -1,13 +1,15 @@
 -- What a run of the program makes of an input.
-use Rattle.std.specs.Prelude.{◌≡◌, ℕ, Bool, true, false, List, [], Option, Some, None, Result, Ok, Err}
-use Rattle.std.specs.Prelude.{slice_get, IfSome}
-use Rattle.opgp_octets.specs.Limits.{input_limit}
+use Rattle.std.specs.Prelude.{◌≡◌, ℕ, Bool, true, false, List, Option, Some, None, Result, Ok, Err}
+use Rattle.std.specs.Prelude.{slice_get}
+use Rattle.opgp_octets.specs.declared.fault.Fault.{Fault}
+use Rattle.opgp_octets.specs.declared.limits.Limits.{Limits}
 use Rattle.opgp_frame.specs.Packet.{PacketValue}
 use Rattle.opgp_hash.specs.Hashed.{hashed}
 use Rattle.opgp_hash.specs.QuestionValue.{QuestionValue}
 use Rattle.opgp_report.specs.Asked.{asked_of, question_in}
 use Rattle.opgp_report.specs.Left.{says_left}
 use Rattle.opgp_report.specs.Report.{report_of}
+use Rattle.opgp_ring.specs.Composition.{Item}
 use Rattle.opgp_ring.specs.Keyring.{KeyringValue, CertificateValue, certificate_packets, flat}
 use Rattle.opgp_ring.specs.Normal.{normal_of}
 use Rattle.opgp_merge.specs.Merged.{merged_of}
@@ -19,15 +21,13 @@ use Rattle.opgp_stack.specs.declared.task.Action.{Action}
 use Rattle.opgp_stack.specs.declared.task.Action.TheVariants as action
 use Rattle.opgp_stack.specs.declared.task.Out.{Out}
 use Rattle.opgp_stack.specs.declared.task.Top.TheVariants as top
-use Rattle.opgp_stack.specs.declared.running.Reading.{Reading}
-use Rattle.opgp_stack.specs.declared.running.Reading.TheVariants as reading
 use Rattle.opgp_stack.specs.declared.task.Task.{Task}
 use Rattle.opgp_stack.specs.Hashing.{message_asked}
 use Rattle.opgp_stack.specs.Keyrings.{ComposesTo, key_label}
 use Rattle.opgp_stack.specs.Listing.{listing}
 use Rattle.opgp_stack.specs.Packets.{ArePackets, BlockValue, any_label}
-use Rattle.opgp_stack.specs.Pulled.{Pulls}
-use Rattle.opgp_stack.specs.Reading.{AnswerOf, Outcome, Whole, Refused}
+use Rattle.opgp_stack.specs.Pulled.{OfAll}
+use Rattle.opgp_stack.specs.Reading.{AnswerOf, Outcome, Wanted}
 use Rattle.opgp_stack.specs.Report.{report_lines}
 use Rattle.opgp_stack.specs.Showing.{shown_blocks}
 use Rattle.opgp_stack.specs.Signed.{AreSigned, message_label}
@@ -38,86 +38,60 @@ use Rattle.opgp_stack.specs.Written.{IsWritten}
 -- a text to write, or why there is none
 pub data Made : Type 0 where
   Text : List ℕ → Made
-  Ends : RunFault → Made
-
--- what an action reads its input as
-abbrev pub reads : Action → Reading
-reads action.Show = reading.Packets
-reads action.List = reading.Keyring
-reads (action.Write out) = reading.Keyring
-reads (action.Normalise out) = reading.Keyring
-reads (action.Split out nth) = reading.Keyring
-reads (action.Join out merge) = reading.Keyring
-reads action.Check = reading.Keyring
-reads (action.Octets row top.Ring) = reading.Keyring
-reads (action.Octets row top.Literal) = reading.Message
+  Refused : Fault → Made
+  NoSuchRow : Made
+  NoSuchCertificate : Made
 
 -- the octets that a question hashes
 abbrev pub question_made : Option QuestionValue → Made
 question_made (Some q) = Text (hashed q)
-question_made None = Ends run.NoSuchRow
+question_made None = NoSuchRow
 
--- the certificate of a number alone, if there is one
+-- one certificate, if there is one
 abbrev pub one_text : Out → Option CertificateValue → Made
 one_text out (Some c) = Text (packets_text out (certificate_packets c))
-one_text out None = Ends run.NoSuchCertificate
+one_text out None = NoSuchCertificate
 
--- every certificate for itself, or that of a number
-abbrev pub split_text : Out → Option ℕ → List CertificateValue → Made
-split_text out None cs = Text (certificates_text out cs)
-split_text out (Some n) cs = one_text out (slice_get cs n)
+-- what is made of an answer: a refusal stays one
+abbrev pub on_value : {A : Type 0} → (A → Made) → Outcome A → Made
+on_value make (Ok value) = make value
+on_value make (Err fault) = Refused fault
 
--- a keyring, merged where that is asked
-abbrev pub joined_of : Bool → KeyringValue → KeyringValue
-joined_of true r = merged_of r
-joined_of false r = r
+-- what a layer on top answers of the octets, and what is made of that
+abbrev pub Asks : {A : Type 0} → Wanted → (Limits → List Item → Outcome A → Type 0) → (A → Made)
+    → Task → List ℕ → Made → Type 0
+Asks {A} wanted top make task octets made = (answer : Outcome A)
+    × AnswerOf wanted (top task.limits) task.mode task.limits octets answer
+    × (made ≡ on_value make answer)
 
--- what is made of a keyring; packets are shown of no keyring
-abbrev pub made_of : Action → KeyringValue → Made
-made_of action.List r = Text (listing (flat r))
-made_of (action.Write out) r = Text (packets_text out (flat r))
-made_of (action.Normalise out) r = Text (packets_text out (flat (normal_of r)))
-made_of (action.Split out nth) r = split_text out nth r.certificates
-made_of (action.Join out merge) r = Text (packets_text out (flat (joined_of merge r)))
-made_of action.Show r = Text []
-made_of action.Check r = Text (report_lines 0 (report_of says_left r))
-made_of (action.Octets row top) r =
-    question_made (question_in (slice_get (asked_of r) row))
+-- what is made of the packets, of the keyring, and of the signed literal
+abbrev pub OfPackets : (List BlockValue → Made) → Task → List ℕ → Made → Type 0
+OfPackets = Asks any_label (λ _. ArePackets)
 
--- what is made of an answer: a refusal ends the run
-abbrev pub made_of_answer : Action → Outcome KeyringValue → Made
-made_of_answer a (Whole r) = made_of a r
-made_of_answer a (Refused fault) = Ends (run.Refused fault)
+abbrev pub OfRing : (KeyringValue → Made) → Task → List ℕ → Made → Type 0
+OfRing = Asks key_label ComposesTo
 
-abbrev pub shown_answer : Outcome (List BlockValue) → Made
-shown_answer (Whole blocks) = Text (shown_blocks blocks)
-shown_answer (Refused fault) = Ends (run.Refused fault)
+abbrev pub OfLiteral : (List PacketValue → Made) → Task → List ℕ → Made → Type 0
+OfLiteral = Asks message_label (λ _. AreSigned)
 
--- what is made of the packets of a signed literal, of which octets alone are asked
-abbrev pub message_made : Action → List PacketValue → Made
-message_made (action.Octets row top) packets =
-    question_made (question_in (slice_get (message_asked packets) row))
-message_made other packets = Text []
+-- what each action makes of octets
+abbrev pub MakesBy : Action → Task → List ℕ → Made → Type 0
+MakesBy action.Show = OfPackets (λ blocks. Text (shown_blocks blocks))
+MakesBy action.List = OfRing (λ r. Text (listing (flat r)))
+MakesBy action.Check = OfRing (λ r. Text (report_lines 0 (report_of says_left r)))
+MakesBy (action.Octets row top.Ring) =
+    OfRing (λ r. question_made (question_in (slice_get (asked_of r) row)))
+MakesBy (action.Octets row top.Literal) =
+    OfLiteral (λ packets. question_made (question_in (slice_get (message_asked packets) row)))
+MakesBy (action.Write out) = OfRing (λ r. Text (packets_text out (flat r)))
+MakesBy (action.Normalise out) = OfRing (λ r. Text (packets_text out (flat (normal_of r))))
+MakesBy (action.Split out None) = OfRing (λ r. Text (certificates_text out r.certificates))
+MakesBy (action.Split out (Some n)) = OfRing (λ r. one_text out (slice_get r.certificates n))
+MakesBy (action.Join out false) = OfRing (λ r. Text (packets_text out (flat r)))
+MakesBy (action.Join out true) = OfRing (λ r. Text (packets_text out (flat (merged_of r))))
 
-abbrev pub message_answer : Action → Outcome (List PacketValue) → Made
-message_answer a (Whole packets) = message_made a packets
-message_answer a (Refused fault) = Ends (run.Refused fault)
-
--- what a task makes of octets that are read as packets, as a keyring, or as a signed literal
-abbrev pub MakesBy : Reading → Task → List ℕ → Made → Type 0
-MakesBy reading.Packets task octets made = (answer : Outcome (List BlockValue))
-    × AnswerOf any_label ArePackets task.mode task.limits octets answer
-    × (made ≡ shown_answer answer)
-MakesBy reading.Keyring task octets made = (answer : Outcome KeyringValue)
-    × AnswerOf key_label (ComposesTo task.limits) task.mode task.limits octets answer
-    × (made ≡ made_of_answer task.action answer)
-MakesBy reading.Message task octets made = (answer : Outcome (List PacketValue))
-    × AnswerOf message_label AreSigned task.mode task.limits octets answer
-    × (made ≡ message_answer task.action answer)
-
--- what a task makes of octets
 abbrev pub Makes : Task → List ℕ → Made → Type 0
-Makes task octets made = MakesBy (reads task.action) task octets made
+Makes task = MakesBy task.action task
 
 -- ---- how a run ends
 abbrev pub ended : Result Unit EngineError → Result Unit RunFault
@@ -131,33 +105,30 @@ abbrev pub IsMade : {W : Type 0} → (W → Option (List ℕ)) → (W → Bool) 
     → Result Unit RunFault → Made → Type 0
 IsMade held failed old new result (Text text) = (written : Result Unit EngineError)
     × (result ≡ ended written) × IsWritten held failed old new written text
-IsMade held failed old new result (Ends fault) = (result ≡ Err fault) × (new ≡ old)
+IsMade held failed old new result (Refused fault) =
+    (result ≡ Err (run.Refused fault)) × (new ≡ old)
+IsMade held failed old new result NoSuchRow = (result ≡ Err run.NoSuchRow) × (new ≡ old)
+IsMade held failed old new result NoSuchCertificate =
+    (result ≡ Err run.NoSuchCertificate) × (new ≡ old)
 
--- A failed read and want of memory are told apart from what is made of the input.
-abbrev pub Runs : Result Unit RunFault → (failed made nothing : Type 0) → Type 0
-Runs (Ok done) failed made nothing = made
-Runs (Err (run.Refused fault)) failed made nothing = made
-Runs (Err run.Read) failed made nothing = failed
-Runs (Err run.Write) failed made nothing = made
-Runs (Err run.Memory) failed made nothing = nothing
-Runs (Err run.NoSuchRow) failed made nothing = made
-Runs (Err run.NoSuchCertificate) failed made nothing = made
+-- A run makes what its task says of all that the source gives; or the source fails, or memory runs
+-- out while it is read, and nothing is written.
+pub data RunsAs {R W : Type 0} (left : R → Option (List ℕ)) (has_failed : R → Bool)
+    (held : W → Option (List ℕ)) (failed : W → Bool) (task : Task) (reader reader' : R)
+    (writer writer' : W) (result : Result Unit RunFault) : Type 0 where
+  makes : OfAll left has_failed reader reader' task.limits (λ octets. (made : Made)
+      × Makes task octets made × IsMade held failed writer writer' result made)
+      → RunsAs left has_failed held failed task reader reader' writer writer' result
+  fails : result ≡ Err run.Read → has_failed reader' ≡ true → writer' ≡ writer
+      → RunsAs left has_failed held failed task reader reader' writer writer' result
+  lacks : result ≡ Err run.Memory → has_failed reader' ≡ false → writer' ≡ writer
+      → RunsAs left has_failed held failed task reader reader' writer writer' result
 
--- The run of what is made of the octets that were read.
-abbrev pub RunsOver : {W : Type 0} → (W → Option (List ℕ)) → (W → Bool) → W → W
-    → Result Unit RunFault → Option (List ℕ) → Option (List ℕ) → Type 0 → Task
-    → (List ℕ → Made → Type 0) → Type 0
-RunsOver held has_failed old new result before after failed task makes = Runs result
-    (failed × (new ≡ old))
-    ((octets : List ℕ) × Pulls before after (input_limit task.limits) octets
-    × (made : Made) × makes octets made × IsMade held has_failed old new result made)
-    (new ≡ old)
-
--- The same where the octets of the source are known: what is made of all of them.
-abbrev pub RunsKnown : {W : Type 0} → (W → Option (List ℕ)) → (W → Bool) → W → W
-    → Result Unit RunFault → Option (List ℕ) → Type 0 → (List ℕ → Made → Type 0) → Type 0
-RunsKnown held has_failed old new result before failed makes = Runs result
-    (failed × (new ≡ old))
-    (IfSome before (λ octets. (made : Made) × makes octets made
-    × IsMade held has_failed old new result made))
-    (new ≡ old)
+-- What is read for a run: the answer, or the source has failed, or memory ran out.
+abbrev pub ReadsFor : {A : Type 0} → (Outcome A → Type 0) → (failed sound : Type 0)
+    → Result A RunFault → Type 0
+ReadsFor answer failed sound (Ok value) = answer (Ok value)
+ReadsFor answer failed sound (Err (run.Refused fault)) = answer (Err fault)
+ReadsFor answer failed sound (Err run.Read) = failed
+ReadsFor answer failed sound (Err run.Memory) = sound
+ReadsFor answer failed sound (Err other) = ⊥

@@ -12,11 +12,11 @@ use Rattle.opgp_frame.specs.declared.form.Form.{Form}
 use Rattle.opgp_frame.specs.declared.form.Form.TheVariants as forms
 use Rattle.opgp_frame.specs.declared.packet.Placed.{Placed}
 use Rattle.opgp_packet.specs.Areas.{hashed_subs, unhashed_subs}
-use Rattle.opgp_packet.specs.Meaning.{Meaning, unfit, unknown}
+use Rattle.opgp_packet.specs.Meaning.{Meaning, typed, unfit, unknown}
 use Rattle.opgp_packet.specs.MeaningReading.{meaning_of}
 use Rattle.opgp_packet.specs.SignatureBody.{SignatureValue, signature_at}
 use Rattle.opgp_packet.specs.SubView.{is_critical, kind_shown}
-use Rattle.opgp_ring.specs.Keyring.{is_type}
+use Rattle.opgp_frame.specs.Header.{is_type}
 use Rattle.opgp_stack.specs.Packets.{BlockValue}
 use Rattle.opgp_stack.specs.declared.showing.Area.{Area}
 use Rattle.opgp_stack.specs.declared.showing.Area.TheVariants.{Hashed, Unhashed}
@@ -39,9 +39,9 @@ area_name Unhashed = codes "unhashed"
 
 -- of what is known of a subpacket
 abbrev pub meaning_name : Meaning → List ℕ
+meaning_name (typed kind form fields) = codes "typed"
 meaning_name unfit = codes "unfit"
 meaning_name unknown = codes "unknown"
-meaning_name typed = codes "typed"
 
 -- of a bit
 abbrev pub bit_name : Bool → List ℕ

@@ -1,4 +1,4 @@
-//! The keyring of an input.
+//! The keyring of an input, each block of which must be a public key block.
 
 ghost use Rattle.std.specs.Prelude.{◌≡◌, ◌∷◌, [], true, List, OnOk, IfOk};
 ghost use Rattle.opgp_octets.specs.declared.limits.Limits.{Limits};
@@ -8,33 +8,15 @@ ghost use Rattle.opgp_stack.specs.Keyrings.{ComposesTo, key_label};
 use crate::receiver::Receiver;
 use opgp_armor::Label;
 use opgp_frame::Placed;
-use opgp_octets::{Fault, Limits, OutOfMemory};
-use opgp_ring::{Composed, Gathering, Keyring};
-use std::alloc::Global;
+use opgp_octets::{Fault, OutOfMemory};
+use opgp_ring::{Gathering, Keyring};
 
-/// The keyring of the blocks of an input, each of which must be a public key block.
-#[derive(Drop)]
-pub(crate) struct Keyrings {
-    gathering: Gathering,
-}
-
-impl Keyrings {
-    /// A keyring of nothing yet. Takes no memory; what is added does, from `alloc`.
-    pub(crate) fn new(alloc: Global, limits: Limits) -> Keyrings
-        ensures { Gathers limits result.gathering [] }
-    {
-        Keyrings {
-            gathering: Gathering::new(alloc, limits),
-        }
-    }
-}
-
-impl Receiver for Keyrings {
+impl Receiver for Gathering {
     type Value = Keyring;
 
     ghost wanted = { key_label };
 
-    ghost fed = { λ limits t items. Gathers limits t.gathering items };
+    ghost fed = { λ limits t items. Gathers limits t items };
 
     ghost says = { ComposesTo };
 
@@ -46,19 +28,15 @@ impl Receiver for Keyrings {
     }
 
     fn begin_block(&mut self, block: u64, fits: bool) -> Result<(), OutOfMemory> {
-        self.gathering.begin_block(block, fits);
+        Gathering::begin_block(self, block, fits);
         Ok(())
     }
 
     fn push(&mut self, packet: Placed) -> Result<(), OutOfMemory> {
-        self.gathering.add(packet)?;
-        Ok(())
+        self.add(packet)
     }
 
     fn finish(self) -> Result<Result<Keyring, Fault>, OutOfMemory> {
-        match self.gathering.finish()? {
-            Composed::Ring(keyring) => Ok(Ok(keyring)),
-            Composed::Refused(fault) => Ok(Err(fault)),
-        }
+        Gathering::finish(self)
     }
 }

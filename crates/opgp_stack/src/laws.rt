@@ -1,13 +1,13 @@
 //! What the definition of an answer implies, however the octets came.
 
-ghost use Rattle.std.specs.Prelude.{◌≡◌, ℕ, List, true};
+ghost use Rattle.std.specs.Prelude.{◌≡◌, ℕ, List, true, Ok};
 ghost use Rattle.opgp_frame.specs.Packet.{PacketValue, packets_octets};
 ghost use Rattle.opgp_octets.specs.Octets.{IsOctets};
 ghost use Rattle.opgp_octets.specs.declared.limits.Limits.{Limits};
 ghost use Rattle.opgp_ring.specs.Keyring.{KeyringValue, flat};
 ghost use Rattle.opgp_stack.specs.Keyrings.{ComposesTo, key_label};
 ghost use Rattle.opgp_stack.specs.Packets.{ArePackets, BlockValue, any_label};
-ghost use Rattle.opgp_stack.specs.Reading.{AnswerOf, Holds, Outcome, TextBlock, Whole};
+ghost use Rattle.opgp_stack.specs.Reading.{AnswerOf, Holds, Outcome, TextBlock};
 ghost use Rattle.opgp_stack.specs.Reading.{blocks_octets, is_binary};
 ghost use Rattle.opgp_stack.specs.Running.{Made, Makes};
 ghost use Rattle.opgp_stack.specs.Signed.{AreSigned, message_label};
@@ -51,11 +51,11 @@ pub fn some_answer()
 /// those of a binary input are all of it.
 pub fn packets_are_written_again()
     ensures blocks { (mode : Mode) (limits : Limits) (input : List ℕ) (r : KeyringValue)
-        → AnswerOf key_label (ComposesTo limits) mode limits input (Whole r)
+        → AnswerOf key_label (ComposesTo limits) mode limits input (Ok r)
         → (blocks : List TextBlock) × Holds (is_binary mode input) limits input blocks
         × (packets_octets (flat r) ≡ blocks_octets blocks) }
     ensures binary { (mode : Mode) (limits : Limits) (input : List ℕ) (r : KeyringValue)
-        → AnswerOf key_label (ComposesTo limits) mode limits input (Whole r)
+        → AnswerOf key_label (ComposesTo limits) mode limits input (Ok r)
         → is_binary mode input ≡ true → packets_octets (flat r) ≡ input }
 {}
 

@@ -201,12 +201,12 @@ fn add_line<W: Sink>(output: &mut Output<'_, W>, part: Part<'_>) -> io::Result<(
         Part::Member(member) => member,
     };
     match member.content() {
-        Content::Primary(_, key) => add_key(output, Role::Primary, key),
-        Content::Subkey(_, key) => add_key(output, Role::Subkey, key),
-        Content::UserId(_, id) => add_user_id(output, id.octets()),
-        Content::Attribute(_, attribute) => add_attribute(output, attribute),
-        Content::Signature(_, signature) => add_signature(output, signature),
-        Content::Filler(packet) => add_filler(output, packet.kind(), packet.body()),
+        Content::Primary(key) => add_key(output, Role::Primary, key),
+        Content::Subkey(key) => add_key(output, Role::Subkey, key),
+        Content::UserId(id) => add_user_id(output, id.octets()),
+        Content::Attribute(attribute) => add_attribute(output, attribute),
+        Content::Signature(signature) => add_signature(output, signature),
+        Content::Filler(kind, body) => add_filler(output, *kind, body),
     }
 }
 

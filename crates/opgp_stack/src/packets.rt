@@ -4,7 +4,9 @@ ghost use Rattle.std.specs.Prelude.{◌≡◌, ◌∷◌, [], true, List, OnOk, 
 ghost use Rattle.opgp_octets.specs.declared.limits.Limits.{Limits};
 ghost use Rattle.opgp_ring.specs.Block.{items_of};
 ghost use Rattle.opgp_ring.specs.Composition.{Item};
-ghost use Rattle.opgp_stack.specs.Packets.{GathersPackets, any_label, from_label};
+ghost use Rattle.opgp_stack.specs.Packets.{ArePackets, any_label, block_values};
+ghost use Rattle.opgp_stack.specs.Reading.{shown};
+ghost use Rattle.opgp_stack.specs.Receiver.{from_label};
 
 use crate::receiver::Receiver;
 use opgp_armor::Label;
@@ -39,7 +41,7 @@ impl Receiver for Packets {
 
     ghost fed = { λ _ t items. items_of t.blocks.items ≡ from_label items };
 
-    ghost says = { λ _ items outcome. GathersPackets items outcome };
+    ghost says = { λ _ items r. ArePackets items (shown block_values r) };
 
     fn wants(_label: Option<Label>) -> bool {
         true

@@ -5,7 +5,7 @@ ghost use Rattle.std.specs.Prelude.{IfOk, false};
 ghost use Rattle.opgp_octets.specs.declared.limits.Limits.{Limits};
 ghost use Rattle.opgp_stack.specs.Framed.{Framed, has_begun};
 ghost use Rattle.opgp_stack.specs.Pipeline.{Fed, Passed, count_of};
-ghost use Rattle.opgp_stack.specs.Reading.{AnswerOf, is_binary, outcome_of};
+ghost use Rattle.opgp_stack.specs.Reading.{AnswerOf, is_binary};
 ghost use Rattle.opgp_stack.specs.Through.{IsEnd};
 ghost use Rattle.opgp_stack.specs.declared.mode.Mode.{Mode};
 ghost use Rattle.opgp_stack.specs.declared.pipeline.Front.TheVariants.{Undecided};
@@ -14,6 +14,7 @@ use crate::framer::Framer;
 use crate::mode::Mode;
 use crate::receiver::Receiver;
 use crate::unarmoring::{end_text, unarmor};
+use opgp_armor::laws::a_block_has_no_more_octets_than_the_text;
 use opgp_armor::{Dearmor, Label};
 use opgp_octets::{Fault, Layer, Limits, OutOfMemory, Reason};
 use std::alloc::Global;
@@ -129,7 +130,7 @@ impl<T: Receiver + Drop> Pipeline<T> {
             × Fed T.fed T.wanted mode limits self input }
         ensures { IfOk result (λ answer. (mode : Mode) (limits : Limits) (input : List ℕ)
             → Fed T.fed T.wanted mode limits self input
-            → AnswerOf T.wanted (T.says limits) mode limits input (outcome_of answer)) }
+            → AnswerOf T.wanted (T.says limits) mode limits input answer) }
     {
         let Pipeline {
             alloc: _,
@@ -210,7 +211,7 @@ fn conclude<T: Receiver + Drop>(
         × IsEnd T.fed T.wanted (is_binary mode input) limits framer input ended }
     ensures { IfOk result (λ answer. (mode : Mode) (input : List ℕ) → given ≡ length input
         → IsEnd T.fed T.wanted (is_binary mode input) limits framer input ended
-        → AnswerOf T.wanted (T.says limits) mode limits input (outcome_of answer)) }
+        → AnswerOf T.wanted (T.says limits) mode limits input answer) }
 {
     if given > limits.input() {
         return Ok(Err(Fault {
@@ -225,6 +226,7 @@ fn conclude<T: Receiver + Drop>(
         Err(fault) => Ok(Err(fault)),
         Ok(()) => match framer.finish() {
             Ok(top) => {
+                a_block_has_no_more_octets_than_the_text();
                 let answer = top.finish()?;
                 Ok(answer)
             }

@@ -1,29 +1,29 @@
 //! Reads what a top makes of the packets of a source.
 
-ghost use Rattle.std.specs.Prelude.{◌≡◌, ◌≢◌, ◌≤◌, ◌<◌, ◌+◌, ℕ, List, [], true, false, IfOk, IfSome};
-ghost use Rattle.std.specs.Prelude.{OnOk, OnErr, Err, length, take};
+ghost use Rattle.std.specs.Prelude.{◌≡◌, ◌≤◌, ◌<◌, ℕ, List, [], true, false, length, take};
+ghost use Rattle.std.specs.Prelude.{IfOk, OnOk, OnErr};
 ghost use Rattle.std.specs.Io.KnownBytes.{Consumes, IsAtEnd};
 ghost use Rattle.opgp_octets.specs.declared.limits.Limits.{Limits};
-ghost use Rattle.opgp_octets.specs.Limits.{input_limit};
 ghost use Rattle.opgp_octets.specs.Octets.{IsOctets};
 ghost use Rattle.opgp_stack.specs.Pipeline.{Fed, count_of};
-ghost use Rattle.opgp_stack.specs.Pulled.{Pulls};
-ghost use Rattle.opgp_stack.specs.Reading.{AnswerOf, outcome_of};
+ghost use Rattle.opgp_stack.specs.Pulled.{Answers, ReadsAs};
+ghost use Rattle.opgp_stack.specs.Reading.{AnswerOf};
 ghost use Rattle.opgp_stack.specs.declared.mode.Mode.{Mode};
 
-use crate::engine_error::EngineError;
 use crate::mode::Mode;
 use crate::pipeline::Pipeline;
+use crate::read_error::ReadError;
 use crate::receiver::Receiver;
-use opgp_octets::{Fault, Limits};
+use opgp_octets::Limits;
 use opgp_stream::Source;
 use std::alloc::{AllocError, Global};
+use std::io;
 
 /// How many octets are read at a time.
 const PIECE: usize = 65_536;
 
 /// Pulls at most `most` octets into the buffer.
-fn pull_some<R: Source>(reader: &mut R, buf: &mut [u8], most: u64) -> Result<usize, EngineError>
+fn pull_some<R: Source>(reader: &mut R, buf: &mut [u8], most: u64) -> io::Result<usize>
     requires some { 0 < most }
     requires room { 0 < length buf.old }
     requires sound { R.has_failed reader.old ≡ false }
@@ -34,33 +34,27 @@ fn pull_some<R: Source>(reader: &mut R, buf: &mut [u8], most: u64) -> Result<usi
     ensures end { IfOk result (λ n. n ≡ 0 → IsAtEnd (R.left reader.new)) }
     ensures sound { OnOk result (R.has_failed reader.new ≡ false) }
     ensures err { OnErr result (R.has_failed reader.new ≡ true) }
-    ensures read { OnErr result (result ≡ Err EngineError.Read) }
 {
     let want = if most < buf.len() as u64 {
         most as usize
     } else {
         buf.len()
     };
-    match reader.pull(&mut buf[..want]) {
-        Ok(n) => Ok(n),
-        Err(_) => Err(EngineError::Read),
-    }
+    reader.pull(&mut buf[..want])
 }
 
 /// The answer at the end of the octets.
-fn conclude<T: Receiver + Drop>(
-    pipeline: Pipeline<T>,
-) -> Result<Result<T::Value, Fault>, EngineError>
+fn conclude<T: Receiver + Drop>(pipeline: Pipeline<T>) -> Result<T::Value, ReadError>
     requires { (mode : Mode) × (limits : Limits) × (input : List ℕ)
         × Fed T.fed T.wanted mode limits pipeline input }
-    ensures answer { IfOk result (λ answer. (mode : Mode) (limits : Limits) (input : List ℕ)
+    ensures { (mode : Mode) (limits : Limits) (input : List ℕ)
         → Fed T.fed T.wanted mode limits pipeline input
-        → AnswerOf T.wanted (T.says limits) mode limits input (outcome_of answer)) }
-    ensures err { OnErr result (result ≡ Err EngineError.Memory) }
+        → Answers (AnswerOf T.wanted (T.says limits) mode limits input) result }
 {
     match pipeline.finish() {
-        Ok(answer) => Ok(answer),
-        Err(_) => Err(EngineError::Memory),
+        Ok(Ok(value)) => Ok(value),
+        Ok(Err(fault)) => Err(ReadError::Refused(fault)),
+        Err(_) => Err(ReadError::Memory),
     }
 }
 
@@ -72,63 +66,52 @@ fn pull_all<R: Source, T: Receiver + Drop>(
     mode: Mode,
     limits: Limits,
     mut pipeline: Pipeline<T>,
-) -> Result<Result<T::Value, Fault>, EngineError>
+) -> Result<T::Value, ReadError>
     requires sound { R.has_failed reader.old ≡ false }
     requires room { 0 < length buf.old }
     requires fed { Fed T.fed T.wanted mode limits pipeline [] }
     requires count { count_of pipeline ≡ 0 }
-    ensures answer { IfOk result (λ answer. (octets : List ℕ)
-        × Pulls (R.left reader.old) (R.left reader.new) (input_limit limits) octets
-        × AnswerOf T.wanted (T.says limits) mode limits octets (outcome_of answer)) }
-    ensures known { IfOk result (λ answer. IfSome (R.left reader.old) (λ octets.
-        AnswerOf T.wanted (T.says limits) mode limits octets (outcome_of answer))) }
-    ensures sound { OnOk result (R.has_failed reader.new ≡ false) }
-    ensures read { result ≡ Err EngineError.Read → R.has_failed reader.new ≡ true }
-    ensures memory { result ≡ Err EngineError.Memory → R.has_failed reader.new ≡ false }
-    ensures no_write { result ≢ Err EngineError.Write }
+    ensures { ReadsAs R.left R.has_failed reader.old reader.new limits
+        (AnswerOf T.wanted (T.says limits) mode limits) result }
 {
     let mut count = 0u64;
     let limit = limits.input();
     'pulls: while count <= limit {
-        let n = pull_some(reader, buf, limit + 1 - count)?;
+        let n = match pull_some(reader, buf, limit + 1 - count) {
+            Ok(n) => n,
+            Err(_) => return Err(ReadError::Read),
+        };
         if n == 0 {
-            let answer = conclude(pipeline)?;
-            return Ok(answer);
+            return conclude(pipeline);
         }
         count += n as u64;
         match pipeline.push(&buf[..n]) {
             Ok(()) => {}
-            Err(_) => return Err(EngineError::Memory),
+            Err(_) => return Err(ReadError::Memory),
         }
     }
-    let answer = conclude(pipeline)?;
-    Ok(answer)
+    conclude(pipeline)
 }
 
-/// What the top makes of the packets of all that a source gives, or the one fault. No octet is read
-/// past the limit but one, which tells that the input is too long.
+/// What the top makes of the packets of all that a source gives; else the one fault, that of the
+/// lowest layer that refuses the input, or that the source has failed, or want of memory. No octet
+/// is read past the limit `input` but one, which tells that the input is too long. The condition is
+/// that the source hasn't failed.
 pub fn read_with<R: Source, T: Receiver + Drop>(
     alloc: Global,
     reader: &mut R,
     mode: Mode,
     limits: &Limits,
     top: T,
-) -> Result<Result<T::Value, Fault>, EngineError>
+) -> Result<T::Value, ReadError>
     requires sound { R.has_failed reader.old ≡ false }
     requires empty { T.fed limits.now top [] }
-    ensures answer { IfOk result (λ answer. (octets : List ℕ)
-        × Pulls (R.left reader.old) (R.left reader.new) (input_limit limits.now) octets
-        × AnswerOf T.wanted (T.says limits.now) mode limits.now octets (outcome_of answer)) }
-    ensures known { IfOk result (λ answer. IfSome (R.left reader.old) (λ octets.
-        AnswerOf T.wanted (T.says limits.now) mode limits.now octets (outcome_of answer))) }
-    ensures sound { OnOk result (R.has_failed reader.new ≡ false) }
-    ensures read { result ≡ Err EngineError.Read → R.has_failed reader.new ≡ true }
-    ensures memory { result ≡ Err EngineError.Memory → R.has_failed reader.new ≡ false }
-    ensures no_write { result ≢ Err EngineError.Write }
+    ensures { ReadsAs R.left R.has_failed reader.old reader.new limits.now
+        (AnswerOf T.wanted (T.says limits.now) mode limits.now) result }
 {
     let mut buf = match make_piece(alloc) {
         Ok(buf) => buf,
-        Err(_) => return Err(EngineError::Memory),
+        Err(_) => return Err(ReadError::Memory),
     };
     let pipeline = Pipeline::new(alloc, mode, *limits, top);
     pull_all(reader, buf.as_mut_slice(), mode, *limits, pipeline)

@@ -1,17 +1,17 @@
 //! Reads the keyring of a source.
 
-ghost use Rattle.std.specs.Prelude.{◌≡◌, ◌≢◌, ℕ, List, true, false, IfOk, IfSome, OnOk, Err};
-ghost use Rattle.opgp_octets.specs.Limits.{input_limit};
-ghost use Rattle.opgp_stack.specs.Keyrings.{ComposesTo, key_label, ring_outcome};
-ghost use Rattle.opgp_stack.specs.Pulled.{Pulls};
+ghost use Rattle.std.specs.Prelude.{◌≡◌, false};
+ghost use Rattle.opgp_stack.specs.Keyrings.{AnswersAs, ComposesTo, key_label};
+ghost use Rattle.opgp_stack.specs.Pulled.{ReadsAs};
 ghost use Rattle.opgp_stack.specs.Reading.{AnswerOf};
 
 use crate::answer::Answer;
 use crate::engine_error::EngineError;
-use crate::keyrings::Keyrings;
 use crate::mode::Mode;
+use crate::read_error::ReadError;
 use crate::reading::read_with;
 use opgp_octets::Limits;
+use opgp_ring::Gathering;
 use opgp_stream::Source;
 use std::alloc::Global;
 
@@ -29,18 +29,13 @@ pub fn read_keyring<R: Source>(
     limits: &Limits,
 ) -> Result<Answer, EngineError>
     requires { R.has_failed reader.old ≡ false }
-    ensures answer { IfOk result (λ answer. (octets : List ℕ)
-        × Pulls (R.left reader.old) (R.left reader.new) (input_limit limits.now) octets
-        × AnswerOf key_label (ComposesTo limits.now) mode limits.now octets (ring_outcome answer)) }
-    ensures known { IfOk result (λ answer. IfSome (R.left reader.old) (λ octets.
-        AnswerOf key_label (ComposesTo limits.now) mode limits.now octets (ring_outcome answer))) }
-    ensures sound { OnOk result (R.has_failed reader.new ≡ false) }
-    ensures read { result ≡ Err EngineError.Read → R.has_failed reader.new ≡ true }
-    ensures memory { result ≡ Err EngineError.Memory → R.has_failed reader.new ≡ false }
-    ensures no_write { result ≢ Err EngineError.Write }
+    ensures { AnswersAs (ReadsAs R.left R.has_failed reader.old reader.new limits.now
+        (AnswerOf key_label (ComposesTo limits.now) mode limits.now)) result }
 {
-    match read_with(alloc, reader, mode, limits, Keyrings::new(alloc, *limits))? {
+    match read_with(alloc, reader, mode, limits, Gathering::new(alloc, *limits)) {
         Ok(keyring) => Ok(Answer::Ring(keyring)),
-        Err(fault) => Ok(Answer::Refused(fault)),
+        Err(ReadError::Refused(fault)) => Ok(Answer::Refused(fault)),
+        Err(ReadError::Read) => Err(EngineError::Read),
+        Err(ReadError::Memory) => Err(EngineError::Memory),
     }
 }

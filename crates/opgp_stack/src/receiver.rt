@@ -4,8 +4,8 @@ ghost use Rattle.std.specs.Prelude.{◌≡◌, ◌∷◌, [], List, Bool, Option
 ghost use Rattle.opgp_octets.specs.declared.limits.Limits.{Limits};
 ghost use Rattle.opgp_armor.specs.declared.label.Label.{Label};
 ghost use Rattle.opgp_ring.specs.Composition.{Item, of_label, of_packet};
-ghost use Rattle.opgp_stack.specs.Reading.{Outcome, outcome_of};
-ghost use Rattle.opgp_stack.specs.Receiver.{KeepsFed};
+ghost use Rattle.opgp_stack.specs.Reading.{Outcome};
+ghost use Rattle.opgp_stack.specs.Receiver.{AreRead, KeepsFed};
 
 use opgp_armor::Label;
 use opgp_frame::Placed;
@@ -37,10 +37,10 @@ pub trait Receiver {
     fn push(&mut self, packet: Placed) -> Result<(), OutOfMemory>
         ensures { OnOk result (KeepsFed fed self.old self.new (of_packet packet ∷ [])) };
 
-    /// The value, or a fault of this layer. The condition is that nothing was refused. An error is
-    /// want of memory.
+    /// The value, or a fault of this layer, of what an input has. The condition is that nothing was
+    /// refused. An error is want of memory.
     fn finish(self) -> Result<Result<Self::Value, Fault>, OutOfMemory>
         requires { (limits : Limits) × (items : List Item) × fed limits self items }
         ensures { IfOk result (λ r. (limits : Limits) (items : List Item) → fed limits self items
-            → says limits items (outcome_of r)) };
+            → AreRead items → says limits items r) };
 }

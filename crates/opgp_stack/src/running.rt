@@ -1,32 +1,29 @@
 //! Does what a task asks.
 
-ghost use Rattle.std.specs.Prelude.{◌≡◌, ◌≢◌, true, false, Err};
-ghost use Rattle.opgp_merge.specs.Merged.{merged_of};
+ghost use Rattle.std.specs.Prelude.{◌≡◌, List, [], slice_get, true, false};
+ghost use Rattle.opgp_octets.specs.declared.limits.Limits.{Limits};
 ghost use Rattle.opgp_ring.specs.Keyring.{flat};
-ghost use Rattle.opgp_ring.specs.SignedLiteral.{signed_packets};
 ghost use Rattle.opgp_report.specs.Left.{says_left};
 ghost use Rattle.opgp_report.specs.Report.{report_of};
+ghost use Rattle.opgp_stack.specs.Pulled.{OfAll};
+ghost use Rattle.opgp_stack.specs.Reading.{AnswerOf};
 ghost use Rattle.opgp_stack.specs.Report.{report_lines};
-ghost use Rattle.opgp_stack.specs.Running.{IsMade, Made, Makes, MakesBy, RunsKnown, RunsOver, ended};
-ghost use Rattle.opgp_stack.specs.Running.{made_of, message_made, reads, split_text};
-ghost use Rattle.opgp_stack.specs.Writing.{packets_text};
+ghost use Rattle.opgp_stack.specs.Running.{IsMade, Made, ReadsFor, RunsAs, ended, one_text};
 
-use crate::answer::Answer;
 use crate::engine_error::EngineError;
 use crate::hashing::{question_of, write_question};
-use crate::packets_answer::PacketsAnswer;
-use crate::reading_keyring::read_keyring;
-use crate::reading_packets::read_packets;
-use crate::reading_signed::read_signed;
+use crate::packets::Packets;
+use crate::read_error::ReadError;
+use crate::reading::read_with;
+use crate::receiver::Receiver;
 use crate::run_fault::RunFault;
-use crate::signed_answer::SignedAnswer;
 use crate::task::{Action, Out, Task, Top};
 use crate::writing_keyring::{write_certificate, write_certificates, write_keyring, write_listing};
 use crate::writing_report::write_report;
 use crate::writing_shown::write_shown;
 use opgp_merge::merge;
 use opgp_report::{LeftOctets, check, question_at};
-use opgp_ring::{Keyring, SignedLiteral, normalise};
+use opgp_ring::{Gathering, Keyring, SignedGathering, normalise};
 use opgp_stream::{Sink, Source};
 use std::alloc::Global;
 use std::mem;
@@ -44,12 +41,8 @@ pub fn run<R: Source, W: Sink>(
 ) -> Result<(), RunFault>
     requires reader { R.has_failed reader.old ≡ false }
     requires writer { W.has_failed writer.old ≡ false }
-    ensures run { RunsOver W.held W.has_failed writer.old writer.new
-        result (R.left reader.old) (R.left reader.new) (R.has_failed reader.new ≡ true) task.now
-        (Makes task.now) }
-    ensures known { RunsKnown W.held W.has_failed writer.old writer.new
-        result (R.left reader.old) (R.has_failed reader.new ≡ true) (Makes task.now) }
-    ensures sound { result ≢ Err RunFault.Read → R.has_failed reader.new ≡ false }
+    ensures { RunsAs R.left R.has_failed W.held W.has_failed task.now reader.old reader.new
+        writer.old writer.new result }
 {
     run_and(alloc, task, reader, writer, After::Frees)
 }
@@ -64,12 +57,8 @@ pub fn run_last<R: Source, W: Sink>(
 ) -> Result<(), RunFault>
     requires reader { R.has_failed reader.old ≡ false }
     requires writer { W.has_failed writer.old ≡ false }
-    ensures run { RunsOver W.held W.has_failed writer.old writer.new
-        result (R.left reader.old) (R.left reader.new) (R.has_failed reader.new ≡ true) task.now
-        (Makes task.now) }
-    ensures known { RunsKnown W.held W.has_failed writer.old writer.new
-        result (R.left reader.old) (R.has_failed reader.new ≡ true) (Makes task.now) }
-    ensures sound { result ≢ Err RunFault.Read → R.has_failed reader.new ≡ false }
+    ensures { RunsAs R.left R.has_failed W.held W.has_failed task.now reader.old reader.new
+        writer.old writer.new result }
 {
     run_and(alloc, task, reader, writer, After::Leaves)
 }
@@ -83,11 +72,35 @@ enum After {
     Leaves,
 }
 
-/// Lets go of what was read.
-fn let_go<T: Drop>(value: T, after: After) {
+/// Lets go of what was read, where the run ends so.
+fn done<T: Drop>(end: Result<(), RunFault>, value: T, after: After) -> Result<(), RunFault>
+    ensures { result ≡ end }
+{
     match after {
         After::Frees => drop(value),
         After::Leaves => mem::forget(value),
+    }
+    end
+}
+
+/// Reads what a task is about.
+fn ask<R: Source, T: Receiver + Drop>(
+    alloc: Global,
+    task: &Task,
+    reader: &mut R,
+    top: T,
+) -> Result<T::Value, RunFault>
+    requires sound { R.has_failed reader.old ≡ false }
+    requires empty { T.fed task.now.limits top [] }
+    ensures { ReadsFor (λ answer. OfAll R.left R.has_failed reader.old reader.new task.now.limits
+        (λ octets. AnswerOf T.wanted (T.says task.now.limits) task.now.mode task.now.limits octets
+        answer)) (R.has_failed reader.new ≡ true) (R.has_failed reader.new ≡ false) result }
+{
+    match read_with(alloc, reader, task.mode, &task.limits, top) {
+        Ok(value) => Ok(value),
+        Err(ReadError::Refused(fault)) => Err(RunFault::Refused(fault)),
+        Err(ReadError::Read) => Err(RunFault::Read),
+        Err(ReadError::Memory) => Err(RunFault::Memory),
     }
 }
 
@@ -101,225 +114,69 @@ fn run_and<R: Source, W: Sink>(
 ) -> Result<(), RunFault>
     requires reader { R.has_failed reader.old ≡ false }
     requires writer { W.has_failed writer.old ≡ false }
-    ensures run { RunsOver W.held W.has_failed writer.old writer.new
-        result (R.left reader.old) (R.left reader.new) (R.has_failed reader.new ≡ true) task.now
-        (Makes task.now) }
-    ensures known { RunsKnown W.held W.has_failed writer.old writer.new
-        result (R.left reader.old) (R.has_failed reader.new ≡ true) (Makes task.now) }
-    ensures sound { result ≢ Err RunFault.Read → R.has_failed reader.new ≡ false }
+    ensures { RunsAs R.left R.has_failed W.held W.has_failed task.now reader.old reader.new
+        writer.old writer.new result }
 {
-    match reads(&task.action) {
-        Reading::Packets => run_packets(alloc, task, reader, writer, after),
-        Reading::Keyring => run_keyring(alloc, task, reader, writer, after),
-        Reading::Message => run_message(alloc, task, reader, writer, after),
-    }
-}
-
-/// Does what a task asks of packets: shows them.
-fn run_packets<R: Source, W: Sink>(
-    alloc: Global,
-    task: &Task,
-    reader: &mut R,
-    writer: &mut W,
-    after: After,
-) -> Result<(), RunFault>
-    requires reader { R.has_failed reader.old ≡ false }
-    requires writer { W.has_failed writer.old ≡ false }
-    ensures run { RunsOver W.held W.has_failed writer.old writer.new
-        result (R.left reader.old) (R.left reader.new) (R.has_failed reader.new ≡ true) task.now
-        (MakesBy Reading.Packets task.now) }
-    ensures known { RunsKnown W.held W.has_failed writer.old writer.new
-        result (R.left reader.old) (R.has_failed reader.new ≡ true) (MakesBy Reading.Packets task.now) }
-    ensures sound { result ≢ Err RunFault.Read → R.has_failed reader.new ≡ false }
-{
-    match read_packets(alloc, reader, task.mode, &task.limits) {
-        Ok(PacketsAnswer::Packets(blocks)) => {
-            let ended = end(write_shown(alloc, &blocks, writer));
-            let_go(blocks, after);
-            ended
-        }
-        Ok(PacketsAnswer::Refused(fault)) => Err(RunFault::Refused(fault)),
-        Err(EngineError::Read) => Err(RunFault::Read),
-        Err(_) => Err(RunFault::Memory),
-    }
-}
-
-/// Does what a task asks of a keyring.
-fn run_keyring<R: Source, W: Sink>(
-    alloc: Global,
-    task: &Task,
-    reader: &mut R,
-    writer: &mut W,
-    after: After,
-) -> Result<(), RunFault>
-    requires reads { reads task.now.action ≡ Reading.Keyring }
-    requires reader { R.has_failed reader.old ≡ false }
-    requires writer { W.has_failed writer.old ≡ false }
-    ensures run { RunsOver W.held W.has_failed writer.old writer.new
-        result (R.left reader.old) (R.left reader.new) (R.has_failed reader.new ≡ true) task.now
-        (MakesBy Reading.Keyring task.now) }
-    ensures known { RunsKnown W.held W.has_failed writer.old writer.new
-        result (R.left reader.old) (R.has_failed reader.new ≡ true) (MakesBy Reading.Keyring task.now) }
-    ensures sound { result ≢ Err RunFault.Read → R.has_failed reader.new ≡ false }
-{
-    match read_keyring(alloc, reader, task.mode, &task.limits) {
-        Ok(Answer::Ring(keyring)) => make(alloc, task.action, keyring, writer, after),
-        Ok(Answer::Refused(fault)) => Err(RunFault::Refused(fault)),
-        Err(EngineError::Read) => Err(RunFault::Read),
-        Err(_) => Err(RunFault::Memory),
-    }
-}
-
-/// Does what a task asks of a signed literal.
-fn run_message<R: Source, W: Sink>(
-    alloc: Global,
-    task: &Task,
-    reader: &mut R,
-    writer: &mut W,
-    after: After,
-) -> Result<(), RunFault>
-    requires reads { reads task.now.action ≡ Reading.Message }
-    requires reader { R.has_failed reader.old ≡ false }
-    requires writer { W.has_failed writer.old ≡ false }
-    ensures run { RunsOver W.held W.has_failed writer.old writer.new
-        result (R.left reader.old) (R.left reader.new) (R.has_failed reader.new ≡ true) task.now
-        (MakesBy Reading.Message task.now) }
-    ensures known { RunsKnown W.held W.has_failed writer.old writer.new
-        result (R.left reader.old) (R.has_failed reader.new ≡ true)
-        (MakesBy Reading.Message task.now) }
-    ensures sound { result ≢ Err RunFault.Read → R.has_failed reader.new ≡ false }
-{
-    match read_signed(alloc, reader, task.mode, &task.limits) {
-        Ok(SignedAnswer::Literal(message)) => {
-            let ended = make_of(alloc, task.action, &message, writer);
-            let_go(message, after);
-            ended
-        }
-        Ok(SignedAnswer::Refused(fault)) => Err(RunFault::Refused(fault)),
-        Err(EngineError::Read) => Err(RunFault::Read),
-        Err(_) => Err(RunFault::Memory),
-    }
-}
-
-/// Makes what an action asks of a signed literal.
-fn make_of<W: Sink>(
-    alloc: Global,
-    action: Action,
-    message: &SignedLiteral,
-    writer: &mut W,
-) -> Result<(), RunFault>
-    requires message { reads action ≡ Reading.Message }
-    requires writer { W.has_failed writer.old ≡ false }
-    ensures { IsMade W.held W.has_failed writer.old writer.new result
-        (message_made action (signed_packets message.now)) }
-{
-    match action {
-        Action::Octets { row, top: _ } => write_question(alloc, question_of(message, row), writer),
-        Action::Show
-        | Action::List
-        | Action::Check
-        | Action::Write { out: _ }
-        | Action::Normalise { out: _ }
-        | Action::Split { out: _, nth: _ }
-        | Action::Join { out: _, merge: _ } => unreachable!(),
-    }
-}
-
-/// What an action reads its input as.
-#[derive(Clone, Copy)]
-enum Reading {
-    Packets,
-    Keyring,
-    Message,
-}
-
-fn reads(action: &Action) -> Reading
-    ensures { result ≡ reads action.now }
-{
-    match action {
-        Action::Show => Reading::Packets,
-        Action::Octets {
-            row: _,
-            top: Top::Literal,
-        } => Reading::Message,
-        _ => Reading::Keyring,
-    }
-}
-
-/// Makes what an action asks of a keyring.
-fn make<W: Sink>(
-    alloc: Global,
-    action: Action,
-    keyring: Keyring,
-    writer: &mut W,
-    after: After,
-) -> Result<(), RunFault>
-    requires keyring { reads action ≡ Reading.Keyring }
-    requires writer { W.has_failed writer.old ≡ false }
-    ensures { IsMade W.held W.has_failed writer.old writer.new result (made_of action keyring) }
-{
-    match action {
-        Action::Normalise { out } => write_ring(alloc, out, normalise(keyring), writer, after),
-        Action::Join { out, merge: true } => join_merged(alloc, out, keyring, writer, after),
-        Action::Write { out } | Action::Join { out, merge: false } => {
-            write_ring(alloc, out, keyring, writer, after)
+    match task.action {
+        Action::Show => {
+            let blocks = ask(alloc, task, reader, Packets::new(alloc))?;
+            done(end(write_shown(alloc, &blocks, writer)), blocks, after)
         }
         Action::List => {
-            let ended = end(write_listing(alloc, &keyring, writer));
-            let_go(keyring, after);
-            ended
-        }
-        Action::Split { out, nth } => {
-            let ended = split(alloc, out, nth, &keyring, writer);
-            let_go(keyring, after);
-            ended
+            let ring = ask(alloc, task, reader, Gathering::new(alloc, task.limits))?;
+            done(end(write_listing(alloc, &ring, writer)), ring, after)
         }
         Action::Check => {
-            let ended = check_all(alloc, &keyring, writer);
-            let_go(keyring, after);
-            ended
+            let ring = ask(alloc, task, reader, Gathering::new(alloc, task.limits))?;
+            done(check_all(alloc, &ring, writer), ring, after)
         }
-        Action::Octets { row, top: _ } => {
-            let ended = write_question(alloc, question_at(&keyring, row as usize), writer);
-            let_go(keyring, after);
-            ended
+        Action::Octets { row, top } => match top {
+            Top::Ring => {
+                let ring = ask(alloc, task, reader, Gathering::new(alloc, task.limits))?;
+                let question = question_at(&ring, row as usize);
+                done(write_question(alloc, question, writer), ring, after)
+            }
+            Top::Literal => {
+                let message = ask(alloc, task, reader, SignedGathering::new(alloc))?;
+                let question = question_of(&message, row);
+                done(write_question(alloc, question, writer), message, after)
+            }
+        },
+        Action::Write { out } => {
+            let ring = ask(alloc, task, reader, Gathering::new(alloc, task.limits))?;
+            done(end(write_keyring(alloc, &ring, out, writer)), ring, after)
         }
-        Action::Show => unreachable!(),
-    }
-}
-
-/// Writes a keyring, and lets go of it.
-fn write_ring<W: Sink>(
-    alloc: Global,
-    out: Out,
-    keyring: Keyring,
-    writer: &mut W,
-    after: After,
-) -> Result<(), RunFault>
-    requires { W.has_failed writer.old ≡ false }
-    ensures { IsMade W.held W.has_failed writer.old writer.new result
-        (Made.Text (packets_text out (flat keyring))) }
-{
-    let ended = end(write_keyring(alloc, &keyring, out, writer));
-    let_go(keyring, after);
-    ended
-}
-
-/// Writes a keyring merged.
-fn join_merged<W: Sink>(
-    alloc: Global,
-    out: Out,
-    keyring: Keyring,
-    writer: &mut W,
-    after: After,
-) -> Result<(), RunFault>
-    requires { W.has_failed writer.old ≡ false }
-    ensures { IsMade W.held W.has_failed writer.old writer.new result
-        (Made.Text (packets_text out (flat (merged_of keyring)))) }
-{
-    match merge(keyring) {
-        Ok(merged) => write_ring(alloc, out, merged, writer, after),
-        Err(_) => end(Err(EngineError::Memory)),
+        Action::Normalise { out } => {
+            let ring = ask(alloc, task, reader, Gathering::new(alloc, task.limits))?;
+            let ring = normalise(ring);
+            done(end(write_keyring(alloc, &ring, out, writer)), ring, after)
+        }
+        Action::Split { out, nth } => match nth {
+            None => {
+                let ring = ask(alloc, task, reader, Gathering::new(alloc, task.limits))?;
+                done(
+                    end(write_certificates(alloc, &ring, out, writer)),
+                    ring,
+                    after,
+                )
+            }
+            Some(n) => {
+                let ring = ask(alloc, task, reader, Gathering::new(alloc, task.limits))?;
+                done(write_one(alloc, out, &ring, n, writer), ring, after)
+            }
+        },
+        Action::Join { out, merge: merges } => {
+            if merges {
+                let ring = ask(alloc, task, reader, Gathering::new(alloc, task.limits))?;
+                match merge(ring) {
+                    Ok(ring) => done(end(write_keyring(alloc, &ring, out, writer)), ring, after),
+                    Err(_) => end(Err(EngineError::Memory)),
+                }
+            } else {
+                let ring = ask(alloc, task, reader, Gathering::new(alloc, task.limits))?;
+                done(end(write_keyring(alloc, &ring, out, writer)), ring, after)
+            }
+        }
     }
 }
 
@@ -335,24 +192,21 @@ fn check_all<W: Sink>(alloc: Global, keyring: &Keyring, writer: &mut W) -> Resul
     }
 }
 
-/// Writes every certificate for itself, or that of a number.
-fn split<W: Sink>(
+/// Writes the certificate of a number.
+fn write_one<W: Sink>(
     alloc: Global,
     out: Out,
-    nth: Option<u64>,
     keyring: &Keyring,
+    n: u64,
     writer: &mut W,
 ) -> Result<(), RunFault>
     requires { W.has_failed writer.old ≡ false }
     ensures { IsMade W.held W.has_failed writer.old writer.new result
-        (split_text out nth keyring.now.certificates) }
+        (one_text out (slice_get keyring.now.certificates n)) }
 {
-    match nth {
-        None => end(write_certificates(alloc, keyring, out, writer)),
-        Some(n) => match keyring.certificates().get(n as usize) {
-            None => Err(RunFault::NoSuchCertificate),
-            Some(certificate) => end(write_certificate(alloc, certificate, out, writer)),
-        },
+    match keyring.certificates().get(n as usize) {
+        None => Err(RunFault::NoSuchCertificate),
+        Some(certificate) => end(write_certificate(alloc, certificate, out, writer)),
     }
 }
 

@@ -1,9 +1,9 @@
 //! Packets on their way to an output, bare or as armor, without memory.
 
-ghost use Rattle.std.specs.Prelude.{◌≡◌, ◌++◌, true, false};
+ghost use Rattle.std.specs.Prelude.{◌≡◌, ◌++◌, [], if◌then◌else◌, true, false};
 ghost use Rattle.opgp_frame.specs.Packet.{IsPacket, packets_octets, spelling};
 ghost use Rattle.opgp_ring.specs.Packets.{packets_left, part_packet};
-ghost use Rattle.opgp_stack.specs.Via.{AddsVia, ExtendsVia, way_of};
+ghost use Rattle.opgp_stack.specs.Via.{AddsVia, ExtendsVia};
 ghost use Rattle.opgp_stream.specs.Added.{Adds};
 ghost use Rattle.opgp_stream.specs.Output.{sink_name, sink_of, state_of};
 
@@ -89,7 +89,7 @@ fn hold_packet<W: Sink>(output: &mut Output<'_, W>, form: &Form, kind: u8, body:
 }
 
 /// Adds a packet of a keyring where the output is bare and has room for it, and answers true; or
-/// false, where nothing changes. So nearly all packets are added without an `io::Result`, which is
+/// false, where nothing is added. So nearly all packets are added without an `io::Result`, which is
 /// large and would be moved from call to call.
 #[inline(always)]
 fn hold_one<W: Sink>(
@@ -98,12 +98,8 @@ fn hold_one<W: Sink>(
     part: Part<'_>,
 ) -> bool
     requires { W.has_failed (sink_of output.old) ≡ false }
-    ensures same { sink_name output.new ≡ sink_name output.old }
-    ensures held { result ≡ true
-        → AddsVia (way_of W.held W.has_failed output.old armoring.now)
-        (way_of W.held W.has_failed output.new armoring.now) (spelling (part_packet part.entry)) }
-    ensures left { result ≡ false → state_of W.held W.has_failed output.new
-        ≡ state_of W.held W.has_failed output.old }
+    ensures { AddsVia W.held W.has_failed output.old armoring.now output.new armoring.now
+        (if result then spelling (part_packet part.entry) else []) }
 {
     if armoring.is_some() {
         return false;

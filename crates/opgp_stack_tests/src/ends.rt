@@ -6,7 +6,7 @@ ghost use Rattle.opgp_stream.specs.Watch.{watched_failed};
 use opgp_octets::{Limits, fault_line};
 use opgp_ring::Keyring;
 use opgp_stack::{
-    Answer, Mode, Out, PacketsAnswer, Watched, read_keyring, read_packets, write_keyring,
+    Answer, Mode, Out, ReadError, Watched, read_keyring, read_packets, write_keyring,
 };
 use std::alloc::Global;
 use std::io;
@@ -123,8 +123,8 @@ pub fn ring_line(alloc: Global, input: &[u8], mode: Mode, limits: &Limits) -> Re
 
 /// The number and the count of packets of each block of an input; or its fault.
 pub fn packets_line(alloc: Global, input: &[u8], mode: Mode) -> Result<String, Fail> {
-    match read_packets(alloc, &mut in_pieces(input, 7, 0), mode, &Limits::usual())? {
-        PacketsAnswer::Packets(blocks) => {
+    match read_packets(alloc, &mut in_pieces(input, 7, 0), mode, &Limits::usual()) {
+        Ok(blocks) => {
             let mut line = String::new(alloc);
             for block in &blocks {
                 let (number, count) = (block.block, block.packets.len());
@@ -132,7 +132,8 @@ pub fn packets_line(alloc: Global, input: &[u8], mode: Mode) -> Result<String, F
             }
             Ok(line)
         }
-        PacketsAnswer::Refused(fault) => Ok(fault_line(alloc, &fault)?),
+        Err(ReadError::Refused(fault)) => Ok(fault_line(alloc, &fault)?),
+        Err(error) => Err(error.into()),
     }
 }
 

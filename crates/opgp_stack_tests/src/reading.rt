@@ -3,7 +3,7 @@
 use crate::ends::{in_pieces, packets_line, ring_line, ring_of, written};
 use crate::keys::{KEYS, TWO_BLOCKS};
 use opgp_octets::Limits;
-use opgp_stack::{Answer, EngineError, Mode, Out, PacketsAnswer, read_keyring, read_packets};
+use opgp_stack::{Answer, EngineError, Mode, Out, read_keyring, read_packets};
 use std::test::Fail;
 
 #[test]
@@ -18,19 +18,15 @@ fn two_blocks_however_cut(rt: HostRuntime) -> Result<(), Fail> {
             assert!(rt; octets.as_slice() == KEYS, "in pieces of {most}");
         }
         let mut reader = in_pieces(TWO_BLOCKS, most, 0);
-        match read_packets(alloc, &mut reader, Mode::Auto, &Limits::usual())? {
-            PacketsAnswer::Packets(blocks) => {
-                assert_eq!(rt; blocks.len(), 2);
-                assert!(rt; blocks[0].block == 0 && blocks[0].label_fits);
-                assert_eq!(rt; blocks[0].packets.len(), 1);
-                assert_eq!(rt; blocks[0].packets[0].packet.body(), &KEYS[2..53]);
-                assert!(rt; blocks[1].block == 1 && blocks[1].label_fits);
-                assert_eq!(rt; blocks[1].packets.len(), 4);
-                let third = &blocks[1].packets[2];
-                assert_eq!(rt; (third.block, third.pos), (1, 223));
-            }
-            PacketsAnswer::Refused(_) => return Err("refused".into()),
-        }
+        let blocks = read_packets(alloc, &mut reader, Mode::Auto, &Limits::usual())?;
+        assert_eq!(rt; blocks.len(), 2);
+        assert!(rt; blocks[0].block == 0 && blocks[0].label_fits);
+        assert_eq!(rt; blocks[0].packets.len(), 1);
+        assert_eq!(rt; blocks[0].packets[0].packet.body(), &KEYS[2..53]);
+        assert!(rt; blocks[1].block == 1 && blocks[1].label_fits);
+        assert_eq!(rt; blocks[1].packets.len(), 4);
+        let third = &blocks[1].packets[2];
+        assert_eq!(rt; (third.block, third.pos), (1, 223));
     }
     Ok(())
 }

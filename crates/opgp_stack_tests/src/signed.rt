@@ -2,7 +2,7 @@
 
 use crate::ends::in_pieces;
 use opgp_octets::{Limits, fault_line};
-use opgp_stack::{Mode, SignedAnswer, read_signed};
+use opgp_stack::{Mode, ReadError, read_signed};
 use std::alloc::Global;
 use std::test::Fail;
 
@@ -22,13 +22,14 @@ const KEYS: &[u8] = b"-----BEGIN PGP PUBLIC KEY BLOCK-----\n\n\
 /// How many packets there are, and the content; or the fault.
 fn answer(alloc: Global, input: &[u8], most: usize, mode: Mode) -> Result<String, Fail> {
     let mut reader = in_pieces(input, most, 0);
-    match read_signed(alloc, &mut reader, mode, &Limits::usual())? {
-        SignedAnswer::Literal(literal) => {
+    match read_signed(alloc, &mut reader, mode, &Limits::usual()) {
+        Ok(literal) => {
             let packets = literal.flat().len();
             let content = literal.literal().content().len();
             Ok(format!(in alloc; "packets {packets} content {content}")?)
         }
-        SignedAnswer::Refused(fault) => Ok(fault_line(alloc, &fault)?),
+        Err(ReadError::Refused(fault)) => Ok(fault_line(alloc, &fault)?),
+        Err(error) => Err(error.into()),
     }
 }
 

@@ -1,7 +1,6 @@
 pub mod Added
 pub mod Extended
 pub mod Loops
-pub mod Pieces
 pub mod Places
 pub mod Rows
 pub mod Texts

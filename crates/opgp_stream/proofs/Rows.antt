@@ -1,5 +1,6 @@
 -- Octets armored in rows.
 use Rattle.std.proofs.Common.{◌≡◌, ◌∙◌, ℕ, ◌%◌, ◌≤◌, false, List, [], ◌∷◌, ◌++◌, refl, sym, ap, subst, arith, length, take, drop, Result, Ok, Err}
+use Rattle.std.specs.Prelude.{MatchResult}
 use Rattle.std.specs.Result.{IsErr, OnErr}
 use Rattle.std.proofs.lemmas.List.{append_assoc, append-nil, take-append-drop, length-append, length-take-le}
 use Rattle.std.proofs.lemmas.List.Concat.{flat_map-append}
@@ -9,7 +10,9 @@ use Rattle.opgp_armor.specs.Text.{Line, begin_line, end_line}
 use Rattle.opgp_armor.specs.Written.{text_of, letter_lines, data_lines, armor_text}
 use Rattle.opgp_stream.specs.Added.{State, Adds, Breaks, Writes}
 use Rattle.opgp_stream.specs.Rows.{opening, closing, Rows, AddsRows, BreaksRows, WritesRows}
-use Rattle.opgp_stream.proofs.Added.{adds_nothing, adds_then, breaks_then, breaks_more, breaks_same, adds_same, stop}
+use Rattle.opgp_stream.specs.declared.armoring.Armoring.{Armoring}
+use Rattle.opgp_stream.specs.Armoring.{Armors, BreaksArmor, Tells, label_of, row_of}
+use Rattle.opgp_stream.proofs.Added.{adds_nothing, adds_then, breaks_then, breaks_more, breaks_same, then_is}
 
 -- what the laws of armor say of data lines
 abbrev pub Joins : Type 0
@@ -66,6 +69,15 @@ rows_stop a b (Err e) xs h p = p
 pub at_err : {T E Q : Type 0} (r : Result T E) → Q → OnErr r Q
 at_err (Ok x) q = tt
 at_err (Err e) q = q
+
+pub broken_at : {T E Q : Type 0} (P : T → Type 0) (r : Result T E) → IsErr r → Q → MatchResult r P (λ _. Q)
+broken_at P (Ok x) h q = cc h
+broken_at P (Err e) h q = q
+
+-- what is added tells whether the sink has failed
+pub told_by : {T E : Type 0} (a b : State) (xs : List ℕ) (r : Result T E) → Writes a b r xs → Tells r b.failed
+told_by a b xs (Ok x) p = p.sound
+told_by a b xs (Err e) p = p.failed
 
 -- ---- a row from the octets, some that wait, and the row that waited
 pub row_first : (a b : Rows) (octets : List ℕ) → a.row ≡ [] → b.row ≡ [] → 48 ≤ length octets → Adds a.output b.output (data_lines (take 48 octets)) → AddsRows a b (take 48 octets)
@@ -135,63 +147,53 @@ text_parts b e ls =
 text_is : (label : Label) (octets : List ℕ) → armor_text label [] octets ≡ opening label ++ (data_lines octets ++ closing label)
 text_is label octets = text_parts (begin_line label) (end_line label) (letter_lines (base64_of octets))
 
--- the whole text, cut after whole rows
-block_text : Joins → (label : Label) (octets rows row : List ℕ) → length rows % 48 ≡ 0 → octets ≡ rows ++ row
-    → armor_text label [] octets ≡ (opening label ++ data_lines rows) ++ (data_lines row ++ closing label)
-block_text join label octets rows row whole e =
-    text_is label octets
-    ∙ ap (λ (v : List ℕ). opening label ++ (v ++ closing label)) (ap data_lines e ∙ join rows row whole)
-    ∙ ap (λ (v : List ℕ). opening label ++ v) (append_assoc (data_lines rows) (data_lines row) (closing label))
-    ∙ sym (append_assoc (opening label) (data_lines rows) (data_lines row ++ closing label))
+-- ---- a block that is being added
 
-all_rows : (b c : Rows) (octets : List ℕ) (p : AddsRows b c octets) → b.row ≡ [] → octets ≡ p.rows ++ c.row
-all_rows b c octets p none = ap (λ (v : List ℕ). v ++ octets) (sym none) ∙ p.joined
+pub armor_begins : (label : Label) (a b : State) (x : Armoring) → label_of x ≡ label → row_of x ≡ [] → Adds a b (opening label) → Armors label a b x []
+armor_begins label a b x same empty p = record {
+  same = same;
+  text = opening label;
+  added = p;
+  ahead = λ more. text_is label more ∙ ap (λ (v : List ℕ). opening label ++ (data_lines (v ++ more) ++ closing label)) (sym empty);
+}
 
--- a block that was begun, and had octets: its last row and its end line are added
-pub block_ends : Joins → (label : Label) (a z : State) (b c : Rows) (octets : List ℕ) → b.row ≡ []
-    → Adds a b.output (opening label) → AddsRows b c octets → Adds c.output z (data_lines c.row ++ closing label) → Adds a z (armor_text label [] octets)
-block_ends join label a z b c octets none begun p q =
-    let front = adds_then a b.output c.output (opening label) (data_lines p.rows) begun p.added in
-    adds_same a z _ _ (sym (block_text join label octets p.rows c.row p.whole (all_rows b c octets p none)))
-    (adds_then a c.output z (opening label ++ data_lines p.rows) (data_lines c.row ++ closing label) front q)
+pub armor_unbegun : (label : Label) (a b : State) → Breaks a b (opening label) → BreaksArmor label a b []
+armor_unbegun label a b p = λ more. breaks_same a b _ _ (sym (text_is label more)) (breaks_more a b (opening label) (data_lines more ++ closing label) p)
 
--- the sink fails in them
-pub block_ends_broken : Joins → (label : Label) (a z : State) (b c : Rows) (octets : List ℕ) → b.row ≡ []
-    → Adds a b.output (opening label) → AddsRows b c octets → Breaks c.output z (data_lines c.row ++ closing label) → Breaks a z (armor_text label [] octets)
-block_ends_broken join label a z b c octets none begun p q =
-    let front = adds_then a b.output c.output (opening label) (data_lines p.rows) begun p.added in
-    breaks_same a z _ _ (sym (block_text join label octets p.rows c.row p.whole (all_rows b c octets p none)))
-    (breaks_then a c.output z (opening label ++ data_lines p.rows) (data_lines c.row ++ closing label) front q)
+-- what is still to come, cut after whole rows
+rows_ahead : Joins → (label : Label) (start now : State) (x : Armoring) (given octets rows row more : List ℕ) (h : Armors label start now x given) → row_of x ++ octets ≡ rows ++ row → length rows % 48 ≡ 0
+    → armor_text label [] ((given ++ octets) ++ more) ≡ (h.text ++ data_lines rows) ++ (data_lines (row ++ more) ++ closing label)
+rows_ahead join label start now x given octets rows row more h e whole =
+    let cut : row_of x ++ (octets ++ more) ≡ rows ++ (row ++ more) =
+    sym (append_assoc (row_of x) octets more) ∙ ap (λ (v : List ℕ). v ++ more) e ∙ append_assoc rows row more in
+    ap (armor_text label []) (append_assoc given octets more)
+    ∙ h.ahead (octets ++ more)
+    ∙ ap (λ (v : List ℕ). h.text ++ (v ++ closing label)) (ap data_lines cut ∙ join rows (row ++ more) whole)
+    ∙ ap (λ (v : List ℕ). h.text ++ v) (append_assoc (data_lines rows) (data_lines (row ++ more)) (closing label))
+    ∙ sym (append_assoc h.text (data_lines rows) (data_lines (row ++ more) ++ closing label))
 
--- the sink fails in the octets, or in those in front of more
-pub block_breaks : Joins → (label : Label) (a : State) (b c : Rows) (octets more : List ℕ) → b.row ≡ []
-    → Adds a b.output (opening label) → BreaksRows b c octets → Breaks a c.output (armor_text label [] (octets ++ more))
-block_breaks join label a b c octets more none begun p =
-    let e : octets ++ more ≡ p.rows ++ (p.rest ++ more) =
-    ap (λ (v : List ℕ). v ++ more) (ap (λ (v : List ℕ). v ++ octets) (sym none) ∙ p.joined) ∙ append_assoc p.rows p.rest more in
-    breaks_same a c.output _ _ (sym (block_text join label (octets ++ more) p.rows (p.rest ++ more) p.whole e))
-    (breaks_more a c.output (opening label ++ data_lines p.rows) (data_lines (p.rest ++ more) ++ closing label)
-    (breaks_then a b.output c.output (opening label) (data_lines p.rows) begun p.broken))
+pub armor_more : Joins → (now new : State) (x y : Armoring) (octets : List ℕ) → label_of y ≡ label_of x
+    → AddsRows (record { output = now; row = row_of x }) (record { output = new; row = row_of y }) octets
+    → (label : Label) (start : State) (given : List ℕ) → Armors label start now x given → Armors label start new y (given ++ octets)
+armor_more join now new x y octets same p label start given h = record {
+  same = same ∙ h.same;
+  text = h.text ++ data_lines p.rows;
+  added = adds_then start now new h.text (data_lines p.rows) h.added p.added;
+  ahead = λ more. rows_ahead join label start now x given octets p.rows (row_of y) more h p.joined p.whole;
+}
 
--- the sink fails in the begin line
-pub block_begins : (label : Label) (a b : State) (octets : List ℕ) → Breaks a b (opening label) → Breaks a b (armor_text label [] octets)
-block_begins label a b octets p =
-    breaks_same a b _ _ (sym (text_is label octets)) (breaks_more a b (opening label) (data_lines octets ++ closing label) p)
+pub armor_broken : Joins → (now : State) (x : Armoring) (b : Rows) (octets : List ℕ) → BreaksRows (record { output = now; row = row_of x }) b octets
+    → (label : Label) (start : State) (given : List ℕ) → Armors label start now x given → BreaksArmor label start b.output (given ++ octets)
+armor_broken join now x b octets p label start given h = λ more.
+    breaks_same start b.output _ _ (sym (rows_ahead join label start now x given octets p.rows p.rest more h p.joined p.whole))
+    (breaks_more start b.output (h.text ++ data_lines p.rows) (data_lines (p.rest ++ more) ++ closing label) (breaks_then start now b.output h.text (data_lines p.rows) h.added p.broken))
 
-block_result : {T E : Type 0} → Joins → (label : Label) (a z : State) (b c : Rows) (r : Result T E) (octets : List ℕ) → b.row ≡ []
-    → Adds a b.output (opening label) → AddsRows b c octets → Writes c.output z r (data_lines c.row ++ closing label) → Writes a z r (armor_text label [] octets)
-block_result join label a z b c (Ok x) octets none begun p q = block_ends join label a z b c octets none begun p q
-block_result join label a z b c (Err e) octets none begun p q = block_ends_broken join label a z b c octets none begun p q
-
-pub block_writes : {T E : Type 0} → Joins → (label last : Label) (a z : State) (b c : Rows) (r : Result T E) (octets all : List ℕ) → last ≡ label → octets ≡ all → b.row ≡ []
-    → Adds a b.output (opening label) → AddsRows b c octets → Writes c.output z r (data_lines c.row ++ closing last) → Writes a z r (armor_text label [] all)
-block_writes join label last a z b c r octets all same e none begun p q =
-    let P : Label → Type 0 = λ v. Writes c.output z r (data_lines c.row ++ closing v) in
-    let Q : List ℕ → Type 0 = λ v. Writes a z r (armor_text label [] v) in
-    subst Q e (block_result join label a z b c r octets none begun p (subst P same q))
-
-pub block_stops : {T E : Type 0} → Joins → (label : Label) (a : State) (b c : Rows) (r : Result T E) (octets more all : List ℕ) → octets ++ more ≡ all → b.row ≡ [] → IsErr r
-    → Adds a b.output (opening label) → BreaksRows b c octets → Writes a c.output r (armor_text label [] all)
-block_stops join label a b c r octets more all e none h begun p =
-    let P : List ℕ → Type 0 = λ v. Writes a c.output r (armor_text label [] v) in
-    subst P e (stop a c.output r (armor_text label [] (octets ++ more)) h (block_breaks join label a b c octets more none begun p))
+pub armor_ends : {T E : Type 0} (now new : State) (x : Armoring) (r : Result T E) → Writes now new r (data_lines (row_of x) ++ closing (label_of x))
+    → (label : Label) (start : State) (octets : List ℕ) → Armors label start now x octets → Writes start new r (armor_text label [] octets)
+armor_ends now new x r p label start octets h =
+    let rest : List ℕ = data_lines (row_of x) ++ closing (label_of x) in
+    let whole : armor_text label [] octets ≡ h.text ++ rest =
+    ap (armor_text label []) (sym (append-nil octets)) ∙ h.ahead []
+    ∙ ap (λ (v : List ℕ). h.text ++ (data_lines v ++ closing label)) (append-nil (row_of x))
+    ∙ ap (λ (l : Label). h.text ++ (data_lines (row_of x) ++ closing l)) (sym h.same) in
+    then_is start now new r h.text rest _ whole h.added p

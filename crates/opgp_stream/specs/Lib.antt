@@ -1,6 +1,5 @@
 pub mod Added
 pub mod Armoring
-pub mod Block
 pub mod Line
 pub mod Output
 pub mod Place

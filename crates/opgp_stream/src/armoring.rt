@@ -4,7 +4,7 @@ ghost use Rattle.std.specs.Prelude.{◌≡◌, ◌<◌, ◌≤◌, ◌++◌, ◌
 ghost use Rattle.std.specs.Prelude.{OnErr};
 ghost use Rattle.opgp_armor.specs.Written.{data_lines};
 ghost use Rattle.opgp_stream.specs.Output.{Extends, sink_name, sink_of};
-ghost use Rattle.opgp_stream.specs.Rows.{AddsRows, BreaksRows, WritesRows, closing, opening};
+ghost use Rattle.opgp_stream.specs.Rows.{AddsRows, BreaksRows, WritesRows};
 
 use crate::output::Output;
 use crate::row::{ROW, Row};
@@ -47,14 +47,13 @@ pub struct Armoring {
 }
 
 impl Armoring {
+    ghost use Rattle.opgp_stream.specs.Armoring.{Begins, Ends, ExtendsArmor};
     ghost use Rattle.opgp_stream.specs.Armoring.{label_of, row_of, rows_of};
 
     /// Adds the begin line and a blank line (RFC 9580, 6.2.1).
     pub fn begin<W: Sink>(output: &mut Output<'_, W>, label: Label) -> io::Result<Self>
         requires { W.has_failed (sink_of output.old) ≡ false }
-        ensures label { IfOk result (λ a. label_of a ≡ label) }
-        ensures empty { IfOk result (λ a. row_of a ≡ []) }
-        ensures added { Extends W.held W.has_failed output.old output.new result (opening label) }
+        ensures { Begins W.held W.has_failed output.old output.new label result }
     {
         add_line(output, label.begin_line())?;
         add_line(output, b"")?;
@@ -140,10 +139,8 @@ impl Armoring {
     /// Adds the data lines of octets. Those that don't make a row wait for more, 48 at most.
     pub fn add<W: Sink>(&mut self, output: &mut Output<'_, W>, octets: &[u8]) -> io::Result<()>
         requires { W.has_failed (sink_of output.old) ≡ false }
-        ensures same { sink_name output.new ≡ sink_name output.old }
-        ensures label { label_of self.new ≡ label_of self.old }
-        ensures written { WritesRows (rows_of W.held W.has_failed output.old self.old)
-            (rows_of W.held W.has_failed output.new self.new) result octets.now }
+        ensures { ExtendsArmor W.held W.has_failed output.old self.old output.new self.new result
+            octets.now }
     {
         data_lines_of_whole_rows_join();
         no_octets_have_no_data_lines();
@@ -159,8 +156,7 @@ impl Armoring {
     /// Adds the data line of what waits, and the end line (RFC 9580, 6.2.3). No checksum is added.
     pub fn end<W: Sink>(self, output: &mut Output<'_, W>) -> io::Result<()>
         requires { W.has_failed (sink_of output.old) ≡ false }
-        ensures { Extends W.held W.has_failed output.old output.new result
-            (data_lines (row_of self) ++ closing (label_of self)) }
+        ensures { Ends W.held W.has_failed output.old self output.new result }
     {
         self.add_waiting(output)?;
         add_line(output, self.label.end_line())

@@ -6,7 +6,6 @@
 #![tactic(auto)]
 
 mod armoring;
-mod block;
 mod buffer;
 pub mod laws;
 mod line;
@@ -20,7 +19,6 @@ mod words;
 mod writing;
 
 pub use armoring::Armoring;
-pub use block::put_block;
 pub use buffer::Buffer;
 pub use line::Word;
 pub use output::Output;

@@ -1,7 +1,7 @@
 //! The registered numbers, by the tables of RFC 9580: every number from 0 to 255 that a table doesn't have is kept as
 //! it is, and is unknown.
 
-use opgp_octets::{HashAlgorithm, KeyAlgorithm, PacketType, SignatureType, SubpacketKind};
+use opgp_octets::{HashAlgorithm, KeyAlgorithm, PacketType, SignatureType};
 
 /// The name that the rows have for a number.
 fn named(rows: &[(u8, &'static str)], number: u8) -> &'static str {
@@ -127,46 +127,6 @@ fn signature_types(rt: HostRuntime) {
     ];
     for number in 0..=255 {
         let kind = SignatureType::from(number);
-        assert!(rt;
-            kind.number() == number && kind.name() == named(&rows, number),
-            "{number}"
-        );
-    }
-}
-
-// RFC 9580, 5.2.3.7.
-#[test]
-fn subpacket_kinds(rt: HostRuntime) {
-    let rows = [
-        (2, "Signature Creation Time"),
-        (3, "Signature Expiration Time"),
-        (4, "Exportable Certification"),
-        (5, "Trust Signature"),
-        (6, "Regular Expression"),
-        (7, "Revocable"),
-        (9, "Key Expiration Time"),
-        (11, "Preferred Symmetric Ciphers for v1 SEIPD"),
-        (12, "Revocation Key"),
-        (16, "Issuer Key ID"),
-        (20, "Notation Data"),
-        (21, "Preferred Hash Algorithms"),
-        (22, "Preferred Compression Algorithms"),
-        (23, "Key Server Preferences"),
-        (24, "Preferred Key Server"),
-        (25, "Primary User ID"),
-        (26, "Policy URI"),
-        (27, "Key Flags"),
-        (28, "Signer's User ID"),
-        (29, "Reason for Revocation"),
-        (30, "Features"),
-        (31, "Signature Target"),
-        (32, "Embedded Signature"),
-        (33, "Issuer Fingerprint"),
-        (35, "Intended Recipient Fingerprint"),
-        (39, "Preferred AEAD Ciphersuites"),
-    ];
-    for number in 0..=255 {
-        let kind = SubpacketKind::from(number);
         assert!(rt;
             kind.number() == number && kind.name() == named(&rows, number),
             "{number}"

@@ -1,7 +1,9 @@
 //! Outputs through one buffer: words, armor, and sinks that take little or fail.
 
+ghost use Rattle.std.specs.Prelude.{◌≡◌, false};
+
 use opgp_armor::{Label, armor};
-use opgp_stream::{Armoring, Buffer, Output, Watched, Word, put_all, put_block};
+use opgp_stream::{Armoring, Buffer, Output, Sink, Watched, Word, put_all};
 use std::alloc::{AllocError, Global};
 use std::io;
 use std::io::Write;
@@ -151,6 +153,24 @@ fn digits_and_escapes_of_all_octets(rt: HostRuntime) -> Result<(), Fail> {
     }
     assert_eq!(rt; sink.into_inner().as_slice(), digits.as_bytes());
     Ok(())
+}
+
+/// Puts pieces as one block of armor.
+fn put_block<W: Sink>(
+    sink: &mut W,
+    buffer: &mut Buffer,
+    label: Label,
+    pieces: &[Vec<u8>],
+) -> io::Result<()>
+    requires { W.has_failed sink.old ≡ false }
+{
+    let mut output = Output::new(sink, buffer);
+    let mut armoring = Armoring::begin(&mut output, label)?;
+    for piece in pieces {
+        armoring.add(&mut output, piece.as_slice())?;
+    }
+    armoring.end(&mut output)?;
+    output.finish()
 }
 
 #[test]

@@ -1,5 +1,5 @@
 -- The command line as `clap` reads it: eight commands, and the options of each.
-use Rattle.std.specs.Prelude.{◌≡◌, ℕ, List, [], ◌∷◌, Some, true, false, codes, map}
+use Rattle.std.specs.Prelude.{◌≡◌, List, [], ◌∷◌, Some, true, false, codes, map}
 use Rattle.std.specs.Borrow.{Bor}
 use Rattle.std.specs.List.{AllByRecursion}
 use Rattle.clap.specs.Words.{App, Row, Rule, Shape, Text, app_of, new_rule, subcommand_of, takes}
@@ -8,6 +8,8 @@ use Rattle.clap.specs.declared.builder.action.ArgAction.TheVariants.{Set, SetTru
 use Rattle.clap.specs.declared.builder.command.Command.{Command}
 use Rattle.clap.specs.declared.builder.value_parser.ValueParser.{ValueParser}
 use Rattle.clap.specs.declared.builder.value_parser.ValueParser.TheVariants as parser
+use Rattle.opgp_octets.specs.declared.limits.Range.{Range}
+use Rattle.opgp_octets.specs.Ranges.{line_range, body_range, cert_range, input_range, pieces_range}
 use Rattle.opgp_stack.specs.declared.task.Task.{Task}
 use Rattle.opgp_tool.specs.Words.{IsTask}
 
@@ -32,10 +34,10 @@ abbrev pub choice_rule : Text → Choice → Text → Rule
 choice_rule name choice usual =
     record (valued_rule name (parser.Names choice)) { defaults = usual ∷ [] }
 
--- a number from least to most, `usual` where the option isn't used
-abbrev pub limit_rule : Text → ℕ → ℕ → Text → Rule
-limit_rule name least most usual =
-    record (valued_rule name (parser.Unsigned least most)) { defaults = usual ∷ [] }
+-- a limit, `usual` where the option isn't used
+abbrev pub limit_rule : Text → Range → Text → Rule
+limit_rule name range usual =
+    record (valued_rule name (parser.Unsigned range.least range.most)) { defaults = usual ∷ [] }
 
 -- any number of 64 bits
 abbrev pub number_rule : Text → Rule
@@ -51,19 +53,19 @@ abbrev pub of_rule : Choice → Rule
 of_rule tops = choice_rule (codes "of") tops (codes "ring")
 
 abbrev pub line_rule : Rule
-line_rule = limit_rule (codes "line") 128 1048576 (codes "8192")
+line_rule = limit_rule (codes "line") line_range (codes "8192")
 
 abbrev pub body_rule : Rule
-body_rule = limit_rule (codes "body") 512 4294967295 (codes "16777216")
+body_rule = limit_rule (codes "body") body_range (codes "16777216")
 
 abbrev pub cert_rule : Rule
-cert_rule = limit_rule (codes "cert") 512 1099511627776 (codes "67108864")
+cert_rule = limit_rule (codes "cert") cert_range (codes "67108864")
 
 abbrev pub input_rule : Rule
-input_rule = limit_rule (codes "input") 0 4611686018427387904 (codes "1099511627776")
+input_rule = limit_rule (codes "input") input_range (codes "1099511627776")
 
 abbrev pub pieces_rule : Rule
-pieces_rule = limit_rule (codes "pieces") 1 16777216 (codes "1048576")
+pieces_rule = limit_rule (codes "pieces") pieces_range (codes "1048576")
 
 abbrev pub row_rule : Rule
 row_rule = record (number_rule (codes "row")) { required = true }

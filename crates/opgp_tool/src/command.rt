@@ -12,7 +12,7 @@ use crate::help::{
     SPLIT_HELP, WRITE_HELP,
 };
 use clap::{Arg, ArgAction, Command};
-use opgp_octets::OutOfMemory;
+use opgp_octets::{Limits, OutOfMemory};
 use std::alloc::Global;
 
 static MODES: [&str; 3] = ["auto", "armor", "binary"];
@@ -63,7 +63,7 @@ fn of_option<'a>(alloc: Global) -> Arg<'a>
         .help("What the input is read as")
 }
 
-/// `--line`: 128 to 1,048,576.
+/// `--line`: a number in its range.
 fn line_option<'a>(alloc: Global) -> Arg<'a>
     ensures rule { rule_of result ≡ line_rule }
     ensures own { result.global ≡ false }
@@ -72,12 +72,14 @@ fn line_option<'a>(alloc: Global) -> Arg<'a>
         .long("line")
         .value_name("N")
         .action(ArgAction::Set)
-        .value_parser(clap::value_parser!(u64).range(128..=1_048_576))
+        .value_parser(clap::value_parser!(u64).range(
+            Limits::LINE.least as i64..=Limits::LINE.most as i64,
+        ))
         .default_value("8192")
         .help("The most octets of an armored line, 128 to 1048576")
 }
 
-/// `--body`: 512 to 4,294,967,295.
+/// `--body`: a number in its range.
 fn body_option<'a>(alloc: Global) -> Arg<'a>
     ensures rule { rule_of result ≡ body_rule }
     ensures own { result.global ≡ false }
@@ -86,12 +88,14 @@ fn body_option<'a>(alloc: Global) -> Arg<'a>
         .long("body")
         .value_name("N")
         .action(ArgAction::Set)
-        .value_parser(clap::value_parser!(u64).range(512..=4_294_967_295))
+        .value_parser(clap::value_parser!(u64).range(
+            Limits::BODY.least as i64..=Limits::BODY.most as i64,
+        ))
         .default_value("16777216")
         .help("The most octets of a packet's body, 512 to 4294967295")
 }
 
-/// `--cert`: 512 to 2^40.
+/// `--cert`: a number in its range.
 fn cert_option<'a>(alloc: Global) -> Arg<'a>
     ensures rule { rule_of result ≡ cert_rule }
     ensures own { result.global ≡ false }
@@ -100,12 +104,14 @@ fn cert_option<'a>(alloc: Global) -> Arg<'a>
         .long("cert")
         .value_name("N")
         .action(ArgAction::Set)
-        .value_parser(clap::value_parser!(u64).range(512..=1_099_511_627_776))
+        .value_parser(clap::value_parser!(u64).range(
+            Limits::CERT.least as i64..=Limits::CERT.most as i64,
+        ))
         .default_value("67108864")
         .help("The most octets of a certificate, 512 to 1099511627776")
 }
 
-/// `--input`: 0 to 2^62.
+/// `--input`: a number in its range.
 fn input_option<'a>(alloc: Global) -> Arg<'a>
     ensures rule { rule_of result ≡ input_rule }
     ensures own { result.global ≡ false }
@@ -114,12 +120,14 @@ fn input_option<'a>(alloc: Global) -> Arg<'a>
         .long("input")
         .value_name("N")
         .action(ArgAction::Set)
-        .value_parser(clap::value_parser!(u64).range(0..=4_611_686_018_427_387_904))
+        .value_parser(clap::value_parser!(u64).range(
+            Limits::INPUT.least as i64..=Limits::INPUT.most as i64,
+        ))
         .default_value("1099511627776")
         .help("The most octets of the input, 0 to 4611686018427387904")
 }
 
-/// `--pieces`: 1 to 16,777,216.
+/// `--pieces`: a number in its range.
 fn pieces_option<'a>(alloc: Global) -> Arg<'a>
     ensures rule { rule_of result ≡ pieces_rule }
     ensures own { result.global ≡ false }
@@ -128,7 +136,9 @@ fn pieces_option<'a>(alloc: Global) -> Arg<'a>
         .long("pieces")
         .value_name("N")
         .action(ArgAction::Set)
-        .value_parser(clap::value_parser!(u64).range(1..=16_777_216))
+        .value_parser(clap::value_parser!(u64).range(
+            Limits::PIECES.least as i64..=Limits::PIECES.most as i64,
+        ))
         .default_value("1048576")
         .help("The most partial lengths of a packet, 1 to 16777216")
 }

@@ -1,6 +1,6 @@
 use Rattle.opgp_stack.specs.Signed.{AreSigned, message_label}
 use Rattle.opgp_stack.proofs.OneAnswer.{one_answer}
-use Rattle.opgp_stack.proofs.SignedTop.{one_signed}
+use Rattle.opgp_stack.proofs.OneTop.{one_signed}
 use Rattle.opgp_stack.proofs.laws.one_signed_literal.Goals as goal
 
 pub returns : goal.returns

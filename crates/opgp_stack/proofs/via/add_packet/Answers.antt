@@ -1,40 +1,20 @@
-use Rattle.std.proofs.Common.{◌≡◌, ◌++◌, ◌∙◌, List, ℕ, sym, ap, append_assoc, refl}
+use Rattle.std.proofs.Common.{◌≡◌, ◌++◌, ◌∙◌, List, ℕ, sym, ap, append_assoc}
 use Rattle.opgp_frame.specs.Spelling.{octets_left, octets_of_header}
-use Rattle.opgp_stack.specs.Via.{way_of}
-use Rattle.opgp_stack.proofs.Ways.{all_but_none, fails, more_added, broken_in}
+use Rattle.opgp_stream.proofs.Rows.{broken_at}
+use Rattle.opgp_stack.proofs.Ways.{via_all_left, via_less_left, via_broken_left}
 use Rattle.opgp_stack.proofs.via.add_packet.Goals as goal
+
+-- a header, a piece and what is left
+cut : (header slice piece left more : List ℕ) → slice ≡ header → left ≡ header ++ (piece ++ more) → left ≡ (slice ++ piece) ++ more
+cut header slice piece left more e h = h ∙ sym (append_assoc header piece more) ∙ ap (λ (l : List ℕ). (l ++ piece) ++ more) (sym e)
 
 pub parts-preserved : goal.parts-preserved
 parts-preserved g c =
-    let old = (way_of g.W.Sink.held g.W.Sink.has_failed c.args.output.now c.args.armoring.now) in
-    let mid = (way_of g.W.Sink.held g.W.Sink.has_failed c.parts.output c.parts.armoring) in
-    let new = (way_of g.W.Sink.held g.W.Sink.has_failed c.add_part.new.output c.add_part.new.armoring) in
-    let i = c.parts.invariant in
-    let part : List ℕ = c.as_slice.result.now ++ c.in-Some.piece.now in
-    let cut : octets_left c.parts.spelling ≡ part ++ octets_left c.next.new.self =
-    c.in-Some.ensures.next ∙ sym (append_assoc (octets_of_header c.in-Some.header) c.in-Some.piece.now (octets_left c.next.new.self))
-    ∙ ap (λ (l : List ℕ). (l ++ c.in-Some.piece.now) ++ octets_left c.next.new.self) (sym c.as_slice.ensures.value) in
-    record {
-      same = c.in_ok-add_part.ensures.same ∙ i.same;
-      label = c.in_ok-add_part.ensures.label ∙ i.label;
-      added = more_added old mid new _ (octets_left c.parts.spelling) part (octets_left c.next.new.self) i.added cut c.in_ok-add_part.ensures.written;
-    }
+    via_less_left c.parts.invariant (cut (octets_of_header c.in-Some.header) _ c.in-Some.piece.now _ (octets_left c.next.new.self) c.as_slice.ensures.value c.in-Some.ensures.next) c.in_ok-add_part.ensures
 
 pub returns-in_err-add_part : goal.returns-in_err-add_part
-returns-in_err-add_part g c =
-    let old = (way_of g.W.Sink.held g.W.Sink.has_failed c.args.output.now c.args.armoring.now) in
-    let mid = (way_of g.W.Sink.held g.W.Sink.has_failed c.parts.output c.parts.armoring) in
-    let new = (way_of g.W.Sink.held g.W.Sink.has_failed c.add_part.new.output c.add_part.new.armoring) in
-    let i = c.parts.invariant in
-    let part : List ℕ = c.as_slice.result.now ++ c.in-Some.piece.now in
-    let cut : octets_left c.parts.spelling ≡ part ++ octets_left c.next.new.self =
-    c.in-Some.ensures.next ∙ sym (append_assoc (octets_of_header c.in-Some.header) c.in-Some.piece.now (octets_left c.next.new.self))
-    ∙ ap (λ (l : List ℕ). (l ++ c.in-Some.piece.now) ++ octets_left c.next.new.self) (sym c.as_slice.ensures.value) in
-    record {
-      same = c.in_err-add_part.ensures.same ∙ i.same;
-      label = c.in_err-add_part.ensures.label ∙ i.label;
-      written = fails old new c.from_residual.result _ c.from_residual.ensures.0 (rw c.new-spelling.ensures at (broken_in old mid new _ (octets_left c.parts.spelling) part (octets_left c.next.new.self) i.added cut c.in_err-add_part.ensures.written));
-    }
+returns-in_err-add_part g c = broken_at _ c.from_residual.result c.from_residual.ensures.0
+    (rw c.new-spelling.ensures at (via_broken_left (octets_left c.next.new.self) c.parts.invariant (cut (octets_of_header c.in-Some.header) _ c.in-Some.piece.now _ (octets_left c.next.new.self) c.as_slice.ensures.value c.in-Some.ensures.next) c.in_err-add_part.ensures))
 
 pub parts-init : goal.parts-init
-parts-init g c = record { same = refl; label = refl; added = all_but_none (way_of g.W.Sink.held g.W.Sink.has_failed c.args.output.now c.args.armoring.now) _ c.requires.sound }
+parts-init g c = via_all_left c.requires.sound

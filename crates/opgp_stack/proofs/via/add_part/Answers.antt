@@ -1,36 +1,18 @@
-use Rattle.std.proofs.Common.{◌++◌, ◌∙◌}
-use Rattle.opgp_stack.specs.Via.{way_of}
-use Rattle.opgp_stack.proofs.Ways.{fails, via_front, via_behind, via_then}
+use Rattle.std.proofs.Common.{◌++◌, ◌∙◌, [], List, ℕ, ap, not, refl, sym}
+use Rattle.std.proofs.lemmas.List.{append-nil}
+use Rattle.opgp_stream.proofs.Rows.{broken_at}
+use Rattle.opgp_stack.proofs.Ways.{bare_none, via_broken, via_nothing, via_then}
 use Rattle.opgp_stack.proofs.via.add_part.Goals as goal
 
+pub returns-then-is_none : goal.returns-then-is_none
+returns-then-is_none g c = bare_none c.args.armoring.now c.add_both.result (c.is_none.ensures ∙ ap not c.if-is_none.true) c.add_both.ensures
+
 pub returns-in_err-add : goal.returns-in_err-add
-returns-in_err-add g c =
-    let old = (way_of g.W.Sink.held g.W.Sink.has_failed c.args.output.now c.args.armoring.now) in
-    let new = (way_of g.W.Sink.held g.W.Sink.has_failed c.add.new.output c.add.new.armoring) in
-    record {
-      same = c.in_err-add.ensures.same;
-      label = c.in_err-add.ensures.label;
-      written = fails old new c.from_residual.result (c.args.header.now ++ c.args.piece.now) c.from_residual.ensures.0 (via_front old new c.args.header.now c.args.piece.now c.in_err-add.ensures.written);
-    }
+returns-in_err-add g c = broken_at _ c.from_residual.result c.from_residual.ensures.0 (via_broken c.args.piece.now refl (via_nothing c.requires) c.in_err-add.ensures)
 
 pub returns-in_err-add-2 : goal.returns-in_err-add-2
-returns-in_err-add-2 g c =
-    let old = (way_of g.W.Sink.held g.W.Sink.has_failed c.args.output.now c.args.armoring.now) in
-    let mid = (way_of g.W.Sink.held g.W.Sink.has_failed c.add.new.output c.add.new.armoring) in
-    let new = (way_of g.W.Sink.held g.W.Sink.has_failed c.add-2.new.output c.add-2.new.armoring) in
-    record {
-      same = c.in_err-add-2.ensures.same ∙ c.in_ok-add.ensures.same;
-      label = c.in_err-add-2.ensures.label ∙ c.in_ok-add.ensures.label;
-      written = fails old new c.from_residual-in_err-add-2.result (c.args.header.now ++ c.args.piece.now) c.from_residual-in_err-add-2.ensures.0 (via_behind old mid new c.args.header.now c.args.piece.now c.in_ok-add.ensures.written c.in_err-add-2.ensures.written);
-    }
+returns-in_err-add-2 g c = broken_at _ c.from_residual-in_err-add-2.result c.from_residual-in_err-add-2.ensures.0
+    (via_broken [] (ap (λ (v : List ℕ). c.args.header.now ++ v) (sym (append-nil c.args.piece.now))) c.in_ok-add.ensures c.in_err-add-2.ensures)
 
 pub returns : goal.returns
-returns g c =
-    let old = (way_of g.W.Sink.held g.W.Sink.has_failed c.args.output.now c.args.armoring.now) in
-    let mid = (way_of g.W.Sink.held g.W.Sink.has_failed c.add.new.output c.add.new.armoring) in
-    let new = (way_of g.W.Sink.held g.W.Sink.has_failed c.add-2.new.output c.add-2.new.armoring) in
-    record {
-      same = c.in_ok-add-2.ensures.same ∙ c.in_ok-add.ensures.same;
-      label = c.in_ok-add-2.ensures.label ∙ c.in_ok-add.ensures.label;
-      written = via_then old mid new c.args.header.now c.args.piece.now c.in_ok-add.ensures.written c.in_ok-add-2.ensures.written;
-    }
+returns g c = via_then refl c.in_ok-add.ensures c.in_ok-add-2.ensures

@@ -1,6 +1,6 @@
 use Rattle.std.proofs.Common.{◌≡◌, List, All, map, sym, ap, subst, ◌∙◌}
 use Rattle.opgp_frame.specs.Packet.{PacketValue}
-use Rattle.opgp_ring.specs.Keyring.{CertificateValue, ComponentValue, IsHung}
+use Rattle.opgp_ring.specs.Keyring.{ComponentValue, IsHung}
 use Rattle.opgp_merge.specs.Merged.{firsts, same_packet, united_components}
 use Rattle.opgp_merge.specs.Slots.{head_name, joined_all, once_component, with_hangs}
 use Rattle.opgp_merge.proofs.Uniting.{components_united, firsts_all}

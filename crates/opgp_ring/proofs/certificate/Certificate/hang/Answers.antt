@@ -16,6 +16,16 @@ returns-in_ok-hang-in-Some-clause-ok c =
     rw (← c.self.view_is)
     (ap (λ (l : List PacketValue). d.primary ∷ (d.hangs.items ++ l)) grown ∙ ap (λ (l : List PacketValue). d.primary ∷ l) (sym (append_assoc d.hangs.items (flat_map component_packets cs) (c.args.packet ∷ []))))
 
+pub invariant_of-self-in-Some : goal.invariant_of-self-in-Some
+invariant_of-self-in-Some c =
+    let v = c.self.invariant in
+    record { primary = v.primary; hangs = v.hangs; components = All-set IsComponent _ _ _ c.in_ok-hang-in-Some.ensures.component v.components }
+
+pub invariant_of-self-in-None : goal.invariant_of-self-in-None
+invariant_of-self-in-None c =
+    let v = c.self.invariant in
+    record { primary = v.primary; hangs = rw c.in_ok-push-in-None.ensures.items (All-push IsHung _ _ v.hangs c.requires); components = v.components }
+
 pub returns-in_ok-hang-in-Some-clause-certificate : goal.returns-in_ok-hang-in-Some-clause-certificate
 returns-in_ok-hang-in-Some-clause-certificate c =
     let v = c.self.invariant in

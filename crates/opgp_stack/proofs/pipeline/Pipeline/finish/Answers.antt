@@ -1,6 +1,6 @@
 use Rattle.std.proofs.Common.{sym, subst}
 use Rattle.opgp_octets.specs.declared.limits.Limits.{Limits}
-use Rattle.opgp_stack.specs.Reading.{AnswerOf, is_binary, outcome_of}
+use Rattle.opgp_stack.specs.Reading.{AnswerOf, is_binary}
 use Rattle.opgp_stack.specs.Through.{IsEnd}
 use Rattle.opgp_stack.proofs.pipeline.Pipeline.finish.Goals as goal
 
@@ -12,5 +12,5 @@ conclude-requires g c =
 pub returns : goal.returns
 returns g c mode limits input f =
     let end = c.in_ok-ended.ensures mode limits input f.passed in
-    subst (λ (l : Limits). AnswerOf g.T.Receiver.wanted (g.T.Receiver.says l) mode l input (outcome_of c.in_ok-answer.answer)) f.limits_kept
+    subst (λ (l : Limits). AnswerOf g.T.Receiver.wanted (g.T.Receiver.says l) mode l input c.in_ok-answer.answer) f.limits_kept
     (c.in_ok-answer.ensures mode input f.count (subst (λ (l : Limits). IsEnd g.T.Receiver.fed g.T.Receiver.wanted (is_binary mode input) l c.end_front.new.framer input c.in_ok-ended.ended) (sym f.limits_kept) end))

@@ -1,6 +1,6 @@
 use Rattle.std.proofs.Common.{◌≡◌, ◌∙◌, ◌++◌, ℕ, List, sym, ap, arith, rules, take, take-append-drop}
 use Rattle.std.proofs.lemmas.List.{nil_from_length}
-use Rattle.opgp_stream.proofs.Rows.{all_rows_left, less_rows_left, broken_rows_left, no_rows_left, rows_stop}
+use Rattle.opgp_stream.proofs.Rows.{all_rows_left, less_rows_left, broken_rows_left, no_rows_left, armor_more, armor_broken, broken_at}
 use Rattle.opgp_stream.proofs.armoring.Armoring.add.Goals as goal
 
 pub pieces-init : goal.pieces-init
@@ -23,10 +23,21 @@ pieces-preserved g c =
       but = less_rows_left c.data_lines_of_whole_rows_join.ensures _ _ _ _ _ _ _ c.pieces.invariant.but cut more;
     }
 
-pub returns-in_err-n-clause-written : goal.returns-in_err-n-clause-written
-returns-in_err-n-clause-written g c =
-    rows_stop _ _ c.from_residual.result _ c.from_residual.ensures.0
-    (broken_rows_left c.data_lines_of_whole_rows_join.ensures _ _ _ _ _ c.pieces.invariant.but c.in_err-n.ensures.broken)
+pub returns-in_err-n : goal.returns-in_err-n
+returns-in_err-n g c =
+    let join = c.data_lines_of_whole_rows_join.ensures in
+    let broken = broken_rows_left join _ _ _ _ _ c.pieces.invariant.but c.in_err-n.ensures.broken in
+    record {
+      same = c.in_err-n.ensures.same ∙ c.pieces.invariant.same;
+      told = broken_at _ c.from_residual.result c.from_residual.ensures.0 broken.broken.failed;
+      added = λ label start given h. broken_at _ c.from_residual.result c.from_residual.ensures.0 (armor_broken join _ _ _ _ broken label start given h);
+    }
 
-pub returns-clause-written : goal.returns-clause-written
-returns-clause-written g c = no_rows_left _ _ _ _ c.pieces.invariant.but (nil_from_length c.pieces.rest.now (omega arith))
+pub returns : goal.returns
+returns g c =
+    let i = c.pieces.invariant in
+    record {
+      same = i.same;
+      told = i.sound;
+      added = armor_more c.data_lines_of_whole_rows_join.ensures _ _ _ _ _ i.label (no_rows_left _ _ _ _ i.but (nil_from_length c.pieces.rest.now (omega arith)));
+    }

@@ -1,5 +1,0 @@
-use Rattle.opgp_hash.proofs.OneBodyFault.{one}
-use Rattle.opgp_hash.proofs.laws.one_body_fault.Goals as goal
-
-pub returns : goal.returns
-returns c = one (record { fields = c.one_fault.ensures; signature = c.one_fault-2.ensures })

@@ -1,0 +1,241 @@
+//! The walk over what stands in a keyring, in order.
+
+ghost use Rattle.std.specs.Prelude.{◌≡◌, ◌∷◌, ◌++◌, [], ◌+◌, ◌<◌, ◌≤◌, ◌^◌, length, List, ℕ};
+ghost use Rattle.std.specs.Prelude.{Ok, Result, IfOk, Some, true};
+ghost use Rattle.opgp_octets.specs.Reading.{Reads};
+ghost use Rattle.opgp_packet.specs.Parsed.{body_octets};
+ghost use Rattle.opgp_packet.specs.SignatureBody.{signature_at};
+ghost use Rattle.opgp_packet.specs.SigView.{sig_view_value};
+ghost use Rattle.opgp_packet.specs.Subs.{subs_to_come};
+ghost use Rattle.opgp_hash.specs.CertificateHasher.{hasher_subject};
+ghost use Rattle.opgp_hash.specs.Subject.{subject_value};
+ghost use Rattle.opgp_hash.specs.SubjectValue.{first_key, is_within};
+ghost use Rattle.opgp_report.specs.Standing.{Standing, bodies_within, by_number};
+ghost use Rattle.opgp_report.specs.Standing.{certificate_standing, component_standing};
+ghost use Rattle.opgp_report.specs.Standing.{hangs_standing, held_bodies};
+ghost use Rattle.opgp_report.specs.Standing.{nested_standing, on_head, standing_in, stands};
+ghost use Rattle.opgp_report.specs.Visitor.{Shown};
+
+use crate::place::Place;
+use opgp_hash::{CertificateHasher, Site, Subject};
+use opgp_octets::{BodyFault, SignatureType, SubpacketKind};
+use opgp_packet::{KeyView, SigView, Subs};
+use opgp_ring::{Certificate, Component, Content, Head, Keyring, Member};
+
+/// Who is shown what stands in a keyring, one after the other.
+pub(crate) trait Visitor<'a> {
+    /// Why no more is wanted.
+    type Stop;
+
+    // What becomes of it by a list of what stands: what it is then, or what stops it.
+    ghost becomes: { Self → List Standing → Result Self Self.Stop → Type 0 };
+
+    /// Takes what stands there about the hasher's subject: a signature, or why its octets are none.
+    fn meet(
+        &mut self,
+        hasher: &mut CertificateHasher<'a>,
+        site: Site,
+        place: Place,
+        signature: &Result<SigView<'a>, BodyFault>,
+    ) -> Result<(), Self::Stop>
+        ensures subject { hasher_subject hasher.new ≡ hasher_subject hasher.old }
+        ensures shown { (body : List ℕ) → Reads sig_view_value signature.now (signature_at body)
+            → Shown becomes self.old (stands site place (hasher_subject hasher.old) body ∷ []) result
+            self.new };
+}
+
+/// Shows what an area embeds, numbered from here, and answers the number behind the last.
+fn visit_area<'a, V: Visitor<'a>>(
+    visitor: &mut V,
+    hasher: &mut CertificateHasher<'a>,
+    place: Place,
+    first: usize,
+    mut subpackets: Subs<'a>,
+) -> Result<usize, V::Stop>
+    requires few { first + length (subs_to_come subpackets) < 2 ^ 64 }
+    ensures subject { hasher_subject hasher.new ≡ hasher_subject hasher.old }
+    ensures shown { Shown V.becomes visitor.old (by_number
+        (nested_standing place (hasher_subject hasher.old)) first
+        (held_bodies (subs_to_come subpackets.entry))) result visitor.new }
+    ensures number { IfOk result (λ n. n
+        ≡ first + length (held_bodies (subs_to_come subpackets.entry))) }
+    ensures most { IfOk result (λ n. n ≤ first + length (subs_to_come subpackets.entry)) }
+{
+    let mut number = first;
+    'subpackets: while let Some(subpacket) = subpackets.next() {
+        if subpacket.kind() == SubpacketKind::EmbeddedSignature.number() {
+            let nested = Place {
+                nested: Some(number),
+                ..place
+            };
+            let signature = SigView::parse_body(subpacket.octets());
+            visitor.meet(hasher, Site::Embedded, nested, &signature)?;
+            number += 1;
+        }
+    }
+    Ok(number)
+}
+
+/// Shows what two areas embed.
+fn visit_areas<'a, V: Visitor<'a>>(
+    visitor: &mut V,
+    hasher: &mut CertificateHasher<'a>,
+    place: Place,
+    hashed: Subs<'a>,
+    unhashed: Subs<'a>,
+) -> Result<(), V::Stop>
+    requires hashed { length (subs_to_come hashed) ≤ 4294967295 }
+    requires unhashed { length (subs_to_come unhashed) ≤ 4294967295 }
+    ensures subject { hasher_subject hasher.new ≡ hasher_subject hasher.old }
+    ensures shown { Shown V.becomes visitor.old (by_number
+        (nested_standing place (hasher_subject hasher.old)) 0
+        (held_bodies (subs_to_come hashed.entry)
+        ++ held_bodies (subs_to_come unhashed.entry))) result visitor.new }
+{
+    let number = visit_area(visitor, hasher, place, 0, hashed)?;
+    visit_area(visitor, hasher, place, number, unhashed)?;
+    Ok(())
+}
+
+/// Shows what is embedded in a signature about the hasher's subject.
+fn visit_embedded<'a, V: Visitor<'a>>(
+    visitor: &mut V,
+    hasher: &mut CertificateHasher<'a>,
+    place: Place,
+    signature: SigView<'a>,
+) -> Result<(), V::Stop>
+    ensures subject { hasher_subject hasher.new ≡ hasher_subject hasher.old }
+    ensures shown { Shown V.becomes visitor.old (by_number
+        (nested_standing place (hasher_subject hasher.old)) 0
+        (bodies_within (hasher_subject hasher.old) (Ok (sig_view_value signature.entry)))) result
+        visitor.new }
+{
+    let Subject::Two(_, _) = hasher.subject() else {
+        return Ok(());
+    };
+    let binding = SignatureType::SubkeyBinding.number();
+    match signature {
+        SigView::Four(view) if view.kind() == binding => {
+            visit_areas(visitor, hasher, place, view.hashed(), view.unhashed())
+        }
+        SigView::Six(view) if view.kind() == binding => {
+            visit_areas(visitor, hasher, place, view.hashed(), view.unhashed())
+        }
+        _ => Ok(()),
+    }
+}
+
+/// Shows what hangs on a primary key or a component, and what is embedded in that.
+fn visit_hangs<'a, V: Visitor<'a>>(
+    visitor: &mut V,
+    hasher: &mut CertificateHasher<'a>,
+    certificate: usize,
+    component: Option<usize>,
+    hangs: &'a [Member],
+) -> Result<(), V::Stop>
+    ensures subject { hasher_subject hasher.new ≡ hasher_subject hasher.old }
+    ensures shown { Shown V.becomes visitor.old (hangs_standing certificate component
+        (hasher_subject hasher.old) hangs.now) result visitor.new }
+{
+    opgp_packet::signature_laws::written_signature();
+    let mut number = 0usize;
+    let mut rest = hangs;
+    'hangs: while let [hang, more @ ..] = rest {
+        if let Content::Signature(signature) = hang.content() {
+            let place = Place {
+                certificate,
+                component,
+                hang: number,
+                nested: None,
+            };
+            let view = signature.view();
+            visitor.meet(hasher, Site::Hung, place, &Ok(view))?;
+            visit_embedded(visitor, hasher, place, view)?;
+        }
+        number += 1;
+        rest = more;
+    }
+    Ok(())
+}
+
+/// What signatures that hang on a component are about.
+fn subject_on<'a>(primary: KeyView<'a>, component: &'a Component) -> Subject<'a>
+    ensures value { subject_value result
+        ≡ on_head (body_octets primary.entry) component.now.head }
+    ensures first { first_key (subject_value result) ≡ Some (body_octets primary.entry) }
+    ensures within { is_within (subject_value result) ≡ true }
+{
+    match component.head().head() {
+        Head::UserId(id) => Subject::OnUserId(primary, id.octets()),
+        Head::Attribute(attribute) => Subject::OnAttribute(primary, attribute.view()),
+        Head::Subkey(key) => Subject::Two(primary, key.view()),
+    }
+}
+
+/// Shows what hangs on the components of the hasher's certificate.
+fn visit_components<'a, V: Visitor<'a>>(
+    visitor: &mut V,
+    hasher: &mut CertificateHasher<'a>,
+    primary: KeyView<'a>,
+    certificate: usize,
+    components: &'a [Component],
+) -> Result<(), V::Stop>
+    requires { first_key (hasher_subject hasher.old) ≡ Some (body_octets primary) }
+    ensures { Shown V.becomes visitor.old (by_number
+        (component_standing (body_octets primary.entry) certificate) 0 components.now) result
+        visitor.new }
+{
+    let mut number = 0usize;
+    let mut rest = components;
+    'components: while let [component, more @ ..] = rest {
+        hasher.turn_to(subject_on(primary, component));
+        visit_hangs(
+            visitor,
+            hasher,
+            certificate,
+            Some(number),
+            component.hangs(),
+        )?;
+        number += 1;
+        rest = more;
+    }
+    Ok(())
+}
+
+/// Shows what stands in a certificate of this number.
+fn visit_certificate<'a, V: Visitor<'a>>(
+    visitor: &mut V,
+    number: usize,
+    certificate: &'a Certificate,
+) -> Result<(), V::Stop>
+    ensures { Shown V.becomes visitor.old (certificate_standing number certificate.now) result
+        visitor.new }
+{
+    let primary = certificate.key().view();
+    let mut hasher = CertificateHasher::new(primary);
+    visit_hangs(visitor, &mut hasher, number, None, certificate.hangs())?;
+    visit_components(
+        visitor,
+        &mut hasher,
+        primary,
+        number,
+        certificate.components(),
+    )
+}
+
+/// Shows what stands in a keyring.
+pub(crate) fn visit<'a, V: Visitor<'a>>(
+    visitor: &mut V,
+    keyring: &'a Keyring,
+) -> Result<(), V::Stop>
+    ensures { Shown V.becomes visitor.old (standing_in keyring.now) result visitor.new }
+{
+    let mut number = 0usize;
+    let mut rest = keyring.certificates();
+    'certificates: while let [certificate, more @ ..] = rest {
+        visit_certificate(visitor, number, certificate)?;
+        number += 1;
+        rest = more;
+    }
+    Ok(())
+}

@@ -1,0 +1,31 @@
+-- What a packet of a keyring holds: its type and the octets of its body.
+use Rattle.std.specs.Prelude.{◌≡◌, ℕ, true, List}
+use Rattle.opgp_octets.specs.PacketType.{packet_type_number}
+use Rattle.opgp_octets.specs.declared.packet_type.PacketType.TheVariants as packet
+use Rattle.opgp_packet.specs.Parsed.{body_octets}
+use Rattle.opgp_packet.specs.UserId.{user_id_octets}
+use Rattle.opgp_packet.specs.Signature.{signature_octets}
+use Rattle.opgp_ring.specs.declared.content.Content.{Content}
+use Rattle.opgp_ring.specs.declared.content.Content.TheVariants as content
+use Rattle.opgp_ring.specs.Keyring.{is_filler}
+
+abbrev pub content_kind : Content → ℕ
+content_kind (content.Primary key) = packet_type_number packet.PublicKey
+content_kind (content.Subkey key) = packet_type_number packet.PublicSubkey
+content_kind (content.UserId id) = packet_type_number packet.UserId
+content_kind (content.Attribute attribute) = packet_type_number packet.UserAttribute
+content_kind (content.Signature signature) = packet_type_number packet.Signature
+content_kind (content.Filler kind body) = kind
+
+abbrev pub content_octets : Content → List ℕ
+content_octets (content.Primary key) = body_octets key
+content_octets (content.Subkey key) = body_octets key
+content_octets (content.UserId id) = user_id_octets id
+content_octets (content.Attribute attribute) = body_octets attribute
+content_octets (content.Signature signature) = signature_octets signature
+content_octets (content.Filler kind body) = body.items
+
+-- what is kept as it is may be
+abbrev pub IsKept : Content → Type 0
+IsKept (content.Filler kind body) = is_filler kind ≡ true
+IsKept c = Unit {0}

@@ -1,0 +1,32 @@
+//! The fault of any packet's body.
+
+ghost use Rattle.std.specs.Prelude.{◌≡◌, IfSome, IfNone, None};
+ghost use Rattle.opgp_octets.specs.declared.fault.BodyFault.{BodyFault};
+ghost use Rattle.opgp_octets.specs.Octets.{IsBodySized};
+ghost use Rattle.opgp_ring.specs.PacketBody.{HasBodyFault};
+
+use opgp_octets::{BodyFault, PacketType};
+use opgp_packet::{AttributeView, KeyView, Literal, SigView};
+
+/// The first fault of the body of a packet of this type, if it has one. Takes no memory.
+///
+/// Public keys and subkeys, signatures, literals and user attributes may have one, which is that of
+/// their own parsers; a user ID is any octets, and the bodies of other types aren't read.
+pub fn body_fault(kind: PacketType, body: &[u8]) -> Option<BodyFault>
+    requires { IsBodySized body.now }
+    ensures fault { IfSome result (HasBodyFault kind body.now) }
+    ensures none { IfNone result ((f : BodyFault) → HasBodyFault kind body.now f → ⊥) }
+{
+    opgp_packet::field_laws::no_fault();
+    opgp_packet::signature_laws::no_fault();
+    match kind {
+        PacketType::Signature => SigView::parse_body(body).err(),
+        PacketType::PublicKey | PacketType::PublicSubkey => KeyView::parse_body(body).err(),
+        PacketType::LiteralData => Literal::check_body(body),
+        PacketType::UserAttribute => match AttributeView::parse_body(body) {
+            Ok(_) => None,
+            Err(fault) => Some(fault),
+        },
+        _ => None,
+    }
+}

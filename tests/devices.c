@@ -1,6 +1,6 @@
-// Preloaded by tests/devices alone: counts the program's growths, its reads of standard input and its writes to standard
-// output, and refuses, fails or shortens those that the environment names by their number, from 1 (0 or nothing: none).
-//   REFUSE         the growth that is refused. A growth is a call of malloc or realloc, by which std's heap makes each
+// Preloaded by tests/devices alone: counts the program's allocations, its reads of standard input and its writes to standard
+// output, and fails or shortens those that the environment names by their number, from 1 (0 or nothing: none).
+//   REFUSE         the allocation that fails. An allocation is a call of malloc or realloc, by which std's heap makes each
 //   READ_FAILS     the read that fails, with the errno READ_ERROR
 //   READ_MOST      the most octets that a read gives
 //   WRITE_FAILS    the write that fails, with the errno WRITE_ERROR, or takes nothing where that is 0

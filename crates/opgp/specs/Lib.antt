@@ -1,4 +1,5 @@
 pub mod Armor
+pub mod Engine
 pub mod Frame
 pub mod Hash
 pub mod Merge

@@ -1,22 +1,9 @@
 -- The definitions of `opgp_stack`, and its types as they are declared.
 pub use Rattle.opgp_stack.specs.declared
 pub use Rattle.opgp_stack.specs.Faults
-pub use Rattle.opgp_stack.specs.Framed
 pub use Rattle.opgp_stack.specs.Hashing
-pub use Rattle.opgp_stack.specs.Keyrings
 pub use Rattle.opgp_stack.specs.Listing
-pub use Rattle.opgp_stack.specs.Packets
-pub use Rattle.opgp_stack.specs.Pipeline
-pub use Rattle.opgp_stack.specs.Pulled
-pub use Rattle.opgp_stack.specs.Reading
 pub use Rattle.opgp_stack.specs.Report
 pub use Rattle.opgp_stack.specs.Role
 pub use Rattle.opgp_stack.specs.Running
 pub use Rattle.opgp_stack.specs.Showing
-pub use Rattle.opgp_stack.specs.Signed
-pub use Rattle.opgp_stack.specs.Texts
-pub use Rattle.opgp_stack.specs.Through
-pub use Rattle.opgp_stack.specs.Via
-pub use Rattle.opgp_stack.specs.Writing
-pub use Rattle.opgp_stack.specs.Written
-pub use Rattle.opgp_stack.specs.Receiver

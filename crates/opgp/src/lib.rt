@@ -1,14 +1,23 @@
 //! OpenPGP certificates and keyrings (RFC 9580), read, shown, checked and rewritten: all crates
 //! under one name.
 //!
-//! [`stack::read_keyring`] reads a keyring, [`ring`] has its certificates and their parts,
-//! [`report::check`] what can be said of each signature, and [`stack::write_keyring`] writes it.
+//! [`engine::read_keyring`] reads a keyring, [`ring`] has its certificates and their parts,
+//! [`report::check`] what can be said of each signature, and [`engine::write_keyring`] writes it.
 //! Each `laws` has facts about the definitions, for proofs.
 #![tactic(auto)]
 
 /// ASCII armor (RFC 9580, 6).
 pub mod armor {
     pub use opgp_armor::{ArmorEvent, Block, Dearmor, Label, armor, dearmor, encode_row, laws};
+}
+
+/// Keyrings read from a reader and written to a writer.
+pub mod engine {
+    pub use opgp_engine::{
+        Answer, EngineError, Mode, Out, PacketBlocks, Pipeline, ReadError, Receiver, Sink, Source,
+        Text, Watched, laws, read_keyring, read_packets, read_signed, read_with, write,
+        write_certificate, write_certificates, write_keyring,
+    };
 }
 
 /// Packets and their framing (RFC 9580, 4).
@@ -71,13 +80,10 @@ pub mod ring {
     };
 }
 
-/// Keyrings read from a reader and written to a writer, and the commands of the program.
+/// What the program does: its lines, its tasks, and a run of one.
 pub mod stack {
     pub use opgp_stack::{
-        Action, Answer, EngineError, Mode, Out, Pipeline, ReadError, Receiver, RunFault, Sink,
-        Source, Task, Top, Watched, laws, read_keyring, read_packets, read_signed, read_with, run,
-        run_last, write_certificate, write_certificates, write_keyring, write_listing,
-        write_report, write_shown,
+        Action, RunFault, Task, Top, laws, run, run_last, write_listing, write_report, write_shown,
     };
 }
 

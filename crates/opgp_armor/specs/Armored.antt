@@ -1,5 +1,5 @@
--- What an armored text is (RFC 9580, 6.2): a text against a finished list of blocks. And which
--- fault another text has.
+-- What an armored text is (RFC 9580, 6.2), as a relation between a text and its finished blocks;
+-- and what the fault of any other text is.
 use Rattle.std.specs.Prelude.{◌≡◌, ℕ, ◌+◌, ◌==◌, ◌<◌, ◌≤◌, nat_eq, nat_lt, Bool, true, false}
 use Rattle.std.specs.Prelude.{if◌then◌else◌, ◌⊎◌, List, [], ◌∷◌, ◌++◌, length}
 use Rattle.std.specs.List.{list_any, list_all, flat_map, fold, starts_with, AllByRecursion}
@@ -18,7 +18,7 @@ use Rattle.opgp_octets.specs.declared.fault.Reason.TheVariants as reason
 use Rattle.opgp_armor.specs.Letters.{is_equals, may_stand, IsBase64}
 use Rattle.opgp_armor.specs.Text.{Line, lines, offset, content, begin_mark, begin_line, end_line}
 
--- a block, without where it lies in memory
+-- a block, by the contents of its vectors
 pub record Block : Type 0 where
   pub label : Label
   pub headers : List (List ℕ × List ℕ)
@@ -37,7 +37,7 @@ is_dash c = c == 45
 abbrev pub is_space : ℕ → Bool
 is_space c = c == 32
 
--- A key that isn't empty and has no colon, a colon, the value; one space may stand before the
+-- A key that isn't empty and has no colon, a colon, the value; one space may come before the
 -- value, and must where the value begins with a space (6.2.2).
 pub record IsHeader (limit : ℕ) (line : Line) (header : List ℕ × List ℕ) : Type 0 where
   pub named : 0 < length header.0
@@ -149,7 +149,7 @@ pub record Opens (limit : ℕ) (ls : List Line) : Type 0 where
   pub armored : Armored limit text blocks
   pub begins : lines text ≡ ls ++ more
 
--- the label that a content spells, in one of the two kinds of line
+-- the label that such a line names, which is a begin line or an end line
 abbrev pub label_at : (Label → List ℕ) → List ℕ → Option Label
 label_at spelled c =
     if bytes_eq c (spelled labels.Message) then Some labels.Message
@@ -158,7 +158,7 @@ label_at spelled c =
     else if bytes_eq c (spelled labels.Signature) then Some labels.Signature
     else None
 
--- Where the next line stands, and how many blocks are finished: what lines of an armored text do.
+-- The section of the next line, and how many blocks are finished: what the lines so far lead to.
 pub record Situation : Type 0 where
   pub section : Section
   pub finished : ℕ
@@ -194,7 +194,7 @@ after_line s l = record {
 unfoldable pub situation : List Line → Situation
 situation ls = fold after_line (record { section = sections.Outside; finished = 0 }) ls
 
--- why a line is refused where it stands
+-- why a line of this section is refused
 abbrev pub short_reason : Section → List ℕ → Reason
 short_reason sections.Outside c = reason.Label
 short_reason (sections.Headers label) c = reason.Header
@@ -210,7 +210,7 @@ abbrev pub reason_of : ℕ → Section → Line → Reason
 reason_of limit section l =
     if nat_lt limit (length l) then reason.LineTooLong else short_reason section (content l)
 
--- The first line with which no armored text begins so.
+-- The first line that no armored text can have there.
 pub record LineFault (limit : ℕ) (text : List ℕ) (why : Reason) (block pos : ℕ) : Type 0 where
   pub before : List Line
   pub line : Line
@@ -240,7 +240,7 @@ abbrev pub ArmorFault : ℕ → List ℕ → Reason → ℕ → ℕ → Type 0
 ArmorFault limit text why block pos =
     LineFault limit text why block pos ⊎ EndFault limit text why block pos
 
--- The fault of a text, as it is answered.
+-- The fault of a text, as it is reported.
 pub record IsArmorFault (limit : ℕ) (text : List ℕ) (f : Fault) : Type 0 where
   pub layer_is : f.layer ≡ layer.Armor
   pub inner_is : f.inner ≡ 0

@@ -1,4 +1,4 @@
--- Blocks and headers, without where they lie in memory.
+-- Blocks and headers, by the contents of their vectors.
 use Rattle.std.specs.Prelude.{ℕ, List, map, Vec}
 use Rattle.std.specs.declared.alloc.Global.{Global}
 use Rattle.opgp_armor.specs.declared.block.Block.{Block as StoredBlock}

@@ -22,12 +22,13 @@ uncut = record { ended = []; tail = [] }
 unfoldable pub cut : List ℕ → Cut
 cut text = fold feed uncut text
 
--- The lines of a text that have ended; where the text has ended, so has its last line.
+-- The ended lines of a text; at the end of the text its last line has ended too.
 abbrev pub lines_ended : Bool → List ℕ → List Line
 lines_ended false text = (cut text).ended
 lines_ended true text = lines text
 
--- the most octets that are kept of an unfinished line: outside of blocks what tells a begin line
+-- the most octets that are kept of an unfinished line: outside of blocks, as many as tell a begin
+-- line
 abbrev pub kept_most : ℕ → Section → Line → ℕ
 kept_most limit section l = if passes_by section l then 15 else limit + 1
 

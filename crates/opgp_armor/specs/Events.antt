@@ -1,4 +1,4 @@
--- What lines make ready, one event a line at most, and the blocks that events build.
+-- The events that lines yield, one a line at most, and the blocks that events build.
 use Rattle.std.specs.Prelude.{ℕ, ◌+◌, Bool, true, false, List, [], ◌∷◌, ◌++◌, length}
 use Rattle.std.specs.List.{fold}
 use Rattle.std.specs.declared.option.Option.{Option}
@@ -16,7 +16,7 @@ pub data Event : Type 0 where
   Octets : List ℕ → Event
   End : Event
 
--- an event, without where it lies in memory
+-- an event, by the contents of its vectors
 abbrev pub event_of : ArmorEvent → Event
 event_of (armor.Begin l) = Begin l
 event_of (armor.Header key value) = Header key.items value.items
@@ -27,7 +27,7 @@ abbrev pub events_of : Option ArmorEvent → List Event
 events_of None = []
 events_of (Some e) = event_of e ∷ []
 
--- Events in the order of blocks, behind an open block (true) or none (false): a block begins where
+-- Events in the order of blocks, after an open block (true) or none (false): a block begins where
 -- none is open, then come its headers and octets, and it ends.
 abbrev pub AreInOrder : Bool → List Event → Type 0
 AreInOrder inside [] = Unit {0}
@@ -40,7 +40,7 @@ AreInOrder true (Header key value ∷ es) = AreInOrder true es
 AreInOrder true (Octets o ∷ es) = AreInOrder true es
 AreInOrder true (End ∷ es) = AreInOrder false es
 
--- behind the events a block is open, where one was (true) or none was (false) before them
+-- after the events a block is open, where one was (true) or none was (false) before them
 abbrev pub is_open_behind : Bool → List Event → Bool
 is_open_behind inside [] = inside
 is_open_behind inside (Begin l ∷ es) = is_open_behind true es

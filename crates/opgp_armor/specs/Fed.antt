@@ -21,15 +21,15 @@ use Rattle.opgp_armor.specs.Shown.{Shown}
 abbrev pub line_limit_of : Dearmor → ℕ
 line_limit_of d = d.limit
 
--- an event waits to be taken
+-- an event is ready to be taken
 abbrev pub is_ready : Dearmor → Bool
 is_ready d = is_some d.ready
 
--- the octets that pushes have answered as taken
+-- how many octets the pushes have taken
 abbrev pub count_of : Dearmor → ℕ
 count_of d = d.given
 
--- a push, or the end of the text, has met want of memory
+-- a push, or the end of the text, ran out of memory
 abbrev pub is_spent : Dearmor → Bool
 is_spent d = d.spent
 
@@ -45,12 +45,12 @@ fault_of d = d.fault
 abbrev pub held_of : Dearmor → ℕ
 held_of d = octets_held d.buffer.items (pending_of d.pending).letters d.ready
 
--- what a reader that is spent answers in the end
+-- what a spent reader reports in the end
 abbrev pub spent_fault : Fault
 spent_fault =
     record { layer = layer.Armor; reason = reason.Spent; block = 0; pos = 0; inner = 0 }
 
--- The reader goes on: it stands where the run over the ended lines does.
+-- The reader goes on: it is in the state of the run over the ended lines.
 pub record Going (d : Dearmor) (given : List ℕ) (taken : List Event) : Type 0 where
   pub last : Run
   pub ran : run d.limit (lines_ended d.ended given) ≡ Ok last
@@ -60,7 +60,7 @@ pub record Going (d : Dearmor) (given : List ℕ) (taken : List Event) : Type 0 
   pub begins : d.ended ≡ false → d.start ≡ offset (cut given).ended
   pub finished : d.finished ≡ length (built last.events).blocks
 
--- The reader has met a line that the machine refuses.
+-- The reader has reached a line that the machine refuses.
 pub record Stopped (d : Dearmor) (fault : Fault) (given : List ℕ)
     (taken : List Event) : Type 0 where
   pub before : List Line
@@ -87,14 +87,14 @@ pub record Fed (d : Dearmor) (given : List ℕ) (taken : List Event) : Type 0 wh
   pub count : d.given ≡ length given
   pub stands : Stands d d.fault given taken
 
--- whatever the old reader was given and had handed out, the new one was given these octets more and
--- has handed out these events more
+-- Whatever the old reader was given and had handed out, the new one was also given these octets and
+-- has also handed out these events.
 abbrev pub KeepsFed : Dearmor → Dearmor → List ℕ → List Event → Type 0
 KeepsFed old new octets events =
     (given : List ℕ) (taken : List Event) → Fed old given taken
     → Fed new (given ++ octets) (taken ++ events)
 
--- fewer than n octets of the piece show no event more than those that were taken
+-- The first n octets of the piece, without the last, yield no event beyond those that were taken.
 abbrev pub IsQuiet : Dearmor → List ℕ → ℕ → Type 0
 IsQuiet d piece n = (k : ℕ) → k < n → (given : List ℕ) (taken : List Event) → Fed d given taken
     → Shown (line_limit_of d) (lines_ended false (given ++ take k piece)) taken
@@ -108,14 +108,14 @@ abbrev pub fault_at : Reason → ℕ → ℕ → Fault
 fault_at why block pos =
     record { layer = layer.Armor; reason = why; block = block; pos = pos; inner = 0 }
 
--- what stays as a line ends
+-- what doesn't change at the end of a line
 pub record SameReader (old new : Dearmor) : Type 0 where
   pub limit : line_limit_of new ≡ line_limit_of old
   pub given : count_of new ≡ count_of old
   pub spent : is_spent new ≡ is_spent old
   pub ended : has_ended new ≡ has_ended old
 
--- a line was answered so
+-- the line had this outcome
 abbrev pub AfterLine : Dearmor → Dearmor → Answer → Type 0
 AfterLine old new (Ok (s, more)) =
     (s ≡ state_of new.section new.pending) × (more ≡ events_of new.ready) × (new.fault ≡ None)

@@ -36,7 +36,7 @@ base64_of octets = encode_of standard octets
 abbrev pub IsBase64 : List ℕ → List ℕ → Type 0
 IsBase64 letters octets = IsOctets octets × (letters ≡ base64_of octets)
 
--- The letters that wait for their group of four, and whether a group was padded.
+-- The letters left over that don't make a group of four, and whether a group was padded.
 pub record Pending : Type 0 where
   pub letters : List ℕ
   pub padded : Bool
@@ -48,11 +48,11 @@ groups_of letters = take (4 * (length letters / 4)) letters
 abbrev pub rest_of : List ℕ → List ℕ
 rest_of letters = drop (4 * (length letters / 4)) letters
 
--- what stands behind whole groups can't: letters alone can, and nothing behind padding
+-- what follows whole groups is wrong: only letters may, and nothing after padding
 abbrev pub spoils : List ℕ → Bool → Bool
 spoils rest padded = not (list_all is_letter rest) || (padded && nat_lt 0 (length rest))
 
--- what whole groups give, and then the letters that wait
+-- what whole groups yield, and then the letters left over
 abbrev pub after_groups : List ℕ → Option (List ℕ) → Result (Pending × List ℕ) Reason
 after_groups rest None = Err reason.Padding
 after_groups rest (Some octets) =
@@ -61,7 +61,7 @@ after_groups rest (Some octets) =
     then Err reason.Padding
     else Ok (record { letters = rest; padded = not (length octets % 3 == 0) }, octets)
 
--- a data line that isn't blank: the octets of the groups that it ends
+-- a data line that isn't blank: the octets of the groups that it completes
 unfoldable pub data_line : Pending → List ℕ → Result (Pending × List ℕ) Reason
 data_line p content =
     if not (list_all may_stand content) then Err reason.Letters

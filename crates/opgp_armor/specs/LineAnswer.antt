@@ -1,4 +1,4 @@
--- What functions answer for one line, without where it lies in memory, against the machine.
+-- What functions return for one line, by the contents of vectors, against the machine.
 use Rattle.std.specs.Prelude.{◌≡◌, ℕ, List, take}
 use denote.Ref.{Bor}
 use Rattle.std.specs.declared.option.Option.{Option}
@@ -16,7 +16,7 @@ use Rattle.opgp_armor.specs.Letters.{Pending}
 use Rattle.opgp_armor.specs.Events.{events_of}
 use Rattle.opgp_armor.specs.Machine.{State, Answer}
 
--- the letters that wait, as a list
+-- the letters left over, as a list
 abbrev pub pending_of : StoredPending → Pending
 pending_of p = record { letters = take p.count p.letters; padded = p.padded }
 
@@ -28,13 +28,13 @@ abbrev pub header_view : Option (Bor (List ℕ) × Bor (List ℕ)) → Option (L
 header_view None = None
 header_view (Some (key, value)) = Some (key.now, value.now)
 
--- what a data line gives is the definition's, unless memory ran out
+-- what a data line yields is the definition's, unless memory ran out
 abbrev pub AnswersLetters : Result Letters Refusal → Result (Pending × List ℕ) Reason → Type 0
 AnswersLetters (Ok p) a = a ≡ Ok (pending_of p.pending, p.octets.items)
 AnswersLetters (Err (refusal.Reason e)) a = a ≡ Err e
 AnswersLetters (Err refusal.Memory) a = Unit {0}
 
--- the answer is the machine's, unless memory ran out
+-- the outcome is the machine's, unless memory ran out
 abbrev pub IsAnswer : Result Reaction Refusal → Answer → Type 0
 IsAnswer (Ok r) a = a ≡ Ok (state_of r.section r.pending, events_of r.event)
 IsAnswer (Err (refusal.Reason e)) a = a ≡ Err e

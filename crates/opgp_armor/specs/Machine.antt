@@ -1,4 +1,4 @@
--- Armor line by line: the plain definition that code follows.
+-- Armor line by line: the plain definition that the code follows.
 use Rattle.std.specs.Prelude.{ℕ, nat_eq, nat_lt, Bool, false, not, if◌then◌else◌, List, [], ◌∷◌}
 use Rattle.std.specs.Prelude.{◌++◌, length}
 use Rattle.std.specs.List.{starts_with, fold}
@@ -25,7 +25,7 @@ abbrev pub put_key : ℕ → Option (List ℕ × List ℕ) → Option (List ℕ 
 put_key c None = None
 put_key c (Some (key, value)) = Some (c ∷ key, value)
 
--- the parts round the first colon
+-- the parts around the first colon
 unfoldable pub at_colon : List ℕ → Option (List ℕ × List ℕ)
 at_colon [] = None
 at_colon (c ∷ cs) = if is_colon c then Some ([], cs) else put_key c (at_colon cs)
@@ -92,7 +92,7 @@ inside (sections.AfterChecksum l) p [] =
 inside (sections.AfterChecksum l) p (c ∷ cs) =
     if is_dash c then closing l p (c ∷ cs) else Err reason.AfterChecksum
 
--- the line lies outside of all blocks
+-- the line is outside of all blocks, and doesn't begin one
 abbrev pub passes_by : Section → Line → Bool
 passes_by sections.Outside l = not (starts_with nat_eq l begin_mark)
 passes_by (sections.Headers label) l = false
@@ -109,7 +109,7 @@ step limit s l =
 abbrev pub start : State
 start = record { section = sections.Outside; pending = no_letters }
 
--- the state after lines, and the events that they made ready
+-- the state after lines, and the events that they yield
 pub record Run : Type 0 where
   pub state : State
   pub events : List Event

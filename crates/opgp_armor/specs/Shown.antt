@@ -1,4 +1,4 @@
--- Which events lines make, by where they stand and by the letters of their block so far.
+-- Which events lines yield, by their section and by the letters of their block so far.
 use Rattle.std.specs.Prelude.{◌≡◌, ℕ, true, false, ◌⊎◌, if◌then◌else◌, List, [], ◌∷◌, ◌++◌}
 use Rattle.std.specs.declared.option.Option.{Option}
 use Rattle.std.specs.declared.option.Option.TheVariants.{None, Some}
@@ -11,7 +11,7 @@ use Rattle.opgp_armor.specs.Armored.{IsHeader, begins_with, is_dash, label_at, a
 use Rattle.opgp_armor.specs.Events.{Event, Begin, Header, End}
 use Rattle.opgp_armor.specs.Machine.{some_octets}
 
--- where a line stands, and the letters of its block's data lines before it
+-- the section of a line, and the letters of its block's data lines before it
 pub record Standing : Type 0 where
   pub section : Section
   pub letters : List ℕ
@@ -32,7 +32,7 @@ abbrev pub begun : Option Label → List Event
 begun None = []
 begun (Some label) = Begin label ∷ []
 
--- a data line makes the octets of the groups of four that it ends
+-- a data line yields the octets of the groups of four that it completes
 pub record EndsGroups (letters c : List ℕ) (events : List Event) : Type 0 where
   pub before : List ℕ
   pub more : List ℕ
@@ -40,7 +40,7 @@ pub record EndsGroups (letters c : List ℕ) (events : List Event) : Type 0 wher
   pub are : IsBase64 (groups_of (letters ++ c)) (before ++ more)
   pub made : events ≡ some_octets more
 
--- One line of a text makes one event or none.
+-- One line of a text yields one event or none.
 abbrev pub LineMakes : ℕ → Section → List ℕ → Line → List Event → Type 0
 LineMakes limit sections.Outside letters l events = events ≡ begun (label_at begin_line (content l))
 LineMakes limit (sections.Headers label) letters l events =
@@ -55,7 +55,7 @@ LineMakes limit (sections.Data label) letters l events =
 LineMakes limit (sections.AfterChecksum label) letters l events =
     events ≡ (if begins_with is_dash (content l) then End ∷ [] else [])
 
--- the lines make these events, in order
+-- the lines yield these events, in order
 abbrev pub Makes : ℕ → Standing → List Line → List Event → Type 0
 Makes limit s [] events = events ≡ []
 Makes limit s (l ∷ ls) events =
@@ -65,7 +65,7 @@ Makes limit s (l ∷ ls) events =
 abbrev pub at_start : Standing
 at_start = record { section = sections.Outside; letters = [] }
 
--- The events of the longest list of first lines with which an armored text begins.
+-- The events of the longest list of first lines that an armored text begins with.
 pub record Shown (limit : ℕ) (ls : List Line) (events : List Event) : Type 0 where
   pub front : List Line
   pub back : List Line

@@ -1,5 +1,4 @@
--- Armor as it is written (RFC 9580, 6.2): 64 letters a line, lines that end in a line feed, no
--- checksum.
+-- Written armor (RFC 9580, 6.2): 64 letters a line, lines that end in a line feed, no checksum.
 use Rattle.std.specs.Prelude.{◌≡◌, ℕ, ◌+◌, ◌/◌, ◌<◌, ◌≤◌, ◌==◌, zero, suc, Bool, false, List, []}
 use Rattle.std.specs.Prelude.{◌∷◌, ◌++◌, length, map, take, drop}
 use Rattle.std.specs.List.{list_any, flat_map, AllByRecursion}
@@ -36,7 +35,7 @@ AreWritable headers = AllByRecursion IsWritable headers
 abbrev pub header_line : List ℕ × List ℕ → Line
 header_line header = header.0 ++ 58 ∷ 32 ∷ header.1
 
--- the first n lines of 64 letters, the last of what is left
+-- the first n lines of 64 letters; the last one may be shorter
 abbrev pub rows : ℕ → List ℕ → List Line
 rows zero letters = []
 rows (suc n) letters = take 64 letters ∷ rows n (drop 64 letters)

@@ -14,11 +14,11 @@ pub struct Block {
     pub label: Label,
     /// Its headers in order, each a key and a value.
     pub headers: Vec<(Vec<u8>, Vec<u8>)>,
-    /// The octets that its letters stand for.
+    /// The decoded octets.
     pub octets: Vec<u8>,
 }
 
-/// Equal headers.
+/// A copy of these headers.
 fn copy_headers(
     alloc: Global,
     headers: &[(Vec<u8>, Vec<u8>)],
@@ -35,7 +35,7 @@ fn copy_headers(
 }
 
 impl Block {
-    /// An equal block. An error is want of memory.
+    /// A copy of this block. Fails only when out of memory.
     pub fn copy(&self, alloc: Global) -> Result<Block, OutOfMemory>
         ensures { IfOk result (λ b. block_of b ≡ block_of self.now) }
     {

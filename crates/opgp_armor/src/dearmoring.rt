@@ -25,7 +25,7 @@ pub(crate) struct Building {
 }
 
 impl Building {
-    /// Nothing yet.
+    /// A text of which no event has come.
     pub(crate) fn new(alloc: Global) -> Building
         ensures { built_of result ≡ nothing_built }
     {
@@ -52,7 +52,7 @@ impl Building {
         Ok(())
     }
 
-    /// One event more.
+    /// Takes one more event.
     fn absorb(&mut self, alloc: Global, event: ArmorEvent) -> Result<(), OutOfMemory>
         ensures { OnOk result (built_of self.new ≡ absorb (built_of self.old) (event_of event)) }
     {
@@ -75,7 +75,7 @@ impl Building {
         Ok(())
     }
 
-    /// One event more, where there is one.
+    /// Takes one more event, if there is one.
     pub(crate) fn absorb_some(
         &mut self,
         alloc: Global,
@@ -91,9 +91,9 @@ impl Building {
     }
 }
 
-/// The blocks of an armored text (RFC 9580, 6.2), in order, or its fault.
+/// The blocks of an armored text (RFC 9580, 6.2), in order, or the fault of the text.
 ///
-/// An error is want of memory.
+/// Fails only when out of memory.
 pub fn dearmor(
     alloc: Global,
     text: &[u8],

@@ -7,21 +7,21 @@ use crate::label::Label;
 use opgp_octets::OutOfMemory;
 use std::alloc::Global;
 
-/// What a line of an armored text makes ready (RFC 9580, 6.2): a line makes one event or none.
+/// What a line of an armored text yields (RFC 9580, 6.2): one event or none.
 #[derive(Drop)]
 pub enum ArmorEvent {
     /// A begin line with this label (RFC 9580, 6.2.1).
     Begin(Label),
     /// A header: its key and its value (RFC 9580, 6.2.2).
     Header(Vec<u8>, Vec<u8>),
-    /// The octets of the groups of four letters that a data line ends (RFC 9580, 6).
+    /// The octets of the groups of four letters that a data line completes (RFC 9580, 6).
     Octets(Vec<u8>),
     /// The end line of the block (RFC 9580, 6.2.3).
     End,
 }
 
 impl ArmorEvent {
-    /// An equal event. An error is want of memory.
+    /// A copy of this event. Fails only when out of memory.
     pub fn copy(&self, alloc: Global) -> Result<ArmorEvent, OutOfMemory>
         ensures { IfOk result (λ e. event_of e ≡ event_of self.now) }
     {

@@ -1,6 +1,6 @@
 //! The labels of blocks (RFC 9580, 6.2).
 
-/// What a block's begin line says that it holds (RFC 9580, 6.2.1).
+/// What a block's begin line says that it contains (RFC 9580, 6.2.1).
 #[derive(Clone, Copy, Debug, PartialEq, Eq)]
 pub enum Label {
     /// `MESSAGE`

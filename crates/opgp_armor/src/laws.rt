@@ -41,13 +41,13 @@ pub fn some_answer()
         ⊎ ((f : Fault) × IsArmorFault limit text f) }
 {}
 
-/// The octets of blocks are octets.
+/// The octets of blocks are numbers below 256.
 pub fn blocks_hold_octets()
     ensures { (limit : ℕ) (text : List ℕ) (blocks : List Block) → Armored limit text blocks
         → AllByRecursion (λ b. IsOctets b.octets) blocks }
 {}
 
-/// A block has no more octets than the text that it stands in.
+/// A block has no more octets than the text that it is in.
 pub fn a_block_has_no_more_octets_than_the_text()
     ensures { (limit : ℕ) (text : List ℕ) (blocks : List Block) → Armored limit text blocks
         → AllByRecursion (λ b. length b.octets ≤ length text) blocks }
@@ -82,7 +82,7 @@ pub fn events_have_no_more_octets_than_given()
         → event_octets (events_so_far d taken) ≤ length given }
 {}
 
-/// The octets of the open block, and of the events behind those that built it, are no more than the
+/// The octets of the open block, and of the events after those that built it, are no more than the
 /// octets given.
 #[tactic(auto, using(crate::proofs::Sizes::fed_few))]
 pub fn no_more_octets_than_given()
@@ -98,7 +98,7 @@ pub fn blocks_have_no_more_octets_than_events()
         + length (built events).octets ≤ event_octets events }
 {}
 
-/// Each finished block takes an octet at least.
+/// Each finished block takes at least one octet of the text.
 #[tactic(auto, using(crate::proofs::Sizes::fed_blocks))]
 pub fn no_more_blocks_than_octets()
     ensures { (d : Dearmor) (given : List ℕ) (taken : List Event) → Fed d given taken
@@ -121,7 +121,7 @@ pub fn written_armor_is_read_again()
         (record { label = label; headers = headers; octets = octets } ∷ []) }
 {}
 
-/// No octets have no data lines.
+/// Without octets there are no data lines.
 #[tactic(auto, using(crate::proofs::JoinedRows::no_lines))]
 pub fn no_octets_have_no_data_lines()
     ensures { data_lines [] ≡ [] }
@@ -134,8 +134,8 @@ pub fn a_row_has_one_data_line()
         → data_lines row ≡ base64_of row ++ 10 ∷ [] }
 {}
 
-/// The data lines of whole rows of 48 octets, and then those of the octets behind them, are the
-/// data lines of all these octets.
+/// The data lines of whole rows of 48 octets, and then those of the octets after them, are the data
+/// lines of all these octets.
 #[tactic(auto, using(crate::proofs::JoinedRows::rows_join))]
 pub fn data_lines_of_whole_rows_join()
     ensures { (rows more : List ℕ) → length rows % 48 ≡ 0

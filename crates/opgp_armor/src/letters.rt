@@ -15,14 +15,14 @@ use base64::engine::general_purpose::STANDARD;
 use opgp_octets::{OutOfMemory, Reason};
 use std::alloc::Global;
 
-/// What a data line gives: the octets of the groups that it ends, and the letters after them.
+/// What a data line yields: the octets of the groups that it completes, and the letters after them.
 #[derive(Drop)]
 pub(crate) struct Letters {
     pub(crate) pending: Pending,
     pub(crate) octets: Vec<u8>,
 }
 
-/// A letter.
+/// Whether an octet is a base64 letter.
 fn is_a_letter(c: u8) -> bool
     ensures { result ≡ is_letter c }
 {
@@ -43,7 +43,7 @@ fn all_stand(content: &[u8]) -> bool
     content.iter().all(|c| is_a_letter(*c) || *c == b'=')
 }
 
-/// Why a data line is refused: for an octet that is no letter, else for its padding.
+/// Why a data line is refused: for an octet that is no base64 letter, else for its padding.
 fn refused(content: &[u8]) -> Reason
     ensures { result ≡
         (if list_all may_stand content.now then Reason.Padding else Reason.Letters) }
@@ -55,14 +55,14 @@ fn refused(content: &[u8]) -> Reason
     }
 }
 
-/// Whether what stands behind whole groups can't: letters alone can, and nothing behind padding.
+/// Whether what follows the whole groups is wrong: only letters may, and nothing after padding.
 fn is_spoilt(rest: &[u8], padded: bool) -> bool
     ensures { result ≡ spoils rest.now padded }
 {
     !are_letters(rest) || (padded && !rest.is_empty())
 }
 
-/// What whole groups stand for.
+/// The octets that whole groups decode to.
 #[tactic(auto, unfolding(crate::specs::Letters::base64_of))]
 fn decoded(alloc: Global, groups: &[u8]) -> Result<Vec<u8>, DecodeAllocError>
     ensures ok { IfOk result (λ v. decode_of standard groups.now ≡ Ok v.items) }
@@ -73,7 +73,7 @@ fn decoded(alloc: Global, groups: &[u8]) -> Result<Vec<u8>, DecodeAllocError>
     STANDARD.decode(alloc, groups)
 }
 
-/// What a line gives, where these are the letters that waited and its own, and no group was padded.
+/// What a line yields, if `all` is the letters left over and then its own, and no group was padded.
 fn groups_of_letters(alloc: Global, all: &[u8], content: &[u8]) -> Result<Letters, Refusal>
     ensures { (letters : List ℕ) → list_all is_letter letters ≡ true
         → all.now ≡ letters ++ content.now → AnswersLetters result
@@ -94,7 +94,7 @@ fn groups_of_letters(alloc: Global, all: &[u8], content: &[u8]) -> Result<Letter
     }
 }
 
-/// One list behind another.
+/// The two lists joined.
 fn joined(alloc: Global, front: &[u8], back: &[u8]) -> Result<Vec<u8>, OutOfMemory>
     ensures { IfOk result (λ v. v.items ≡ front.now ++ back.now) }
 {
@@ -103,9 +103,9 @@ fn joined(alloc: Global, front: &[u8], back: &[u8]) -> Result<Vec<u8>, OutOfMemo
     Ok(all)
 }
 
-/// What a data line that isn't blank gives after these letters.
+/// What a data line that isn't blank yields, given the letters left over from the lines before.
 ///
-/// Letters are looked at one by one only where decoding refuses them, to say why.
+/// Letters are looked at one by one only if decoding fails, to find out why.
 #[tactic(auto, unfolding(crate::specs::Letters::data_line))]
 pub(crate) fn letters_of(
     alloc: Global,

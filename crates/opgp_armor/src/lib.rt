@@ -1,4 +1,5 @@
-//! ASCII armor (RFC 9580, 6): armored blocks among other text, read in any pieces, and written.
+//! ASCII armor (RFC 9580, 6): armored blocks among other text, read in pieces of any size, and
+//! written.
 #![tactic(auto)]
 
 mod block;

@@ -1,4 +1,4 @@
-//! The lines of armor.
+//! What each line of an armored text does.
 
 ghost use Rattle.std.specs.Prelude.{◌≡◌, ◌+◌, ◌^◌, ◌<◌, ◌≤◌, ℕ, List, [], ◌∷◌, ◌++◌, true, nat_eq};
 ghost use Rattle.std.specs.Prelude.{length, take, not, Some, None, Ok, Err};
@@ -23,7 +23,8 @@ use memchr::memchr;
 use opgp_octets::Reason;
 use std::alloc::Global;
 
-/// What one line does: where the next one stands, the letters that wait then, and what gets ready.
+/// What a line does: the section that follows it, the letters left over then, and the event it
+/// yields.
 #[derive(Drop)]
 pub(crate) struct Reaction {
     pub(crate) section: Section,
@@ -66,7 +67,7 @@ fn begin_label(content: &[u8]) -> Option<Label>
     }
 }
 
-/// A header's value, without the space that may stand before it.
+/// A header's value, without the space that may come before it.
 fn value_of(value: &[u8]) -> &[u8]
     ensures { result.now ≡ without_space value.now }
 {
@@ -93,7 +94,7 @@ fn header_parts(content: &[u8]) -> Option<(&[u8], &[u8])>
     }
 }
 
-/// Whether a line lies outside of all blocks.
+/// Whether a line is outside of all blocks and doesn't begin one.
 fn lies_outside(section: Section, line: &[u8]) -> bool
     ensures { result ≡ passes_by section line.now }
 {
@@ -121,7 +122,7 @@ fn close(label: Label, pending: Pending, content: &[u8]) -> Result<Reaction, Ref
     })
 }
 
-/// A line that makes nothing ready.
+/// A line that yields no event.
 fn moved(section: Section, pending: Pending) -> Result<Reaction, Refusal>
     ensures { IsAnswer result (Ok (state_of section pending, [])) }
 {
@@ -132,7 +133,7 @@ fn moved(section: Section, pending: Pending) -> Result<Reaction, Refusal>
     })
 }
 
-/// What the line of a header does.
+/// What a header line does.
 fn header(
     alloc: Global,
     label: Label,
@@ -171,7 +172,7 @@ fn data(alloc: Global, label: Label, pending: Pending, content: &[u8]) -> Result
     })
 }
 
-/// What a line outside of blocks does that begins like a begin line.
+/// What a line outside of blocks does that begins as a begin line does.
 fn begin(content: &[u8]) -> Result<Reaction, Refusal>
     ensures { IsAnswer result (on_begin (label_at begin_line content.now)) }
 {
@@ -202,7 +203,7 @@ fn in_headers(
     }
 }
 
-/// What a line among the data does.
+/// What a line among the data lines does.
 #[tactic(auto, using(crate::proofs::Insides::data_lines))]
 fn in_data(
     alloc: Global,
@@ -241,7 +242,7 @@ fn after_checksum(label: Label, pending: Pending, content: &[u8]) -> Result<Reac
     Err(Refusal::Reason(Reason::AfterChecksum))
 }
 
-/// What one line does, where it stands.
+/// What a line does in this section.
 #[tactic(auto, unfolding(crate::specs::Machine::step))]
 pub(crate) fn answer_line(
     alloc: Global,

@@ -1,10 +1,10 @@
-//! The letters that wait for their group of four.
+//! The letters left over that don't yet make a group of four.
 
 ghost use Rattle.std.specs.Prelude.{◌≡◌, ◌≤◌, ◌<◌, take, length, true, false};
 ghost use Rattle.std.specs.List.{list_all};
 ghost use Rattle.opgp_armor.specs.Letters.{is_letter};
 
-/// The letters behind the last whole group of a block, at most three, and whether a group was
+/// The letters after the last whole group of a block, at most three, and whether a group was
 /// padded.
 #[derive(Clone, Copy)]
 pub(crate) struct Pending {
@@ -31,7 +31,7 @@ impl Pending {
         }
     }
 
-    /// These letters.
+    /// The given letters, after groups of which one was padded or none.
     pub(crate) fn of(rest: &[u8], padded: bool) -> Pending
         requires few { length rest.now < 4 }
         requires written { list_all is_letter rest.now ≡ true }
@@ -53,7 +53,7 @@ impl Pending {
         &self.letters[..self.count as usize]
     }
 
-    /// Whether a letter waits.
+    /// Whether a letter is left over.
     pub(crate) fn waits(&self) -> bool
         ensures { result ≡ waits (pending_of self.now) }
     {

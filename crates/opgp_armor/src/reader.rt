@@ -1,4 +1,4 @@
-//! A reader of armor that takes a text in any pieces.
+//! A reader of armor that takes a text in pieces of any size.
 
 ghost use Rattle.std.specs.Prelude.{◌≡◌, ◌+◌, ◌-◌, ◌^◌, ◌<◌, ◌≤◌, ◌↔◌, ℕ, List, [], ◌++◌, true};
 ghost use Rattle.std.specs.Prelude.{false, is_some, length, take, Some, None, Ok, Err, IfOk, OnOk};
@@ -20,10 +20,10 @@ use opgp_octets::{Fault, Layer, Limits, OutOfMemory, PushFault, Reason};
 use std::alloc::{AllocError, Global};
 use std::mem;
 
-/// A reader of armored text (RFC 9580, 6.2), which takes it in any pieces and hands out one event
-/// at a time.
+/// A reader of armored text (RFC 9580, 6.2), which takes it in pieces of any size and hands out one
+/// event at a time.
 ///
-/// It keeps an unfinished line, at most three letters, and the event that is ready.
+/// It keeps an unfinished line, at most three letters left over, and the event that is ready.
 #[derive(Drop)]
 pub struct Dearmor {
     alloc: Global,
@@ -45,7 +45,7 @@ pub struct Dearmor {
     ghost counted: { finished + length buffer.items ≤ given },
 }
 
-/// Adds octets to the buffer, up to so many in all, and says how many were added.
+/// Adds octets to the buffer until it holds `most`, and says how many were added.
 fn fill(buffer: &mut Vec<u8>, most: usize, part: &[u8]) -> Result<usize, OutOfMemory>
     ensures added { OnOk result
         (buffer.new.items ≡ buffer.old.items ++ take (most - length buffer.old.items) part.now) }
@@ -58,7 +58,7 @@ fn fill(buffer: &mut Vec<u8>, most: usize, part: &[u8]) -> Result<usize, OutOfMe
     Ok(count)
 }
 
-/// Keeps what is needed of an unfinished line outside of blocks, whose next octets are these.
+/// Keeps what is needed of an unfinished line outside of blocks, which continues with `part`.
 fn keep_outside(buffer: &mut Vec<u8>, limit: usize, part: &[u8]) -> Result<(), OutOfMemory>
     requires low { 128 ≤ limit }
     requires high { limit ≤ 1048576 }
@@ -74,7 +74,7 @@ fn keep_outside(buffer: &mut Vec<u8>, limit: usize, part: &[u8]) -> Result<(), O
     Ok(())
 }
 
-/// Keeps what is needed of an unfinished line, whose next octets are these.
+/// Keeps what is needed of an unfinished line, which continues with `part`.
 fn keep(
     buffer: &mut Vec<u8>,
     limit: usize,
@@ -108,8 +108,8 @@ fn ended_blocks(event: &Option<ArmorEvent>) -> u64
     }
 }
 
-/// The octets before the first line end, how many that is with the line end, and whether there is
-/// one.
+/// The octets before the first line end, how many octets that is with the line end, and whether
+/// there is one.
 fn split_line(rest: &[u8]) -> (&[u8], usize, bool)
     requires { 0 < length rest.now }
     ensures split { IsLineSplit rest.now result.0.now result.1 result.2 }
@@ -122,7 +122,8 @@ fn split_line(rest: &[u8]) -> (&[u8], usize, bool)
     }
 }
 
-/// Why a text is refused that ends in this section, after so many blocks; None where it may end.
+/// Why a text that ends in this section, after this number of blocks, is refused; None if it may
+/// end.
 fn end_of_text(section: Section, finished: u64) -> Option<Reason>
     ensures { MatchOption result ((section ≡ Outside) × (0 < finished))
         (λ r. (r ≡ end_reason section) × (section ≡ Outside → finished ≡ 0)) }
@@ -150,9 +151,9 @@ impl Dearmor {
     ghost use Rattle.opgp_armor.specs.Fed.{line_limit_of, is_ready, count_of, is_spent, has_ended};
     ghost use Rattle.opgp_armor.specs.Fed.{fault_of, held_of, spent_fault};
 
-    /// A reader that was given nothing. Lines have at most as many octets as the limits say.
+    /// A reader that was given nothing. Lines have at most as many octets as the limits allow.
     ///
-    /// Takes no memory; pushes do, from `alloc`.
+    /// Allocates nothing; pushes do, from `alloc`.
     pub fn new(alloc: Global, limits: Limits) -> Dearmor
         ensures fed { Fed result [] [] }
         ensures free { is_ready result ≡ false }
@@ -178,14 +179,14 @@ impl Dearmor {
         }
     }
 
-    /// Whether an event waits to be taken.
+    /// Whether an event is ready to be taken.
     pub fn ready(&self) -> bool
         ensures { result ≡ is_ready self.now }
     {
         self.ready.is_some()
     }
 
-    /// How many octets pushes have answered as taken.
+    /// How many octets the pushes have taken.
     pub fn given(&self) -> u64
         ensures count { result ≡ count_of self.now }
         ensures fed { (given : List ℕ) (taken : List Event) → Fed self.now given taken
@@ -194,7 +195,7 @@ impl Dearmor {
         self.given
     }
 
-    /// Whether the text has ended: whether `last` was called, also where it was refused.
+    /// Whether the text has ended: whether `last` was called, even if it failed.
     pub fn ended(&self) -> bool
         ensures { result ≡ has_ended self.now }
     {
@@ -217,7 +218,7 @@ impl Dearmor {
         self.ready.take()
     }
 
-    /// Ends this line, of which nothing stands in the buffer.
+    /// Ends this line, of which nothing is in the buffer.
     fn end_line(&mut self, line: &[u8]) -> Result<(), OutOfMemory>
         requires free { self.old.ready ≡ None }
         requires faultless { self.old.fault ≡ None }
@@ -275,8 +276,8 @@ impl Dearmor {
         Ok(())
     }
 
-    /// Takes the octets up to the first line end, or all, and ends that line; after a fault takes
-    /// all.
+    /// Takes the octets up to the first line end, or all of them, and ends that line; after a fault
+    /// takes all.
     fn part(&mut self, rest: &[u8]) -> Result<usize, OutOfMemory>
         requires some { 0 < length rest.now }
         requires free { self.old.ready ≡ None }
@@ -311,7 +312,7 @@ impl Dearmor {
         Ok(n)
     }
 
-    /// Frees the buffer and is spent, for want of memory.
+    /// Frees the buffer and marks the reader as spent, when out of memory.
     fn give_up(&mut self, given: u64)
         requires { self.old.ready ≡ None }
         ensures spent { self.new.spent ≡ true }
@@ -326,11 +327,11 @@ impl Dearmor {
         self.spent = true;
     }
 
-    /// Takes the first octets of the piece, up to the one that makes an event ready, or all of it,
-    /// and answers how many. The conditions are that nothing is ready, that the text hasn't ended,
-    /// and that fewer than 2^63 octets are given in all.
+    /// Takes octets of the piece up to the one that makes an event ready, or all of them, and
+    /// returns how many. The conditions are that nothing is ready, that the text hasn't ended, and
+    /// that fewer than 2^63 octets are given in all.
     ///
-    /// After a fault all octets are taken and nothing becomes ready. An error is want of memory;
+    /// After a fault all octets are taken and nothing becomes ready. Fails only when out of memory;
     /// the reader is spent from then on, and the piece doesn't count as given.
     pub fn push(&mut self, piece: &[u8]) -> Result<usize, PushFault>
         requires free { is_ready self.old ≡ false }
@@ -352,7 +353,7 @@ impl Dearmor {
         ensures held { held_of self.new ≤ line_limit_of self.new + 16 }
         ensures open { has_ended self.new ≡ false }
 
-        // It stops no later than at the octet that makes an event ready.
+        // It takes no octet after the one that makes an event ready.
         ensures quiet { IfOk result (IsQuiet self.old piece.now) }
     {
         if self.spent {
@@ -374,7 +375,7 @@ impl Dearmor {
         Ok(taken)
     }
 
-    /// Ends the last line, where it isn't empty and no line is at fault.
+    /// Ends the last line, if it isn't empty and no line is at fault.
     fn end_last(&mut self) -> Result<(), OutOfMemory>
         requires free { self.old.ready ≡ None }
         requires open { self.old.ended ≡ false }
@@ -396,10 +397,10 @@ impl Dearmor {
         Ok(())
     }
 
-    /// Ends the text, and with it a last line that has no line end, and hands out the event that
-    /// this line makes. The conditions are that nothing is ready and that the text hasn't ended.
+    /// Ends the text, and with it a last line without a line end, and returns the event that this
+    /// line makes. The conditions are that nothing is ready and that the text hasn't ended.
     ///
-    /// An error is want of memory; the reader is spent from then on.
+    /// Fails only when out of memory; the reader is spent from then on.
     pub fn last(&mut self) -> Result<Option<ArmorEvent>, PushFault>
         requires free { is_ready self.old ≡ false }
         requires open { has_ended self.old ≡ false }
@@ -432,17 +433,17 @@ impl Dearmor {
     /// Ends the reading: the events that were taken are those of an armored text. The conditions
     /// are that nothing is ready and that the text has ended.
     ///
-    /// An error is the fault of the text; after want of memory its reason is `Spent` and its places
-    /// are 0.
+    /// An error is the fault of the text; after running out of memory its reason is `Spent` and its
+    /// places are 0.
     ///
-    /// Takes no memory.
+    /// Allocates nothing.
     pub fn finish(self) -> Result<(), Fault>
         requires free { is_ready self ≡ false }
         requires ended { has_ended self ≡ true }
         ensures ok { (given : List ℕ) (taken : List Event) → Fed self given taken
             → MatchResult result (λ _. Armored (line_limit_of self) given (built taken).blocks)
             (IsArmorFault (line_limit_of self) given) }
-        // Of an armored text no block is open.
+        // No block is open at the end of an armored text.
         ensures closed { OnOk result ((given : List ℕ) (taken : List Event) → Fed self given taken
             → is_open_behind false taken ≡ false) }
         ensures faulty { (f : Fault) → is_spent self ≡ false → fault_of self ≡ Some f

@@ -1,10 +1,10 @@
-//! Why one line does nothing.
+//! Why a line has no effect.
 
 ghost use Rattle.std.specs.Prelude.{◌≡◌};
 
 use opgp_octets::{OutOfMemory, Reason};
 
-/// Why one line does nothing: it is at fault, or a growth was refused.
+/// Why a line has no effect: it is at fault, or an allocation failed.
 #[derive(Clone, Copy)]
 pub(crate) enum Refusal {
     Reason(Reason),

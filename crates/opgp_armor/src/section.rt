@@ -1,8 +1,8 @@
-//! Where a line stands.
+//! The section of an armored text that a line is in.
 
 use crate::label::Label;
 
-/// Where a line stands: outside of all blocks, or in a part of a block with that label.
+/// The section that a line is in: outside of all blocks, or a part of a block with that label.
 #[derive(Clone, Copy)]
 pub(crate) enum Section {
     Outside,

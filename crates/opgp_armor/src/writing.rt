@@ -1,4 +1,4 @@
-//! Armor as it is written.
+//! Writing armor.
 
 ghost use Rattle.std.specs.Prelude.{◌≡◌, ◌≤◌, ◌++◌, ◌∷◌, [], ℕ, length, take, map, IfOk, OnOk};
 ghost use Rattle.opgp_armor.specs.Armored.{Armored};
@@ -43,7 +43,7 @@ fn add_headers(text: &mut Vec<u8>, headers: &[(Vec<u8>, Vec<u8>)]) -> Result<(),
     Ok(())
 }
 
-/// Writes the letters of a data line (RFC 9580, 6.2), and says how many there are.
+/// Writes the letters of a data line (RFC 9580, 6.2), and returns how many there are.
 ///
 /// A row has at most 48 octets, so the line has at most 64 letters. Its line feed isn't written.
 #[tactic(auto, unfolding(crate::specs::Letters::base64_of))]
@@ -58,7 +58,7 @@ pub fn encode_row(octets: &[u8], row: &mut [u8; 64]) -> usize
     }
 }
 
-/// Appends the lines of the letters of octets, 64 letters a line, the last of what is left.
+/// Appends the data lines of the octets, 64 letters a line; the last line may be shorter.
 fn add_letters(text: &mut Vec<u8>, octets: &[u8]) -> Result<(), OutOfMemory>
     ensures { OnOk result (text.new.items ≡ text.old.items ++ data_lines octets.now) }
 {
@@ -73,7 +73,7 @@ fn add_letters(text: &mut Vec<u8>, octets: &[u8]) -> Result<(), OutOfMemory>
     Ok(())
 }
 
-/// How many octets the text has, where that many can be had.
+/// How many octets the text takes, if a vector can be that long.
 fn text_size(label: Label, headers: &[(Vec<u8>, Vec<u8>)], octets: &[u8]) -> usize {
     let mut size = label.begin_line().len() + label.end_line().len() + 3;
     for (key, value) in headers {
@@ -94,7 +94,7 @@ fn text_size(label: Label, headers: &[(Vec<u8>, Vec<u8>)], octets: &[u8]) -> usi
 /// nor a line feed, and its value has no line feed and doesn't end in a space, a tab or a carriage
 /// return.
 ///
-/// The text is a vector of its own, which is reserved once. An error is want of memory.
+/// The text is a new vector, which is allocated once. Fails only when out of memory.
 pub fn armor(
     alloc: Global,
     label: Label,

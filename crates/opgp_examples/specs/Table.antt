@@ -1,4 +1,4 @@
--- What a table of digests says of signatures.
+-- The verdicts of a table of digests.
 use Rattle.std.specs.Prelude.{List, if◌then◌else◌, ℕ}
 use Rattle.std.specs.List.{list_any}
 use Rattle.std.specs.Str.{bytes_eq}
@@ -8,7 +8,7 @@ use Rattle.opgp.specs.Report.RowValue.{JobValue}
 use Rattle.opgp.specs.Report.declared.verifier.Verdict.{Verdict}
 use Rattle.opgp.specs.Report.declared.verifier.Verdict.TheVariants.{Good, Undecided}
 
--- good where the digest is listed
+-- good if the digest is listed
 abbrev pub says_listed : List (Vec ℕ) → JobValue → Verdict
 says_listed good job =
     if list_any (λ it. bytes_eq it.items (digest_octets job.digest)) good then Good else Undecided

@@ -1,4 +1,4 @@
-//! The certificates of an armored text, each as soon as it is whole.
+//! The certificates of an armored text, each as soon as it is complete.
 
 ghost use Rattle.std.specs.Prelude.{◌≡◌, ◌≤◌, OnOk, false, length};
 ghost use Rattle.opgp.specs.Octets.declared.limits.Limits.{Limits};
@@ -15,7 +15,7 @@ use opgp::octets::{Fault, Limits};
 use opgp::ring::{Certificate, Composer, Head, Ready};
 use std::io::BufRead;
 
-/// The certificates of an armored text of keys: a line for each as soon as it is whole, and in the
+/// The certificates of an armored text of keys: a line for each as soon as it is complete, and in the
 /// end the fault of the lowest layer, if there is one.
 pub(crate) fn certificates<R: BufRead + Drop>(
     rt: &(impl Print + AllocGlobal),
@@ -30,7 +30,7 @@ pub(crate) fn certificates<R: BufRead + Drop>(
     }
 }
 
-/// Reads all of a text, and tells the fault of its armor, or else that of its framing.
+/// Reads all of a text, and returns the fault of its armor, or else that of its framing.
 fn read_text<R: BufRead + Drop>(
     rt: &(impl Print + AllocGlobal),
     limits: Limits,
@@ -49,7 +49,7 @@ fn read_text<R: BufRead + Drop>(
     }
 }
 
-/// Reads blocks up to the first that isn't framed, and answers that block's fault.
+/// Reads blocks up to the first that isn't framed, and returns that block's fault.
 fn read_blocks<R: BufRead + Drop>(
     rt: &(impl Print + AllocGlobal),
     limits: Limits,
@@ -75,7 +75,7 @@ fn read_blocks<R: BufRead + Drop>(
     Ok(None)
 }
 
-/// Reads the rest of a block, and answers the fault of its framing.
+/// Reads the rest of a block, and returns the fault of its framing.
 fn read_block<R: BufRead + Drop>(
     rt: &(impl Print + AllocGlobal),
     block: u64,
@@ -100,7 +100,7 @@ fn read_block<R: BufRead + Drop>(
     Ok(deframe.finish().err())
 }
 
-/// Takes octets of a block, and shows the certificates that become whole. However many have come,
+/// Takes octets of a block, and shows the certificates that they complete. However many have come,
 /// the readers hold a packet and a certificate at most.
 fn feed(
     rt: &(impl Print + AllocGlobal),
@@ -127,7 +127,7 @@ fn feed(
     Ok(())
 }
 
-/// Takes a packet, and shows the certificate that it makes whole.
+/// Takes a packet, and shows the certificate that it completes.
 fn compose(rt: &(impl Print + AllocGlobal), composer: &mut Composer, packet: Placed) -> Result<()>
     requires { is_ready composer.old ≡ false }
     ensures { (limits : Limits) → IsComposing limits composer.old
@@ -141,7 +141,7 @@ fn compose(rt: &(impl Print + AllocGlobal), composer: &mut Composer, packet: Pla
     }
 }
 
-/// A line for a part that is a certificate; the part is let go.
+/// A line for a part that is a certificate; the part is dropped.
 fn show(rt: &(impl Print + AllocGlobal), part: Ready) -> Result<()> {
     let shown = match &part {
         Ready::Certificate(certificate) => show_certificate(rt, certificate),

@@ -1,11 +1,11 @@
-//! What hashed octets ask.
+//! What hashed octets belong to.
 
 use anyhow::Result;
 use opgp::hash::{Question, Subject, fingerprint_of_view, reopen};
 use opgp::octets::{SignatureType, u32_at};
 use opgp::packet::{Walk, fault_in_area};
 
-/// What the octets ask of a signature's hash, or that they are those of no question.
+/// The question that the octets are hashed for, or that there is none.
 pub(crate) fn show_question(rt: &(impl Print + AllocGlobal), octets: &[u8]) -> Result<()> {
     let Some(question) = reopen(octets) else {
         println!(rt; "of no question")?;

@@ -1,9 +1,9 @@
 //! A keyring in the current format.
 
 use anyhow::Result;
+use opgp::engine::{Answer, Mode, Out, Watched, read_keyring, write_keyring};
 use opgp::octets::Limits;
 use opgp::ring::normalise;
-use opgp::stack::{Answer, Mode, Out, Watched, read_keyring, write_keyring};
 use std::io::{Read, Write};
 
 /// Writes a keyring, armored, with each packet in the current format and its shortest length.

@@ -1,4 +1,4 @@
-//! An armored text, read from a source as far as it is asked for.
+//! An armored text that is read from a source no further than needed.
 
 ghost use Rattle.std.specs.Prelude.{◌≡◌, ◌≤◌, ◌+◌, ◌↔◌, IsTrue, false};
 ghost use Rattle.opgp.specs.Armor.Fed.{has_ended, held_of, is_ready, line_limit_of};
@@ -10,7 +10,7 @@ use opgp::octets::{Fault, Layer, Limits, Reason};
 use std::alloc::Global;
 use std::io::BufRead;
 
-/// An armored text, read from a source as far as it is asked for. It keeps a line at most.
+/// An armored text that is read from a source no further than needed. It keeps a line at most.
 #[derive(Drop)]
 pub(crate) struct Text<R> {
     source: R,
@@ -39,7 +39,7 @@ pub(crate) fn too_long(limits: Limits) -> Fault {
 }
 
 impl<R: BufRead + Drop> Text<R> {
-    /// Nothing is read yet.
+    /// The text of a source from which nothing was read yet.
     pub(crate) fn new(alloc: Global, limits: Limits, source: R) -> Text<R> {
         Text {
             source,
@@ -48,7 +48,7 @@ impl<R: BufRead + Drop> Text<R> {
         }
     }
 
-    /// The next event, for which no more is read than must be; None at the end of the text.
+    /// The next event, for which no more is read than needed; None at the end of the text.
     pub(crate) fn next(&mut self) -> Result<Option<ArmorEvent>> {
         for _ in 0..u64::MAX {
             if self.dearmor.ended() {
@@ -77,7 +77,7 @@ impl<R: BufRead + Drop> Text<R> {
         Ok(self.dearmor.take())
     }
 
-    /// Reads what is left, and tells the fault of the armor.
+    /// Reads what is left, and reports the fault of the armor.
     pub(crate) fn finish(mut self) -> Result<()> {
         for _ in 0..u64::MAX {
             if self.dearmor.ended() {

@@ -3,9 +3,9 @@
 ghost use Rattle.opgp_examples.specs.Table.{says_listed};
 
 use anyhow::Result;
+use opgp::engine::{Answer, Mode, Watched, read_keyring};
 use opgp::octets::Limits;
 use opgp::report::{Finding, Job, Place, Row, Verdict, Verifier, check};
-use opgp::stack::{Answer, Mode, Watched, read_keyring};
 use std::alloc::Global;
 use std::io::Read;
 
@@ -39,8 +39,8 @@ impl Verifier for Table {
     }
 }
 
-/// A line for each signature of a keyring: where it stands, its digest, and whether that is among
-/// the words.
+/// A line for each signature of a keyring: its place, its digest, and whether that is among the
+/// words.
 pub(crate) fn verify<R: Read + Drop>(
     rt: &(impl Print + AllocGlobal),
     source: R,
@@ -72,7 +72,7 @@ fn show_rows(rt: &impl Print, rows: &[Row]) -> Result<()> {
     Ok(())
 }
 
-/// Where a signature stands.
+/// The place of a signature.
 fn show_place(rt: &impl Print, place: &Place) -> Result<()> {
     let Place {
         certificate,

@@ -137,7 +137,7 @@ same_kept (Faulty own place) exponents body block pos fault reason inner e why =
     ap (λ (f : Fault). Err f) (ap by_reason (sym parts.0) ∙ ap by_inner (sym parts.1) ∙ kept)
 same_kept Spent exponents body block pos fault reason inner e why = absurd cc
 
--- after want of memory no fault is kept
+-- after running out of memory no fault is kept
 pub state_fault-spent : (state : State) (exponents body : ℕ) (why : Reason × ℕ) → is_spent_state state ≡ true → state_fault state exponents body ≡ Some why → ⊥
 state_fault-spent Spent exponents body why spent e = cc
 state_fault-spent Between exponents body why spent e = cc

@@ -87,7 +87,7 @@ holds_length limits header seen count exponents body ready f e = omega (arith, h
 pub holds_piece : (limits : Limits) (header : ℕ) (l : Length) (from until exponents body : ℕ) (ready : Option Placed) → PieceFacts limits header l from until exponents body → is_some ready ≡ false → held_in (InPiece header l from until) exponents body ready ≤ body_limit limits + pieces_limit limits + 16
 holds_piece limits header l from until exponents body ready f e = omega (arith, held_free ready e, f.open', f.within'.exponents', f.within'.body')
 
--- ---- behind a fault or want of memory
+-- ---- after a fault or running out of memory
 
 empty_held : (state : State) (exponents body : ℕ) (ready : Option Placed) → (eqb exponents 0 && eqb body 0) ≡ true → held_in_state state ≡ 0 → is_some ready ≡ false → held_in state exponents body ready ≡ 0
 empty_held state exponents body ready e none free =

@@ -19,10 +19,10 @@ abbrev pub or_fault : Option Reason → ℕ → Option (Reason × ℕ) → Optio
 or_fault None at next = next
 or_fault (Some reason) at next = Some (reason, at)
 
--- The fault of the length headers of a packet, in order, and where the one at fault begins: its
--- octets aren't all there, it may not stand there, or its piece isn't all there. Before this one,
--- which begins at an offset in the packet, came so many partial ones, whose pieces have so many
--- octets. At most the first number of them is looked at.
+-- The fault of the length headers of a packet, in order, and where the header at fault begins: its
+-- octets are incomplete, it isn't allowed there, or its piece is incomplete. Before it, counted
+-- from an offset in the packet, came the given number of partial ones, whose pieces have the given
+-- number of octets. At most the first number of headers is looked at.
 unfoldable pub lengths_fault : ℕ → Limits → ℕ → ℕ → ℕ → ℕ → List ℕ → Option (Reason × ℕ)
 lengths_fault zero limits header before sum at o = None
 lengths_fault (suc n) limits header before sum at o =
@@ -34,8 +34,8 @@ lengths_fault (suc n) limits header before sum at o =
     (at + (count + length_amount l)) (drop (count + length_amount l) o)
     else None)))
 
--- The fault of the packet that begins the octets, and where in it; None where there are no octets,
--- or a packet is allowed. A length header takes at least an octet, so no more of them than octets
+-- The fault of the packet that begins the octets, and where in it; None if there are no octets, or
+-- if a packet is allowed. A length header takes at least one octet, so no more of them than octets
 -- need be looked at.
 unfoldable pub packet_fault : Limits → List ℕ → Option (Reason × ℕ)
 packet_fault limits [] = None

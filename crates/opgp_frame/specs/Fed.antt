@@ -29,7 +29,7 @@ fault_of_state (states.Faulty reason inner) block pos =
     Some (record { layer = Framing; reason = reason; block = block; pos = pos; inner = inner })
 fault_of_state states.Spent block pos = None
 
--- a push has met want of memory
+-- a push ran out of memory
 abbrev pub is_spent : Deframe → Bool
 is_spent d = is_spent_state d.state
 
@@ -37,11 +37,11 @@ is_spent d = is_spent_state d.state
 abbrev pub fault_of : Deframe → Option Fault
 fault_of d = fault_of_state d.state d.block d.start
 
--- a packet waits to be taken
+-- a packet is ready to be taken
 abbrev pub is_ready : Deframe → Bool
 is_ready d = is_some d.ready
 
--- the octets that pushes have answered as taken
+-- how many octets the pushes have taken
 abbrev pub count_of : Deframe → ℕ
 count_of d = d.given
 
@@ -83,15 +83,15 @@ pub record Fed (limits : Limits) (block : ℕ) (d : Deframe) (given : List ℕ)
   pub state : IsRest limits d.state d.exponents.items d.body.items rest
   pub waits : IsSome d.ready → rest ≡ []
 
--- Whatever the old reader was given and had handed out, the new one was given these octets more and
--- has handed out these packets more.
+-- Whatever the old reader was given and had handed out, the new one was also given these octets and
+-- has also handed out these packets.
 abbrev pub KeepsFed : Deframe → Deframe → List ℕ → List Placed → Type 0
 KeepsFed old new octets packets =
     (limits : Limits) (block : ℕ) (given : List ℕ) (taken : List Placed)
     → Fed limits block old given taken → Fed limits block new (given ++ octets) (taken ++ packets)
 
--- The first octets of a piece are taken, up to the one that makes a packet ready, or all of it.
--- After a fault all are taken, and nothing becomes ready.
+-- Octets of a piece are taken up to the one that makes a packet ready, or all of them. After a
+-- fault all are taken, and nothing becomes ready.
 pub record Takes {E : Type 0} (old new : Deframe) (piece : List ℕ) (result : Result ℕ E) : Type 0 where
   pub fed : IfOk result (λ n. KeepsFed old new (take n piece) [])
   pub within : IfOk result (λ n. n ≤ length piece)

@@ -27,7 +27,8 @@ exponents_of forms.NewOne = []
 exponents_of forms.NewTwo = []
 exponents_of forms.NewFive = []
 
--- the last length, which is the only one without pieces, where so many octets are left of the body
+-- the last length, or the only one without pieces, given how many octets of the body are left for
+-- it
 abbrev pub length_of_rest : Form → ℕ → Length
 length_of_rest forms.OldOne n = len.OldOne n
 length_of_rest forms.OldTwo n = len.OldTwo n
@@ -41,7 +42,7 @@ length_of_rest (forms.Partial p) n = current_length p.last n
 abbrev pub last_length : Form → ℕ → Length
 last_length form n = length_of_rest form (n - pieces_sum (exponents_of form))
 
--- the pieces under partial lengths are such as may be
+-- the pieces under partial lengths are allowed
 abbrev pub HasPieces : Form → Type 0
 HasPieces (forms.Partial p) = ArePieces p.exponents
 HasPieces forms.OldOne = Unit {0}
@@ -51,8 +52,8 @@ HasPieces forms.NewOne = Unit {0}
 HasPieces forms.NewTwo = Unit {0}
 HasPieces forms.NewFive = Unit {0}
 
--- The form spells a body of n octets: it has the pieces, its last length holds what is left, and it
--- is no longer than a length of four octets says.
+-- The form encodes a body of n octets: it has the pieces, its last length holds what is left, and
+-- the body is no longer than a length of four octets can say.
 pub record FormSpells (form : Form) (n : ℕ) : Type 0 where
   pub stand : HasPieces form
   pub pieces : pieces_sum (exponents_of form) ≤ n

@@ -1,4 +1,4 @@
--- The form of a packet that has come, from its pieces and its last length.
+-- The form of a packet, from its pieces and its last length.
 use Rattle.std.specs.Prelude.{ℕ, List, [], ◌∷◌, Option, Some, None}
 use Rattle.opgp_octets.specs.declared.packet_len.PacketLen.{PacketLen}
 use Rattle.opgp_octets.specs.declared.packet_len.PacketLen.TheVariants as new

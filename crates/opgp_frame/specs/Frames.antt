@@ -1,4 +1,4 @@
--- Lists of packets, and why octets are none (RFC 9580, 4.2).
+-- Lists of packets, and why octets aren't one (RFC 9580, 4.2).
 use Rattle.std.specs.Prelude.{◌≡◌, ℕ, ◌+◌, ◌≤◌, List, [], ◌∷◌, ◌++◌, length}
 use Rattle.std.specs.List.{flat_map}
 use Rattle.opgp_octets.specs.declared.limits.Limits.{Limits}
@@ -16,12 +16,11 @@ pub record IsAllowed (limits : Limits) (p : PacketValue) : Type 0 where
   pub body : length p.body ≤ body_limit limits
   pub pieces : length (exponents_of p.form) ≤ pieces_limit limits
 
--- the spellings of packets, joined
+-- the encodings of packets, joined
 abbrev pub spelled : List Placed → List ℕ
 spelled packets = flat_map (λ p. spelling p.packet) packets
 
--- the packets are allowed, and each says in which block and where it begins, the first one at this
--- offset
+-- the packets are allowed, and each one states its block and its offset, the first one this offset
 abbrev pub StandFrom : Limits → ℕ → ℕ → List Placed → Type 0
 StandFrom limits block at [] = Unit {0}
 StandFrom limits block at (p ∷ ps) = IsAllowed limits p.packet × (p.block ≡ block) × (p.pos ≡ at)
@@ -40,14 +39,14 @@ pub record BeginsPacket (limits : Limits) (octets : List ℕ) : Type 0 where
   pub begins : octets ≡ spelling packet ++ more
   pub allowed : IsAllowed limits packet
 
--- the longest list of allowed packets whose spellings, joined, begin the octets, and what is left
+-- the longest list of allowed packets whose encodings, joined, begin the octets, and what is left
 pub record Longest (limits : Limits) (block : ℕ) (octets : List ℕ) (packets : List Placed)
     (rest : List ℕ) : Type 0 where
   pub whole : octets ≡ spelled packets ++ rest
   pub stand : StandFrom limits block 0 packets
   pub no_more : ¬ BeginsPacket limits rest
 
--- the octets are no list of packets: after the longest list that they begin with comes what is at
+-- the octets aren't a list of packets: the longest list that they begin with is followed by the
 -- fault
 pub record IsFramingFault (limits : Limits) (block : ℕ) (octets : List ℕ) (fault : Fault)
     : Type 0 where

@@ -10,14 +10,14 @@ use Rattle.opgp_frame.specs.declared.length.Length.{Length}
 use Rattle.opgp_frame.specs.declared.length.Length.TheVariants.{OldOne, OldTwo, OldFour, New}
 use Rattle.opgp_frame.specs.Header.{is_current}
 
--- what each form may hold
+-- the values that each form can hold
 abbrev pub LengthFits : Length → Type 0
 LengthFits (OldOne n) = n < 2 ^ 8
 LengthFits (OldTwo n) = n < 2 ^ 16
 LengthFits (OldFour n) = n < 2 ^ 32
 LengthFits (New len) = PacketLenFits len
 
--- the spelling
+-- the encoding
 abbrev pub length_octets : Length → List ℕ
 length_octets (OldOne n) = n ∷ []
 length_octets (OldTwo n) = to_be_bytes w16 n
@@ -49,8 +49,8 @@ IsLengthUnder header (OldTwo n) = (header < 192) × (header % 4 ≡ 1)
 IsLengthUnder header (OldFour n) = (header < 192) × (header % 4 ≡ 2)
 IsLengthUnder header (New len) = 192 ≤ header
 
--- Under this first octet of a packet the octets begin with the spelling of the length, which takes
--- so many.
+-- The octets after a packet's first octet begin with the encoding of the length, which takes this
+-- many of them.
 pub record LengthBegins (header : ℕ) (o : List ℕ) (length' : Length) (count : ℕ) : Type 0 where
   pub fits : LengthFits length'
   pub under : IsLengthUnder header length'

@@ -1,4 +1,4 @@
--- Packets and their spellings (RFC 9580, 4.2).
+-- Packets and their encodings (RFC 9580, 4.2).
 use Rattle.std.specs.Prelude.{◌≡◌, ℕ, ◌^◌, true, List, [], ◌∷◌, ◌++◌, length, take, drop}
 use Rattle.std.specs.List.{flat_map}
 use Rattle.opgp_octets.specs.Octets.{IsOctets}
@@ -9,20 +9,20 @@ use Rattle.opgp_frame.specs.Form.{FormSpells, form_takes, header_octet, exponent
 use Rattle.opgp_frame.specs.Header.{is_read_kind}
 use Rattle.opgp_frame.specs.Length.{length_octets}
 
--- a packet, without where it lies in memory
+-- a packet, by the contents of its vectors
 pub record PacketValue : Type 0 where
   pub form : Form
   pub kind : ℕ
   pub body : List ℕ
 
--- its type is read and may have the form, which spells the body's length
+-- its type is read and may have the form, and the form encodes the body's length
 pub record IsPacket (p : PacketValue) : Type 0 where
   pub kind : is_read_kind p.kind ≡ true
   pub takes : form_takes p.form p.kind ≡ true
   pub spells : FormSpells p.form (length p.body)
   pub octets : IsOctets p.body
 
--- A body cut by the exponents: each piece behind its own partial length, then the last length, then
+-- A body cut by the exponents: each piece after its own partial length, then the last length, then
 -- the rest.
 abbrev pub cut_body : List ℕ → List ℕ → List ℕ → List ℕ
 cut_body [] last body = last ++ body
@@ -34,6 +34,6 @@ abbrev pub spelling : PacketValue → List ℕ
 spelling p = header_octet p.form p.kind
     ∷ cut_body (exponents_of p.form) (length_octets (last_length p.form (length p.body))) p.body
 
--- the spellings of packets, joined
+-- the encodings of packets, joined
 abbrev pub packets_octets : List PacketValue → List ℕ
 packets_octets packets = flat_map spelling packets

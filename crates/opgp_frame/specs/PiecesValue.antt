@@ -22,7 +22,7 @@ abbrev pub pieces_sum : List ℕ → ℕ
 pieces_sum [] = 0
 pieces_sum (k ∷ ks) = 2 ^ k + pieces_sum ks
 
--- Within the limits a packet with this first octet may begin with pieces of these exponents (RFC
+-- Within the limits, a packet with this first octet may begin with pieces of these exponents (RFC
 -- 9580, 4.2.1.4).
 pub record GoodPieces (limits : Limits) (header : ℕ) (exponents : List ℕ) : Type 0 where
   pub each : All (λ k. k ≤ 30) exponents

@@ -1,5 +1,4 @@
--- What the state of a reader of packets says: how much it holds, and what is at fault where the
--- octets end.
+-- The state of a reader of packets: how much it holds, and what is at fault if the octets end.
 use Rattle.std.specs.Prelude.{ℕ, ◌+◌, Bool, ◌&&◌, ◌==◌, nat_lt, nat_le, length, Option, Some, None}
 use Rattle.std.specs.Prelude.{is_none, if◌then◌else◌}
 use Rattle.opgp_octets.specs.declared.limits.Limits.{Limits}
@@ -13,13 +12,13 @@ use Rattle.opgp_frame.specs.Form.{exponents_of}
 use Rattle.opgp_frame.specs.Length.{is_partial}
 use Rattle.opgp_frame.specs.PacketFault.{header_fault}
 
--- so many exponents and octets of the body stay within the limits
+-- this many exponents and octets of the body are within the limits
 abbrev pub within : Limits → ℕ → ℕ → Bool
 within limits exponents body =
     nat_le exponents (pieces_limit limits) && nat_le body (body_limit limits)
 
--- With this state a reader has so many exponents and octets of the body: between packets, after a
--- fault and after want of memory it has none.
+-- A reader in this state has this many exponents and octets of the body: none between packets,
+-- after a fault, and after running out of memory.
 abbrev pub state_fits : Limits → State → ℕ → ℕ → Bool
 state_fits limits states.Between exponents body = (exponents == 0) && (body == 0)
 state_fits limits (states.InLength header seen count) exponents body =
@@ -48,7 +47,7 @@ held_in_ready (Some p) = 1 + length (exponents_of p.packet.form) + length p.pack
 abbrev pub held_in : State → ℕ → ℕ → Option Placed → ℕ
 held_in state exponents body ready = held_in_state state + exponents + body + held_in_ready ready
 
--- the fault of the unfinished packet where the octets end, and its offset in the packet
+-- the fault of the unfinished packet if the octets end here, and its offset in the packet
 abbrev pub state_fault : State → ℕ → ℕ → Option (Reason × ℕ)
 state_fault states.Between exponents body = None
 state_fault (states.InLength header seen count) exponents body =

@@ -1,4 +1,4 @@
--- What is known of a packet of which only a part has come.
+-- What is known of a packet of which a part has come.
 use Rattle.std.specs.Prelude.{◌≡◌, ℕ, ◌+◌, ◌<◌, ◌≤◌, List, ◌∷◌, ◌++◌, length, None}
 use Rattle.opgp_octets.specs.declared.limits.Limits.{Limits}
 use Rattle.opgp_frame.specs.declared.length.Length.{Length}
@@ -10,13 +10,13 @@ use Rattle.opgp_frame.specs.Packet.{PacketValue, spelling, cut_body}
 use Rattle.opgp_frame.specs.PacketFault.{header_fault, length_fault}
 use Rattle.opgp_frame.specs.PiecesValue.{GoodPieces, pieces_sum}
 
--- a packet has begun: neither its first octet nor the pieces so far are at fault
+-- a packet has begun: its first octet and the pieces so far are allowed
 pub record HasBegun (limits : Limits) (header : ℕ) (exponents : List ℕ) : Type 0 where
   pub octet : header < 256
   pub read : header_fault header ≡ None
   pub pieces : GoodPieces limits header exponents
 
--- The octets are those of a packet up to some of a length header, which isn't all there.
+-- The octets are those of a packet up to a point in a length header.
 pub record IsAtLength (limits : Limits) (header : ℕ) (seen exponents body rest : List ℕ)
     : Type 0 where
   pub begun : HasBegun limits header exponents
@@ -24,8 +24,8 @@ pub record IsAtLength (limits : Limits) (header : ℕ) (seen exponents body rest
   pub whole : length body ≡ pieces_sum exponents
   pub unread : length_at header seen ≡ None
 
--- The octets are those of a packet up to some of what a length header announces, or all of it: with
--- that the body has so many octets, from so many on.
+-- The octets are those of a packet up to a point in what a length header announces, octets `from`
+-- to `until` of the body, or to its end.
 pub record IsInPiece (limits : Limits) (header : ℕ) (l : Length) (from until : ℕ)
     (exponents body rest : List ℕ) : Type 0 where
   pub begun : HasBegun limits header exponents
@@ -43,7 +43,7 @@ pub record IsWhole (limits : Limits) (rest : List ℕ) (p : PacketValue) : Type 
   pub spelled : rest ≡ spelling p
   pub allowed : IsAllowed limits p
 
--- After what was seen of a length header these octets make it whole: it is this length's.
+-- After the octets of a length header that were seen, these complete it to this length.
 pub record EndsLength (header : ℕ) (seen octets : List ℕ) (l : Length) : Type 0 where
   pub fits : LengthFits l
   pub under : IsLengthUnder header l

@@ -1,4 +1,4 @@
-//! A reader of packets that octets are pushed into, in any pieces.
+//! A reader of packets that octets are pushed into, in pieces of any size.
 
 ghost use Rattle.std.specs.Prelude.{◌≡◌, ◌<◌, ◌≤◌, ◌+◌, ◌^◌, ◌++◌, ◌∷◌, ◌↔◌, ℕ, List, [], true};
 ghost use Rattle.std.specs.Prelude.{false, length, take, is_some, option_to_list, Some, None, IfOk};
@@ -20,37 +20,38 @@ use opgp_octets::{Fault, Layer, Limits, OutOfMemory, PushFault, Reason};
 use std::alloc::Global;
 use std::mem;
 
-/// Where a reader stands.
+/// The state of a reader.
 #[derive(Clone, Copy)]
 enum State {
     /// Between packets.
     Between,
-    /// In a length header of a packet, of which so many octets have come.
+    /// In a length header of a packet, of which `count` octets have come.
     InLength {
         header: u8,
         seen: [u8; 5],
         count: usize,
     },
-    /// In what a length header announced: with it the body has so many octets, from so many on.
+    /// In what a length header announced: octets `from` to `until` of the body.
     InPiece {
         header: u8,
         length: Length,
         from: u64,
         until: u64,
     },
-    /// Behind a fault, at this offset in its packet.
+    /// After a fault, at this offset in its packet.
     Faulty {
         reason: Reason,
         inner: u64,
     },
-    /// After want of memory.
+    /// After running out of memory.
     Spent,
 }
 
-/// A reader of the packets of a block (RFC 9580, 4.2), which octets are pushed into, in any pieces.
+/// A reader of the packets of a block (RFC 9580, 4.2), which octets are pushed into, in pieces of
+/// any size.
 ///
-/// It keeps no more than the packet that is unfinished or ready, and after a fault or want of
-/// memory nothing.
+/// It keeps only the packet that is unfinished or ready, and nothing after a fault or after running
+/// out of memory.
 #[derive(Drop)]
 pub struct Deframe {
     alloc: Global,
@@ -77,9 +78,9 @@ impl Deframe {
     ghost use Rattle.opgp_frame.specs.Whole.{BeginsWith};
     ghost use Rattle.opgp_frame.specs.declared.packet.Placed.{Placed};
 
-    /// A reader of a block's packets that was given nothing.
+    /// A reader of a block's packets that was given nothing yet.
     ///
-    /// Takes no memory; pushes do, from `alloc`.
+    /// Allocates nothing; pushes do, from `alloc`.
     pub fn new(alloc: Global, block: u64, limits: Limits) -> Deframe
         ensures fed { Fed limits block result [] [] }
         ensures free { is_ready result ≡ false }
@@ -101,14 +102,14 @@ impl Deframe {
         }
     }
 
-    /// Whether a packet waits to be taken.
+    /// Whether a packet is ready to be taken.
     pub fn ready(&self) -> bool
         ensures { result ≡ is_ready self.now }
     {
         self.ready.is_some()
     }
 
-    /// How many octets pushes have answered as taken.
+    /// How many octets the pushes have taken.
     pub fn given(&self) -> u64
         ensures { result ≡ count_of self.now }
     {
@@ -132,17 +133,17 @@ impl Deframe {
 
     /// Ends the octets. The condition is that nothing is ready.
     ///
-    /// An error is the framing fault; after want of memory its reason is `Spent` and its places are
-    /// 0.
+    /// An error is the framing fault; after running out of memory its reason is `Spent` and its
+    /// places are 0.
     ///
-    /// Takes no memory.
+    /// Allocates nothing.
     pub fn finish(self) -> Result<(), Fault>
         requires { is_ready self ≡ false }
         ensures ok { (limits : Limits) (block : ℕ) (given : List ℕ) (taken : List Placed)
             → Fed limits block self given taken
             → MatchResult result (λ _. Frames limits block given taken)
             (IsFramingFault limits block given) }
-        // A fault that it has is answered.
+        // A fault that the reader has is returned.
         ensures faulty { (fault : Fault) → fault_of self ≡ Some fault → result ≡ Err fault }
         ensures spent { is_spent self ≡ true → result ≡ Err (record {
           layer = layer.Framing;
@@ -173,7 +174,7 @@ impl Deframe {
         }
     }
 
-    /// The fault of the unfinished packet, if the octets end here, and its offset in the packet.
+    /// The fault of the unfinished packet if the octets end here, and its offset in the packet.
     fn fault(&self) -> Option<(Reason, u64)>
         ensures { result ≡ state_fault self.now.state (length self.now.exponents.items)
             (length self.now.body.items) }
@@ -190,11 +191,11 @@ impl Deframe {
         }
     }
 
-    /// Takes the first octets of the piece, up to the one that makes a packet ready, or all of it,
-    /// and answers how many. The conditions are that nothing is ready, and that fewer than 2^63
-    /// octets are given in all.
+    /// Takes octets of the piece up to the one that makes a packet ready, or all of them, and
+    /// returns how many. The conditions are that nothing is ready, and that fewer than 2^63 octets
+    /// are given in all.
     ///
-    /// After a fault all octets are taken and nothing becomes ready. An error is want of memory;
+    /// After a fault all octets are taken and nothing becomes ready. Fails only when out of memory;
     /// the reader is spent from then on, and the piece doesn't count as given.
     pub fn push(&mut self, piece: &[u8]) -> Result<usize, PushFault>
         requires free { is_ready self.old ≡ false }
@@ -204,7 +205,7 @@ impl Deframe {
         ensures moves { IfOk result (λ n. 0 < length piece.now → 0 < n) }
         ensures stops { IfOk result (λ n. n < length piece.now → is_ready self.new ≡ true) }
         ensures count { IfOk result (λ n. count_of self.new ≡ count_of self.old + n) }
-        // A fault stays, all is taken, and nothing becomes ready.
+        // A fault stays, all octets are taken, and nothing becomes ready.
         ensures faulty { (fault : Fault) → fault_of self.old ≡ Some fault
             → (result ≡ Ok (length piece.now)) × (fault_of self.new ≡ Some fault)
             × (is_ready self.new ≡ false) }
@@ -230,14 +231,14 @@ impl Deframe {
         }
     }
 
-    /// Takes the first octets of the piece, up to the one that makes a packet ready, or all of it.
+    /// Takes octets of the piece up to the one that makes a packet ready, or all of them.
     fn advance(&mut self, piece: &[u8]) -> Result<usize, OutOfMemory>
         requires free { is_ready self.old ≡ false }
         requires sound { is_spent self.old ≡ false }
         requires room { count_of self.old + length piece.now < 2 ^ 63 }
         ensures { Takes self.old self.new piece.now result }
     {
-        // Nearly always a whole packet is there.
+        // The usual case: the piece has the whole packet.
         if let State::Between = self.state {
             if let Some(whole) = whole_in(self.limits, piece) {
                 return self.step_whole(whole, piece);
@@ -246,8 +247,8 @@ impl Deframe {
         self.steps(piece)
     }
 
-    /// Takes the first octets of the piece, up to the one that makes a packet ready, or all of it,
-    /// step by step.
+    /// Takes octets of the piece up to the one that makes a packet ready, or all of them, step by
+    /// step.
     #[inline(never)]
     fn steps(&mut self, piece: &[u8]) -> Result<usize, OutOfMemory>
         requires free { is_ready self.old ≡ false }
@@ -263,8 +264,8 @@ impl Deframe {
         Ok(at)
     }
 
-    /// One step of a push: a packet's first octet, a length header or an octet of it, what there is
-    /// of a piece, or all after a fault.
+    /// One step of a push: a packet's first octet, a length header or an octet of it, what has come
+    /// of a partial body, or everything after a fault.
     fn step(&mut self, piece: &[u8]) -> Result<usize, OutOfMemory>
         requires some { 0 < length piece.now }
         requires free { is_ready self.old ≡ false }
@@ -303,7 +304,7 @@ impl Deframe {
         }
     }
 
-    /// Lets go of the unfinished packet, and stands in a state that keeps nothing.
+    /// Drops the unfinished packet, and enters a state that keeps nothing.
     fn stop(&mut self, state: State)
         requires empty { state_fits self.old.limits state 0 0 ≡ true }
         requires free { is_ready self.old ≡ false }
@@ -320,7 +321,7 @@ impl Deframe {
         self.state = state;
     }
 
-    /// Takes the whole packet with which the piece begins.
+    /// Takes the whole packet that begins the piece.
     fn step_whole(&mut self, whole: Whole, piece: &[u8]) -> Result<usize, OutOfMemory>
         requires between { self.old.state ≡ State.Between }
         requires whole { BeginsWith self.old.limits whole piece.now }
@@ -371,7 +372,7 @@ impl Deframe {
         }
     }
 
-    /// Takes a length header, where it is whole in the piece, or else an octet of it.
+    /// Takes a length header if all of it is in the piece, else one octet of it.
     fn step_length(&mut self, header: u8, seen: [u8; 5], count: usize, piece: &[u8]) -> usize
         requires in_length { self.old.state ≡ State.InLength header seen count }
         requires some { 0 < length piece.now }
@@ -418,7 +419,7 @@ impl Deframe {
         }
     }
 
-    /// Takes so many octets, with which a length header is whole.
+    /// Takes the octets that complete a length header.
     #[inline(always)]
     fn end_length(&mut self, header: u8, seen: [u8; 5], count: usize, announced: Length, size: u64)
         requires in_length { self.old.state ≡ State.InLength header seen count }
@@ -455,7 +456,7 @@ impl Deframe {
         }
     }
 
-    /// Takes what there is of a piece with which the body has so many octets, from so many on.
+    /// Takes what has come of a partial body, or of the last one.
     fn step_piece(
         &mut self,
         header: u8,
@@ -495,7 +496,7 @@ impl Deframe {
         Ok(count)
     }
 
-    /// Ends a packet of which the last piece has come.
+    /// Ends a packet whose last piece has come.
     #[inline(always)]
     fn end_packet(&mut self, header: u8, last: Length)
         requires in_length { IsInLength self.old.state }
@@ -521,12 +522,11 @@ impl Deframe {
     }
 }
 
-/// Makes room in a body for octets of a piece, of which so many are there and so many are to come
-/// in all.
+/// Makes room in a body for octets of a piece: `there` of them have come, of `want` in all.
 ///
-/// A last piece is given no more room than it wants, and none before it comes more than 4,096
-/// octets or as much again as the body has. More pieces may follow others, so these grow as a
-/// vector does.
+/// A last piece gets no more room than it needs, and at most 4,096 octets, or as much again as the
+/// body has, before they have come. A partial piece gets none here: the vector grows as it is
+/// appended to.
 fn make_room(
     body: &mut Vec<u8>,
     partial: bool,

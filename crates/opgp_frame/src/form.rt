@@ -33,10 +33,10 @@ pub enum Form {
 }
 
 impl Form {
-    /// The form of the current format, not partial, that spells a body of `n` octets in the fewest
+    /// The form of the current format, not partial, that encodes a body of `n` octets in the fewest
     /// octets (RFC 9580, 4.2.1).
     ///
-    /// Takes no memory.
+    /// Allocates nothing.
     pub fn shortest(n: u32) -> Form
         ensures current { IsCurrent result }
         ensures takes { (kind : ℕ) → form_takes result kind ≡ true }
@@ -54,9 +54,9 @@ impl Form {
         }
     }
 
-    /// An equal form.
+    /// A copy of this form.
     ///
-    /// An error is want of memory.
+    /// Fails only when out of memory.
     pub fn copy(&self, alloc: Global) -> Result<Form, OutOfMemory>
         ensures { IfOk result (λ f. f ≡ self.now) }
     {
@@ -74,7 +74,7 @@ impl Form {
         }
     }
 
-    /// Whether packets of the type, if they are read at all, may have the form.
+    /// Whether a packet of this type, if it is read at all, may have this form.
     pub(crate) fn takes(&self, kind: u8) -> bool
         ensures { result ≡ form_takes self.now kind }
     {
@@ -97,7 +97,7 @@ impl Form {
         }
     }
 
-    /// The last length of a body of `n` octets, or None where the form doesn't spell it.
+    /// The last length of a body of `n` octets, or None if the form can't encode it.
     pub(crate) fn last_length(&self, n: u64) -> Option<Length>
         ensures { SomeIff result (FormSpells self.now n) (last_length self.now n) }
     {
@@ -117,7 +117,7 @@ impl Form {
         }
     }
 
-    /// The octet that begins a packet of the type.
+    /// The octet that begins a packet of this type.
     pub(crate) fn header_octet(&self, kind: u8) -> u8
         requires read { kind < 64 }
         requires takes { form_takes self.now kind ≡ true }
@@ -132,7 +132,7 @@ impl Form {
     }
 }
 
-/// The length `n` of the current format in the form, or None where the form doesn't spell it.
+/// The length `n` in this form of the current format, or None if the form can't encode it.
 fn current(form: LastForm, n: u64) -> Option<Length>
     ensures { SomeIff result (LengthFits (current_length form n)) (current_length form n) }
 {

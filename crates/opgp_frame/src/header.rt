@@ -32,7 +32,7 @@ pub(crate) fn is_data_kind(kind: u8) -> bool
         || kind == PacketType::EncryptedIntegrityProtectedData.number()
 }
 
-/// The type that a packet's first octet shows.
+/// The type that is in a packet's first octet.
 pub(crate) fn kind_in(header: u8) -> u8
     ensures { result ≡ kind_in header }
 {
@@ -43,7 +43,7 @@ pub(crate) fn kind_in(header: u8) -> u8
     }
 }
 
-/// Why the octet begins no packet, whatever follows.
+/// Why no packet begins with this octet, whatever follows.
 pub(crate) fn header_fault(header: u8) -> Option<Reason>
     ensures { result ≡ header_fault header }
 {

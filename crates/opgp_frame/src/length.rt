@@ -122,7 +122,7 @@ fn length_of(header: u8, o: &[u8]) -> Option<(Length, usize)>
 }
 
 /// The length header that begins the octets, in a packet with this first octet, and how many octets
-/// it takes; None where its octets aren't all there.
+/// it takes; None if some of its octets are missing.
 pub(crate) fn read_length(header: u8, o: &[u8]) -> Option<(Length, usize)>
     ensures found { IfSome result (λ x. LengthBegins header o.now x.0 x.1) }
     ensures exact { result ≡ length_at header o.now }
@@ -131,8 +131,8 @@ pub(crate) fn read_length(header: u8, o: &[u8]) -> Option<(Length, usize)>
     length_of(header, o)
 }
 
-/// Why the length may not stand behind so many partial ones, whose pieces have so many octets, in a
-/// packet of this type.
+/// Why the length may not follow `before` partial ones, whose pieces have `sum` octets together, in
+/// a packet of this type.
 pub(crate) fn length_fault(
     limits: Limits,
     kind: u8,

@@ -1,4 +1,5 @@
-//! Packets and how they are framed (RFC 9580, 4.2): both formats, partial lengths, any pieces.
+//! Packets and their framing (RFC 9580, 4.2): both formats, partial lengths, input in pieces of any
+//! size.
 #![tactic(auto)]
 
 mod deframe;

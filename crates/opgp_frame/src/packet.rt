@@ -32,25 +32,26 @@ impl Model for Packet {
         IsPacket (record { form = p.form; kind = p.kind; body = p.body.items }) };
 }
 
-/// A packet (RFC 9580, 4) and where it stands.
+/// A packet (RFC 9580, 4) and its place in the input.
 #[derive(Drop)]
 pub struct Placed {
     /// The packet.
     pub packet: Packet,
     /// The armored block that it is in; 0 for binary input.
     pub block: u64,
-    /// Where it begins in the block's octets.
+    /// The offset of its first octet in the block's octets.
     pub pos: u64,
 }
 
 impl Packet {
-    /// This packet, or None unless
+    /// This packet, or None unless all of these hold:
     ///
     /// - the type is read: below 64, and none of 0, 8, 15, 16, 19, 20 and 22 to 39;
-    /// - the form has it: up to 15 in the legacy format, 9, 11 or 18 under partial lengths;
-    /// - the form spells the body's length, which is at most 4,294,967,295.
+    /// - packets of the type may have the form: types up to 15 the legacy format, 9, 11 and 18 partial
+    ///   lengths;
+    /// - the form can encode the body's length, which is at most 4,294,967,295.
     ///
-    /// Takes no memory.
+    /// Allocates nothing.
     #[inline(always)]
     pub fn new(form: Form, kind: u8, body: Vec<u8>) -> Option<Packet>
         ensures some { IsSome result
@@ -69,7 +70,7 @@ impl Packet {
 
     /// The form of the header, the type and the body.
     ///
-    /// Takes no memory.
+    /// Allocates nothing.
     pub fn into_parts(self) -> (Form, u8, Vec<u8>)
         ensures form { result.0 ≡ self.form }
         ensures kind { result.1 ≡ self.kind }
@@ -82,7 +83,7 @@ impl Packet {
 
     /// Gives it the current format with its shortest length (RFC 9580, 4.2.1), never partial.
     ///
-    /// Takes no memory.
+    /// Allocates nothing.
     pub fn reframe(&mut self)
         ensures { self.new ≡ reframed self.old }
     {
@@ -90,9 +91,9 @@ impl Packet {
         drop(mem::replace(&mut self.form, form));
     }
 
-    /// An equal packet.
+    /// A copy of this packet.
     ///
-    /// An error is want of memory.
+    /// Fails only when out of memory.
     pub fn copy(&self, alloc: Global) -> Result<Packet, OutOfMemory>
         ensures { IfOk result (λ p. p ≡ self.now) }
     {
@@ -129,9 +130,9 @@ impl Packet {
         self.body.as_slice()
     }
 
-    /// How many octets it is spelled in (RFC 9580, 4.2).
+    /// How many octets the packet takes, header included (RFC 9580, 4.2).
     ///
-    /// Takes no memory.
+    /// Allocates nothing.
     #[tactic(auto, using(crate::proofs::Cuts::cut_body_size))]
     #[inline(always)]
     pub fn spelled_len(&self) -> u64
@@ -142,9 +143,9 @@ impl Packet {
 }
 
 impl Placed {
-    /// An equal packet in the same place.
+    /// A copy of this packet, in the same place.
     ///
-    /// An error is want of memory.
+    /// Fails only when out of memory.
     pub fn copy(&self, alloc: Global) -> Result<Placed, OutOfMemory>
         ensures { IfOk result (λ p. p ≡ self.now) }
     {

@@ -19,8 +19,8 @@ pub enum LastForm {
     Five,
 }
 
-/// How a body is cut into pieces (RFC 9580, 4.2.1.4): the piece of each partial length has two to
-/// its exponent octets, and a last length has the rest.
+/// How a body is cut into pieces (RFC 9580, 4.2.1.4): the piece of each partial length has 2 to the
+/// power of its exponent octets, and the last length covers the rest.
 #[derive(Drop)]
 pub struct Pieces {
     exponents: Vec<u8>,
@@ -38,10 +38,10 @@ impl Model for Pieces {
 }
 
 impl Pieces {
-    /// These pieces, or None unless there is an exponent, the first is at least 9 (a first piece
-    /// has at least 512 octets) and each is at most 30.
+    /// These pieces, or None unless there is an exponent, the first one is at least 9 (a first
+    /// piece has at least 512 octets) and each is at most 30.
     ///
-    /// Takes no memory.
+    /// Allocates nothing.
     pub fn new(exponents: Vec<u8>, last: LastForm) -> Option<Pieces>
         ensures some { IsSome result ↔ ArePieces exponents.items }
         ensures value { IfSome result
@@ -71,7 +71,7 @@ impl Pieces {
 
     /// Equal pieces.
     ///
-    /// An error is want of memory.
+    /// Fails only when out of memory.
     pub fn copy(&self, alloc: Global) -> Result<Pieces, OutOfMemory>
         ensures { IfOk result (λ p. p ≡ self.now) }
     {
@@ -93,7 +93,7 @@ fn are_pieces(exponents: &[u8]) -> bool
     }
 }
 
-/// How many octets of `n` are left behind the pieces, or None where the pieces have more.
+/// How many octets of `n` are left after the pieces, or None where the pieces have more.
 pub(crate) fn left_behind(exponents: &[u8], n: u64) -> Option<u64>
     requires { All (λ k. k ≤ 30) exponents.now }
     ensures { SomeIff result (pieces_sum exponents.now ≤ n) (n - pieces_sum exponents.now) }

@@ -1,4 +1,4 @@
-//! A packet's octets in slices, which takes no memory.
+//! A packet's octets as a sequence of slices, without an allocation.
 
 ghost use Rattle.std.specs.Prelude.{◌≡◌, ◌<◌, ◌≤◌, ◌++◌, [], All, length, take, option_to_list};
 ghost use Rattle.std.specs.Prelude.{IfSome, MatchOption};
@@ -7,7 +7,7 @@ ghost use Rattle.opgp_frame.specs.PiecesValue.{pieces_sum};
 
 use crate::form::Form;
 
-/// A length header, behind the packet's first octet where it is the first one (RFC 9580, 4.2).
+/// A length header, after the packet's first octet where it is the first one (RFC 9580, 4.2).
 #[derive(Clone, Copy)]
 pub struct HeaderOctets {
     octets: [u8; 6],
@@ -27,7 +27,7 @@ impl HeaderOctets {
         &self.octets[..self.count]
     }
 
-    /// These octets, of which so many count.
+    /// The first `count` of these octets.
     pub(crate) fn new(octets: [u8; 5], count: usize) -> HeaderOctets
         requires some { 0 < count }
         requires few { count ≤ 5 }
@@ -41,7 +41,7 @@ impl HeaderOctets {
         }
     }
 
-    /// The octets behind the first one, if it is given.
+    /// The octets after the first one, if it is given.
     fn behind(self, first: Option<u8>) -> HeaderOctets
         requires { self.count ≤ 5 }
         ensures { octets_of_header result ≡ option_to_list first ++ octets_of_header self }
@@ -58,7 +58,7 @@ impl HeaderOctets {
 }
 
 /// The octets of a packet that are left to be written (RFC 9580, 4.2): for each piece, and for what
-/// comes after the pieces, its header and its part of the body, which is borrowed.
+/// follows the pieces, its length header and its part of the body, which is borrowed.
 #[derive(Drop)]
 pub struct Spelling<'a> {
     first: Option<u8>,
@@ -76,7 +76,7 @@ impl<'a> Spelling<'a> {
 
     /// The octets of the packet with this form, type and body.
     ///
-    /// Takes no memory.
+    /// Allocates nothing.
     #[inline(always)]
     pub fn new(form: &'a Form, kind: u8, body: &'a [u8]) -> Spelling<'a>
         requires { IsPacket (record { form = form.now; kind = kind; body = body.now }) }
@@ -95,9 +95,9 @@ impl<'a> Spelling<'a> {
         }
     }
 
-    /// The next header and what of the body is behind it, or None at the end.
+    /// The next header and the part of the body that follows it, or None at the end.
     ///
-    /// Takes no memory.
+    /// Allocates nothing.
     pub fn next(&mut self) -> Option<(HeaderOctets, &'a [u8])>
         ensures next { MatchOption result (octets_left self.old ≡ [])
             (λ part. octets_left self.old

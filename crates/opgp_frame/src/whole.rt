@@ -1,4 +1,4 @@
-//! Packets in one piece, all of whose octets are there.
+//! Packets in one piece, of which all octets are there.
 
 ghost use Rattle.std.specs.Prelude.{IfSome};
 ghost use Rattle.opgp_frame.specs.Whole.{BeginsWith};
@@ -7,8 +7,8 @@ use crate::header::header_fault;
 use crate::length::{Length, read_length};
 use opgp_octets::Limits;
 
-/// A packet of one piece, with which octets begin: its first octet, its length, and from where to
-/// where its body is.
+/// A packet of one piece at the front of a slice: its first octet, its length, and where its body
+/// begins and ends.
 #[derive(Clone, Copy)]
 pub(crate) struct Whole {
     pub(crate) header: u8,
@@ -17,7 +17,7 @@ pub(crate) struct Whole {
     pub(crate) until: usize,
 }
 
-/// The allowed packet of one piece with which the octets begin, if all of it is there.
+/// The allowed packet of one piece that the octets begin with, if all of it is there.
 #[inline(always)]
 pub(crate) fn whole_in(limits: Limits, octets: &[u8]) -> Option<Whole>
     ensures { IfSome result (λ whole. BeginsWith limits whole octets.now) }

@@ -15,11 +15,11 @@ use opgp_octets::{OutOfMemory, put};
 
 /// Writes the packet's octets (RFC 9580, 4.2) at the end of `out`, in the packet's form.
 ///
-/// An error is want of memory; `out` is then as it was.
+/// Fails only when out of memory; `out` is then unchanged.
 pub fn write_packet(packet: &Packet, out: &mut Vec<u8>) -> Result<(), OutOfMemory>
     ensures ok { OnOk result (out.new.items ≡ out.old.items ++ spelling packet.now) }
     ensures err { OnErr result (out.new.items ≡ out.old.items) }
-    // It fails only where room was missing.
+    // It fails only if the vector lacked the room.
     ensures full { OnErr result
         (vec_capacity out.old < vec_len out.old + length (spelling packet.now)) }
 {
@@ -29,13 +29,13 @@ pub fn write_packet(packet: &Packet, out: &mut Vec<u8>) -> Result<(), OutOfMemor
 /// Writes the octets (RFC 9580, 4.2) of the packet with this form, type and body at the end of
 /// `out`. The condition is that there is such a packet.
 ///
-/// An error is want of memory; `out` is then as it was.
+/// Fails only when out of memory; `out` is then unchanged.
 pub fn write_parts(form: &Form, kind: u8, body: &[u8], out: &mut Vec<u8>) -> Result<(), OutOfMemory>
     requires { IsPacket (record { form = form.now; kind = kind; body = body.now }) }
     ensures ok { OnOk result (out.new.items ≡ out.old.items
         ++ spelling (record { form = form.now; kind = kind; body = body.now })) }
     ensures err { OnErr result (out.new.items ≡ out.old.items) }
-    // It fails only where room was missing.
+    // It fails only if the vector lacked the room.
     ensures full { OnErr result (vec_capacity out.old < vec_len out.old
         + length (spelling (record { form = form.now; kind = kind; body = body.now }))) }
 {
@@ -44,10 +44,10 @@ pub fn write_parts(form: &Form, kind: u8, body: &[u8], out: &mut Vec<u8>) -> Res
     Ok(())
 }
 
-/// How many octets a packet with this form and a body of `n` octets is spelled in (RFC 9580, 4.2).
-/// The condition is that the form spells such a body.
+/// How many octets a packet with this form and a body of `n` octets takes (RFC 9580, 4.2). The
+/// condition is that the form can encode such a body.
 ///
-/// Takes no memory.
+/// Allocates nothing.
 #[tactic(auto, using(crate::proofs::Cuts::cut_body_size))]
 pub fn spelled_len_of(form: &Form, n: u64) -> u64
     requires { FormSpells form.now n }
@@ -57,7 +57,7 @@ pub fn spelled_len_of(form: &Form, n: u64) -> u64
     size_in(form, n)
 }
 
-/// How many octets its first octet, its length headers and a body of `n` octets are.
+/// How many octets its first octet, its length headers and a body of `n` octets take together.
 #[inline(always)]
 pub(crate) fn size_in(form: &Form, n: u64) -> u64
     requires { FormSpells form.now n }
@@ -84,7 +84,7 @@ fn append(mut spelling: Spelling, out: &mut Vec<u8>)
 
 /// The same packet in the current format with its shortest length (RFC 9580, 4.2.1), never partial.
 ///
-/// Takes no memory.
+/// Allocates nothing.
 pub fn reframe(mut packet: Packet) -> Packet
     ensures same { (result.kind ≡ packet.kind) × (result.body ≡ packet.body) }
     ensures current { IsCurrent result.form }

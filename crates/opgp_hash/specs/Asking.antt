@@ -1,4 +1,4 @@
--- Which question a signature asks about a subject, or why it asks none.
+-- What is hashed for a signature over a subject, or why nothing is.
 use Rattle.std.specs.Prelude.{ℕ, Bool, true, false, not, ◌&&◌, ◌||◌, [], ◌∷◌, Option, Some, None}
 use Rattle.std.specs.Prelude.{Result, Ok, Err, ◌==◌, find}
 use Rattle.opgp_packet.specs.SignatureBody.{SignatureValue}
@@ -12,7 +12,7 @@ use Rattle.opgp_hash.specs.SubjectValue.{SubjectValue, binary, one, two, on_user
 use Rattle.opgp_hash.specs.SubjectValue.{is_on_content, is_on_key, is_on_subkey, is_certification}
 use Rattle.opgp_hash.specs.SubjectValue.{is_about, are_keys_of}
 
--- the types that are about anything
+-- the types that are made over any subject at all
 abbrev pub is_kind : ℕ → Bool
 is_kind kind =
     is_on_content kind || (is_on_key kind || (is_on_subkey kind || is_certification kind))
@@ -24,8 +24,8 @@ is_one (two primary subkey) = false
 is_one (on_user_id primary id) = false
 is_one (on_attribute primary body) = false
 
--- each reason that a signature of version 4 or 6 may have not to ask, where its type is asked there
--- or isn't; a certification of a key alone can't be revoked
+-- each reason why a signature of version 4 or 6 may not be hashed, given whether its type belongs
+-- there; a certification can't be revoked on a key alone
 abbrev pub applies : Bool → SignedValue → SubjectValue → Why → Bool
 applies stands s subject Opaque = false
 applies stands s subject Kind = not (is_kind s.kind) || ((s.kind == 0x30) && is_one subject)
@@ -51,19 +51,19 @@ asked s subject None = Ok (record {
   area = s.area;
 })
 
--- which types of signatures are asked about which subject
+-- which types of signatures are made over which subject
 abbrev pub Table : Type 0
 Table = ℕ → SubjectValue → Bool
 
--- what is asked by such a table; a signature of another version than 4 and 6 asks nothing
+-- what is hashed, by such a table; nothing for a signature of another version than 4 and 6
 abbrev pub asked_by : Table → Option SignedValue → SubjectValue → Result QuestionValue Why
 asked_by table None subject = Err Opaque
 asked_by table (Some s) subject = asked s subject (why_not (table s.kind subject) s subject)
 
--- what a signature asks about a subject
+-- what is hashed for a signature over a subject
 abbrev pub ask_of : SignatureValue → SubjectValue → Result QuestionValue Why
 ask_of signature subject = asked_by is_about (signed_of signature) subject
 
--- what it asks about a subject where it stands in a certificate
+-- what is hashed for it over a subject at a site in a certificate
 abbrev pub ask_at_of : Site → SignatureValue → SubjectValue → Result QuestionValue Why
 ask_at_of site signature subject = asked_by (is_asked_at site) (signed_of signature) subject

@@ -1,4 +1,4 @@
--- The parts that a question's hashed octets are put together of.
+-- The parts that the hashed octets of a question consist of.
 use Rattle.std.specs.Prelude.{ℕ, List, [], ◌++◌}
 use Rattle.opgp_hash.specs.declared.part.Head.{Head}
 use Rattle.opgp_hash.specs.declared.part.Head.TheVariants.{Bare, Three, Five, Six, Eight}

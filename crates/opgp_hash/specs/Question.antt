@@ -1,4 +1,4 @@
--- What a question shows.
+-- The value of a question.
 use Rattle.opgp_hash.specs.declared.question.Question.{Question}
 use Rattle.opgp_hash.specs.QuestionValue.{QuestionValue}
 use Rattle.opgp_hash.specs.Subject.{subject_value}

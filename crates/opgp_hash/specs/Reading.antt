@@ -1,4 +1,4 @@
--- Reading lists of octets, where there may be no value.
+-- Reading from lists of octets, where there may be no value.
 use Rattle.std.specs.Prelude.{◌≡◌, ℕ, ◌-◌, List, length, take, drop, Option, Some, None, nat_lt}
 use Rattle.std.specs.Prelude.{if◌then◌else◌}
 
@@ -12,7 +12,7 @@ abbrev pub Gives : {X Y : Type 0} → (X → Y) → Option X → Option Y → Ty
 Gives view (Some x) read = read ≡ Some (view x)
 Gives view None read = read ≡ None
 
--- so many octets from the front and the others, or from the end
+-- the given number of octets from the front, and the others; the same from the end
 unfoldable pub front_at : ℕ → List ℕ → Option (List ℕ × List ℕ)
 front_at n o = if nat_lt (length o) n then None else Some (take n o, drop n o)
 

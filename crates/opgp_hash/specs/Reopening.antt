@@ -1,5 +1,5 @@
--- Reading back the question whose hashed octets a list is: the trailer from the end, the front by
--- its length, the salt by the hash algorithm, the subject by the type.
+-- Reading hashed octets back as a question: the trailer from the end, the signature's hashed part
+-- by its length, the salt by the hash algorithm, the subject by the type.
 use Rattle.std.specs.Prelude.{ℕ, ◌^◌, Bool, false, ◌&&◌, List, [], ◌∷◌, length, Option, Some}
 use Rattle.std.specs.Prelude.{None, Result, Ok, Err, is_ok, nat_le, ◌==◌, if◌then◌else◌}
 use Rattle.std.specs.Int.{w16, w32, from_be_bytes}
@@ -14,17 +14,17 @@ use Rattle.opgp_hash.specs.Reading.{◌>>=◌, front_at, end_at}
 use Rattle.opgp_hash.specs.SubjectValue.{SubjectValue, binary, one, two, on_user_id, on_attribute}
 use Rattle.opgp_hash.specs.SubjectValue.{is_on_content, is_on_key, is_on_subkey, is_certification}
 
--- a value where a test is true
+-- a value if a test is true
 abbrev pub checked : {A : Type 0} → Bool → A → Option A
 checked test x = if test then Some x else None
 
--- a length of two octets in version 4 and of four in version 6, and what follows
+-- a length of two octets in version 4 and of four in version 6, and what follows it
 abbrev pub length_at : ℕ → List ℕ → Option (ℕ × List ℕ)
 length_at version o = if version == 4 then number_at w16 o else number_at w32 o
 
 -- ---- the subject
 
--- the fields of a key begin with this version
+-- the fields are those of a key of this version
 abbrev pub is_of : ℕ → Result (List Field) BodyFault → Bool
 is_of version (Ok (x ∷ fields)) = amount x == version
 is_of version (Ok []) = false
@@ -45,17 +45,17 @@ abbrev pub behind : ℕ → List ℕ → Option (List ℕ)
 behind tag [] = None
 behind tag (x ∷ o) = if x == tag then Some o else None
 
--- so many octets after a length, and what follows
+-- as many octets as a length says, and what follows them
 abbrev pub counted_at : Option (ℕ × List ℕ) → Option (List ℕ × List ℕ)
 counted_at n = n >>= λ x. front_at x.0 x.1
 
--- the body of a key of this version, and what follows
+-- the body of a key of this version, and what follows it
 unfoldable pub key_at : ℕ → List ℕ → Option (List ℕ × List ℕ)
 key_at version o =
     behind (key_tag version) o >>= λ r. counted_at (length_at version r)
     >>= λ x. checked (is_key version x.0) x
 
--- so many octets after a length of four octets, and nothing more
+-- as many octets as a length of four octets says, and nothing after them
 abbrev pub all_at : List ℕ → Option (List ℕ)
 all_at o = number_at w32 o >>= λ x. checked (x.0 == length x.1) x.1
 
@@ -68,21 +68,21 @@ named_at primary (x ∷ o) =
     >>= λ body. checked (is_attribute body) (on_attribute primary body))
     else None)
 
--- content as it is
+-- a document's octets, as they are
 abbrev pub content_at : List ℕ → Option SubjectValue
 content_at o = checked (nat_le (length o) (2 ^ 56)) (binary o)
 
--- one key, and nothing more
+-- one key, and nothing after it
 abbrev pub one_at : ℕ → List ℕ → Option SubjectValue
 one_at version o = key_at version o >>= λ x. checked (length x.1 == 0) (one x.0)
 
--- two keys, and nothing more
+-- two keys, and nothing after them
 abbrev pub two_at : ℕ → List ℕ → Option SubjectValue
 two_at version o =
     key_at version o >>= λ x. key_at version x.1
     >>= λ y. checked (length y.1 == 0) (two x.0 y.0)
 
--- the subject that signatures of this version and type are about
+-- the subject that signatures of this version and type are made over
 unfoldable pub subject_at : ℕ → ℕ → List ℕ → Option SubjectValue
 subject_at version kind o =
     if is_on_content kind then content_at o
@@ -99,7 +99,7 @@ pub record Front : Type 0 where
   pub hash : ℕ
   pub area : List ℕ
 
--- the hashed area behind its length, and nothing more
+-- the hashed area after its length, and nothing after it
 abbrev pub area_at : ℕ → List ℕ → Option (List ℕ)
 area_at version o = length_at version o >>= λ x. checked (x.0 == length x.1) x.1
 

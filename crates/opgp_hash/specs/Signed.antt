@@ -1,4 +1,4 @@
--- What the hashed parts of a signature show.
+-- The values of the fields that a signature hashes.
 use Rattle.opgp_hash.specs.declared.signed.Signed.{Signed}
 use Rattle.opgp_hash.specs.SignedValue.{SignedValue}
 

@@ -1,4 +1,4 @@
--- What is hashed of a signature itself (RFC 9580, 5.2.3, 5.2.4).
+-- The fields that a signature hashes (RFC 9580, 5.2.3, 5.2.4).
 use Rattle.std.specs.Prelude.{◌≡◌, ℕ, List, [], ◌∷◌, ◌++◌, Option, Some, None, unwrap_or}
 use Rattle.std.specs.List.{slice_get}
 use Rattle.opgp_packet.specs.Fields.{Field, small, wide, integer, named, bare, subpackets, amount}
@@ -31,13 +31,13 @@ salt_of (named o) = o
 salt_of (bare o) = []
 salt_of (subpackets extent subs) = []
 
--- the field at a place
+-- the field at this position
 abbrev pub field_at : List Field → ℕ → Field
 field_at fields i = unwrap_or (slice_get fields i) (small 0)
 
--- of versions 4 and 6: behind the version stand the type, the algorithms for the key and for the
--- hash, and the hashed area; in version 6 the salt is the field after the unhashed area and the two
--- left octets
+-- in versions 4 and 6 the version is followed by the type, the algorithms for the key and for the
+-- hash, and the hashed area; in version 6 the salt comes after the unhashed area and the left 16
+-- bits of the hash
 abbrev pub signed_of : SignatureValue → Option SignedValue
 signed_of (of_three fields) = None
 signed_of (of_four fields) = Some (record {

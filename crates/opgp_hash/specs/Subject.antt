@@ -1,4 +1,4 @@
--- What a subject shows.
+-- The value of a subject.
 use Rattle.opgp_packet.specs.Parsed.{body_octets}
 use Rattle.opgp_hash.specs.declared.subject.Subject.{Subject}
 use Rattle.opgp_hash.specs.declared.subject.Subject.TheVariants as subject

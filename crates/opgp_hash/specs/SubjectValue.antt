@@ -1,5 +1,5 @@
--- What a signature is about (RFC 9580, 5.2.1, 5.2.4): content, one key or two, a key with a user ID
--- or with a user attribute; keys and user attributes by the octets of their bodies.
+-- What a signature is made over (RFC 9580, 5.2.1, 5.2.4): a document, one key or two, a key with a
+-- user ID or with a user attribute; keys and user attributes by the octets of their bodies.
 use Rattle.std.specs.Prelude.{ℕ, ◌^◌, ◌≤◌, Bool, true, ◌&&◌, ◌||◌, List, ◌∷◌, length}
 use Rattle.std.specs.Prelude.{◌==◌, nat_le, slice_index, Option, Some, None}
 use Rattle.opgp_octets.specs.Octets.{IsOctets, IsBodySized}
@@ -17,7 +17,7 @@ pub data SubjectValue : Type 0 where
   on_user_id : List ℕ → List ℕ → SubjectValue
   on_attribute : List ℕ → List ℕ → SubjectValue
 
--- the key that is hashed first; content has none
+-- the key that is hashed first; a document has none
 abbrev pub first_key : SubjectValue → Option (List ℕ)
 first_key (binary content) = None
 first_key (one key) = Some key
@@ -25,9 +25,9 @@ first_key (two primary subkey) = Some primary
 first_key (on_user_id primary id) = Some primary
 first_key (on_attribute primary body) = Some primary
 
--- ---- which types of signatures are about which subject
+-- ---- which types of signatures are made over which subject
 
--- a number is that of this type
+-- a number is the number of this type
 abbrev pub is_type : SignatureType → ℕ → Bool
 is_type t kind = kind == signature_type_number t
 
@@ -35,12 +35,12 @@ is_type t kind = kind == signature_type_number t
 abbrev pub is_on_content : ℕ → Bool
 is_on_content kind = is_type signature.Binary kind
 
--- a key alone: a signature directly on it, and its revocation (5.2.1.10, 5.2.1.11)
+-- a key alone: a direct key signature, and a key revocation (5.2.1.10, 5.2.1.11)
 abbrev pub is_on_key : ℕ → Bool
 is_on_key kind = is_type signature.DirectKey kind || is_type signature.KeyRevocation kind
 
--- a primary key and a subkey: the binding of the subkey, the subkey's own binding to the primary
--- key, and the revocation of the subkey (5.2.1.8, 5.2.1.9, 5.2.1.12)
+-- a primary key and a subkey: a subkey binding, a primary key binding, and a subkey revocation
+-- (5.2.1.8, 5.2.1.9, 5.2.1.12)
 abbrev pub is_on_subkey : ℕ → Bool
 is_on_subkey kind = is_type signature.SubkeyBinding kind
     || (is_type signature.PrimaryKeyBinding kind || is_type signature.SubkeyRevocation kind)
@@ -62,7 +62,7 @@ is_about kind (two primary subkey) = is_on_subkey kind
 is_about kind (on_user_id primary id) = is_certification kind
 is_about kind (on_attribute primary body) = is_certification kind
 
--- ---- which subjects there are
+-- ---- which subjects are allowed
 
 -- the octets are the body of a key of this version
 pub record IsKeyOf (version : ℕ) (body : List ℕ) : Type 0 where
@@ -78,14 +78,14 @@ pub record IsAttribute (body : List ℕ) : Type 0 where
   pub octets : IsOctets body
   pub most : IsBodySized body
 
--- content of at most 2^56 octets, a user ID of at most 2^32 - 1
+-- a document of at most 2^56 octets, a user ID of at most 2^32 - 1
 abbrev pub IsContent : List ℕ → Type 0
 IsContent content = IsOctets content × (length content ≤ 2 ^ 56)
 
 abbrev pub IsUserId : List ℕ → Type 0
 IsUserId id = IsOctets id × IsBodySized id
 
--- its keys are of this version, and its lengths fit their fields
+-- its keys have this version, and its lengths fit their fields
 abbrev pub IsSubject : ℕ → SubjectValue → Type 0
 IsSubject version (binary content) = IsContent content
 IsSubject version (one body) = IsKeyOf version body
@@ -99,7 +99,7 @@ IsSubject version (on_attribute primary body) = IsKeyOf version primary × IsAtt
 abbrev pub version_of : List ℕ → ℕ
 version_of body = slice_index body 0
 
--- its keys are of this version
+-- its keys have this version
 abbrev pub are_keys_of : ℕ → SubjectValue → Bool
 are_keys_of version (binary content) = true
 are_keys_of version (one body) = version_of body == version
@@ -108,7 +108,7 @@ are_keys_of version (two primary subkey) =
 are_keys_of version (on_user_id primary id) = version_of primary == version
 are_keys_of version (on_attribute primary body) = version_of primary == version
 
--- content and a user ID are not too long
+-- a document and a user ID are not too long
 abbrev pub is_within : SubjectValue → Bool
 is_within (binary content) = nat_le (length content) (2 ^ 56)
 is_within (one body) = true

@@ -1,4 +1,4 @@
--- The names of the reasons why a signature asks no question.
+-- The names of the reasons why a signature isn't hashed.
 use Rattle.std.specs.Prelude.{ℕ, List, codes}
 use Rattle.opgp_hash.specs.declared.why.Why.{Why}
 use Rattle.opgp_hash.specs.declared.why.Why.TheVariants.{Opaque, Kind, Misplaced, Version, Hash}

@@ -1,4 +1,4 @@
-//! What a signature asks about a subject.
+//! The hashed data of a signature over a subject.
 
 ghost use Rattle.std.specs.Prelude.{◌≡◌, true, IfSome, IfNone, IfOk, Some, None};
 ghost use Rattle.opgp_octets.specs.Reading.{Reads};
@@ -23,40 +23,40 @@ use crate::why::Why;
 use opgp_octets::SignatureType;
 use opgp_packet::{SigView, Signature};
 
-/// What the signature asks about the subject, or the first reason why it asks nothing. Takes no
-/// memory.
+/// What is hashed for the signature over this subject, or the first reason why nothing is.
+/// Allocates nothing.
 ///
 /// The condition is that the subject fits, which [`Subject::fits`] tells.
 pub fn ask<'a>(signature: &'a Signature, subject: Subject<'a>) -> Result<Question<'a>, Why>
     requires { is_within (subject_value subject) ≡ true }
     ensures exact { Reads question_value result
         (ask_of (signature_value signature.now) (subject_value subject.entry)) }
-    // What is asked is a question.
+    // What is returned is a question.
     ensures question { IfOk result (λ q. IsQuestion (question_value q)) }
-    // It is about the subject.
+    // It is over this subject.
     ensures subject { IfOk result (λ q.
         (question_value q).subject ≡ subject_value subject.entry) }
-    // Its front is that of the signature's body.
+    // Its signature's fields are those of this body.
     ensures front { IfOk result (λ q.
         BeginsWith (signature_octets signature.now) (front_hashed (question_value q))) }
 {
     ask_view(signature.view(), subject)
 }
 
-/// What the signature that a view shows asks about the subject, or the first reason why it asks
-/// nothing. Takes no memory.
+/// What is hashed for the viewed signature over this subject, or the first reason why nothing is.
+/// Allocates nothing.
 ///
 /// The condition is that the subject fits, which [`Subject::fits`] tells.
 pub fn ask_view<'a>(signature: SigView<'a>, subject: Subject<'a>) -> Result<Question<'a>, Why>
     requires { is_within (subject_value subject) ≡ true }
     ensures exact { Reads question_value result
         (ask_of (sig_view_value signature.entry) (subject_value subject.entry)) }
-    // What is asked is a question.
+    // What is returned is a question.
     ensures question { IfOk result (λ q. IsQuestion (question_value q)) }
-    // It is about the subject.
+    // It is over this subject.
     ensures subject { IfOk result (λ q.
         (question_value q).subject ≡ subject_value subject.entry) }
-    // Its front is that of the signature's body.
+    // Its signature's fields are those of this body.
     ensures front { IfOk result (λ q.
         BeginsWith (sig_view_octets signature.entry) (front_hashed (question_value q))) }
 {
@@ -66,11 +66,11 @@ pub fn ask_view<'a>(signature: SigView<'a>, subject: Subject<'a>) -> Result<Ques
     }
 }
 
-/// What the signature asks about the subject where it stands in a certificate, or the first reason
-/// why it asks nothing. Takes no memory.
+/// What is hashed for the signature over this subject at this site in a certificate, or the first
+/// reason why nothing is. Allocates nothing.
 ///
-/// It is what [`ask_view`] answers, but that a subkey's own binding to the primary key is asked
-/// embedded alone, and nothing else there. The condition is that the subject fits, which
+/// It is what [`ask_view`] returns, except that a primary key binding (type 19) counts only where
+/// it is embedded, and nothing else does there. The condition is that the subject fits, which
 /// [`Subject::fits`] tells.
 #[inline(always)]
 pub fn ask_at<'a>(
@@ -81,12 +81,12 @@ pub fn ask_at<'a>(
     requires { is_within (subject_value subject) ≡ true }
     ensures exact { Reads question_value result
         (ask_at_of site (sig_view_value signature.entry) (subject_value subject.entry)) }
-    // What is asked is a question.
+    // What is returned is a question.
     ensures question { IfOk result (λ q. IsQuestion (question_value q)) }
-    // It is about the subject.
+    // It is over this subject.
     ensures subject { IfOk result (λ q.
         (question_value q).subject ≡ subject_value subject.entry) }
-    // Its front is that of the signature's body.
+    // Its signature's fields are those of this body.
     ensures front { IfOk result (λ q.
         BeginsWith (sig_view_octets signature.entry) (front_hashed (question_value q))) }
 {
@@ -133,8 +133,9 @@ fn signed<'a>(signature: SigView<'a>) -> Option<Signed<'a>>
     }
 }
 
-/// The question, or the first reason why there is none, where the signature's type is asked about
-/// the subject or isn't. In line, so that the question isn't copied from place to place.
+/// The question, or the first reason why there is none; `stands` says whether signatures of this
+/// type are made over the subject here. Inlined, so that the question isn't copied from place to
+/// place.
 #[inline(always)]
 fn asked<'a>(signed: Signed<'a>, subject: Subject<'a>, stands: bool) -> Result<Question<'a>, Why>
     requires within { is_within (subject_value subject) ≡ true }

@@ -1,4 +1,4 @@
-//! The bodies that are hashed, with what is known of them.
+//! The bodies that are hashed, with the facts about them that proofs need.
 
 ghost use Rattle.std.specs.Prelude.{◌≡◌, ◌⊎◌, ◌≤◌, length};
 ghost use Rattle.opgp_packet.specs.Parsed.{body_octets};
@@ -18,7 +18,7 @@ pub(crate) fn key_body<'a>(key: &KeyView<'a>, version: u8) -> &'a [u8]
     key.body()
 }
 
-/// The version of a key, which begins its body.
+/// The version of a key, which is the first octet of its body.
 pub(crate) fn version_in(key: &KeyView<'_>) -> u8
     ensures value { result ≡ version_of (body_octets key.now) }
     ensures known { (result ≡ 4) ⊎ (result ≡ 6) }
@@ -36,7 +36,7 @@ pub(crate) fn attribute_body<'a>(attribute: &AttributeView<'a>) -> &'a [u8]
     attribute.body()
 }
 
-/// A slice is octets.
+/// The elements of a slice are below 256: a fact for proofs.
 pub(crate) fn are_octets(o: &[u8])
     ensures { IsOctets o.now }
 {

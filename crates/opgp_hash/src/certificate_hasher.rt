@@ -23,11 +23,11 @@ use opgp_octets::HashAlgorithm;
 use opgp_packet::KeyView;
 use sha2::{Sha224, Sha256, Sha384, Sha512};
 
-/// Makes the digests of one certificate's signatures, about one subject after the other.
+/// Makes the digests of one certificate's signatures, over one subject after the other.
 ///
-/// In version 4 the primary key is hashed once for each hash algorithm that is asked, and so is each
-/// subject as long as it is turned to: what is hashed of a signature is its own front. In version 6
-/// the salt is hashed first (RFC 9580, 5.2.4), so that each digest hashes its whole subject anew.
+/// In version 4 the primary key is hashed once for each hash algorithm that its signatures use, and
+/// so is each subject while it is the current one: a signature adds only its own fields. In version
+/// 6 the salt comes first (RFC 9580, 5.2.4), so each digest hashes its whole subject again.
 #[derive(Drop)]
 pub struct CertificateHasher<'a> {
     primary: KeyView<'a>,
@@ -57,8 +57,8 @@ impl<'a> CertificateHasher<'a> {
     ghost use Rattle.opgp_hash.specs.Question.{question_value};
     ghost use Rattle.opgp_hash.specs.SubjectValue.{one};
 
-    /// Of the certificate with this primary key; its subject is that key alone. Nothing is hashed
-    /// yet.
+    /// The hasher of the certificate with this primary key; its subject is the key alone. Nothing
+    /// is hashed yet.
     pub fn new(primary: KeyView<'a>) -> CertificateHasher<'a>
         ensures { hasher_subject result ≡ one (body_octets primary.entry) }
     {
@@ -73,7 +73,7 @@ impl<'a> CertificateHasher<'a> {
         }
     }
 
-    /// The subject.
+    /// The current subject.
     pub fn subject(&self) -> Subject<'a>
         ensures value { subject_value result ≡ hasher_subject self.now }
         ensures within { is_within (hasher_subject self.now) ≡ true }
@@ -81,9 +81,9 @@ impl<'a> CertificateHasher<'a> {
         self.subject
     }
 
-    /// Turns to another subject of the certificate.
+    /// Makes this the current subject.
     ///
-    /// The conditions are that the same key is hashed first in it, and that it fits, which
+    /// The conditions are that it begins with the same primary key, and that it fits, which
     /// [`Subject::fits`] tells.
     pub fn turn_to(&mut self, subject: Subject<'a>)
         requires first { first_key (subject_value subject) ≡ first_key (hasher_subject self.old) }
@@ -98,8 +98,8 @@ impl<'a> CertificateHasher<'a> {
         self.subject = subject;
     }
 
-    /// The digest of a question about the subject, under its hash algorithm. Takes no memory. No
-    /// octets are compared.
+    /// The digest of a question over the current subject, under its hash algorithm. Allocates
+    /// nothing, and compares no octets.
     #[tactic(auto, unfolding(opgp_octets::specs::HashAlgorithm::hash_algorithm_of))]
     pub fn digest(&mut self, question: &Question<'_>) -> Digest
         requires { (question_value question.now).subject ≡ hasher_subject self.old }

@@ -1,4 +1,4 @@
-//! The digest of a question: its parts are fed to a hasher one after the other.
+//! The digest of a question, whose parts are fed to a hasher one after the other.
 
 ghost use Rattle.std.specs.Prelude.{◌≡◌, ◌++◌, ℕ, List};
 ghost use Rattle.opgp_hash.specs.Digest.{digest_of};
@@ -14,9 +14,9 @@ use crate::question::Question;
 use opgp_octets::HashAlgorithm;
 use sha2::{Sha224, Sha256, Sha384, Sha512};
 
-/// The digest of the question under its hash algorithm. Takes no memory.
+/// The digest of the question under its hash algorithm. Allocates nothing.
 ///
-/// All its octets are hashed. For many signatures of one certificate there is
+/// All its octets are hashed again. For many signatures of one certificate there is
 /// [`CertificateHasher`](crate::CertificateHasher).
 #[tactic(auto, unfolding(opgp_octets::specs::HashAlgorithm::hash_algorithm_of))]
 pub fn digest(question: &Question<'_>) -> Digest
@@ -44,7 +44,7 @@ fn digest_by<D: sha2::Digest>(parts: &Parts<'_>) -> D::Output
     hasher.finalize()
 }
 
-/// The hasher takes the part.
+/// Feeds the part to the hasher.
 pub(crate) fn feed<D: sha2::Digest>(part: &Part<'_>, hasher: &mut D)
     ensures { (m : List ℕ) → D.holds hasher.old m → D.holds hasher.new (m ++ part_octets part.now) }
 {

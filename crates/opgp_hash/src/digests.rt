@@ -8,18 +8,18 @@ ghost use Rattle.opgp_hash.specs.Digest.{digest_octets};
 use opgp_octets::write_hexadecimal;
 use std::fmt;
 
-/// A digest under one of the five hash algorithms that questions have (RFC 9580, 9.5).
+/// A digest under one of the five hash algorithms that are supported (RFC 9580, 9.5).
 #[derive(Clone, Copy, PartialEq, Eq)]
 pub enum Digest {
-    /// Of SHA-1.
+    /// By SHA-1.
     Sha1([u8; 20]),
-    /// Of SHA2-256.
+    /// By SHA2-256.
     Sha256([u8; 32]),
-    /// Of SHA2-384.
+    /// By SHA2-384.
     Sha384([u8; 48]),
-    /// Of SHA2-512.
+    /// By SHA2-512.
     Sha512([u8; 64]),
-    /// Of SHA2-224.
+    /// By SHA2-224.
     Sha224([u8; 28]),
 }
 
@@ -40,7 +40,7 @@ impl Digest {
         }
     }
 
-    /// Writes its digits, as it displays them, to the start of the room, and lends them as a text.
+    /// Writes its hexadecimal digits, as `Display` does, into the buffer, and returns them as text.
     pub fn write_digits<'b>(&self, room: &'b mut [u8; 128]) -> &'b str
         ensures { result.now ≡ encode_upper (digest_octets self.now) }
     {

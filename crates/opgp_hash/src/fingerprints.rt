@@ -59,7 +59,7 @@ impl Fingerprint {
         KeyId(id)
     }
 
-    /// Writes its digits, as it displays them, to the start of the room, and lends them as a text.
+    /// Writes its hexadecimal digits, as `Display` does, into the buffer, and returns them as text.
     pub fn write_digits<'b>(&self, room: &'b mut [u8; 64]) -> &'b str
         ensures { result.now ≡ encode_upper (print_octets self.now) }
     {
@@ -82,7 +82,7 @@ impl fmt::Display for Fingerprint {
 }
 
 impl KeyId {
-    /// Writes its digits, as it displays them, into the room, and lends them as a text.
+    /// Writes its hexadecimal digits, as `Display` does, into the buffer, and returns them as text.
     pub fn write_digits<'b>(&self, room: &'b mut [u8; 16]) -> &'b str
         ensures { result.now ≡ encode_upper self.now.0 }
     {

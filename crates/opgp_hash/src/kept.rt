@@ -1,4 +1,4 @@
-//! The states of a hasher that are kept.
+//! Hasher states that are kept between digests.
 
 ghost use Rattle.std.specs.Prelude.{◌≡◌, [], None};
 ghost use Rattle.std.specs.Option.{ForSome};
@@ -9,8 +9,8 @@ use crate::part::Part;
 use crate::parts::Parts;
 use sha2::Digest;
 
-/// The states of one hash algorithm's hasher, where it has taken a primary key, and where it has
-/// taken a subject that begins with that key. There is none until it is asked for.
+/// The states of one hash algorithm's hasher: after a primary key, and after a subject that begins
+/// with that key. A state is made when the first digest needs it.
 #[derive(Drop)]
 pub(crate) struct Kept<D> {
     key: Option<D>,
@@ -21,7 +21,7 @@ impl<D: Digest + Clone> Kept<D> {
     ghost use Rattle.opgp_hash.specs.Kept.{Keeps};
     ghost use Rattle.opgp_hash.specs.Parts.{parts_octets, subject_octets};
 
-    /// None yet.
+    /// No state is kept yet.
     pub(crate) fn new() -> Kept<D>
         ensures { result ≡ record { key = None; subject = None } }
     {
@@ -31,7 +31,7 @@ impl<D: Digest + Clone> Kept<D> {
         }
     }
 
-    /// Lets the subject's go.
+    /// Drops the state of the subject, since another one becomes current.
     pub(crate) fn forget_subject(&mut self)
         ensures { self.new ≡ record self.old { subject = None } }
     {
@@ -54,8 +54,8 @@ impl<D: Digest + Clone> Kept<D> {
         hasher.finalize()
     }
 
-    /// A hasher that has taken the subject: a copy of the one that is kept, or else one of which a
-    /// copy is kept. Where a copy is refused, the subject is hashed anew.
+    /// A hasher that has taken the subject: a copy of the state that is kept, or a new one, of
+    /// which a copy is kept. If a copy can't be made, the subject is hashed again.
     fn subject_hasher(&mut self, parts: &Parts<'_>) -> D
         requires copies { (h c : D) → D.is_clone h c → c ≡ h }
         requires keeps { Keeps D.holds self.old
@@ -78,8 +78,8 @@ impl<D: Digest + Clone> Kept<D> {
     }
 }
 
-/// A hasher that has taken the key: a copy of the one that is kept, or else one of which a copy is
-/// kept. Where a copy is refused, the key is hashed anew.
+/// A hasher that has taken the key: a copy of the state that is kept, or a new one, of which a copy
+/// is kept. If a copy can't be made, the key is hashed again.
 fn key_hasher<D: Digest + Clone>(kept: &mut Option<D>, key: &Part<'_>) -> D
     requires copies { (h c : D) → D.is_clone h c → c ≡ h }
     requires keeps { ForSome kept.old (λ h. D.holds h (part_octets key.now)) }

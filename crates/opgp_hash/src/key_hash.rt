@@ -1,4 +1,4 @@
-//! What names a key: a hash of its body.
+//! Fingerprints and key IDs: hashes of a key's body.
 
 ghost use Rattle.std.specs.Prelude.{◌≡◌, ◌≤◌, length};
 ghost use Rattle.opgp_packet.specs.Parsed.{body_octets};
@@ -35,8 +35,8 @@ fn six(body: &[u8]) -> [u8; 32]
     hasher.finalize()
 }
 
-/// The fingerprint of the key that a view shows: a hash of its body, whatever header its packet has
-/// (RFC 9580, 5.5.4). Takes no memory.
+/// The fingerprint of the viewed key: a hash of its body, whatever header its packet has (RFC 9580,
+/// 5.5.4). Allocates nothing.
 pub fn fingerprint_of_view(key: KeyView<'_>) -> Fingerprint
     ensures { result
         ≡ fingerprint_of (key_value key.entry).version (body_octets key.entry) }
@@ -50,14 +50,14 @@ pub fn fingerprint_of_view(key: KeyView<'_>) -> Fingerprint
 }
 
 /// The fingerprint of the key: a hash of its body, whatever header its packet has (RFC 9580,
-/// 5.5.4). Takes no memory.
+/// 5.5.4). Allocates nothing.
 pub fn fingerprint(key: &Key) -> Fingerprint
     ensures { result ≡ fingerprint_of (key_value key.now).version (body_octets key.now) }
 {
     fingerprint_of_view(key.view())
 }
 
-/// The key ID of the key, 8 octets of its fingerprint (RFC 9580, 5.5.4). Takes no memory.
+/// The key ID of the key, 8 octets of its fingerprint (RFC 9580, 5.5.4). Allocates nothing.
 pub fn key_id(key: &Key) -> KeyId
     ensures { result.0 ≡ key_id_of (key_value key.now).version (body_octets key.now) }
 {

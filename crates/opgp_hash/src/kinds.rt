@@ -1,4 +1,4 @@
-//! Which types of signatures are about what, and which hash algorithms have digests.
+//! Which types of signatures are made over what, and which hash algorithms are supported.
 
 ghost use Rattle.std.specs.Prelude.{◌≡◌};
 ghost use Rattle.opgp_hash.specs.Asking.{is_kind, is_one};
@@ -13,7 +13,7 @@ use crate::site::Site;
 use crate::subject::Subject;
 use opgp_octets::{HashAlgorithm, SignatureType};
 
-/// Whether signatures of this type are about a document (RFC 9580, 5.2.1.1).
+/// Whether signatures of this type are made over a document (RFC 9580, 5.2.1.1).
 #[tactic(auto, unfolding(opgp_octets::specs::SignatureType::signature_type_of))]
 pub(crate) fn is_on_content(kind: u8) -> bool
     ensures { result ≡ is_on_content kind }
@@ -21,7 +21,7 @@ pub(crate) fn is_on_content(kind: u8) -> bool
     matches!(SignatureType::from(kind), SignatureType::Binary)
 }
 
-/// Whether they are about a key and a user ID or user attribute (RFC 9580, 5.2.1.4 to 5.2.1.7,
+/// Whether they are made over a key and a user ID or user attribute (RFC 9580, 5.2.1.4 to 5.2.1.7,
 /// 5.2.1.13).
 #[tactic(auto, unfolding(opgp_octets::specs::SignatureType::signature_type_of))]
 pub(crate) fn is_certification(kind: u8) -> bool
@@ -37,7 +37,7 @@ pub(crate) fn is_certification(kind: u8) -> bool
     )
 }
 
-/// Whether they are about a key alone (RFC 9580, 5.2.1.10, 5.2.1.11).
+/// Whether they are made over a key alone (RFC 9580, 5.2.1.10, 5.2.1.11).
 #[tactic(auto, unfolding(opgp_octets::specs::SignatureType::signature_type_of))]
 pub(crate) fn is_on_key(kind: u8) -> bool
     ensures { result ≡ is_on_key kind }
@@ -48,7 +48,7 @@ pub(crate) fn is_on_key(kind: u8) -> bool
     )
 }
 
-/// Whether they are about a primary key and a subkey (RFC 9580, 5.2.1.8, 5.2.1.9, 5.2.1.12).
+/// Whether they are made over a primary key and a subkey (RFC 9580, 5.2.1.8, 5.2.1.9, 5.2.1.12).
 #[tactic(auto, unfolding(opgp_octets::specs::SignatureType::signature_type_of))]
 pub(crate) fn is_on_subkey(kind: u8) -> bool
     ensures { result ≡ is_on_subkey kind }
@@ -61,14 +61,14 @@ pub(crate) fn is_on_subkey(kind: u8) -> bool
     )
 }
 
-/// Whether they are about anything that is hashed here.
+/// Whether they are made over anything that this crate hashes.
 pub(crate) fn is_kind(kind: u8) -> bool
     ensures { result ≡ is_kind kind }
 {
     is_on_content(kind) || is_on_key(kind) || is_on_subkey(kind) || is_certification(kind)
 }
 
-/// Whether they are about such a subject.
+/// Whether they are made over a subject of this sort.
 pub(crate) fn is_about(kind: u8, subject: &Subject<'_>) -> bool
     ensures { result ≡ is_about kind (subject_value subject.now) }
 {
@@ -80,7 +80,7 @@ pub(crate) fn is_about(kind: u8, subject: &Subject<'_>) -> bool
     }
 }
 
-/// Whether they are about such a subject and may stand there.
+/// Whether they are made over a subject of this sort and belong at this site.
 pub(crate) fn is_asked_at(site: Site, kind: u8, subject: &Subject<'_>) -> bool
     ensures { result ≡ is_asked_at site kind (subject_value subject.now) }
 {
@@ -98,7 +98,7 @@ pub(crate) fn is_one(subject: &Subject<'_>) -> bool
     matches!(subject, Subject::One(_))
 }
 
-/// Whether the subject's keys are of this version.
+/// Whether the subject's keys have this version.
 pub(crate) fn are_keys_of(version: u8, subject: &Subject<'_>) -> bool
     ensures { result ≡ are_keys_of version (subject_value subject.now) }
 {
@@ -114,7 +114,7 @@ pub(crate) fn are_keys_of(version: u8, subject: &Subject<'_>) -> bool
     }
 }
 
-/// Whether the hash algorithm of this number has a digest here, in a signature of this version.
+/// Whether the hash algorithm of this number is supported, in a signature of this version.
 #[tactic(auto, unfolding(opgp_octets::specs::HashAlgorithm::hash_algorithm_of))]
 pub(crate) fn is_hash(version: u8, hash: u8) -> bool
     ensures { result ≡ is_hash version hash }

@@ -1,5 +1,5 @@
-//! What names an OpenPGP key: its fingerprint and its key ID (RFC 9580, 5.5.4); and what a
-//! signature's hash is taken over (RFC 9580, 5.2.4).
+//! Fingerprints and key IDs of OpenPGP keys (RFC 9580, 5.5.4), and the data that a signature hashes
+//! (5.2.4).
 #![tactic(auto)]
 
 mod asking;

@@ -1,4 +1,4 @@
-//! A part of what is hashed: octets that are made, and a slice behind them.
+//! A part of the hashed data: a few octets that are made, and a slice after them.
 
 ghost use Rattle.std.specs.Prelude.{◌≡◌, ◌≤◌, ◌+◌, ◌++◌, ◌∷◌, ◌^◌, length};
 
@@ -6,7 +6,7 @@ use crate::bodies::{attribute_body, key_body};
 use crate::question::Question;
 use opgp_packet::{AttributeView, KeyView};
 
-/// So many octets.
+/// The octets before a slice, by their number.
 #[derive(Clone, Copy)]
 pub(crate) enum Head {
     Bare,
@@ -33,7 +33,7 @@ impl Head {
     }
 }
 
-/// Octets, and a slice behind them.
+/// A few octets that are made, and a slice after them.
 #[derive(Clone, Copy)]
 pub(crate) struct Part<'a> {
     pub(crate) head: Head,
@@ -70,7 +70,7 @@ impl<'a> Part<'a> {
         }
     }
 
-    /// A body behind an octet and a length of four octets.
+    /// A body after a tag octet and its length in four octets.
     pub(crate) fn tagged(tag: u8, body: &'a [u8]) -> Part<'a>
         requires { IsBodySized body.now }
         ensures { part_octets result ≡ (tag ∷ to_be_bytes w32 (length body.now)) ++ body.now }
@@ -114,7 +114,7 @@ impl<'a> Part<'a> {
         Part::tagged(0xD1, attribute_body(attribute))
     }
 
-    /// The front of the signature.
+    /// The part of the signature's own body that is hashed (RFC 9580, 5.2.4).
     pub(crate) fn front(question: &Question<'a>) -> Part<'a>
         ensures value { part_octets result ≡ front_hashed (question_value question.now) }
         ensures small { IsBodySized (front_hashed (question_value question.now)) }

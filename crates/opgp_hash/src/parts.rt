@@ -1,4 +1,4 @@
-//! What a question's hash is taken over, part by part.
+//! The hashed data of a question, part by part.
 
 ghost use Rattle.std.specs.Prelude.{◌≡◌, ◌≤◌, ◌++◌, ◌^◌, ℕ, List, [], length, true, Some};
 ghost use Rattle.opgp_hash.specs.Hashed.{hashed, key_hashed, subject_hashed, trailer_hashed};
@@ -23,11 +23,12 @@ pub(crate) struct Parts<'a> {
 }
 
 impl<'a> Parts<'a> {
-    /// Those of the question.
+    /// The parts of this question.
     #[inline(always)]
     pub(crate) fn of(question: &Question<'a>) -> Parts<'a>
         ensures value { parts_octets result ≡ hashed (question_value question.now) }
-        // Version 4 has no salt: its parts begin with the subject, and that with its first key.
+        // Version 4 has no salt: its parts begin with the subject, and the subject with its first
+        // key.
         ensures unsalted { (question_value question.now).version ≡ 4
             → part_octets result.salt ≡ [] }
         ensures subject { subject_octets result ≡ subject_hashed
@@ -47,7 +48,7 @@ impl<'a> Parts<'a> {
         }
     }
 
-    /// How many octets they have.
+    /// How many octets they have together.
     pub(crate) fn len(&self) -> usize
         ensures { result ≡ length (parts_octets self.now) }
     {
@@ -79,7 +80,7 @@ fn subject_parts<'a>(version: u8, subject: &Subject<'a>) -> (Part<'a>, Part<'a>)
     }
 }
 
-/// The trailer behind a front of so many octets.
+/// The trailer of a signature whose hashed part has `count` octets.
 fn trailer<'a>(version: u8, count: u32) -> Part<'a>
     ensures { part_octets result ≡ trailer_hashed version count }
 {

@@ -1,4 +1,4 @@
-//! What is asked of a signature's hash.
+//! What a signature hashes, and what for.
 
 ghost use Rattle.std.specs.Prelude.{◌≡◌, ◌≤◌, length, true};
 ghost use Rattle.opgp_hash.specs.QuestionValue.{is_version, is_hash, salt_amount, area_most};
@@ -8,8 +8,8 @@ ghost use Rattle.opgp_hash.specs.SubjectValue.{is_about, are_keys_of, is_within}
 use crate::bodies::are_octets;
 use crate::subject::Subject;
 
-/// What is asked of a signature's hash: what it is about, and the parts of the signature that are
-/// hashed (RFC 9580, 5.2.4).
+/// The data that a signature hashes (RFC 9580, 5.2.4): the subject that it is made over, and the
+/// fields of the signature itself that are hashed.
 #[derive(Clone, Copy)]
 pub struct Question<'a> {
     pub(crate) version: u8,
@@ -46,10 +46,10 @@ impl<'a> Question<'a> {
         self.salt
     }
 
-    /// What the signature is about.
+    /// The subject that the signature is made over.
     pub fn subject(&self) -> Subject<'a>
         ensures value { subject_value result ≡ (question_value self.now).subject }
-        // Every question's parts fit together.
+        // The parts of every question fit together.
         ensures question { IsQuestion (question_value self.now) }
     {
         self.stands();
@@ -84,7 +84,7 @@ impl<'a> Question<'a> {
         self.area
     }
 
-    /// It is a question: its keys are keys of its version, and its parts fit together.
+    /// A fact for proofs: its keys have its version, and its parts fit together.
     pub(crate) fn stands(&self)
         ensures { IsQuestion (question_value self.now) }
     {

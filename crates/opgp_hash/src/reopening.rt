@@ -1,4 +1,4 @@
-//! The question whose hashed octets are given.
+//! Reading hashed octets back as the question that they belong to.
 
 ghost use Rattle.std.specs.Prelude.{◌≡◌, ◌≢◌, ◌+◌, ◌≤◌, ℕ, length, true, Some, IfSome, IfNone};
 ghost use Rattle.opgp_octets.specs.Octets.{IsBodySized};
@@ -22,7 +22,7 @@ use crate::subject::Subject;
 use opgp_octets::{HashAlgorithm, u16_at, u32_at};
 use opgp_packet::{AttributeView, KeyView};
 
-/// What the front of a signature says.
+/// The fields in the hashed part of a signature.
 #[derive(Clone, Copy)]
 struct Front<'a> {
     kind: u8,
@@ -31,22 +31,22 @@ struct Front<'a> {
     area: &'a [u8],
 }
 
-/// What the trailer says: the version, and how many octets the front has.
+/// The fields of the trailer: the version, and the length of the signature's hashed part.
 #[derive(Clone, Copy)]
 struct Trailer {
     version: u8,
     count: u32,
 }
 
-/// The question whose hashed octets these are. Takes no memory.
+/// The question that has these hashed octets, if one has. Allocates nothing.
 pub fn reopen(o: &[u8]) -> Option<Question<'_>>
-    // The octets are those of the question.
+    // The octets are the hashed octets of the question.
     ensures found { IfSome result (λ q.
         IsQuestion (question_value q) × (hashed (question_value q) ≡ o.now)) }
-    // A question that has these octets is the one that is found.
+    // A question that has these octets is the one that is returned.
     ensures only { (q : QuestionValue) → IsQuestion q → hashed q ≡ o.now
         → Gives question_value result (Some q) }
-    // Nothing is found only where no question has these octets.
+    // None is returned only if no question has these octets.
     ensures none { IfNone result ((q : QuestionValue) → IsQuestion q → hashed q ≡ o.now → ⊥) }
     ensures exact { Gives question_value result (question_at o.now) }
 {
@@ -75,7 +75,7 @@ fn read(o: &[u8]) -> Option<Question<'_>>
     })
 }
 
-/// So many octets from the front, and the others.
+/// The first `n` octets, and the others.
 #[tactic(auto, unfolding(crate::specs::Reading::front_at))]
 fn split(o: &[u8], n: usize) -> Option<(&[u8], &[u8])>
     ensures exact { Gives (λ x. (x.0.now, x.1.now)) result (front_at n o.now) }
@@ -87,7 +87,7 @@ fn split(o: &[u8], n: usize) -> Option<(&[u8], &[u8])>
     Some(o.split_at(n))
 }
 
-/// So many octets from the end, behind the others.
+/// The octets before the last `n` ones, and those.
 #[tactic(auto, unfolding(crate::specs::Reading::end_at))]
 fn end(o: &[u8], n: usize) -> Option<(&[u8], &[u8])>
     ensures exact { Gives (λ x. (x.0.now, x.1.now)) result (end_at n o.now) }
@@ -115,7 +115,7 @@ fn read_trailer(o: &[u8]) -> Option<Trailer>
     }
 }
 
-/// The front of a signature of this version.
+/// The hashed part of a signature of this version.
 #[tactic(auto, unfolding(crate::specs::Reopening::fields_at))]
 fn read_front(version: u8, o: &[u8]) -> Option<Front<'_>>
     requires { length o.now ≤ 4294967295 }
@@ -140,7 +140,7 @@ fn read_front(version: u8, o: &[u8]) -> Option<Front<'_>>
     }
 }
 
-/// A length of two octets in version 4 and of four in version 6, and what follows.
+/// A length of two octets in version 4 and of four in version 6, and what follows it.
 fn read_length(version: u8, o: &[u8]) -> Option<(usize, &[u8])>
     ensures exact { Gives (λ x. (x.0, x.1.now)) result (length_at version o.now) }
     ensures most { IfSome result (λ x. x.0 ≤ 4294967295) }
@@ -157,7 +157,7 @@ fn read_length(version: u8, o: &[u8]) -> Option<(usize, &[u8])>
     }
 }
 
-/// The hashed area behind its length, and nothing more.
+/// The hashed area after its length; None if anything follows it.
 fn read_area(version: u8, o: &[u8]) -> Option<&[u8]>
     requires { length o.now + 4 ≤ 4294967295 }
     ensures exact { Gives (λ x. x.now) result (area_at version o.now) }
@@ -167,7 +167,7 @@ fn read_area(version: u8, o: &[u8]) -> Option<&[u8]>
     if n == rest.len() { Some(rest) } else { None }
 }
 
-/// The salt of a signature of this version under this hash algorithm has so many octets.
+/// How many octets of salt a signature of this version has under this hash algorithm.
 fn salt_len(version: u8, hash: u8) -> usize
     ensures { result ≡ salt_amount version hash }
 {
@@ -177,7 +177,7 @@ fn salt_len(version: u8, hash: u8) -> usize
     usize::from(HashAlgorithm::from(hash).salt_size().unwrap_or(0))
 }
 
-/// What follows an octet.
+/// What follows this octet, if the octets begin with it.
 fn after(o: &[u8], tag: u8) -> Option<&[u8]>
     ensures exact { Gives (λ x. x.now) result (behind tag o.now) }
 {
@@ -187,7 +187,7 @@ fn after(o: &[u8], tag: u8) -> Option<&[u8]>
     }
 }
 
-/// A key of this version, and what follows.
+/// A key of this version, and what follows it.
 #[tactic(auto, unfolding(crate::specs::Reopening::key_at))]
 fn read_key(version: u8, o: &[u8]) -> Option<(KeyView<'_>, &[u8])>
     ensures exact { Gives (λ x. (body_octets x.0, x.1.now)) result (key_at version o.now) }
@@ -209,7 +209,7 @@ fn read_key(version: u8, o: &[u8]) -> Option<(KeyView<'_>, &[u8])>
     }
 }
 
-/// So many octets after a length of four octets, and nothing more.
+/// As many octets as a length of four octets says; None if anything follows them.
 fn read_all(o: &[u8]) -> Option<&[u8]>
     ensures exact { Gives (λ x. x.now) result (all_at o.now) }
     ensures size { IfSome result (λ x. IsBodySized x.now) }
@@ -222,7 +222,7 @@ fn read_all(o: &[u8]) -> Option<&[u8]>
     }
 }
 
-/// Content as it is.
+/// A document's octets, as they are.
 fn read_content(o: &[u8]) -> Option<Subject<'_>>
     ensures exact { Gives subject_value result (content_at o.now) }
     ensures about { IfSome result (λ s. is_about 0 (subject_value s) ≡ true) }
@@ -236,7 +236,7 @@ fn read_content(o: &[u8]) -> Option<Subject<'_>>
     }
 }
 
-/// One key, and nothing more.
+/// One key; None if anything follows it.
 fn read_one(version: u8, o: &[u8]) -> Option<Subject<'_>>
     ensures exact { Gives subject_value result (one_at version o.now) }
     ensures about { IfSome result (λ s. (k : ℕ) → is_on_key k ≡ true
@@ -252,7 +252,7 @@ fn read_one(version: u8, o: &[u8]) -> Option<Subject<'_>>
     }
 }
 
-/// Two keys, and nothing more.
+/// Two keys; None if anything follows them.
 fn read_two(version: u8, o: &[u8]) -> Option<Subject<'_>>
     ensures exact { Gives subject_value result (two_at version o.now) }
     ensures about { IfSome result (λ s. (k : ℕ) → is_on_subkey k ≡ true
@@ -269,7 +269,7 @@ fn read_two(version: u8, o: &[u8]) -> Option<Subject<'_>>
     }
 }
 
-/// A user ID or an attribute of this key, and nothing more.
+/// A user ID or an attribute of this key; None if anything follows it.
 fn read_named<'a>(version: u8, primary: KeyView<'a>, o: &'a [u8]) -> Option<Subject<'a>>
     requires { version_of (body_octets primary) ≡ version }
     ensures exact { Gives subject_value result (named_at (body_octets primary.entry) o.now) }
@@ -294,7 +294,7 @@ fn read_named<'a>(version: u8, primary: KeyView<'a>, o: &'a [u8]) -> Option<Subj
     }
 }
 
-/// The subject that signatures of this version and type are about.
+/// The subject that signatures of this version and type are made over.
 #[tactic(auto, unfolding(crate::specs::Reopening::subject_at))]
 fn read_subject(version: u8, kind: u8, o: &[u8]) -> Option<Subject<'_>>
     ensures exact { Gives subject_value result (subject_at version kind o.now) }

@@ -1,9 +1,9 @@
-//! What is hashed of a signature itself.
+//! The fields of a signature that it hashes.
 
 ghost use Rattle.std.specs.Prelude.{◌≡◌, ◌≤◌, length, true};
 ghost use Rattle.opgp_hash.specs.QuestionValue.{is_version, is_hash, salt_amount, area_most};
 
-/// The parts of a version 4 or 6 signature that are hashed.
+/// The fields of a version 4 or 6 signature that it hashes.
 #[derive(Clone, Copy)]
 pub(crate) struct Signed<'a> {
     pub(crate) version: u8,

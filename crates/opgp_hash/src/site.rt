@@ -1,10 +1,10 @@
-//! Where signatures of a certificate stand.
+//! Where in a certificate a signature is.
 
-/// Where a signature of a certificate stands (RFC 9580, 5.2.1.9, 10.1).
+/// Where in a certificate a signature is (RFC 9580, 5.2.1.9, 10.1).
 #[derive(Clone, Copy, PartialEq, Eq)]
 pub enum Site {
-    /// It hangs on the primary key, a subkey, a user ID or a user attribute.
+    /// It is a packet after the primary key, a subkey, a user ID or a user attribute.
     Hung,
-    /// It is embedded in the binding of a subkey.
+    /// It is embedded in a subkey binding signature.
     Embedded,
 }

@@ -1,16 +1,16 @@
-//! What a signature is about.
+//! What a signature is made over.
 
 ghost use Rattle.std.specs.Prelude.{◌≡◌, true};
 
 use crate::bodies::{are_octets, attribute_body, key_body};
 use opgp_packet::{AttributeView, KeyView};
 
-/// What a signature is about (RFC 9580, 5.2.4).
+/// What a signature is made over (RFC 9580, 5.2.4).
 #[derive(Clone, Copy)]
 pub enum Subject<'a> {
-    /// Content as it is.
+    /// A document, its octets as they are.
     Binary(&'a [u8]),
-    /// A key.
+    /// A key alone.
     One(KeyView<'a>),
     /// A primary key and a subkey.
     Two(KeyView<'a>, KeyView<'a>),
@@ -24,7 +24,7 @@ impl Subject<'_> {
     ghost use Rattle.opgp_hash.specs.Subject.{subject_value};
     ghost use Rattle.opgp_hash.specs.SubjectValue.{IsSubject, are_keys_of, is_within};
 
-    /// Whether its parts are not too long: content of 2^56 octets at most, a user ID of 2^32 - 1.
+    /// Whether no part is too long: a document has at most 2^56 octets, a user ID at most 2^32 - 1.
     pub fn fits(&self) -> bool
         ensures { result ≡ is_within (subject_value self.now) }
     {
@@ -35,7 +35,7 @@ impl Subject<'_> {
         }
     }
 
-    /// It is a subject of a question of this version.
+    /// A fact for proofs: it can be the subject of a question of this version.
     pub(crate) fn stands(&self, version: u8)
         requires keys { are_keys_of version (subject_value self.now) ≡ true }
         requires within { is_within (subject_value self.now) ≡ true }

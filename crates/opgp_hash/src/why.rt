@@ -1,4 +1,4 @@
-//! Why a signature asks no question.
+//! Why a signature isn't hashed.
 
 ghost use Rattle.std.specs.Prelude.{◌≡◌, Some};
 ghost use Rattle.std.specs.Fmt.{padded};
@@ -7,24 +7,24 @@ ghost use Rattle.opgp_hash.specs.Why.{why_text};
 use std::error::Error;
 use std::fmt;
 
-/// Why a signature asks no question about a subject: the first of these that applies.
+/// Why a signature over a subject isn't hashed: the first of these that applies.
 #[derive(Clone, Copy, Debug, PartialEq, Eq)]
 pub enum Why {
-    /// It is of another version than 4 and 6.
+    /// Its version isn't 4 or 6.
     Opaque,
-    /// Signatures of its type are about nothing that is hashed here, or it revokes a certification
-    /// and is about a key alone.
+    /// No subject of this crate is signed by its type, or it revokes a certification but is over a
+    /// key alone.
     Kind,
-    /// Signatures of its type are about another subject, or stand elsewhere.
+    /// Signatures of its type are made over another subject, or belong elsewhere.
     Misplaced,
     /// A key has another version than the signature.
     Version,
-    /// Its hash algorithm has no digest here, or none in version 6.
+    /// Its hash algorithm isn't supported, or not in version 6.
     Hash,
 }
 
 impl Why {
-    /// The name in lower case, as the row of a report has it.
+    /// The name in lower case, as `check` prints it.
     pub fn name(self) -> &'static str
         ensures { result.now ≡ why_text self }
     {

@@ -1,4 +1,4 @@
-//! The octets that a question's hash is taken over, written out.
+//! Writing the octets that a signature hashes.
 
 ghost use Rattle.std.specs.Prelude.{◌≡◌, ◌≤◌, ◌+◌, ◌++◌, length, Some, OnOk, OnErr, IsOk};
 ghost use Rattle.std.specs.Prelude.{vec_len, vec_capacity};
@@ -13,17 +13,17 @@ use crate::parts::Parts;
 use crate::question::Question;
 use opgp_octets::{OutOfMemory, put};
 
-/// Writes the octets that the question's hash is taken over at the end of `out`.
+/// Writes the octets that the signature of this question hashes at the end of `out`.
 ///
-/// An error is want of memory; `out` is then as it was.
+/// Fails only when out of memory; `out` is then unchanged.
 pub fn write_octets(question: &Question<'_>, out: &mut Vec<u8>) -> Result<(), OutOfMemory>
     ensures ok { OnOk result
         (out.new.items ≡ out.old.items ++ hashed (question_value question.now)) }
     ensures err { OnErr result (out.new.items ≡ out.old.items) }
-    // These octets are read again as this question.
+    // These octets are read back as this question.
     ensures reopens { question_at (hashed (question_value question.now))
         ≡ Some (question_value question.now) }
-    // Room that is there suffices.
+    // It can't fail if the vector has the room.
     ensures succeeds { vec_len out.old + length (hashed (question_value question.now))
         ≤ vec_capacity out.old
         → IsOk result }

@@ -1,4 +1,4 @@
--- Items joined by their names, and the places of names among the firsts.
+-- Items joined by type and body, and their places in the list without repetitions.
 use denote.Ref.{Bor}
 use Rattle.std.specs.Prelude.{◌≡◌, ℕ, suc, Bool, ◌&&◌, ◌==◌, if◌then◌else◌}
 use Rattle.std.specs.Prelude.{List, [], ◌∷◌, ◌++◌, length, map, drop}
@@ -49,7 +49,7 @@ with_parts c d = record {
   components = c.components ++ d.components;
 }
 
--- an item with what the later ones of its name hold
+-- an item with the contents of the later ones of its name
 abbrev pub joined : {X : Type 0} → (X → Name) → (X → X → X) → List X → X → X
 joined name both all x = fold both x (drop 1 (like (same_by name) x all))
 
@@ -57,7 +57,7 @@ joined name both all x = fold both x (drop 1 (like (same_by name) x all))
 abbrev pub joined_all : {X : Type 0} → (X → Name) → (X → X → X) → List X → List X
 joined_all name both all = map (joined name both all) (firsts (same_by name) all)
 
--- a component, or a certificate, on which the same packet hangs once
+-- a component, or a certificate, without repetitions among its packets
 abbrev pub once_component : ComponentValue → ComponentValue
 once_component c = record { head = c.head; hangs = firsts same_packet c.hangs }
 
@@ -69,12 +69,12 @@ once_certificate c = record {
 }
 
 -- ---- the places of names
--- the list with one more item, which the first that is the same takes in, if there is one
+-- the list with one more item, which joins the first that is the same, if there is one
 abbrev pub added : {X : Type 0} → (X → X → Bool) → (X → X → X) → List X → X → List X
 added same both [] x = x ∷ []
 added same both (k ∷ ks) x = if same k x then both k x ∷ ks else k ∷ added same both ks x
 
--- where the first of this name stands, or how many there are
+-- the place of the first of this name; if there is none, the number of names
 abbrev pub place : List Name → Name → ℕ
 place [] n = 0
 place (s ∷ ss) n = if same_name s n then 0 else suc (place ss n)
@@ -82,11 +82,11 @@ place (s ∷ ss) n = if same_name s n then 0 else suc (place ss n)
 abbrev pub grown : List Name → Name → List Name
 grown seen n = added same_name stays seen n
 
--- the place of each name among the firsts of them all
+-- the place of each name in the list without repetitions
 abbrev pub places_of : List Name → List ℕ
 places_of ns = map (place (firsts same_name ns)) ns
 
--- ---- what an index keeps: at each name the place of the first that has it, and how many there are
+-- ---- what an index keeps: for each name the place of the first that has it, and their number
 abbrev pub name_cmp : Name → ℕ × Bor (List ℕ) → Ordering
 name_cmp q k = ordering_then (nat_cmp q.0 k.0) (slice_cmp nat_cmp q.1 k.1.now)
 

@@ -1,4 +1,4 @@
-//! Items that are the same, joined in the place of the first.
+//! Joining items that have the same type and body, in the place of the first.
 
 ghost use Rattle.std.specs.Prelude.{◌≡◌, [], map, IfOk, OnOk};
 ghost use Rattle.opgp_merge.specs.Slots.{added, joined_all, place, places_of, same_by};
@@ -8,9 +8,9 @@ use crate::slots::slots_of;
 use opgp_octets::OutOfMemory;
 use std::alloc::Global;
 
-/// One item for each name, in the place of the first, with what all of that name hold.
+/// One item for each type and body, in the place of the first, with what all of them contain.
 ///
-/// An error is want of memory.
+/// Fails only when out of memory.
 pub(crate) fn join<T: Joining>(alloc: Global, items: Vec<T>) -> Result<Vec<T>, OutOfMemory>
     ensures { IfOk result (λ v. v.items ≡ joined_all T.name T.both items.items) }
 {
@@ -21,7 +21,7 @@ pub(crate) fn join<T: Joining>(alloc: Global, items: Vec<T>) -> Result<Vec<T>, O
     gather(alloc, items, &slots)
 }
 
-/// The same, by the slots of all items.
+/// The same, given the slot of each item.
 fn gather<T: Joining>(alloc: Global, items: Vec<T>, slots: &[usize]) -> Result<Vec<T>, OutOfMemory>
     requires { slots.now ≡ places_of (map T.name items.items) }
     ensures { IfOk result (λ v. v.items ≡ joined_all T.name T.both items.items) }
@@ -40,7 +40,7 @@ fn gather<T: Joining>(alloc: Global, items: Vec<T>, slots: &[usize]) -> Result<V
     Ok(kept)
 }
 
-/// Keeps an item: the one at its slot takes what it holds, or else it stands behind the others.
+/// Keeps an item: if there is one at its slot, that takes its contents; else it is appended.
 fn keep<T: Joining>(kept: &mut Vec<T>, item: T, slot: usize) -> Result<(), OutOfMemory>
     requires { slot ≡ place (map T.name kept.old.items) (T.name item) }
     ensures { OnOk result (kept.new.items ≡ added (same_by T.name) T.both kept.old.items item) }

@@ -1,4 +1,4 @@
-//! Items that are joined with those of their type and body.
+//! Items that are joined with others of the same type and body.
 
 ghost use Rattle.std.specs.Prelude.{◌≡◌, refl, OnOk};
 ghost use Rattle.opgp_merge.specs.Slots.{Name, head_name, packet_name, primary_name};
@@ -7,12 +7,12 @@ ghost use Rattle.opgp_merge.specs.Slots.{stays, with_hangs, with_parts};
 use opgp_octets::{OutOfMemory, PacketType};
 use opgp_ring::{Certificate, Component, Member};
 
-/// An item that is the same as others of its type and body, and takes what they hold.
+/// An item that can be joined with others of the same type and body.
 pub(crate) trait Joining: Drop {
     // The type and the body.
     ghost name: { Self → Name };
 
-    // The item with what another holds.
+    // The item with what another one contains.
     ghost both: { Self → Self → Self };
 
     /// The type and the body.
@@ -20,11 +20,11 @@ pub(crate) trait Joining: Drop {
         ensures kind { result.0 ≡ (name self.now).0 }
         ensures body { result.1.now ≡ (name self.now).1 };
 
-    /// Takes what another holds. An error is want of memory.
+    /// Takes what another one contains. Fails only when out of memory.
     fn take_in(&mut self, other: Self) -> Result<(), OutOfMemory>
         ensures { OnOk result (self.new ≡ both self.old other) };
 
-    // That changes no name.
+    // That changes neither type nor body.
     ghost keeps: { (x y : Self) → name (both x y) ≡ name x };
 }
 

@@ -18,7 +18,7 @@ pub fn merged_twice()
     ensures { (r : KeyringValue) → merged_of (merged_of r) ≡ merged_of r }
 {}
 
-/// A merged keyring asks what the keyring asked, and nothing else.
+/// The signatures of a merged keyring hash what those of the keyring did, and nothing else.
 pub fn merged_keyrings_ask_the_same()
     ensures all { (r : KeyringValue) (a : Asked) → Contains (asked_of r) a
         → Contains (asked_of (merged_of r)) a }
@@ -26,7 +26,7 @@ pub fn merged_keyrings_ask_the_same()
         → Contains (asked_of r) a }
 {}
 
-/// A merged keyring has the keys that the keyring had, by their bodies, and no others.
+/// A merged keyring has the keys of the keyring, by their bodies, and no others.
 pub fn merged_keyrings_have_the_same_keys()
     ensures all { (r : KeyringValue) (body : List ℕ) → Contains (keys_in r) body
         → Contains (keys_in (merged_of r)) body }

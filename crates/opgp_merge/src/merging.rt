@@ -12,12 +12,12 @@ use opgp_ring::{Certificate, Component, Keyring, Member};
 use std::alloc::Global;
 
 /// The keyring with one certificate for each primary key, in the place of the first (RFC 9580,
-/// 10.1). It has what hangs on those of that key, and their components; each user ID, attribute or
-/// subkey stands once, with what hangs on those of its type and body; and on each of them and on
-/// the primary key, of packets of one type and body the first hangs alone. What leads the keyring
-/// stays as it is.
+/// 10.1). It has the signatures and components of all certificates of that key; user IDs,
+/// attributes and subkeys of the same type and body become one, with the signatures of all of them;
+/// and of the packets on one of these, or on the primary key, that have the same type and body, the
+/// first is kept. What precedes the first certificate stays as it is.
 ///
-/// Nothing is copied. An error is want of memory.
+/// Nothing is copied. Fails only when out of memory.
 pub fn merge(ring: Keyring) -> Result<Keyring, OutOfMemory>
     ensures { IfOk result (λ r. r ≡ merged_of ring) }
 {
@@ -26,15 +26,15 @@ pub fn merge(ring: Keyring) -> Result<Keyring, OutOfMemory>
     Ok(Keyring::new(alloc, lead, merged))
 }
 
-/// What holds packets, or components, of which each is to stand once.
+/// What contains packets, or components, of which equal ones are to become one.
 trait Uniting: Joining {
-    // It, with each of them once.
+    // The item without repetitions.
     ghost once: { Self → Self };
 
-    // What it is then.
+    // What holds of it then.
     ghost sound: { Self → Type 0 };
 
-    /// It, with each of them once. An error is want of memory.
+    /// The item without repetitions. Fails only when out of memory.
     fn united(self, alloc: Global) -> Result<Self, OutOfMemory>
         ensures value { IfOk result (λ x. x ≡ once self) }
         ensures sound { IfOk result (λ x. sound x) };
@@ -81,8 +81,8 @@ impl Uniting for Component {
     }
 }
 
-/// One item for each name, in the place of the first, with what all of that name hold, each of it
-/// once.
+/// One item for each type and body, in the place of the first, with what all of them contain,
+/// without repetitions.
 fn unite<T: Uniting>(alloc: Global, items: Vec<T>) -> Result<Vec<T>, OutOfMemory>
     ensures value { IfOk result (λ v. v.items
         ≡ map T.once (joined_all T.name T.both items.items)) }
@@ -97,7 +97,7 @@ fn unite<T: Uniting>(alloc: Global, items: Vec<T>) -> Result<Vec<T>, OutOfMemory
     Ok(united)
 }
 
-/// The packets that aren't the same as an earlier one.
+/// The packets without those that have the type and body of an earlier one.
 fn unite_members(alloc: Global, members: Vec<Member>) -> Result<Vec<Member>, OutOfMemory>
     ensures { IfOk result (λ v. v.items ≡ firsts same_packet members.items) }
 {

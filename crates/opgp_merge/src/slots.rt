@@ -1,4 +1,4 @@
-//! Which of a list's items are the same, by their places among the firsts.
+//! Which items of a list have the same type and body, as places in the list without repetitions.
 
 ghost use Rattle.std.specs.Prelude.{◌≡◌, List, map, IfOk};
 ghost use Rattle.opgp_merge.specs.Slots.{IsIndex, Name, grown, place, places_of};
@@ -8,8 +8,8 @@ use opgp_octets::OutOfMemory;
 use std::alloc::Global;
 use std::collections::BTreeMap;
 
-/// The place of this type and body among the firsts that the index has: that of the one that is the
-/// same, or else a new one behind them, which is noted.
+/// The place of this type and body among those in the index; if it isn't there, it gets the next
+/// place and is noted.
 fn slot_of<'a>(
     index: &mut BTreeMap<(u8, &'a [u8]), usize>,
     kind: u8,
@@ -26,9 +26,9 @@ fn slot_of<'a>(
     Ok(slot)
 }
 
-/// The place of each item among those that aren't the same as an earlier one.
+/// For each item, its place in the list without repetitions.
 ///
-/// An error is want of memory.
+/// Fails only when out of memory.
 pub(crate) fn slots_of<T: Joining>(alloc: Global, items: &[T]) -> Result<Vec<usize>, OutOfMemory>
     ensures { IfOk result (λ v. v.items ≡ places_of (map T.name items.now)) }
 {

@@ -69,6 +69,6 @@ fault_text f =
     layer_name f.layer ++ codes ": " ++ reason_name f.reason ++ codes " block " ++ decimal f.block
     ++ codes " at " ++ decimal f.pos ++ codes " inner " ++ decimal f.inner
 
--- the text of a body's fault, whose packet has no place yet
+-- the text of a body's fault, which doesn't state the packet's place
 abbrev pub body_fault_text : BodyFault → List ℕ
 body_fault_text f = reason_name f.reason ++ codes " inner " ++ decimal f.inner

@@ -1,4 +1,4 @@
--- What limits show.
+-- The values of limits.
 use Rattle.std.specs.Prelude.{ℕ}
 use Rattle.opgp_octets.specs.declared.limits.Limits.{Limits}
 
@@ -10,7 +10,7 @@ line_limit l = l.line
 abbrev pub body_limit : Limits → ℕ
 body_limit l = l.body
 
--- the most octets that a certificate's packets are spelled in
+-- the most octets of a certificate's packets, headers included
 abbrev pub cert_limit : Limits → ℕ
 cert_limit l = l.cert
 

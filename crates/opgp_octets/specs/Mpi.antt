@@ -1,4 +1,4 @@
--- Multiprecision integers (RFC 9580, 3.2): two octets of a count of bits, then the octets that so
+-- Multiprecision integers (RFC 9580, 3.2): a count of bits in two octets, then the octets that this
 -- many bits take.
 use Rattle.std.specs.Prelude.{◌≡◌, ℕ, ◌+◌, ◌-◌, ◌/◌, ◌%◌, ◌^◌, ◌<◌, ◌≤◌, Bool, true, false, ◌&&◌}
 use Rattle.std.specs.Prelude.{◌||◌, not, List, length, take, drop, ◌++◌, Result, Ok, Err, nat_lt}
@@ -14,15 +14,15 @@ pub record MpiValue : Type 0 where
   pub bits : ℕ
   pub octets : List ℕ
 
--- how many octets so many bits take
+-- how many octets this many bits take
 abbrev pub octets_of : ℕ → ℕ
 octets_of bits = (bits + 7) / 8
 
--- the spelling
+-- the encoding
 abbrev pub mpi_octets : MpiValue → List ℕ
 mpi_octets m = to_be_bytes w16 m.bits ++ m.octets
 
--- what has a spelling
+-- what can be encoded
 pub record IsMpi (m : MpiValue) : Type 0 where
   pub bits : m.bits < 2 ^ 16
   pub octets : length m.octets ≡ octets_of m.bits
@@ -32,11 +32,11 @@ pub record IsMpi (m : MpiValue) : Type 0 where
 abbrev pub is_strict : MpiValue → Bool
 is_strict m = (m.bits == 0) || (slice_index m.octets 0 / 2 ^ ((m.bits - 1) % 8) == 1)
 
--- what may stand where strictness is asked for, or not
+-- what is allowed, with strictness required or not
 abbrev pub MayStand : Bool → MpiValue → Type 0
 MayStand strict m = strict ≡ true → is_strict m ≡ true
 
--- the octets begin with the spelling of an integer that may stand, which takes so many
+-- the octets begin with the encoding of an allowed integer, which takes this many of them
 pub record MpiBegins (strict : Bool) (o : List ℕ) (m : MpiValue) (count : ℕ) : Type 0 where
   pub mpi : IsMpi m
   pub stands : MayStand strict m
@@ -44,11 +44,11 @@ pub record MpiBegins (strict : Bool) (o : List ℕ) (m : MpiValue) (count : ℕ)
   pub within : count ≤ length o
   pub spelled : take count o ≡ mpi_octets m
 
--- why the octets begin with no integer that may stand
+-- why the octets don't begin with an allowed integer
 abbrev pub MpiRefused : Bool → List ℕ → Reason → Type 0
--- they begin with the spelling of none
+-- they don't begin with the encoding of any integer
 MpiRefused strict o Short = (m : MpiValue) (rest : List ℕ) → IsMpi m → o ≡ mpi_octets m ++ rest → ⊥
--- they begin with that of one which isn't strict
+-- they begin with that of an integer that isn't strict
 MpiRefused strict o MpiBits =
     (m : MpiValue) × (rest : List ℕ) × IsMpi m × (o ≡ mpi_octets m ++ rest) × (strict ≡ true)
     × (is_strict m ≡ false)

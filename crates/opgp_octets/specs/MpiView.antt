@@ -1,4 +1,4 @@
--- What a view of a multiprecision integer shows.
+-- The value of a view of a multiprecision integer.
 use Rattle.opgp_octets.specs.declared.mpi_view.MpiView.{MpiView}
 use Rattle.opgp_octets.specs.Mpi.{MpiValue}
 

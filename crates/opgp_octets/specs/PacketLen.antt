@@ -7,14 +7,14 @@ use Rattle.opgp_octets.specs.declared.packet_len.PacketLen.{PacketLen}
 use Rattle.opgp_octets.specs.declared.packet_len.PacketLen.TheVariants as len
 use Rattle.opgp_octets.specs.Reading.{number_at}
 
--- what each form may hold
+-- the values that each form can hold
 abbrev pub PacketLenFits : PacketLen → Type 0
 PacketLenFits (len.One n) = n ≤ 191
 PacketLenFits (len.Two n) = (192 ≤ n) × (n ≤ 8383)
 PacketLenFits (len.Five n) = n < 2 ^ 32
 PacketLenFits (len.Partial power) = power ≤ 30
 
--- the spelling
+-- the encoding
 abbrev pub packet_len_octets : PacketLen → List ℕ
 packet_len_octets (len.One n) = n ∷ []
 packet_len_octets (len.Two n) = ((n - 192) / 256 + 192) ∷ (n - 192) % 256 ∷ []
@@ -33,7 +33,7 @@ abbrev pub IsPartial : PacketLen → Type 0
 IsPartial (len.Partial power) = Unit {0}
 IsPartial other = ⊥
 
--- the octets begin with the spelling of the length, which takes so many
+-- the octets begin with the encoding of the length, which takes this many of them
 pub record PacketLenBegins (o : List ℕ) (len : PacketLen) (count : ℕ) : Type 0 where
   pub fits : PacketLenFits len
   pub size : count ≡ length (packet_len_octets len)

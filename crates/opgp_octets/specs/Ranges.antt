@@ -1,4 +1,4 @@
--- The limits: what each may be, and what it usually is.
+-- The limits: the range and the default of each.
 use Rattle.std.specs.Prelude.{ℕ, ◌≤◌}
 use Rattle.opgp_octets.specs.declared.limits.Range.{Range}
 

@@ -10,18 +10,18 @@ abbrev pub ◌>>=◌ : {A B E : Type 0} → Result A E → (A → Result B E) �
 (Ok x) >>= f = f x
 (Err e) >>= f = Err e
 
--- a big-endian number of some octets, and what follows
+-- a big-endian number of this width, and what follows it
 abbrev pub number_at : Width → List ℕ → Option (ℕ × List ℕ)
 number_at w o =
     if nat_lt (length o) (byte_len w) then None else Some
     (from_be_bytes w (take (byte_len w) o), drop (byte_len w) o)
 
--- What a function returned, seen by view, is what reading gives.
+-- A function's result, seen by view, is that of reading.
 abbrev pub Reads : {X Y E : Type 0} → (X → Y) → Result X E → Result Y E → Type 0
 Reads view (Ok x) read = read ≡ Ok (view x)
 Reads view (Err e) read = read ≡ Err e
 
--- a field whose octets aren't all there
+-- a field whose octets are incomplete
 abbrev pub or_short : {A : Type 0} → Option A → Result A Reason
 or_short None = Err Short
 or_short (Some x) = Ok x

@@ -1,4 +1,4 @@
--- What a refusal says: the text of its fault, or that memory was wanted.
+-- The text of a refusal: that of its fault, or that memory ran out.
 use Rattle.std.specs.Prelude.{ℕ, List, codes}
 use Rattle.opgp_octets.specs.Fault.{body_fault_text, reason_name}
 use Rattle.opgp_octets.specs.declared.fault.Reason.TheVariants as reason
@@ -18,7 +18,7 @@ abbrev pub parse_fault_text : ParseFault → List ℕ
 parse_fault_text (parse.Body f) = body_fault_text f
 parse_fault_text parse.Memory = codes "out of memory"
 
--- a reader that was spent by an earlier want of memory has that reason
+-- a reader that ran out of memory earlier has the reason `Spent`
 abbrev pub push_fault_text : PushFault → List ℕ
 push_fault_text push.Memory = codes "out of memory"
 push_fault_text push.Spent = reason_name reason.Spent

@@ -1,5 +1,5 @@
 -- The length of a subpacket (RFC 9580, 5.2.3.7), as a table from forms to octets. First octets 224
--- to 254 begin two octets here, and partial lengths in a packet's header.
+-- to 254 begin a length of two octets here, but are partial lengths in a packet's header.
 use Rattle.std.specs.Prelude.{◌≡◌, ℕ, ◌+◌, ◌*◌, ◌-◌, ◌/◌, ◌%◌, ◌^◌, ◌<◌, ◌≤◌, List, [], ◌∷◌, length}
 use Rattle.std.specs.Prelude.{take, Option, Some, None, option_map, nat_lt, if◌then◌else◌}
 use Rattle.std.specs.Int.{w32, to_be_bytes}
@@ -8,7 +8,7 @@ use Rattle.opgp_octets.specs.declared.sub_len.SubLen.{SubLen}
 use Rattle.opgp_octets.specs.declared.sub_len.SubLen.TheVariants as len
 use Rattle.opgp_octets.specs.Reading.{number_at}
 
--- what each form may hold
+-- the values that each form can hold
 abbrev pub SubLenFits : SubLen → Type 0
 SubLenFits (len.One n) = n ≤ 191
 SubLenFits (len.Two n) = (192 ≤ n) × (n ≤ 16319)
@@ -19,7 +19,7 @@ pub SubLenFits-prop : (len : SubLen) → IsProp (SubLenFits len)
 SubLenFits-prop (len.One n) = hlevel props
 SubLenFits-prop other = hlevel props
 
--- the spelling
+-- the encoding
 abbrev pub sub_len_octets : SubLen → List ℕ
 sub_len_octets (len.One n) = n ∷ []
 sub_len_octets (len.Two n) = ((n - 192) / 256 + 192) ∷ (n - 192) % 256 ∷ []
@@ -31,7 +31,7 @@ sub_len_amount (len.One n) = n
 sub_len_amount (len.Two n) = n
 sub_len_amount (len.Five n) = n
 
--- the octets begin with the spelling of the length, which takes so many
+-- the octets begin with the encoding of the length, which takes this many of them
 pub record SubLenBegins (o : List ℕ) (len : SubLen) (count : ℕ) : Type 0 where
   pub fits : SubLenFits len
   pub size : count ≡ length (sub_len_octets len)

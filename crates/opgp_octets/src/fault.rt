@@ -6,40 +6,40 @@ ghost use Rattle.opgp_octets.specs.Fault.{layer_name, reason_name, reason_number
 /// The layer that refuses an input, lowest first.
 #[derive(Clone, Copy, Debug, PartialEq, Eq)]
 pub enum Layer {
-    /// The octets as such: there are too many.
+    /// The input as a whole: it is too long.
     Input,
     /// The armored text (RFC 9580, 6).
     Armor,
     /// The packets' headers and lengths (RFC 9580, 4.2).
     Framing,
-    /// What a packet holds (RFC 9580, 5).
+    /// The contents of a packet's body (RFC 9580, 5).
     Body,
     /// The order of packets (RFC 9580, 10.1).
     Composition,
 }
 
-/// Why an input is refused. Each reason has a number, which stays.
+/// Why an input is refused. Each reason has a number, which never changes.
 #[derive(Clone, Copy, Debug, PartialEq, Eq)]
 pub enum Reason {
-    /// The reader has met want of memory before.
+    /// The reader ran out of memory before.
     Spent = 1,
-    /// The octets of a field aren't all there.
+    /// Octets of a field are missing.
     Short = 2,
     /// A count of bits isn't that of the most significant bit.
     MpiBits = 3,
     /// The text has no armored block.
     NoBlock = 10,
-    /// A begin line has no label that is known.
+    /// A begin line has an unknown label.
     Label = 11,
-    /// A line among the headers is none.
+    /// A line among the headers isn't a header.
     Header = 12,
-    /// A data line has an octet that is no base64 letter.
+    /// A data line has an octet that isn't a base64 letter.
     Letters = 13,
-    /// The letters can't become base64 with its padding.
+    /// The letters aren't base64 with its padding.
     Padding = 14,
-    /// Something but blank lines stands between the checksum line and the end line.
+    /// Something other than blank lines is between the checksum line and the end line.
     AfterChecksum = 15,
-    /// A line with a dash in a block's data isn't its end line.
+    /// A line in a block's data begins with a hyphen but isn't its end line.
     EndLabel = 16,
     /// The text ends within a block.
     Unfinished = 17,
@@ -53,25 +53,25 @@ pub enum Reason {
     TypeZero = 21,
     /// A packet of compressed data.
     Compressed = 22,
-    /// A packet of a critical type that isn't known.
+    /// A packet of a critical type that is unknown.
     UnknownCritical = 23,
     /// A packet of indeterminate length, in the legacy format.
     Indeterminate = 24,
-    /// The octets of a packet aren't all there.
+    /// Octets of a packet are missing.
     Truncated = 25,
     /// A partial length where the packet's type allows none.
     PartialKind = 26,
-    /// A first piece of less than 512 octets.
+    /// A first piece of fewer than 512 octets.
     FirstPartial = 27,
     /// A body longer than the limit.
     BodyTooLong = 28,
     /// More partial lengths than the limit.
     TooManyPieces = 29,
-    /// A key of a version that isn't read.
+    /// A key of a version that isn't supported.
     KeyVersion = 30,
     /// A version 4 key of more octets than its fingerprint can count.
     KeyTooLong = 31,
-    /// A count of octets isn't that of the octets after it.
+    /// A count of octets isn't the number of octets that follow it.
     Count = 32,
     /// A curve's object identifier of a reserved size.
     OidSize = 33,
@@ -81,11 +81,11 @@ pub enum Reason {
     Trailing = 35,
     /// A subpacket of length 0.
     SubEmpty = 36,
-    /// A subpacket that passes its area.
+    /// A subpacket that is longer than what is left of its area.
     SubShort = 37,
-    /// An area that passes its body.
+    /// An area that is longer than what is left of its body.
     AreaShort = 40,
-    /// A salt of another size than its hash wants.
+    /// A salt whose size isn't that of its hash algorithm.
     SaltSize = 41,
     /// A component or signature before the first primary key.
     NoPrimary = 50,
@@ -95,7 +95,7 @@ pub enum Reason {
     CertTooLong = 52,
     /// The packets aren't a signed literal.
     NotASignedLiteral = 53,
-    /// A block with another label than is wanted.
+    /// A block with another label than expected.
     BlockLabel = 54,
 }
 
@@ -106,7 +106,7 @@ pub struct Fault {
     pub layer: Layer,
     /// Why it does.
     pub reason: Reason,
-    /// The armored block; 0 for binary input.
+    /// The number of the armored block; 0 for binary input.
     pub block: u64,
     /// Where the line begins in the text, or the packet in its block's octets.
     pub pos: u64,
@@ -162,7 +162,7 @@ impl Layer {
     }
 }
 
-/// The name of a variant, which is the variant's own.
+/// The name of a variant, which is that of the variant itself.
 macro_rules! names {
     ($value:expr, $table:ident; $($variant:ident)*) => {
         match $value {

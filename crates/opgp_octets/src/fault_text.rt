@@ -12,7 +12,7 @@ use std::fmt;
 
 /// The fault's line, without a line end: `<layer>: <Reason> block <b> at <pos> inner <inner>`.
 ///
-/// It is what the fault displays. An error is want of memory.
+/// It is what `Display` writes. Fails only when out of memory.
 pub fn fault_line(alloc: Global, fault: &Fault) -> Result<String, OutOfMemory>
     ensures { IfOk result (λ line. string_bytes line ≡ fault_text fault.now) }
 {

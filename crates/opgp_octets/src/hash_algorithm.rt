@@ -75,8 +75,8 @@ impl HashAlgorithm {
         rows!(name_of, self)
     }
 
-    /// How many octets the salt of a version 6 signature has under it (RFC 9580, 9.5); None where the
-    /// standard names no size.
+    /// How many octets of salt a version 6 signature has under it (RFC 9580, 9.5); None if the
+    /// standard gives no size.
     pub fn salt_size(self) -> Option<u8>
         ensures { result ≡ salt_size self }
     {

@@ -3,7 +3,7 @@
 ghost use Rattle.std.specs.Prelude.{◌≡◌, ◌*◌, length};
 ghost use Rattle.hex.specs.Hex.{encode_upper};
 
-/// The digits: one look at them is faster than the lower-case ones of `hex`, raised to upper case.
+/// Looking a digit up here is faster than making it upper-case after `hex`.
 const DIGITS: &[u8; 16] = b"0123456789ABCDEF";
 
 /// Writes the octets as upper-case digits, two an octet.
@@ -18,7 +18,7 @@ pub fn write_digits(octets: &[u8], digits: &mut [u8])
     }
 }
 
-/// Writes the octets as upper-case digits, two an octet, and lends the digits as a text.
+/// Writes the octets as upper-case digits, two an octet, and returns the digits as text.
 pub fn write_hexadecimal<'b>(octets: &[u8], digits: &'b mut [u8]) -> &'b str
     requires { length digits.old ≡ 2 * length octets.now }
     ensures { result.now ≡ encode_upper octets.now }

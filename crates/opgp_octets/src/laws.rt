@@ -1,4 +1,5 @@
-//! What the definitions imply: no spelling begins another, and what was written is read again.
+//! What the definitions imply: no encoding is a proper prefix of another, and what was written is
+//! read again.
 
 ghost use Rattle.std.specs.Prelude.{◌≡◌, ◌++◌, List, ℕ, Bool, Some, Ok, length};
 ghost use Rattle.opgp_octets.specs.PacketLen.{PacketLenFits, packet_len_octets, packet_len_at};
@@ -7,42 +8,43 @@ ghost use Rattle.opgp_octets.specs.Mpi.{MpiValue, IsMpi, MayStand, mpi_octets, m
 ghost use Rattle.opgp_octets.specs.declared.packet_len.PacketLen.{PacketLen};
 ghost use Rattle.opgp_octets.specs.declared.sub_len.SubLen.{SubLen};
 
-/// No spelling of a packet length begins another.
+/// No packet length's encoding is a proper prefix of another's.
 #[tactic(auto, using(crate::proofs::PacketLens::one_packet_len))]
 pub fn one_packet_len()
     ensures { (l m : PacketLen) (x y : List ℕ) → PacketLenFits l → PacketLenFits m
         → packet_len_octets l ++ x ≡ packet_len_octets m ++ y → (l ≡ m) × (x ≡ y) }
 {}
 
-/// A packet length that was written is read again, whatever follows.
+/// A packet length that was written is read again, whatever follows it.
 #[tactic(auto, using(crate::proofs::PacketLens::packet_len_again))]
 pub fn written_packet_len()
     ensures { (l : PacketLen) (rest : List ℕ) → PacketLenFits l
         → packet_len_at (packet_len_octets l ++ rest) ≡ Some (l, length (packet_len_octets l)) }
 {}
 
-/// No spelling of a subpacket length begins another.
+/// No subpacket length's encoding is a proper prefix of another's.
 #[tactic(auto, using(crate::proofs::SubLens::one_sub_len))]
 pub fn one_sub_len()
     ensures { (l m : SubLen) (x y : List ℕ) → SubLenFits l → SubLenFits m
         → sub_len_octets l ++ x ≡ sub_len_octets m ++ y → (l ≡ m) × (x ≡ y) }
 {}
 
-/// A subpacket length that was written is read again, whatever follows.
+/// A subpacket length that was written is read again, whatever follows it.
 #[tactic(auto, using(crate::proofs::SubLens::sub_len_again))]
 pub fn written_sub_len()
     ensures { (l : SubLen) (rest : List ℕ) → SubLenFits l
         → sub_len_at (sub_len_octets l ++ rest) ≡ Some (l, length (sub_len_octets l)) }
 {}
 
-/// No spelling of a multiprecision integer begins another.
+/// No multiprecision integer's encoding is a proper prefix of another's.
 #[tactic(auto, using(crate::proofs::Mpis::one_mpi))]
 pub fn one_mpi()
     ensures { (m n : MpiValue) (x y : List ℕ) → IsMpi m → IsMpi n
         → mpi_octets m ++ x ≡ mpi_octets n ++ y → (m ≡ n) × (x ≡ y) }
 {}
 
-/// A multiprecision integer that was written is read again, where it may stand, whatever follows.
+/// A multiprecision integer that was written is read again where it is allowed, whatever follows
+/// it.
 #[tactic(auto, using(crate::proofs::Mpis::mpi_again))]
 pub fn written_mpi()
     ensures { (strict : Bool) (m : MpiValue) (rest : List ℕ) → IsMpi m → MayStand strict m

@@ -1,4 +1,4 @@
-//! The octets that all of OpenPGP is spelled in: limits, faults, lengths, registered numbers and
+//! The basics that all other crates use: limits, faults, lengths, registered numbers and
 //! multiprecision integers.
 #![tactic(auto)]
 

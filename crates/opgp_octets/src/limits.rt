@@ -4,14 +4,14 @@ ghost use Rattle.std.specs.Prelude.{◌≡◌, ◌↔◌, IsSome, IfSome, IsTrue
 ghost use Rattle.opgp_octets.specs.Ranges.{AreAllowed, IsIn, line_range, body_range, cert_range};
 ghost use Rattle.opgp_octets.specs.Ranges.{input_range, pieces_range};
 
-/// What a limit may be, from the least to the most, and what it usually is.
+/// The range of a limit, and its default.
 #[derive(Clone, Copy, Debug)]
 pub struct Range {
-    /// The least that it may be.
+    /// The least value.
     pub least: u64,
-    /// The most that it may be.
+    /// The greatest value.
     pub most: u64,
-    /// What it usually is.
+    /// The default.
     pub usual: u64,
 }
 
@@ -52,7 +52,7 @@ impl Limits {
         usual: 16_777_216,
     };
 
-    /// Octets that a certificate's packets are spelled in, or those before the first.
+    /// Octets of a certificate's packets, headers included, or of the packets before the first one.
     pub const CERT: Range = Range {
         least: 512,
         most: 1_099_511_627_776,
@@ -100,7 +100,7 @@ impl Limits {
         }
     }
 
-    /// The usual limits: lines of 8,192 octets, bodies of 16,777,216, certificates of 67,108,864,
+    /// The default limits: lines of 8,192 octets, bodies of 16,777,216, certificates of 67,108,864,
     /// an input of 2^40, and 1,048,576 partial lengths of a packet.
     pub fn usual() -> Limits
         ensures line { line_limit result ≡ line_range.usual }
@@ -118,7 +118,7 @@ impl Limits {
         }
     }
 
-    /// The most octets of an armored line, without its line feed.
+    /// The greatest number of octets of an armored line, without its line feed.
     pub fn line(self) -> u64
         ensures value { result ≡ line_limit self }
         ensures range { IsIn line_range result }
@@ -126,7 +126,7 @@ impl Limits {
         self.line
     }
 
-    /// The most octets of a packet's body.
+    /// The greatest number of octets of a packet's body.
     pub fn body(self) -> u64
         ensures value { result ≡ body_limit self }
         ensures range { IsIn body_range result }
@@ -134,7 +134,7 @@ impl Limits {
         self.body
     }
 
-    /// The most octets that a certificate's packets are spelled in.
+    /// The greatest number of octets of a certificate's packets, headers included.
     pub fn cert(self) -> u64
         ensures value { result ≡ cert_limit self }
         ensures range { IsIn cert_range result }
@@ -142,7 +142,7 @@ impl Limits {
         self.cert
     }
 
-    /// The most octets of the input.
+    /// The greatest number of octets of the input.
     pub fn input(self) -> u64
         ensures value { result ≡ input_limit self }
         ensures range { IsIn input_range result }
@@ -150,7 +150,7 @@ impl Limits {
         self.input
     }
 
-    /// The most partial lengths of a packet.
+    /// The greatest number of partial lengths of one packet.
     pub fn pieces(self) -> u64
         ensures value { result ≡ pieces_limit self }
         ensures range { IsIn pieces_range result }

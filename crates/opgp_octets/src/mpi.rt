@@ -22,7 +22,7 @@ pub struct Mpi {
 impl Mpi {
     ghost use Rattle.opgp_octets.specs.MpiOwned.{mpi_owned, MpiFaultOf};
 
-    /// How many bits it says that it has.
+    /// The count of bits that it states.
     pub fn bits(&self) -> u16
         ensures { result ≡ (mpi_owned self.now).bits }
     {
@@ -41,12 +41,11 @@ impl Mpi {
     /// The integer that begins the octets, and how many octets it takes.
     ///
     /// With `strict` its count of bits must be that of its most significant bit. The errors are
-    /// [`MpiFault::Short`], with `strict` [`MpiFault::MpiBits`], and want of memory.
+    /// [`MpiFault::Short`], with `strict` [`MpiFault::MpiBits`], and running out of memory.
     pub fn read(alloc: Global, o: &[u8], strict: bool) -> Result<(Mpi, usize), MpiFault>
-        // What is read is an integer that may stand, whose spelling begins the octets.
+        // What is read is an allowed integer, whose encoding begins the octets.
         ensures found { IfOk result (λ x. MpiBegins strict o.now (mpi_owned x.0) x.1) }
-        // What begins with the spelling of an integer that may stand is read, unless memory is
-        // wanting.
+        // An allowed integer whose encoding begins the octets is read, unless memory runs out.
         ensures only { (m : MpiValue) (rest : List ℕ) → IsMpi m → MayStand strict m
             → o.now ≡ mpi_octets m ++ rest
             → IfErr result (λ e. e ≡ MpiFault.Memory) }
@@ -65,9 +64,9 @@ impl Mpi {
         }
     }
 
-    /// An equal integer.
+    /// A copy of this integer.
     ///
-    /// An error is want of memory.
+    /// Fails only when out of memory.
     pub fn copy(&self, alloc: Global) -> Result<Mpi, OutOfMemory>
         ensures { IfOk result (λ m. mpi_owned m ≡ mpi_owned self.now) }
     {

@@ -22,7 +22,7 @@ pub struct MpiView<'a> {
 impl<'a> MpiView<'a> {
     ghost use Rattle.opgp_octets.specs.MpiView.{mpi_seen};
 
-    /// The integer of these octets, which are as many as its bits take.
+    /// The integer of these octets, which must be as many as its bits take.
     pub fn from_parts(bits: u16, octets: &'a [u8]) -> MpiView<'a>
         requires { length octets.now ≡ octets_of bits }
         ensures { mpi_seen result ≡ record { bits = bits; octets = octets.now } }
@@ -30,7 +30,7 @@ impl<'a> MpiView<'a> {
         MpiView { bits, octets }
     }
 
-    /// How many bits it says that it has.
+    /// The count of bits that it states.
     pub fn bits(&self) -> u16
         ensures { result ≡ (mpi_seen self.now).bits }
     {
@@ -53,7 +53,7 @@ impl<'a> MpiView<'a> {
         self.bits == 0 || self.octets[0] >> ((self.bits - 1) % 8) == 1
     }
 
-    /// Whether strictness is asked for and not kept.
+    /// Whether strictness is required but the count is off.
     fn breaks(&self, strict: bool) -> bool
         ensures { result ≡ (strict && not (is_strict (mpi_seen self.now))) }
     {
@@ -63,11 +63,11 @@ impl<'a> MpiView<'a> {
     /// The integer that begins the octets, and how many octets it takes.
     ///
     /// With `strict` its count of bits must be that of its most significant bit. The errors are
-    /// [`Reason::Short`] and, with `strict`, [`Reason::MpiBits`]. Takes no memory.
+    /// [`Reason::Short`] and, with `strict`, [`Reason::MpiBits`]. Allocates nothing.
     pub fn read(o: &'a [u8], strict: bool) -> Result<(MpiView<'a>, usize), Reason>
-        // What is read is an integer that may stand, whose spelling begins the octets.
+        // What is read is an allowed integer, whose encoding begins the octets.
         ensures found { IfOk result (λ x. MpiBegins strict o.now (mpi_seen x.0) x.1) }
-        // What begins with the spelling of an integer that may stand is read.
+        // An allowed integer whose encoding begins the octets is read.
         ensures only { (m : MpiValue) (rest : List ℕ) → IsMpi m → MayStand strict m
             → o.now ≡ mpi_octets m ++ rest → IsOk result }
         ensures refused { IfErr result (λ e. MpiRefused strict o.now e) }

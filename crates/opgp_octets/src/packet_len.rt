@@ -18,12 +18,12 @@ pub enum PacketLen {
     Two(u16),
     /// The octet 255 and four more: any length.
     Five(u32),
-    /// One octet: a piece of two to this power, 0 to 30, with another length after it.
+    /// One octet: a piece of 2 to this power octets, 0 to 30, with another length after it.
     Partial(u8),
 }
 
 impl PacketLen {
-    /// Whether the form can spell the length.
+    /// Whether the form can encode the length.
     pub fn fits(self) -> bool
         ensures { IsTrue result ↔ PacketLenFits self }
     {
@@ -58,14 +58,14 @@ fn len_of(o: &[u8]) -> Option<(PacketLen, usize)>
     }
 }
 
-/// The length that begins the octets, and how many octets it takes; None where its octets aren't
-/// all there.
+/// The length that begins the octets, and how many octets it takes; None if some of them are
+/// missing.
 ///
-/// Takes no memory.
+/// Allocates nothing.
 pub fn read_len(o: &[u8]) -> Option<(PacketLen, usize)>
-    // What is read is a length whose spelling begins the octets.
+    // What is read is a length whose encoding begins the octets.
     ensures found { IfSome result (λ x. PacketLenBegins o.now x.0 x.1) }
-    // Nothing is read only where no length's spelling begins the octets.
+    // Nothing is read only if no length's encoding begins the octets.
     ensures none { IfNone result
         ((len : PacketLen) (rest : List ℕ) → PacketLenFits len
         → o.now ≡ packet_len_octets len ++ rest → ⊥) }
@@ -76,12 +76,12 @@ pub fn read_len(o: &[u8]) -> Option<(PacketLen, usize)>
 
 /// Writes the length at the end of `out`, in its form.
 ///
-/// An error is want of memory; `out` is then as it was.
+/// Fails only when out of memory; `out` is then unchanged.
 pub fn write_len(len: &PacketLen, out: &mut Vec<u8>) -> Result<(), OutOfMemory>
     requires { PacketLenFits len.now }
     ensures ok { OnOk result (out.new.items ≡ out.old.items ++ packet_len_octets len.now) }
     ensures err { OnErr result (out.new.items ≡ out.old.items) }
-    // Room that is there suffices.
+    // It can't fail if the vector has the room.
     ensures succeeds { vec_len out.old + length (packet_len_octets len.now) ≤ vec_capacity out.old
         → IsOk result }
 {
@@ -100,9 +100,9 @@ pub fn write_len(len: &PacketLen, out: &mut Vec<u8>) -> Result<(), OutOfMemory>
     }
 }
 
-/// The form that spells the length in the fewest octets, never partial.
+/// The form that encodes the length in the fewest octets, never partial.
 ///
-/// Takes no memory.
+/// Allocates nothing.
 pub fn shortest(n: u32) -> PacketLen
     ensures fits { PacketLenFits result }
     ensures amount { packet_len_amount result ≡ n }

@@ -35,7 +35,7 @@ macro_rules! rows {
 /// The type of a packet (RFC 9580, 5).
 #[derive(Clone, Copy, PartialEq, Eq)]
 pub enum PacketType {
-    /// 0: reserved: no packet has it.
+    /// 0: reserved; no packet has it.
     Reserved,
     /// 1: A session key, encrypted to a public key (5.1).
     PublicKeyEncryptedSessionKey,
@@ -43,7 +43,7 @@ pub enum PacketType {
     Signature,
     /// 3: A session key, encrypted by a passphrase (5.3).
     SymmetricKeyEncryptedSessionKey,
-    /// 4: what a signature behind the data needs before it (5.4).
+    /// 4: announces a signature that follows the signed data (5.4).
     OnePassSignature,
     /// 5: A secret primary key (5.5.1.3).
     SecretKey,
@@ -53,13 +53,13 @@ pub enum PacketType {
     SecretSubkey,
     /// 8: compressed packets (5.6).
     CompressedData,
-    /// 9: encrypted data without integrity (5.7).
+    /// 9: encrypted data without integrity protection (5.7).
     SymmetricallyEncryptedData,
-    /// 10: A marker, which is passed over (5.8).
+    /// 10: A marker, which is ignored (5.8).
     Marker,
     /// 11: A literal (5.9).
     LiteralData,
-    /// 12: trust, as one program keeps it for itself (5.10).
+    /// 12: trust, kept by an implementation for itself (5.10).
     Trust,
     /// 13: A user ID (5.11).
     UserId,
@@ -67,9 +67,9 @@ pub enum PacketType {
     PublicSubkey,
     /// 17: A user attribute (5.12).
     UserAttribute,
-    /// 18: encrypted data with integrity (5.13).
+    /// 18: encrypted data with integrity protection (5.13).
     EncryptedIntegrityProtectedData,
-    /// 21: padding, which says nothing (5.14).
+    /// 21: padding, which is ignored (5.14).
     Padding,
     /// Any other number.
     Other(u8),

@@ -1,4 +1,4 @@
-//! Why a call gives no value, where the octets alone are not the reason.
+//! Errors of calls that return a value.
 
 ghost use Rattle.std.specs.Prelude.{◌≡◌, Some};
 ghost use Rattle.opgp_octets.specs.Refusal.{mpi_fault_text, parse_fault_text, push_fault_text};
@@ -7,35 +7,35 @@ use crate::fault::{BodyFault, Reason};
 use std::error::Error;
 use std::fmt;
 
-/// A growth was refused for want of memory.
+/// An allocation failed.
 pub type OutOfMemory = std::alloc::AllocError;
 
 /// Why no multiprecision integer was read.
 #[derive(Clone, Copy, Debug, PartialEq, Eq)]
 pub enum MpiFault {
-    /// Its octets aren't all there.
+    /// Octets of it are missing.
     Short,
-    /// Its count of bits isn't that of its most significant bit, and strictness was asked for.
+    /// Its count of bits isn't that of its most significant bit, though strictness was required.
     MpiBits,
-    /// A growth was refused.
+    /// An allocation failed.
     Memory,
 }
 
 /// Why a packet's body was not parsed.
 #[derive(Clone, Copy, Debug, PartialEq, Eq)]
 pub enum ParseFault {
-    /// The body is at fault.
+    /// The body has a fault.
     Body(BodyFault),
-    /// A growth was refused.
+    /// An allocation failed.
     Memory,
 }
 
 /// Why a pushed reader took nothing.
 #[derive(Clone, Copy, Debug, PartialEq, Eq)]
 pub enum PushFault {
-    /// A growth was refused; the reader is spent from now on.
+    /// An allocation failed; the reader is spent from now on.
     Memory,
-    /// An earlier call has answered [`PushFault::Memory`].
+    /// An earlier call returned [`PushFault::Memory`].
     Spent,
 }
 

@@ -1,6 +1,6 @@
-//! What is read off a table of registered numbers, whose rows are a number, a variant and a name.
+//! Conversions for a table of registered numbers, whose rows are a number, a variant and a name.
 
-/// The variant of a number: `Other` with the number where no row has it.
+/// The variant of a number; `Other` with the number if no row has it.
 macro_rules! by_number {
     ($number:expr, $table:ident; $($n:literal $variant:ident $name:literal;)*) => {
         match $number {

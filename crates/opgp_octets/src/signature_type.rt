@@ -34,7 +34,7 @@ macro_rules! rows {
 pub enum SignatureType {
     /// 0x00: over a document (5.2.1.1).
     Binary,
-    /// 0x01: over a text, its line ends made alike (5.2.1.2).
+    /// 0x01: over a text, its line ends canonical (5.2.1.2).
     Text,
     /// 0x02: over its own subpackets alone (5.2.1.3).
     Standalone,
@@ -44,19 +44,19 @@ pub enum SignatureType {
     PersonaCertification,
     /// 0x12: A certification after a casual check (5.2.1.6).
     CasualCertification,
-    /// 0x13: A certification after a careful check (5.2.1.7).
+    /// 0x13: A certification after a thorough check (5.2.1.7).
     PositiveCertification,
-    /// 0x18: A primary key over its subkey (5.2.1.8).
+    /// 0x18: a primary key binds its subkey (5.2.1.8).
     SubkeyBinding,
-    /// 0x19: A subkey over its primary key (5.2.1.9).
+    /// 0x19: a signing subkey binds its primary key (5.2.1.9).
     PrimaryKeyBinding,
     /// 0x1F: over a key (5.2.1.10).
     DirectKey,
-    /// 0x20: over a key that is revoked (5.2.1.11).
+    /// 0x20: the revocation of a key (5.2.1.11).
     KeyRevocation,
-    /// 0x28: over a subkey that is revoked (5.2.1.12).
+    /// 0x28: the revocation of a subkey (5.2.1.12).
     SubkeyRevocation,
-    /// 0x30: A certification that is revoked (5.2.1.13).
+    /// 0x30: the revocation of a certification (5.2.1.13).
     CertificationRevocation,
     /// 0x40: over its own subpackets, for its time (5.2.1.14).
     Timestamp,

@@ -8,7 +8,7 @@ ghost use Rattle.opgp_octets.specs.SubLen.{sub_len_octets, SubLenFits, SubLenBeg
 use crate::number::u32_at;
 use crate::refusal::OutOfMemory;
 
-/// The length of a subpacket, its type octet counted, and the form that it is written in.
+/// The length of a subpacket, its type octet included, and the form that it is written in.
 #[derive(Clone, Copy, Debug, PartialEq, Eq)]
 pub enum SubLen {
     /// One octet: 0 to 191.
@@ -22,7 +22,7 @@ pub enum SubLen {
 impl SubLen {
     ghost use Rattle.opgp_octets.specs.SubLen.{sub_len_amount};
 
-    /// Whether the form can spell the length.
+    /// Whether the form can encode the length.
     pub fn fits(self) -> bool
         ensures { IsTrue result ↔ SubLenFits self }
     {
@@ -33,7 +33,7 @@ impl SubLen {
         }
     }
 
-    /// How many octets it announces, the type octet counted.
+    /// How many octets it announces, the type octet included.
     pub fn amount(self) -> u32
         ensures { result ≡ sub_len_amount self }
     {
@@ -66,14 +66,14 @@ fn len_of(o: &[u8]) -> Option<(SubLen, usize)>
     }
 }
 
-/// The length that begins the octets, and how many octets it takes; None where its octets aren't
-/// all there.
+/// The length that begins the octets, and how many octets it takes; None if some of them are
+/// missing.
 ///
-/// Takes no memory.
+/// Allocates nothing.
 pub fn read_sub_len(o: &[u8]) -> Option<(SubLen, usize)>
-    // What is read is a length whose spelling begins the octets.
+    // What is read is a length whose encoding begins the octets.
     ensures found { IfSome result (λ x. SubLenBegins o.now x.0 x.1) }
-    // Nothing is read only where no length's spelling begins the octets.
+    // Nothing is read only if no length's encoding begins the octets.
     ensures none { IfNone result
         ((len : SubLen) (rest : List ℕ) → SubLenFits len → o.now ≡ sub_len_octets len ++ rest → ⊥) }
     ensures exact { result ≡ sub_len_at o.now }
@@ -83,12 +83,12 @@ pub fn read_sub_len(o: &[u8]) -> Option<(SubLen, usize)>
 
 /// Writes the length at the end of `out`, in its form.
 ///
-/// An error is want of memory; `out` is then as it was.
+/// Fails only when out of memory; `out` is then unchanged.
 pub fn write_sub_len(len: &SubLen, out: &mut Vec<u8>) -> Result<(), OutOfMemory>
     requires { SubLenFits len.now }
     ensures ok { OnOk result (out.new.items ≡ out.old.items ++ sub_len_octets len.now) }
     ensures err { OnErr result (out.new.items ≡ out.old.items) }
-    // Room that is there suffices.
+    // It can't fail if the vector has the room.
     ensures succeeds { vec_len out.old + length (sub_len_octets len.now) ≤ vec_capacity out.old
         → IsOk result }
 {

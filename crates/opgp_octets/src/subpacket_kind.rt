@@ -51,7 +51,7 @@ pub enum SubpacketKind {
     Exportable,
     /// 5: A trust signature (5.2.3.21).
     Trust,
-    /// 6: the limit of a trust signature (5.2.3.22).
+    /// 6: limits the scope of a trust signature (5.2.3.22).
     RegularExpression,
     /// 7: whether it is revocable (5.2.3.20).
     Revocable,
@@ -71,7 +71,7 @@ pub enum SubpacketKind {
     PreferredCompression,
     /// 23: flags for key servers (5.2.3.25).
     KeyServerPreferences,
-    /// 24: where updates of the key are (5.2.3.26).
+    /// 25: whether it is the primary user ID (5.2.3.27).
     PreferredKeyServer,
     /// 25: whether the user ID is the main one (5.2.3.27).
     PrimaryUserId,
@@ -83,15 +83,15 @@ pub enum SubpacketKind {
     SignersUserId,
     /// 29: why a key or certification was revoked (5.2.3.31).
     RevocationReason,
-    /// 30: features that are understood (5.2.3.32).
+    /// 30: features that are supported (5.2.3.32).
     Features,
-    /// 31: the signature that this one is about (5.2.3.33).
+    /// 31: the signature that this one refers to (5.2.3.33).
     SignatureTarget,
     /// 32: another signature (5.2.3.34).
     EmbeddedSignature,
     /// 33: the issuer's fingerprint (5.2.3.35).
     IssuerFingerprint,
-    /// 35: the fingerprint of a recipient (5.2.3.36).
+    /// 35: the fingerprint of an intended recipient (5.2.3.36).
     IntendedRecipient,
     /// 39: AEAD ciphersuites (5.2.3.15).
     PreferredAead,

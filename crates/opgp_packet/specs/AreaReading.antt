@@ -11,7 +11,7 @@ use Rattle.opgp_octets.specs.SubLen.{sub_len_amount, sub_len_at}
 use Rattle.opgp_packet.specs.Subpackets.{Sub}
 use Rattle.opgp_packet.specs.Fields.{fault_at}
 
--- a value, or a fault where so many of all octets are left
+-- a value, or a fault at the point where this many octets are left
 abbrev pub placed : {A : Type 0} → ℕ → ℕ → Result A Reason → Result A BodyFault
 placed total left (Ok x) = Ok x
 placed total left (Err reason) = Err (fault_at total left reason)
@@ -20,7 +20,7 @@ abbrev pub or_sub_short : {A : Type 0} → Option A → Result A Reason
 or_sub_short None = Err SubShort
 or_sub_short (Some x) = Ok x
 
--- a type octet and octets, so many together
+-- a type octet and data, this many octets together
 abbrev pub inside_at : SubLen → ℕ → List ℕ → Result (Sub × List ℕ) Reason
 inside_at len zero o = Err SubEmpty
 inside_at len (suc n) [] = Err SubShort
@@ -30,14 +30,14 @@ inside_at len (suc n) (kind ∷ o) = if nat_lt (length o) n then Err SubShort el
 unfoldable pub sub_at : List ℕ → Result (Sub × List ℕ) Reason
 sub_at o = or_sub_short (sub_len_at o) >>= λ x. inside_at x.0 (sub_len_amount x.0) (drop x.1 o)
 
--- the subpackets of an area that ends at this place of its body, at most so many
+-- the subpackets of an area that ends at this offset of its body, at most the given number
 abbrev pub subs_at : ℕ → ℕ → List ℕ → Result (List Sub) BodyFault
 subs_at end n [] = Ok []
 subs_at end zero (x ∷ o) = Ok []
 subs_at end (suc n) (x ∷ o) =
     placed end (length (x ∷ o)) (sub_at (x ∷ o)) >>= λ y. subs_at end n y.1 >>= λ z. Ok (y.0 ∷ z)
 
--- all of them: each takes an octet at least
+-- all of them: each takes at least one octet
 unfoldable pub area_at : ℕ → List ℕ → Result (List Sub) BodyFault
 area_at end o = subs_at end (length o) o
 

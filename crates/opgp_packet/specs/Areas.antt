@@ -4,12 +4,12 @@ use Rattle.opgp_packet.specs.Fields.{Field, subpackets}
 use Rattle.opgp_packet.specs.Subpackets.{Sub}
 use Rattle.opgp_packet.specs.SignatureBody.{SignatureValue, of_three, of_four, of_six, of_other}
 
--- the subpackets that a field is
+-- the subpackets of a field that is an area
 abbrev pub subs_of : Field → List Sub
 subs_of (subpackets extent subs) = subs
 subs_of other = []
 
--- those that the field of this place is, from 0
+-- those of the field at this position, from 0
 abbrev pub subs_at : List Field → ℕ → List Sub
 subs_at [] n = []
 subs_at (f ∷ fields) zero = subs_of f

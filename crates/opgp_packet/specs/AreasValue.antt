@@ -1,4 +1,4 @@
--- What signatures of versions 4 and 6 show, and the fields that spell them (RFC 9580, 5.2.3).
+-- The fields of signatures of versions 4 and 6 (RFC 9580, 5.2.3).
 use Rattle.std.specs.Prelude.{◌≡◌, ℕ, List, ◌∷◌, length, None, ◌==◌, if◌then◌else◌}
 use Rattle.std.proofs.Props.{props}
 use Rattle.opgp_octets.specs.KeyAlgorithm.{key_algorithm_of}
@@ -37,7 +37,8 @@ areas_fields v =
     ∷ subpackets (extent v.version) (subs_in v.unhashed)
     ∷ bare v.left ∷ (if v.version == 6 then named v.salt ∷ v.material else v.material)
 
--- what a signature hashes of itself: from its version to the end of the hashed area (5.2.4)
+-- the part of its body that a signature hashes: from its version to the end of the hashed area
+-- (5.2.4)
 abbrev pub front_of : AreasValue → List ℕ
 front_of v = v.version ∷ v.kind ∷ v.algorithm ∷ v.hash ∷ framed (extent v.version) v.hashed
 
@@ -55,11 +56,12 @@ areas_in {V} p o = record {
   material = fields_in p.material o;
 }
 
--- where the hashed area begins: behind four octets and its length
+-- where the hashed area begins: after four octets and its length
 abbrev pub hashed_start : ℕ → ℕ
 hashed_start v = if v == 6 then 8 else 6
 
--- they lie in the octets, the areas there are sound, and the material has the form of its algorithm
+-- the places are within the octets, the areas there have no fault, and the material has its
+-- algorithm's form
 pub record AreasLie {V : ℕ} (p : AreaPlaces V) (o : List ℕ) : Type 0 where
   pub first : p.hashed.start ≡ hashed_start V
   pub hashed : IsIn p.hashed (length o)

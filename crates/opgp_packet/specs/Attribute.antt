@@ -1,4 +1,4 @@
--- What a user attribute shows, owned or borrowed.
+-- The value of a user attribute, owned or borrowed.
 use Rattle.std.specs.Prelude.{◌≡◌, ℕ, List, length, None}
 use Rattle.std.proofs.Props.{props}
 use Rattle.opgp_packet.specs.AreaReading.{fault_in, subs_in}
@@ -9,7 +9,7 @@ use Rattle.opgp_packet.specs.declared.parsed.Octets.{Ghosts as OctetsOf}
 use Rattle.opgp_packet.specs.declared.parsed.Body.{Ghosts as BodyOf}
 use Rattle.opgp_packet.specs.declared.parsed.Parsed.{Parsed}
 
--- all of the octets are subpackets
+-- the octets are subpackets, to the end
 abbrev pub IsWhole : AttributePlaces → List ℕ → Type 0
 IsWhole p o = fault_in (length o) o ≡ None
 

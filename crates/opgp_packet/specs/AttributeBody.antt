@@ -7,7 +7,7 @@ use Rattle.opgp_packet.specs.Subpackets.{Sub}
 abbrev pub attribute : Grammar
 attribute = area to_end done
 
--- the fields that spell subpackets
+-- the fields that encode subpackets
 abbrev pub attribute_fields : List Sub → List Field
 attribute_fields subs = subpackets to_end subs ∷ []
 

@@ -1,4 +1,4 @@
--- What a cursor over a body shows, and what each of its calls reads.
+-- The state of a cursor over a body, and what each of its calls reads.
 use Rattle.std.specs.Prelude.{ℕ, List, length, drop, Result}
 use Rattle.opgp_octets.specs.declared.fault.BodyFault.{BodyFault}
 use Rattle.opgp_octets.specs.Reading.{Reads}
@@ -14,8 +14,7 @@ body_under c = c.body.now
 abbrev pub place_of : Cursor → ℕ
 place_of c = c.at
 
--- what a call returned, as the field that it shows, is what a field of the kind is there, or its
--- fault
+-- a call's result, as a field, is what reading a field of the kind gives there, or its fault
 abbrev pub ReadsField : {X : Type 0} → Kind → (X → Field) → Cursor → Cursor → Result X BodyFault
     → Type 0
 ReadsField kind shown old new result =

@@ -50,7 +50,7 @@ kind_at (fixed n) o = some_at n o >>= λ x. Ok (bare x.0, x.1)
 kind_at whole o = Ok (bare o, [])
 kind_at never o = Err Short
 
--- so many octets as an area
+-- the given number of octets, as an area
 abbrev pub area_as : ℕ → List ℕ → Result (List ℕ × List ℕ) Reason
 area_as n o = if nat_lt (length o) n then Err AreaShort else Ok (take n o, drop n o)
 
@@ -60,7 +60,7 @@ extent_at to_end o = Ok (o, [])
 extent_at behind_two o = or_short (number_at w16 o) >>= λ x. area_as x.0 x.1
 extent_at behind_four o = or_short (number_at w32 o) >>= λ x. area_as x.0 x.1
 
--- a field of a body of so many octets
+-- a field of a body of this many octets
 unfoldable pub step_at : ℕ → Kind → List ℕ → Result (Field × List ℕ) BodyFault
 step_at total kind o = placed total (length o) (kind_at kind o)
 

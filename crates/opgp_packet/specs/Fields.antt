@@ -1,4 +1,4 @@
--- Bodies as fields, one after the other: what each kind of field is, how fields are spelled, and
+-- Bodies as fields, one after the other: what each kind of field is, how fields are encoded, and
 -- which fault a body has (RFC 9580, 3.2, 5.2, 5.5, 5.9, 5.11, 5.12).
 use Rattle.std.specs.Prelude.{◌≡◌, ℕ, ◌+◌, ◌-◌, ◌^◌, ◌<◌, ◌≤◌, Bool, false, ◌||◌, ◌⊎◌, List, []}
 use Rattle.std.specs.Prelude.{◌∷◌, ◌++◌}
@@ -20,31 +20,31 @@ use Rattle.opgp_packet.specs.Subpackets.{Sub, subs_octets, AreSubs, AreaFault}
 pub data Kind : Type 0 where
   -- the version of a key
   version : Kind
-  -- one octet; this one, or else the reason; four octets
+  -- one octet; the given octet, or else the reason; four octets
   octet : Kind
   exact : Reason → ℕ → Kind
   four : Kind
-  -- four octets that count what follows
+  -- four octets that count those after them
   count : Kind
-  -- a multiprecision integer, perhaps a strict one
+  -- a multiprecision integer, strict or not
   mpi : Bool → Kind
-  -- a size octet and that many octets; a size below the least or above the most is refused for the
-  -- reason
+  -- a size octet and as many octets as it says; a size below the least or above the most is refused
+  -- with the reason
   sized : Reason → ℕ → ℕ → Kind
-  -- so many octets; all the rest
+  -- the given number of octets; all the rest
   fixed : ℕ → Kind
   whole : Kind
-  -- what no octets are
+  -- no octets at all match this one
   never : Kind
 
--- how an area of subpackets is delimited: it goes to the body's end, or stands behind a length of
--- two or four octets
+-- how an area of subpackets is delimited: it goes to the body's end, or follows a length of two or
+-- four octets
 pub data Extent : Type 0 where
   to_end : Extent
   behind_two : Extent
   behind_four : Extent
 
--- a field's value, which shows how it is spelled
+-- a field's value, which shows how it is encoded
 pub data Field : Type 0 where
   small : ℕ → Field
   wide : ℕ → Field
@@ -72,7 +72,7 @@ field_octets (subpackets extent subs) = framed extent (subs_octets subs)
 abbrev pub octets_of : List Field → List ℕ
 octets_of fields = flat_map field_octets fields
 
--- the field may stand as one of this kind, where so many octets follow it
+-- the field is allowed as one of this kind, with this many octets after it
 abbrev pub Stands : Kind → Field → ℕ → Type 0
 -- a body of version 4 has at most 65,535 octets, which its fingerprint counts in two (5.5.4.2)
 Stands version (small n) after = ((n ≡ 4) × (after ≤ 65534)) ⊎ (n ≡ 6)
@@ -87,25 +87,25 @@ Stands (fixed n) (bare o) after = (length o ≡ n) × IsOctets o
 Stands whole (bare o) after = (after ≡ 0) × IsOctets o
 Stands kind field after = ⊥
 
--- the octets may stand as an area, where so many follow it
+-- the octets are allowed as an area, with this many octets after it
 abbrev pub Extends : Extent → List ℕ → ℕ → Type 0
 Extends to_end o after = after ≡ 0
 Extends behind_two o after = length o < 2 ^ 16
 Extends behind_four o after = length o < 2 ^ 32
 
--- the field may stand as such an area
+-- the field is allowed as such an area
 abbrev pub StandsAsArea : Extent → Field → ℕ → Type 0
 StandsAsArea extent (subpackets e subs) after =
     (e ≡ extent) × AreSubs subs × Extends extent (subs_octets subs) after
 StandsAsArea extent field after = ⊥
 
--- a body: fields in order, where which field comes next may hang on those before it
+-- a body: fields in order, where the next field may depend on those before it
 pub data Grammar : Type 0 where
   done : Grammar
   field : Kind → (Field → Grammar) → Grammar
   area : Extent → Grammar → Grammar
 
--- the fields are those of the grammar, where so many octets follow them
+-- the fields are those of the grammar, with this many octets after them
 abbrev pub Follows : Grammar → List Field → ℕ → Type 0
 Follows done [] after = Unit {0}
 Follows (field kind next) (x ∷ xs) after =
@@ -136,7 +136,7 @@ pub record Body (grammar : Grammar) (fields : List Field) (o : List ℕ) : Type 
 
 -- ---- the first fault
 
--- a fault where so many of all octets are left
+-- a fault at the point where this many of all octets are left
 abbrev pub fault_at : ℕ → ℕ → Reason → BodyFault
 fault_at total left reason = record { reason = reason; inner = total - left }
 
@@ -145,7 +145,7 @@ abbrev pub HasNone : Kind → List ℕ → Type 0
 HasNone kind o =
     (x : Field) (rest : List ℕ) → Stands kind x (length rest) → o ≡ field_octets x ++ rest → ⊥
 
--- the reason then: the first that is true of the octets
+-- the reason then: the first one that is true of the octets
 abbrev pub reason_of : Kind → List ℕ → Reason
 reason_of version (n ∷ o) = if n == 4 then KeyTooLong else KeyVersion
 reason_of (exact reason wanted) (n ∷ o) = reason
@@ -155,19 +155,19 @@ reason_of (sized reason least most) (n ∷ o) =
     if nat_lt n least || nat_lt most n then reason else Short
 reason_of kind o = Short
 
--- no area of this extent begins the octets, whatever it holds
+-- no area of this extent begins the octets, whatever is in it
 abbrev pub HasNoArea : Extent → List ℕ → Type 0
 HasNoArea extent o =
     (a rest : List ℕ) → Extends extent a (length rest) → o ≡ framed extent a ++ rest → ⊥
 
--- the reason then: the length isn't all there, or the area isn't
+-- the reason then: the length is incomplete, or the area is
 abbrev pub area_reason : Extent → List ℕ → Reason
 area_reason to_end o = Short
 area_reason behind_two o = if nat_lt (length o) 2 then Short else AreaShort
 area_reason behind_four o = if nat_lt (length o) 4 then Short else AreaShort
 
--- Some fields begin the octets, and the next has no spelling there: it has none as a whole, or, in
--- an area, some subpackets begin it and the next has none. Or octets stand after the last field.
+-- Some fields begin the octets, and the next one can't be read there: not at all, or, in an area,
+-- after some of its subpackets. Or octets follow the last field.
 abbrev pub FirstFault : ℕ → Grammar → List ℕ → BodyFault → Type 0
 FirstFault total done o f = (0 < length o) × (f ≡ fault_at total (length o) Trailing)
 FirstFault total (field kind next) o f =

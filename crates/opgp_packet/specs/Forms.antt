@@ -1,14 +1,14 @@
--- The forms that the octets of a signature's subpackets have.
+-- The forms of the data of a signature's subpackets.
 use Rattle.std.specs.Prelude.{◌≡◌, ℕ, ◌+◌, ◌^◌, ◌<◌, ◌⊎◌, List, [], ◌∷◌, ◌++◌, length}
 use Rattle.std.specs.Int.{w16, w32, to_be_bytes}
 use Rattle.opgp_packet.specs.SignatureBody.{SignatureValue, Spells}
 
--- the forms of octets
+-- the forms
 pub data Form : Type 0 where
   number octet two_octets ended_text octets revoker key_id notation code_and_text : Form
   target signature fingerprint pairs : Form
 
--- what octets of a form say
+-- the fields of data of a form
 abbrev pub Fields : Form → Type 0
 Fields number = ℕ
 Fields octet = ℕ
@@ -41,7 +41,7 @@ IsNamed o version print =
     (o ≡ version ∷ print)
     × (((version ≡ 4) × (length print ≡ 20)) ⊎ ((version ≡ 6) × (length print ≡ 32)))
 
--- The octets are those of these fields.
+-- The data encodes these fields.
 abbrev pub IsOf : (form : Form) → List ℕ → Fields form → Type 0
 IsOf number o n = IsNumber o n
 IsOf octet o n = o ≡ n ∷ []

@@ -1,4 +1,4 @@
--- What a public key shows, owned or borrowed: the fields that lie at places in its body.
+-- The value of a public key, owned or borrowed: the fields at places in its body.
 use Rattle.std.specs.Prelude.{◌≡◌, ◌≤◌, ℕ, ◌-◌, List, ◌∷◌, length, ◌==◌, if◌then◌else◌}
 use Rattle.std.proofs.Props.{props}
 use Rattle.opgp_octets.specs.KeyAlgorithm.{key_algorithm_of}
@@ -15,8 +15,8 @@ use Rattle.opgp_packet.specs.declared.parsed.Parsed.{Parsed}
 abbrev pub key_in : KeyPlaces → List ℕ → KeyValue
 key_in p o = record { version = p.version; created = p.created; algorithm = p.algorithm; material = fields_in p.material o }
 
--- the fields of a key whose body has so many octets: the count of version 6 is that of those behind
--- it
+-- the fields of a key whose body has this many octets: the count of version 6 is that of the octets
+-- after it
 abbrev pub fields_of_size : ℕ → KeyValue → List Field
 fields_of_size total v =
     small v.version ∷ wide v.created ∷ small v.algorithm

@@ -45,14 +45,14 @@ key =
     field version (λ v. field four (λ _. field octet (λ a.
     counted (amount v) (material_grammar (amount v) (amount a)))))
 
--- what a key shows
+-- the fields of a key, as values
 pub record KeyValue : Type 0 where
   pub version : ℕ
   pub created : ℕ
   pub algorithm : ℕ
   pub material : List Field
 
--- the fields that spell it; the count of version 6 is that of the material's octets
+-- the fields that encode it; the count of version 6 is that of the material's octets
 abbrev pub key_fields : KeyValue → List Field
 key_fields v =
     small v.version ∷ wide v.created ∷ small v.algorithm
@@ -62,6 +62,6 @@ key_fields v =
 abbrev pub SpellsKey : KeyValue → List ℕ → Type 0
 SpellsKey v o = Body key (key_fields v) o
 
--- this is the first fault of octets that are no key
+-- this is the first fault of octets that aren't a key
 abbrev pub KeyFault : List ℕ → BodyFault → Type 0
 KeyFault o f = FirstFault (length o) key o f

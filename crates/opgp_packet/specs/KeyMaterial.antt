@@ -1,5 +1,4 @@
--- A key's public material, over what stands for an integer and for octets: places in a body, or
--- views.
+-- A key's public material; its integers and octets are places in a body, or views.
 use Rattle.std.specs.Prelude.{◌≡◌, ℕ, ◌+◌, List, [], ◌∷◌, length}
 use Rattle.std.specs.Borrow.{Bor}
 use Rattle.std.proofs.Props.{props}
@@ -13,7 +12,7 @@ use Rattle.opgp_packet.specs.declared.key_material.Material.TheVariants as mater
 use Rattle.opgp_packet.specs.KeyShape.{Shape, rsa, elgamal, dsa, ecdh, ecdsa, eddsa, x25519, x448}
 use Rattle.opgp_packet.specs.KeyShape.{ed25519, ed448, opaque}
 
--- its fields, by what an integer and octets stand for
+-- its fields, given what its integers and octets are
 abbrev pub fields_by : {I O : Type 0} → (I → Field) → (O → List ℕ) → Material I O → List Field
 fields_by f g (material.Rsa n e) = f n ∷ f e ∷ []
 fields_by f g (material.Elgamal p b y) = f p ∷ f b ∷ f y ∷ []
@@ -45,7 +44,7 @@ shape (material.Opaque octets) = opaque
 abbrev pub material_fields : Material MpiView (Bor (List ℕ)) → List Field
 material_fields = fields_by integer_of (λ o. o.now)
 
--- octets of one size have it
+-- octets of fixed size have that size
 abbrev pub HasSizes : Material MpiView (Bor (List ℕ)) → Type 0
 HasSizes (material.X25519 octets) = length octets.now ≡ 32
 HasSizes (material.X448 octets) = length octets.now ≡ 56
@@ -57,11 +56,11 @@ HasSizes other = Unit {0}
 abbrev pub fields_in : Material MpiSpan Span → List ℕ → List Field
 fields_in m o = fields_by (λ p. integer_in p o) (λ p. octets_in p o) m
 
--- a place of so many octets
+-- a place of this many octets
 abbrev pub IsSizedIn : ℕ → Span → ℕ → Type 0
 IsSizedIn size p total = IsIn p total × (p.end ≡ p.start + size)
 
--- all of them lie in so many octets
+-- all of them are within this many octets
 abbrev pub AreIn : Material MpiSpan Span → ℕ → Type 0
 AreIn (material.Rsa n e) total = IsMpiIn n total × IsMpiIn e total
 AreIn (material.Elgamal p g y) total = IsMpiIn p total × IsMpiIn g total × IsMpiIn y total

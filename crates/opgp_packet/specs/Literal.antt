@@ -1,4 +1,4 @@
--- What a literal shows, owned or borrowed: the fields that lie at places in its body.
+-- The value of a literal, owned or borrowed: the fields at places in its body.
 use Rattle.std.specs.Prelude.{ℕ, List, length}
 use Rattle.std.proofs.Props.{props}
 use Rattle.opgp_packet.specs.LiteralBody.{LiteralValue}
@@ -12,7 +12,7 @@ use Rattle.opgp_packet.specs.declared.parsed.Parsed.{Parsed}
 abbrev pub literal_in : LiteralPlaces → List ℕ → LiteralValue
 literal_in p o = record { format = p.format; name = octets_in p.name o; date = p.date; content = octets_in p.content o }
 
--- the name and the content lie in the octets
+-- the name and the content are within the octets
 abbrev pub LieIn : LiteralPlaces → List ℕ → Type 0
 LieIn p o = IsIn p.name (length o) × IsIn p.content (length o)
 

@@ -1,5 +1,5 @@
--- What a subpacket of a signature means, on lists: its kind, and the fields that its octets have in
--- the form of that kind (RFC 9580, 5.2.3.11 to 5.2.3.36).
+-- The meaning of a signature's subpacket: its kind, and the fields of its data in the form of that
+-- kind (RFC 9580, 5.2.3.11 to 5.2.3.36).
 use Rattle.std.specs.Prelude.{◌≡◌, List, ℕ, Option, Some, None}
 use Rattle.opgp_octets.specs.Octets.{IsOctets}
 use Rattle.opgp_octets.specs.declared.subpacket_kind.SubpacketKind.{SubpacketKind}
@@ -37,14 +37,14 @@ form_of kind.IntendedRecipient = Some form.fingerprint
 form_of kind.PreferredAead = Some form.pairs
 form_of (kind.Other n) = None
 
--- a meaning: the kind with its fields, or that the octets have no such form, or that the kind has
--- none
+-- a meaning: the kind with its fields; or the data doesn't have the form of the kind; or the kind
+-- has none
 pub data Meaning : Type 0 where
   typed : SubpacketKind → (f : Form) → Fields f → Meaning
   unfit : Meaning
   unknown : Meaning
 
--- The octets of this kind are those of the typed meaning.
+-- The data of this kind is that of the typed meaning.
 abbrev pub Writes : SubpacketKind → List ℕ → Meaning → Type 0
 Writes k o (typed of f fields) = (k ≡ of) × (form_of k ≡ Some f) × IsOf f o fields
 Writes k o unfit = ⊥
@@ -55,8 +55,8 @@ abbrev pub IsListed : SubpacketKind → Type 0
 IsListed (kind.Other n) = ⊥
 IsListed k = Unit {0}
 
--- What the octets of this kind mean: the typed meaning that writes them, or that none does, or that
--- the kind has none.
+-- The meaning of data of this kind: the typed meaning that encodes to it, or that there is none, or
+-- that the kind has no form.
 abbrev pub Means : SubpacketKind → List ℕ → Meaning → Type 0
 Means k o unfit = IsOctets o × IsListed k × ((m : Meaning) → Writes k o m → ⊥)
 Means k o unknown = IsOctets o × (IsListed k → ⊥)

@@ -1,4 +1,4 @@
--- What octets mean, read from left to right.
+-- Reading the meaning of a subpacket's data, from left to right.
 use Rattle.std.specs.Prelude.{ℕ, ◌+◌, ◌-◌, ◌%◌, ◌&&◌, ◌||◌, List, [], ◌∷◌, length, take, drop}
 use Rattle.std.specs.Prelude.{slice_index, is_ok, nat_lt, ◌==◌, if◌then◌else◌}
 use Rattle.std.specs.Prelude.{Option, Some, None}
@@ -27,7 +27,7 @@ abbrev pub two_in : List ℕ → Option (ℕ × ℕ)
 two_in (n ∷ m ∷ []) = Some (n, m)
 two_in o = None
 
--- what stands before an octet 0 at the end
+-- what comes before an octet 0 at the end
 abbrev pub ended_in : List ℕ → Option (List ℕ)
 ended_in o =
     if nat_lt 0 (length o) && (slice_index o (length o - 1) == 0) then Some
@@ -48,7 +48,7 @@ revoker_in o = behind_two_in o and_then λ x. if length x.2 == 20 then Some x el
 abbrev pub eight_in : List ℕ → Option (List ℕ)
 eight_in o = if length o == 8 then Some o else None
 
--- flags, two lengths, and as many octets as they say
+-- flags, two lengths, and as many octets as they say together
 abbrev pub notation_cut : ℕ → ℕ → ℕ × List ℕ → Option (ℕ × List ℕ × List ℕ)
 notation_cut flags n x =
     if length x.1 == n + x.0 then Some (flags, take n x.1, drop n x.1) else None
@@ -70,7 +70,7 @@ named_in o = behind_one_in o and_then λ x. if ((x.0 == 4) && (length x.1 == 20)
 abbrev pub pairs_in : List ℕ → Option (List ℕ)
 pairs_in o = if length o % 2 == 0 then Some o else None
 
--- the fields that octets of a form have
+-- the fields of data of a form
 abbrev pub fields_in : (f : Form) → List ℕ → Option (Fields f)
 fields_in form.number o = number_in o
 fields_in form.octet o = one_in o
@@ -94,6 +94,6 @@ abbrev pub meaning_by : SubpacketKind → List ℕ → Option Form → Meaning
 meaning_by k o None = unknown
 meaning_by k o (Some f) = or_unfit (typed k f) (fields_in f o)
 
--- what the octets of this kind mean
+-- the meaning of data of this kind
 unfoldable pub meaning_of : SubpacketKind → List ℕ → Meaning
 meaning_of k o = meaning_by k o (form_of k)

@@ -1,4 +1,4 @@
--- What a signature that isn't typed, and owns its body, shows.
+-- The value of a signature that isn't parsed, and owns its body.
 use Rattle.std.specs.Prelude.{ℕ, List}
 use Rattle.opgp_packet.specs.declared.other_signature.OtherSignature.{OtherSignature}
 

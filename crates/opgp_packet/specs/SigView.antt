@@ -1,4 +1,4 @@
--- What a view of a signature shows.
+-- The value of a view of a signature.
 use Rattle.std.specs.Prelude.{ℕ, List, Option, Some, None}
 use Rattle.opgp_packet.specs.declared.sig_view.SigView.{SigView}
 use Rattle.opgp_packet.specs.declared.sig_view.SigView.TheVariants.{Three, Four, Six, Other}
@@ -43,7 +43,7 @@ hash_of (Four s) = Some (areas_value s).hash
 hash_of (Six s) = Some (areas_value s).hash
 hash_of (Other s) = None
 
--- the first two octets of the digest, as it says
+-- the left 16 bits of the signed hash value, as it states them
 abbrev pub left_of : SigView → Option (List ℕ)
 left_of (Three s) = Some (three_value s).left
 left_of (Four s) = Some (areas_value s).left

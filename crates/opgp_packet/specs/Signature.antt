@@ -1,4 +1,4 @@
--- What a signature that owns its body shows.
+-- The value of a signature that owns its body.
 use Rattle.std.specs.Prelude.{ℕ, List}
 use Rattle.opgp_packet.specs.declared.signature.Signature.{Signature}
 use Rattle.opgp_packet.specs.declared.signature.Signature.TheVariants.{Three, Four, Six, Other}

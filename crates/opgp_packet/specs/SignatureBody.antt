@@ -13,7 +13,7 @@ use Rattle.opgp_packet.specs.Fields.{FirstFault}
 use Rattle.opgp_packet.specs.FieldReading.{body_at}
 use Rattle.opgp_packet.specs.SignatureShape.{Shape, rsa, dsa, ecdsa, eddsa, ed25519, ed448, opaque, shape_of}
 
--- what a signature of each form is made of, its integers strict or not (5.2.3.1 to 5.2.3.5)
+-- the algorithm-specific fields of each form, their integers strict or not (5.2.3.1 to 5.2.3.5)
 abbrev pub material_kinds : Bool → Shape → List Kind
 material_kinds strict rsa = mpi strict ∷ []
 material_kinds strict dsa = mpi strict ∷ mpi strict ∷ []
@@ -23,13 +23,13 @@ material_kinds strict ed25519 = fixed 64 ∷ []
 material_kinds strict ed448 = fixed 114 ∷ []
 material_kinds strict opaque = whole ∷ []
 
--- in version 3 only RSA and DSA are known (5.2.2)
+-- in version 3 only RSA and DSA are supported (5.2.2)
 abbrev pub old_material_kinds : Shape → List Kind
 old_material_kinds rsa = mpi false ∷ []
 old_material_kinds dsa = mpi false ∷ mpi false ∷ []
 old_material_kinds other = never ∷ []
 
--- a salt of this size; where none is known, of any
+-- a salt of this size; of any size if none is known
 abbrev pub salt_of_size : Option ℕ → Kind
 salt_of_size (Some n) = sized SaltSize n n
 salt_of_size None = sized SaltSize 0 255
@@ -37,8 +37,8 @@ salt_of_size None = sized SaltSize 0 255
 abbrev pub salt_of : ℕ → Kind
 salt_of h = salt_of_size (salt_size (hash_algorithm_of h))
 
--- version, the length of what is hashed, type, creation time, issuer, key algorithm, hash
--- algorithm, two left octets, material
+-- version, length of the hashed part, type, creation time, issuer, key algorithm, hash algorithm,
+-- left 16 bits of the hash, material
 unfoldable pub version_three : Grammar
 version_three =
     field (exact Short 3)
@@ -54,8 +54,8 @@ extent v = if v == 6 then behind_four else behind_two
 abbrev pub salted : ℕ → ℕ → Grammar → Grammar
 salted v h next = if v == 6 then field (salt_of h) (λ _. next) else next
 
--- version, type, key algorithm, hash algorithm, hashed area, unhashed area, two left octets, in
--- version 6 a salt, material, whose integers are strict in version 6
+-- version, type, key algorithm, hash algorithm, hashed area, unhashed area, left 16 bits of the
+-- hash, in version 6 a salt, then the material, whose integers are strict in version 6
 unfoldable pub with_areas : ℕ → Grammar
 with_areas v =
     field (exact Short v) (λ _. field octet (λ _. field octet (λ a. field octet (λ h.
@@ -76,7 +76,7 @@ pub data SignatureValue : Type 0 where
   of_six : List Field → SignatureValue
   of_other : List ℕ → SignatureValue
 
--- a body of another version, or one of version 3 that isn't typed
+-- a body of another version, or one of version 3 that isn't parsed
 abbrev pub IsOther : List ℕ → Type 0
 IsOther [] = ⊥
 IsOther (v ∷ o) =
@@ -89,8 +89,8 @@ Spells (of_four fields) o = Body version_four fields o
 Spells (of_six fields) o = Body version_six fields o
 Spells (of_other octets) o = (o ≡ octets) × IsOther o
 
--- No version is there, or in version 4 or 6 some fields begin the octets and the next has no
--- spelling there.
+-- There is no version, or in version 4 or 6 some fields begin the octets and the next one can't be
+-- read there.
 abbrev pub SignatureFault : List ℕ → BodyFault → Type 0
 SignatureFault [] f = f ≡ fault_at 0 0 Short
 SignatureFault (v ∷ o) f =

@@ -1,4 +1,4 @@
--- A signature's material, over what stands for an integer and for octets: places in a body, or
+-- A signature's algorithm-specific fields; their integers and octets are places in a body, or
 -- views.
 use Rattle.std.specs.Prelude.{◌≡◌, ℕ, ◌+◌, List, [], ◌∷◌, length}
 use Rattle.std.specs.Borrow.{Bor}
@@ -12,7 +12,7 @@ use Rattle.opgp_packet.specs.declared.signature_material.SignatureMaterial.{Sign
 use Rattle.opgp_packet.specs.declared.signature_material.SignatureMaterial.TheVariants as material
 use Rattle.opgp_packet.specs.SignatureShape.{Shape, rsa, dsa, ecdsa, eddsa, ed25519, ed448, opaque}
 
--- its fields, by what an integer and octets stand for
+-- its fields, given what its integers and octets are
 abbrev pub fields_by : {I O : Type 0} → (I → Field) → (O → List ℕ) → SignatureMaterial I O
     → List Field
 fields_by f g (material.Rsa s) = f s ∷ []
@@ -37,7 +37,7 @@ shape (material.Opaque octets) = opaque
 abbrev pub material_fields : SignatureMaterial MpiView (Bor (List ℕ)) → List Field
 material_fields = fields_by integer_of (λ o. o.now)
 
--- octets of one size have it
+-- octets of fixed size have that size
 abbrev pub HasSizes : SignatureMaterial MpiView (Bor (List ℕ)) → Type 0
 HasSizes (material.Ed25519 octets) = length octets.now ≡ 64
 HasSizes (material.Ed448 octets) = length octets.now ≡ 114
@@ -47,11 +47,11 @@ HasSizes other = Unit {0}
 abbrev pub fields_in : SignatureMaterial MpiSpan Span → List ℕ → List Field
 fields_in m o = fields_by (λ p. integer_in p o) (λ p. octets_in p o) m
 
--- a place of so many octets
+-- a place of this many octets
 abbrev pub IsSizedIn : ℕ → Span → ℕ → Type 0
 IsSizedIn size p total = IsIn p total × (p.end ≡ p.start + size)
 
--- all of them lie in so many octets
+-- all of them are within this many octets
 abbrev pub AreIn : SignatureMaterial MpiSpan Span → ℕ → Type 0
 AreIn (material.Rsa s) total = IsMpiIn s total
 AreIn (material.Dsa r s) total = IsMpiIn r total × IsMpiIn s total

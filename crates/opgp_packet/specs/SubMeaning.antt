@@ -1,4 +1,4 @@
--- What a meaning over borrowed octets shows.
+-- The value of a meaning over borrowed octets.
 use Rattle.opgp_octets.specs.declared.subpacket_kind.SubpacketKind.TheVariants as kind
 use Rattle.opgp_packet.specs.Meaning.{Meaning, typed, unfit, unknown}
 use Rattle.opgp_packet.specs.Forms as form

@@ -1,4 +1,4 @@
--- What a subpacket of a signature shows.
+-- The value of a subpacket of a signature.
 use Rattle.std.specs.Prelude.{ℕ, ◌%◌, ◌==◌, if◌then◌else◌, Bool, nat_le, List, Option, None}
 use Rattle.opgp_octets.specs.SubpacketKind.{subpacket_kind_number}
 use Rattle.opgp_octets.specs.declared.subpacket_kind.SubpacketKind.{SubpacketKind}
@@ -21,15 +21,15 @@ is_critical kind = nat_le 128 kind
 abbrev pub kind_shown : ℕ → ℕ
 kind_shown kind = kind % 128
 
--- its fields, where it is of a kind and its octets have a form
+-- its fields, if it is of the kind and its data has the form
 abbrev pub fields_of : SubpacketKind → (f : Form) → Sub → Option (Fields f)
 fields_of k f s =
     if kind_shown s.kind == subpacket_kind_number k then fields_in f s.octets else None
 
--- the key ID that it names as the issuer's (5.2.3.12)
+-- the key ID that it states as the issuer's (5.2.3.12)
 abbrev pub issuer_in : Sub → Option (List ℕ)
 issuer_in s = fields_of kind.Issuer form.key_id s
 
--- the version and fingerprint that it names as the issuer's (5.2.3.35)
+-- the version and fingerprint that it states as the issuer's (5.2.3.35)
 abbrev pub issuer_fingerprint_in : Sub → Option (ℕ × List ℕ)
 issuer_fingerprint_in s = fields_of kind.IssuerFingerprint form.fingerprint s

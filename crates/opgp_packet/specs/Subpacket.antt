@@ -1,4 +1,4 @@
--- What a subpacket shows.
+-- The value of a subpacket.
 use Rattle.opgp_packet.specs.declared.subpacket.Subpacket.{Subpacket}
 use Rattle.opgp_packet.specs.Subpackets.{Sub}
 

@@ -1,5 +1,5 @@
--- Subpackets and areas of them (RFC 9580, 5.2.3.7, 5.12): a length, which counts the type octet,
--- the type octet, octets.
+-- Subpackets and areas of them (RFC 9580, 5.2.3.7, 5.12): a length, which includes the type octet,
+-- the type octet, data.
 use Rattle.std.specs.Prelude.{◌≡◌, ℕ, suc, ◌-◌, ◌^◌, ◌<◌, List, ◌∷◌, ◌++◌, length, Option, Some}
 use Rattle.std.specs.Prelude.{None, ◌==◌, if◌then◌else◌}
 use Rattle.std.specs.List.{AllByRecursion, flat_map}
@@ -10,17 +10,17 @@ use Rattle.opgp_octets.specs.declared.sub_len.SubLen.{SubLen}
 use Rattle.opgp_octets.specs.Octets.{IsOctets}
 use Rattle.opgp_octets.specs.SubLen.{SubLenFits, sub_len_octets, sub_len_amount, sub_len_at}
 
--- a subpacket: the form of its length, its whole type octet, and its octets
+-- a subpacket: the form of its length, its whole type octet, and its data
 pub record Sub : Type 0 where
   pub len : SubLen
   pub kind : ℕ
   pub octets : List ℕ
 
--- the spelling
+-- the encoding
 abbrev pub sub_octets : Sub → List ℕ
 sub_octets s = sub_len_octets s.len ++ s.kind ∷ s.octets
 
--- what has a spelling
+-- what can be encoded
 pub record IsSub (s : Sub) : Type 0 where
   pub len : SubLenFits s.len
   pub kind : s.kind < 2 ^ 8
@@ -43,7 +43,7 @@ pub record Area (subs : List Sub) (o : List ℕ) : Type 0 where
 abbrev pub HasNoSub : List ℕ → Type 0
 HasNoSub o = (s : Sub) (rest : List ℕ) → IsSub s → o ≡ sub_octets s ++ rest → ⊥
 
--- the reason then: a length of 0, or octets that aren't all there
+-- the reason then: a length of 0, or octets that are incomplete
 abbrev pub reason_by : Option (SubLen × ℕ) → Reason
 reason_by None = SubShort
 reason_by (Some x) = if sub_len_amount x.0 == 0 then SubEmpty else SubShort
@@ -51,8 +51,8 @@ reason_by (Some x) = if sub_len_amount x.0 == 0 then SubEmpty else SubShort
 abbrev pub sub_reason : List ℕ → Reason
 sub_reason o = reason_by (sub_len_at o)
 
--- Some subpackets begin the area, which ends at this place of its body, and the next has no
--- spelling there.
+-- Some subpackets begin the area, which ends at this offset of its body, and the next one can't be
+-- read there.
 pub record AreaFault (end : ℕ) (o : List ℕ) (f : BodyFault) : Type 0 where
   pub before : List Sub
   pub rest : List ℕ

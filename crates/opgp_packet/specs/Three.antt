@@ -1,4 +1,4 @@
--- What signatures of version 3 show, and the fields that spell them (RFC 9580, 5.2.2).
+-- The fields of signatures of version 3 (RFC 9580, 5.2.2).
 use Rattle.std.specs.Prelude.{◌≡◌, ℕ, List, ◌∷◌, length}
 use Rattle.std.proofs.Props.{props}
 use Rattle.opgp_octets.specs.KeyAlgorithm.{key_algorithm_of}

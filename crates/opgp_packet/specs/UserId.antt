@@ -1,4 +1,4 @@
--- What a user ID shows.
+-- The value of a user ID.
 use Rattle.std.specs.Prelude.{List, ℕ}
 use Rattle.opgp_packet.specs.declared.user_id.UserId.{UserId}
 

@@ -5,7 +5,7 @@ use Rattle.opgp_packet.specs.Fields.{whole, Field, bare, Grammar, sequence, Body
 abbrev pub user_id : Grammar
 user_id = sequence (whole ∷ [])
 
--- the fields that spell it
+-- the fields that encode it
 abbrev pub user_id_fields : List ℕ → List Field
 user_id_fields octets = bare octets ∷ []
 

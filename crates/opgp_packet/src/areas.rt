@@ -21,7 +21,7 @@ use crate::subs::Subs;
 use crate::{AreaLength, Cursor, Span};
 use opgp_octets::{BodyFault, Reason};
 
-/// The fields of a signature of version 4 or 6, which is `V`; of the longer ones, where they lie
+/// The fields of a signature of version 4 or 6, which is `V`; for the longer ones, where they lie
 /// in the body.
 #[derive(Clone, Copy)]
 pub struct AreaPlaces<const V: u8> {
@@ -36,26 +36,26 @@ pub struct AreaPlaces<const V: u8> {
     material: MaterialPlaces,
 }
 
-/// A signature of version 4 or 6, which is `V`, that owns the octets of its body, and knows where
-/// its fields lie in them (RFC 9580, 5.2.3).
+/// A signature of version 4 or 6, which is `V`, that owns its body, and knows where its fields lie
+/// in them (RFC 9580, 5.2.3).
 pub type AreasSignature<const V: u8> = Parsed<Vec<u8>, AreaPlaces<V>>;
 
-/// A version 4 signature that owns the octets of its body (RFC 9580, 5.2.3).
+/// A version 4 signature that owns its body (RFC 9580, 5.2.3).
 pub type FourSignature = AreasSignature<4>;
 
-/// A version 6 signature that owns the octets of its body (RFC 9580, 5.2.3).
+/// A version 6 signature that owns its body (RFC 9580, 5.2.3).
 pub type SixSignature = AreasSignature<6>;
 
-/// A signature of version 4 or 6, which is `V`, over the octets of its body (RFC 9580, 5.2.3).
+/// A signature of version 4 or 6, which is `V`, that borrows its body (RFC 9580, 5.2.3).
 pub type AreasView<'a, const V: u8> = Parsed<&'a [u8], AreaPlaces<V>>;
 
-/// A version 4 signature over the octets of its body (RFC 9580, 5.2.3).
+/// A version 4 signature that borrows its body (RFC 9580, 5.2.3).
 pub type FourView<'a> = AreasView<'a, 4>;
 
-/// A version 6 signature over the octets of its body (RFC 9580, 5.2.3).
+/// A version 6 signature that borrows its body (RFC 9580, 5.2.3).
 pub type SixView<'a> = AreasView<'a, 6>;
 
-/// The width of an area's length in a version.
+/// The width of an area's length field in this version.
 fn width_of(version: u8) -> AreaLength
     ensures { extent_of result ≡ extent version }
 {
@@ -132,7 +132,7 @@ impl<'a, const V: u8> Parsed<&'a [u8], AreaPlaces<V>> {
     pub fn hashed_area(&self) -> &'a [u8]
         ensures value { result.now ≡ (areas_value self.now).hashed }
         ensures area { Area (subs_in result.now) result.now }
-        // What is hashed of the signature counts them and 8 octets at most in four octets.
+        // The trailer counts them and at most 8 octets more in four octets.
         ensures short { 8 + length result.now ≤ 4294967295 }
         ensures shorter { V ≡ 4 → length result.now ≤ 65535 }
     {
@@ -165,7 +165,7 @@ impl<'a, const V: u8> Parsed<&'a [u8], AreaPlaces<V>> {
         Subs::new(self.places.unhashed.lend(self.body))
     }
 
-    /// What is hashed of the signature itself: the body from the version octet to the end of the
+    /// The part of the body that the signature hashes: from the version octet to the end of the
     /// hashed area (RFC 9580, 5.2.4).
     pub fn front(&self) -> &'a [u8]
         ensures value { result.now ≡ front_of (areas_value self.now) }
@@ -174,7 +174,7 @@ impl<'a, const V: u8> Parsed<&'a [u8], AreaPlaces<V>> {
         &self.body[..self.places.hashed.end as usize]
     }
 
-    /// The first two octets of the digest, as the signature says.
+    /// The left 16 bits of the signed hash value, as the signature states them (RFC 9580, 5.2.3).
     pub fn left(&self) -> [u8; 2]
         ensures { result ≡ (areas_value self.now).left }
     {
@@ -184,7 +184,7 @@ impl<'a, const V: u8> Parsed<&'a [u8], AreaPlaces<V>> {
     /// The salt, without its size; version 4 has none.
     pub fn salt(&self) -> &'a [u8]
         ensures value { result.now ≡ (areas_value self.now).salt }
-        // In version 6 it has the size of its hash algorithm.
+        // In version 6 it has the size for its hash algorithm.
         ensures size { V ≡ 6 → (n : ℕ)
             → salt_size (hash_algorithm_of (areas_value self.now).hash) ≡ Some n
             → length result.now ≡ n }
@@ -192,7 +192,7 @@ impl<'a, const V: u8> Parsed<&'a [u8], AreaPlaces<V>> {
         self.places.salt.lend(self.body)
     }
 
-    /// What its algorithm made; which variant it is, its algorithm says.
+    /// The algorithm-specific fields; the variant is that of its algorithm.
     pub fn material(&self) -> SignatureMaterialView<'a>
         ensures fields { material_fields result ≡ (areas_value self.now).material }
         ensures shape { shape result

@@ -10,22 +10,22 @@ use crate::parsed::{Body, Parsed};
 use crate::{Subpacket, Walk, fault_in_area};
 use opgp_octets::BodyFault;
 
-/// A subpacket of a user attribute; its kind is the whole type octet (RFC 9580, 5.12).
+/// A subpacket of a user attribute, whose kind is the whole type octet (RFC 9580, 5.12).
 pub type AttributeSub<'a> = Subpacket<'a>;
 
-/// A user attribute is its subpackets, from the front of its body to the end.
+/// A user attribute has nothing but subpackets, which fill its body.
 #[derive(Clone, Copy)]
 pub struct AttributePlaces;
 
-/// A user attribute that owns the octets of its body (RFC 9580, 5.12).
+/// A user attribute that owns its body (RFC 9580, 5.12).
 ///
 /// The faults of its body are those of [`AttributeView`].
 pub type Attribute = Parsed<Vec<u8>, AttributePlaces>;
 
-/// A user attribute over the octets of its body: subpackets, perhaps none (RFC 9580, 5.12).
+/// A user attribute that borrows its body: subpackets, or none at all (RFC 9580, 5.12).
 ///
-/// The faults of its body are [`SubEmpty`] and [`SubShort`], at the first subpacket that isn't
-/// there.
+/// The faults of its body are [`SubEmpty`] and [`SubShort`], at the first subpacket that can't be
+/// read.
 ///
 /// [`SubEmpty`]: opgp_octets::Reason::SubEmpty
 /// [`SubShort`]: opgp_octets::Reason::SubShort

@@ -14,7 +14,7 @@ use crate::spans::{MpiSpan, Span};
 use crate::walk::fault_in_area;
 use opgp_octets::{BodyFault, MpiView, Reason, u16_at, u32_at};
 
-/// The width of an area's length (RFC 9580, 5.2.3).
+/// The width of an area's length field (RFC 9580, 5.2.3).
 #[derive(Clone, Copy)]
 pub enum AreaLength {
     /// Two octets, as in version 4.
@@ -23,8 +23,8 @@ pub enum AreaLength {
     Four,
 }
 
-/// A body, and how far it was read. Each call reads the field that comes next; its error is the
-/// fault there, with the reasons that it names, and moves nothing. Takes no memory.
+/// A body, and how far it was read. Each call reads the next field; its errors are the reasons that
+/// it lists, and an error moves nothing. Allocates nothing.
 #[derive(Drop)]
 pub struct Cursor<'a> {
     body: &'a [u8],
@@ -48,7 +48,7 @@ impl<'a> Cursor<'a> {
         Cursor { body, at: 0 }
     }
 
-    /// What is left of the body.
+    /// The octets that are left.
     fn rest(&self) -> &'a [u8]
         ensures { result.now ≡ drop (place_of self.now) (body_under self.now) }
     {
@@ -56,7 +56,7 @@ impl<'a> Cursor<'a> {
         rest
     }
 
-    /// The fault at the field that comes next.
+    /// A fault at the next field.
     pub fn fault(&self, reason: Reason) -> BodyFault
         ensures { result ≡ fault_at (length (body_under self.now))
             (length (drop (place_of self.now) (body_under self.now))) reason }
@@ -67,7 +67,7 @@ impl<'a> Cursor<'a> {
         }
     }
 
-    /// A multiprecision integer, perhaps a strict one: [`Reason::Short`], [`Reason::MpiBits`].
+    /// A multiprecision integer, strict or not: [`Reason::Short`], [`Reason::MpiBits`].
     #[tactic(auto, unfolding(crate::specs::FieldReading::step_at, crate::specs::FieldReading::kind_at))]
     pub fn mpi(&mut self, strict: bool) -> Result<MpiSpan, BodyFault>
         ensures reads { ReadsField (mpi strict)
@@ -89,7 +89,7 @@ impl<'a> Cursor<'a> {
         }
     }
 
-    /// A size octet and that many octets: the reason where the size is below `least` or above
+    /// A size octet and as many octets as it says: the reason if the size is below `least` or above
     /// `most`, else [`Reason::Short`].
     #[tactic(auto, unfolding(crate::specs::FieldReading::step_at, crate::specs::FieldReading::kind_at))]
     pub fn sized(&mut self, reason: Reason, least: u8, most: u8) -> Result<Span, BodyFault>
@@ -118,7 +118,7 @@ impl<'a> Cursor<'a> {
         })
     }
 
-    /// So many octets: [`Reason::Short`].
+    /// The given number of octets: [`Reason::Short`].
     #[tactic(auto, unfolding(crate::specs::FieldReading::step_at, crate::specs::FieldReading::kind_at))]
     pub fn fixed(&mut self, size: usize) -> Result<Span, BodyFault>
         ensures reads { ReadsField (fixed size)
@@ -140,7 +140,7 @@ impl<'a> Cursor<'a> {
         })
     }
 
-    /// So many octets, as an array: [`Reason::Short`].
+    /// The given number of octets, as an array: [`Reason::Short`].
     #[tactic(auto, unfolding(crate::specs::FieldReading::step_at, crate::specs::FieldReading::kind_at))]
     pub fn array<const N: usize>(&mut self) -> Result<[u8; N], BodyFault>
         ensures reads { ReadsField (fixed N) (λ a. bare a) self.old self.new result }
@@ -157,7 +157,7 @@ impl<'a> Cursor<'a> {
         Ok(octets)
     }
 
-    /// All that is left.
+    /// All octets that are left.
     #[tactic(auto, unfolding(crate::specs::FieldReading::step_at, crate::specs::FieldReading::kind_at))]
     pub fn whole(&mut self) -> Span
         ensures reads { step_at (length (body_under self.old)) whole
@@ -217,7 +217,7 @@ impl<'a> Cursor<'a> {
         Ok(*value)
     }
 
-    /// This octet: [`Reason::Short`], and the reason where another stands there.
+    /// The given octet: [`Reason::Short`], and the reason if there is another one.
     #[tactic(auto, unfolding(crate::specs::FieldReading::step_at, crate::specs::FieldReading::kind_at))]
     pub fn exact(&mut self, reason: Reason, wanted: u8) -> Result<(), BodyFault>
         ensures reads { ReadsField (exact reason wanted)
@@ -251,7 +251,7 @@ impl<'a> Cursor<'a> {
         Ok(value)
     }
 
-    /// A number of four octets, which counts those that follow: [`Reason::Short`],
+    /// A number of four octets, which is that of the octets after it: [`Reason::Short`],
     /// [`Reason::Count`].
     #[tactic(auto, unfolding(crate::specs::FieldReading::step_at, crate::specs::FieldReading::kind_at))]
     pub fn count(&mut self) -> Result<u32, BodyFault>
@@ -271,7 +271,7 @@ impl<'a> Cursor<'a> {
         Ok(number)
     }
 
-    /// So many octets behind a length of this size: [`Reason::AreaShort`].
+    /// The given number of octets, after a length field of this size: [`Reason::AreaShort`].
     fn behind(&self, size: usize, count: usize) -> Result<Span, BodyFault>
         requires { place_of self.now + size ≤ length (body_under self.now) }
         ensures reads { Reads
@@ -293,7 +293,7 @@ impl<'a> Cursor<'a> {
         })
     }
 
-    /// The octets of an area behind its length: [`Reason::Short`], [`Reason::AreaShort`].
+    /// The octets of an area after its length field: [`Reason::Short`], [`Reason::AreaShort`].
     #[tactic(auto, unfolding(crate::specs::FieldReading::extent_at))]
     fn extent(&self, width: AreaLength) -> Result<Span, BodyFault>
         ensures reads { Reads
@@ -317,8 +317,8 @@ impl<'a> Cursor<'a> {
         }
     }
 
-    /// An area of subpackets behind its length: [`Reason::Short`], [`Reason::AreaShort`], and
-    /// [`Reason::SubEmpty`] and [`Reason::SubShort`] at a subpacket of it (RFC 9580, 5.2.3.7).
+    /// An area of subpackets after its length field: [`Reason::Short`], [`Reason::AreaShort`], and
+    /// [`Reason::SubEmpty`] and [`Reason::SubShort`] at one of its subpackets (RFC 9580, 5.2.3.7).
     #[inline(always)]
     pub fn area(&mut self, width: AreaLength) -> Result<Span, BodyFault>
         ensures reads { Reads
@@ -331,7 +331,7 @@ impl<'a> Cursor<'a> {
         ensures body { body_under self.new ≡ body_under self.old }
         ensures stays { OnErr result (place_of self.new ≡ place_of self.old) }
         ensures within { IfOk result (λ p. IsIn p (length (body_under self.old))) }
-        // The octets lie between the length and what is left.
+        // The octets are between the length field and what is left.
         ensures ends { IfOk result (λ p. p.end ≡ place_of self.new) }
         ensures begins { IfOk result (λ p. p.start ≡ place_of self.old + width_of width) }
         // A walk over it meets no fault.
@@ -350,7 +350,7 @@ impl<'a> Cursor<'a> {
         }
     }
 
-    /// Nothing more is left: [`Reason::Trailing`].
+    /// The end of the body: [`Reason::Trailing`] if octets are left.
     pub fn end(self) -> Result<(), BodyFault>
         ensures { (fields : List Field) → Reads (λ _. fields) result
             (ended (length (body_under self.entry))

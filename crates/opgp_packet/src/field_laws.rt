@@ -1,5 +1,5 @@
-//! What the definitions imply: reading and spelling are one, a body has one reading or one first
-//! fault, and no subpacket's spelling begins another.
+//! What the definitions imply: reading undoes encoding, a body has one reading or one first fault,
+//! and no subpacket's encoding is a proper prefix of another's.
 
 ghost use Rattle.std.specs.Prelude.{◌≡◌, ◌↔◌, ◌⊎◌, ◌++◌, List, ℕ, Ok, Err, length};
 ghost use Rattle.opgp_octets.specs.Octets.{IsOctets};
@@ -9,26 +9,26 @@ ghost use Rattle.opgp_packet.specs.FieldReading.{body_at};
 ghost use Rattle.opgp_packet.specs.Fields.{Field, Grammar, Body, FirstFault};
 ghost use Rattle.opgp_packet.specs.Subpackets.{Sub, IsSub, sub_octets, Area, AreaFault};
 
-/// Fields are read of octets exactly where the octets are those fields, one after the other.
+/// Fields are read from octets exactly if the octets encode those fields, one after the other.
 pub fn fields_are_read()
     ensures { (grammar : Grammar) (fields : List Field) (o : List ℕ) → IsOctets o
         → (body_at grammar o ≡ Ok fields) ↔ Body grammar fields o }
 {}
 
-/// A fault is answered exactly where it is that of the first field with no spelling at its place.
+/// A fault is reported exactly if it is at the first field that can't be read at its place.
 pub fn the_first_fault_is_answered()
     ensures { (grammar : Grammar) (o : List ℕ) (f : BodyFault) → IsOctets o
         → (body_at grammar o ≡ Err f) ↔ FirstFault (length o) grammar o f }
 {}
 
-/// A body is that of one list of fields.
+/// A body has at most one list of fields.
 #[tactic(auto, using(crate::proofs::GrammarLaws::one_body))]
 pub fn one_body()
     ensures { (grammar : Grammar) (fields others : List Field) (o : List ℕ) → Body grammar fields o
         → Body grammar others o → fields ≡ others }
 {}
 
-/// Octets have one first fault.
+/// Octets have at most one first fault.
 #[tactic(auto, using(crate::proofs::GrammarLaws::one_fault))]
 pub fn one_fault()
     ensures { (grammar : Grammar) (o : List ℕ) (f g : BodyFault) → IsOctets o
@@ -49,20 +49,20 @@ pub fn some_answer()
         ⊎ ((f : BodyFault) × FirstFault (length o) grammar o f) }
 {}
 
-/// Subpackets are read of an area exactly where it is those, one after the other.
+/// Subpackets are read from an area exactly if it consists of them, one after the other.
 pub fn subpackets_are_read()
     ensures { (end : ℕ) (subs : List Sub) (o : List ℕ) → IsOctets o
         → (area_at end o ≡ Ok subs) ↔ Area subs o }
 {}
 
-/// An area's fault is answered exactly where it is that of the first subpacket with no spelling at
-/// its place.
+/// An area's fault is reported exactly if it is at the first subpacket that can't be read at its
+/// place.
 pub fn the_area_fault_is_answered()
     ensures { (end : ℕ) (o : List ℕ) (f : BodyFault) → IsOctets o
         → (area_at end o ≡ Err f) ↔ AreaFault end o f }
 {}
 
-/// No spelling of a subpacket begins another.
+/// No subpacket's encoding is a proper prefix of another's.
 #[tactic(auto, using(crate::proofs::AreaLaws::one_sub))]
 pub fn one_subpacket()
     ensures { (s t : Sub) (x y : List ℕ) → IsSub s → IsSub t

@@ -1,5 +1,4 @@
-//! The forms that the octets of a subpacket have. Each is None only where the octets are of no such
-//! form.
+//! The forms of subpacket data. Each function returns None only if the octets don't have its form.
 
 ghost use Rattle.std.specs.Prelude.{◌≡◌, ◌≤◌, length, option_map, IfSome, IfNone, ℕ, List};
 ghost use Rattle.opgp_octets.specs.Octets.{IsBodySized};

@@ -17,7 +17,7 @@ use crate::material_places::material_at;
 use crate::parsed::{Body, Octets, Parsed};
 use opgp_octets::{BodyFault, KeyAlgorithm};
 
-/// The fields of a key; of its material, where they lie in the body.
+/// The fields of a key; for its material, where they lie in the body.
 #[derive(Clone, Copy)]
 pub struct KeyPlaces {
     version: u8,
@@ -26,17 +26,16 @@ pub struct KeyPlaces {
     material: MaterialPlaces,
 }
 
-/// A public key that owns the octets of its body, and knows where its fields lie in them (RFC 9580,
-/// 5.5.2).
+/// A public key that owns its body, and knows where its fields lie in it (RFC 9580, 5.5.2).
 ///
 /// The faults of its body are those of [`KeyView`].
 pub type Key = Parsed<Vec<u8>, KeyPlaces>;
 
-/// A public key over the octets of its body (RFC 9580, 5.5.2).
+/// A public key that borrows its body (RFC 9580, 5.5.2).
 ///
 /// The faults of its body are [`Short`], [`KeyVersion`], [`KeyTooLong`] for a version 4 body of
 /// more than 65,535 octets, [`Count`], [`MpiBits`] in version 6, [`OidSize`], [`KdfSize`] and
-/// [`Trailing`], each at the first field that isn't there.
+/// [`Trailing`], each at the first field that can't be read.
 ///
 /// [`Short`]: opgp_octets::Reason::Short
 /// [`KeyVersion`]: opgp_octets::Reason::KeyVersion
@@ -48,7 +47,7 @@ pub type Key = Parsed<Vec<u8>, KeyPlaces>;
 /// [`Trailing`]: opgp_octets::Reason::Trailing
 pub type KeyView<'a> = Parsed<&'a [u8], KeyPlaces>;
 
-/// The material of a version and an algorithm, which comes next.
+/// The key material of this version and algorithm, which comes next.
 fn material_of(
     cursor: &mut Cursor<'_>,
     version: u8,
@@ -106,7 +105,7 @@ impl KeyPlaces {
 }
 
 impl<B: Octets + Drop> Parsed<B, KeyPlaces> {
-    /// 4 or 6.
+    /// The version: 4 or 6.
     pub fn version(&self) -> u8
         ensures value { result ≡ (key_value self.now).version }
         ensures known { (result ≡ 4) ⊎ (result ≡ 6) }
@@ -114,7 +113,7 @@ impl<B: Octets + Drop> Parsed<B, KeyPlaces> {
         self.places.version
     }
 
-    /// When it was made, in seconds since 1970.
+    /// The creation time, in seconds since 1970.
     pub fn created(&self) -> u32
         ensures { result ≡ (key_value self.now).created }
     {
@@ -130,7 +129,7 @@ impl<B: Octets + Drop> Parsed<B, KeyPlaces> {
 }
 
 impl Parsed<Vec<u8>, KeyPlaces> {
-    /// Its public material; which variant it is, its algorithm says.
+    /// Its public key material; the variant is that of its algorithm.
     pub fn material(&self) -> MaterialView<'_>
         ensures fields { material_fields result ≡ (key_value self.now).material }
         ensures shape { shape result ≡ shape_of (key_algorithm_of (key_value self.now).algorithm) }
@@ -141,7 +140,7 @@ impl Parsed<Vec<u8>, KeyPlaces> {
 }
 
 impl<'a> Parsed<&'a [u8], KeyPlaces> {
-    /// Its public material; which variant it is, its algorithm says.
+    /// Its public key material; the variant is that of its algorithm.
     pub fn material(&self) -> MaterialView<'a>
         ensures fields { material_fields result ≡ (key_value self.now).material }
         ensures shape { shape result ≡ shape_of (key_algorithm_of (key_value self.now).algorithm) }

@@ -1,11 +1,14 @@
 //! The public material of a key, by its algorithm.
 
+ghost use Rattle.std.specs.Prelude.{◌≡◌, ⊤};
+
 use crate::{MpiSpan, Span};
 use opgp_octets::MpiView;
+use std::alloc::AllocError;
 
 /// The public material of a key (RFC 9580, 5.5.5), by its algorithm (9.1). `I` stands for an
 /// integer, `O` for octets.
-#[derive(Clone, Copy)]
+#[derive(Copy)]
 pub enum Material<I, O> {
     /// RSA, algorithms 1, 2 and 3.
     Rsa {
@@ -40,7 +43,7 @@ pub enum Material<I, O> {
         oid: O,
         /// The public point.
         point: I,
-        /// The parameters of the key derivation, without their size.
+        /// The parameters of the key derivation function, without their size.
         kdf: O,
     },
     /// ECDSA, algorithm 19.
@@ -69,7 +72,17 @@ pub enum Material<I, O> {
     Opaque(O),
 }
 
-/// The public material of a key, over the key's body (RFC 9580, 5.5.5).
+impl<I: Copy, O: Copy> Clone for Material<I, O> {
+    ghost is_clone = { λ p q. q ≡ p };
+
+    ghost is_infallible = { λ _. ⊤ };
+
+    fn clone(&self) -> Result<Material<I, O>, AllocError> {
+        Ok(*self)
+    }
+}
+
+/// The public material of a key, borrowed from the key's body (RFC 9580, 5.5.5).
 pub type MaterialView<'a> = Material<MpiView<'a>, &'a [u8]>;
 
 /// Where the public material of a key lies in its body.

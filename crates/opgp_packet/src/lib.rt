@@ -1,6 +1,6 @@
-//! Bodies of OpenPGP's packets, read to the last octet: keys, user IDs, attributes and literals
-//! (RFC 9580, 5.5, 5.9, 5.11, 5.12), signatures with typed subpackets (5.2), and the reader of
-//! fields that they share (3.2).
+//! Bodies of OpenPGP packets, read to the last octet: keys, user IDs, attributes and literals (RFC
+//! 9580, 5.5, 5.9, 5.11, 5.12), signatures with typed subpackets (5.2), and the field reader that
+//! they share (3.2).
 #![tactic(auto)]
 
 mod areas;

@@ -9,7 +9,7 @@ use crate::parsed::{Body, Octets, Parsed};
 use crate::{Cursor, Span};
 use opgp_octets::{BodyFault, Reason};
 
-/// The fields of a literal; of its name and content, where they lie in the body.
+/// The fields of a literal data packet; for its name and content, where they lie in the body.
 #[derive(Clone, Copy)]
 pub struct LiteralPlaces {
     format: u8,
@@ -18,13 +18,13 @@ pub struct LiteralPlaces {
     content: Span,
 }
 
-/// A literal: data that stands as it is, with a name and a date (RFC 9580, 5.9).
+/// A literal: data as it is, with a file name and a date (RFC 9580, 5.9).
 ///
-/// A fault of its body is [`Short`](opgp_octets::Reason::Short), at the first field that isn't
-/// there.
+/// The only fault of its body is [`Short`](opgp_octets::Reason::Short), at the first field that
+/// isn't complete.
 pub type Literal = Parsed<Vec<u8>, LiteralPlaces>;
 
-/// A literal over the octets of its body (RFC 9580, 5.9).
+/// A literal that borrows its body (RFC 9580, 5.9).
 pub type LiteralView<'a> = Parsed<&'a [u8], LiteralPlaces>;
 
 impl Body for LiteralPlaces {
@@ -54,7 +54,7 @@ impl Body for LiteralPlaces {
 }
 
 impl<B: Octets + Drop> Parsed<B, LiteralPlaces> {
-    /// Its format octet: mostly `b`, `t` or `u`.
+    /// Its format octet: usually `b`, `t` or `u`.
     pub fn format(&self) -> u8
         ensures { result ≡ (literal_value self.now).format }
     {
@@ -70,7 +70,7 @@ impl<B: Octets + Drop> Parsed<B, LiteralPlaces> {
 }
 
 impl Parsed<Vec<u8>, LiteralPlaces> {
-    /// Its name, perhaps empty; nothing says that it is true.
+    /// Its file name, which may be empty; it isn't signed.
     pub fn name(&self) -> &[u8]
         ensures { result.now ≡ (literal_value self.now).name }
     {
@@ -87,7 +87,7 @@ impl Parsed<Vec<u8>, LiteralPlaces> {
 }
 
 impl<'a> Parsed<&'a [u8], LiteralPlaces> {
-    /// Its name, perhaps empty; nothing says that it is true.
+    /// Its file name, which may be empty; it isn't signed.
     pub fn name(&self) -> &'a [u8]
         ensures { result.now ≡ (literal_value self.now).name }
     {

@@ -56,7 +56,7 @@ fn dsa(cursor: &mut Cursor<'_>, strict: bool) -> Result<MaterialPlaces, BodyFaul
     Ok(Material::Dsa { p, q, g, y })
 }
 
-/// The curve, the point and the key derivation of ECDH (RFC 9580, 5.5.5.6).
+/// The curve, the point and the key derivation parameters of ECDH (RFC 9580, 5.5.5.6).
 fn ecdh(cursor: &mut Cursor<'_>, strict: bool) -> Result<MaterialPlaces, BodyFault>
     ensures reads { ReadsAll (sequence (material_kinds strict ecdh))
         (λ m. fields_in m (body_under cursor.old))
@@ -71,7 +71,7 @@ fn ecdh(cursor: &mut Cursor<'_>, strict: bool) -> Result<MaterialPlaces, BodyFau
     Ok(Material::Ecdh { oid, point, kdf })
 }
 
-/// The material of the algorithm that comes next, its integers strict or not.
+/// The key material of this algorithm, which comes next, its integers strict or not.
 pub(crate) fn material_at(
     cursor: &mut Cursor<'_>,
     strict: bool,
@@ -107,7 +107,7 @@ pub(crate) fn material_at(
 }
 
 impl Material<MpiSpan, Span> {
-    /// The material that lies there.
+    /// The key material at these places of the body.
     pub(crate) fn lend(self, body: &[u8]) -> MaterialView<'_>
         requires { AreIn self (length body.now) }
         ensures fields { material_fields result ≡ fields_in self body.now }

@@ -1,4 +1,4 @@
-//! A signature that isn't typed, and owns its body.
+//! A signature of an unsupported version, with a body of its own.
 
 ghost use Rattle.std.specs.Prelude.{◌≡◌, ◌≤◌, length, Ok, IfOk};
 ghost use Rattle.opgp_octets.specs.Octets.{IsOctets, IsBodySized};
@@ -8,8 +8,8 @@ use crate::other_view::OtherView;
 use opgp_octets::OutOfMemory;
 use std::alloc::Global;
 
-/// A signature that isn't typed, and owns the octets of its body: its version isn't 3, 4 or 6, or
-/// it is 3 and the body isn't one that is known (RFC 9580, 5.2).
+/// A signature that isn't parsed and owns its body: its version isn't 3, 4 or 6, or it is 3 and the
+/// body isn't one that is supported (RFC 9580, 5.2).
 #[derive(Drop)]
 pub struct OtherSignature {
     pub(crate) body: Vec<u8>,
@@ -23,9 +23,9 @@ impl OtherSignature {
     ghost use Rattle.opgp_packet.specs.OtherView.{other_view_octets};
     ghost use Rattle.opgp_packet.specs.SignatureBody.{IsOther};
 
-    /// The signature that a view shows, with octets of its own.
+    /// A copy of the viewed signature, which owns its body.
     ///
-    /// An error is want of memory.
+    /// Fails only when out of memory.
     pub fn of(alloc: Global, view: OtherView<'_>) -> Result<OtherSignature, OutOfMemory>
         ensures { IfOk result (λ s. other_signature_octets s ≡ other_view_octets view.entry) }
     {
@@ -34,7 +34,7 @@ impl OtherSignature {
         })
     }
 
-    /// The octets of its body, which it gives up. Takes no memory.
+    /// Its body, as a vector. Allocates nothing.
     pub fn into_body(self) -> Vec<u8>
         ensures value { result.items ≡ other_signature_octets self }
         ensures small { IsBodySized result.items }
@@ -43,7 +43,7 @@ impl OtherSignature {
         body
     }
 
-    /// The signature over its body. Takes no memory, and reads nothing again.
+    /// A view of it. Allocates nothing, and reads nothing again.
     pub fn view(&self) -> OtherView<'_>
         ensures { other_view_octets result ≡ other_signature_octets self.now }
     {
@@ -54,15 +54,15 @@ impl OtherSignature {
     pub fn body(&self) -> &[u8]
         ensures value { result.now ≡ other_signature_octets self.now }
         ensures small { IsBodySized result.now }
-        // Version 3, 4 and 6 spell no such body.
+        // The fields of versions 3, 4 and 6 don't encode such a body.
         ensures other { IsOther result.now }
     {
         self.view().body()
     }
 
-    /// An equal signature.
+    /// A copy of this signature.
     ///
-    /// An error is want of memory.
+    /// Fails only when out of memory.
     pub fn copy(&self, alloc: Global) -> Result<OtherSignature, OutOfMemory>
         ensures { IfOk result (λ s. other_signature_octets s ≡ other_signature_octets self.now) }
     {

@@ -40,21 +40,21 @@ impl Octets for &[u8] {
     }
 }
 
-/// A kind of body: its grammar, and the places of its fields, which show them.
+/// A kind of body: its grammar, and the places of its fields.
 pub trait Body: Copy {
-    // The fields that such a body has.
+    // The fields that such a body has, in order.
     ghost grammar: { Grammar };
 
-    // The fields that lie at the places.
+    // The fields at the places.
     ghost fields: { Self → List ℕ → List Field };
 
-    // The places lie in the octets.
+    // The places are within the octets.
     ghost lies: { Self → List ℕ → Type 0 };
 
     // There is one proof of it at most.
     ghost lies_prop: { (p : Self) (o : List ℕ) → IsProp (lies p o) };
 
-    /// The places of the fields of the octets, all of them, or the first fault.
+    /// The places of all fields of a body, or its first fault.
     fn read(o: &[u8]) -> Result<Self, BodyFault>
         requires { IsBodySized o.now }
         ensures exact { Reads (λ p. fields p o.now) result (body_at grammar o.now) }
@@ -86,17 +86,17 @@ impl<B: Octets + Copy, F: Body> Clone for Parsed<B, F> {
 impl<B: Octets + Drop, F: Body + Drop> Parsed<B, F> {
     ghost use Rattle.opgp_packet.specs.Parsed.{body_octets, body_fields};
 
-    /// What the octets spell, all of them, which it keeps. Takes no memory.
+    /// Reads a body to its end, and keeps it. Allocates nothing.
     ///
-    /// The error is the first fault of the octets.
+    /// The error is the body's first fault.
     pub fn from_body(body: B) -> Result<Parsed<B, F>, BodyFault>
         requires { IsBodySized (B.octets body) }
-        // The octets are the fields, one after the other.
+        // The body consists of the fields, one after the other.
         ensures found { IfOk result (λ p. IsBody F.grammar (body_fields p) (B.octets body)) }
-        // What is spelled so is read.
+        // Every body of such fields is read.
         ensures only { (fields : List Field) → IsBody F.grammar fields (B.octets body)
             → Reads (λ p. body_fields p) result (Ok fields) }
-        // Some fields begin the octets, and the next has no spelling there.
+        // The body begins with some fields, and the next one can't be read there.
         ensures fault { IfErr result (FirstFault (length (B.octets body)) F.grammar (B.octets body)) }
         ensures exact { Reads (λ p. body_fields p) result (body_at F.grammar (B.octets body)) }
         ensures body { IfOk result (λ p. body_octets p ≡ B.octets body) }
@@ -114,7 +114,7 @@ impl<B: Octets + Drop, F: Body + Drop> Parsed<B, F> {
         Ok(Parsed { body, places })
     }
 
-    /// The same over its body. Takes no memory, and reads nothing again.
+    /// A view of it. Allocates nothing, and reads nothing again.
     pub fn view(&self) -> Parsed<&[u8], F>
         ensures body { body_octets result ≡ body_octets self.now }
         ensures fields { body_fields result ≡ body_fields self.now }
@@ -135,20 +135,20 @@ impl<B: Octets + Drop, F: Body + Drop> Parsed<B, F> {
 
     /// Writes its body at the end of `out`.
     ///
-    /// An error is want of memory; `out` is then as it was.
+    /// Fails only when out of memory; `out` is then unchanged.
     pub fn write_body(&self, out: &mut Vec<u8>) -> Result<(), OutOfMemory>
         ensures ok { OnOk result (out.new.items ≡ out.old.items ++ body_octets self.now) }
         ensures err { OnErr result (out.new.items ≡ out.old.items) }
-        // Room that is there suffices.
+        // It can't fail if the vector has the room.
         ensures succeeds { vec_len out.old + length (body_octets self.now) ≤ vec_capacity out.old
             → IsOk result }
     {
         out.extend_from_slice(self.body.octets())
     }
 
-    /// An equal value that owns its octets.
+    /// A copy that owns its body.
     ///
-    /// An error is want of memory.
+    /// Fails only when out of memory.
     pub fn copy(&self, alloc: Global) -> Result<Parsed<Vec<u8>, F>, OutOfMemory>
         ensures body { IfOk result (λ p. body_octets p ≡ body_octets self.now) }
         ensures fields { IfOk result (λ p. body_fields p ≡ body_fields self.now) }
@@ -164,14 +164,14 @@ impl<B: Octets + Drop, F: Body + Drop> Parsed<B, F> {
 impl<F: Body + Drop> Parsed<Vec<u8>, F> {
     ghost use Rattle.opgp_packet.specs.Parsed.{body_octets, body_fields};
 
-    /// The fault of the octets, if they have one. Takes no memory.
+    /// The first fault of a body, if it has one. Allocates nothing.
     pub fn check_body(o: &[u8]) -> Option<BodyFault>
         requires { IsBodySized o.now }
-        // Some fields begin the octets, and the next has no spelling there.
+        // The body begins with some fields, and the next one can't be read there.
         ensures fault { IfSome result (FirstFault (length o.now) F.grammar o.now) }
-        // What is spelled as such a body has no fault.
+        // A body of such fields has no fault.
         ensures none { (fields : List Field) → IsBody F.grammar fields o.now → result ≡ None }
-        // What has no fault is spelled as such a body.
+        // A body without a fault consists of such fields.
         ensures found { IfNone result ((fields : List Field) × IsBody F.grammar fields o.now) }
         ensures exact { result ≡ fault_of (body_at F.grammar o.now) }
     {
@@ -185,22 +185,22 @@ impl<F: Body + Drop> Parsed<Vec<u8>, F> {
         F::read(o).err()
     }
 
-    /// What the octets spell, all of them, with octets of its own.
+    /// Reads a body to its end, and keeps a copy of it.
     ///
-    /// The errors are the first fault of the octets, and want of memory.
+    /// The errors are the body's first fault, and running out of memory.
     pub fn parse_body(alloc: Global, o: &[u8]) -> Result<Parsed<Vec<u8>, F>, ParseFault>
         requires { IsBodySized o.now }
-        // The octets are the fields, one after the other.
+        // The body consists of the fields, one after the other.
         ensures found { IfOk result (λ p. IsBody F.grammar (body_fields p) o.now) }
-        // What is spelled so is read, unless memory runs out.
+        // Every body of such fields is read, unless memory runs out.
         ensures only { (fields : List Field) → IsBody F.grammar fields o.now
             → Parses (λ p. body_fields p) result (Ok fields) }
-        // A fault is that of the first field that has no spelling at its place.
+        // A fault is that of the first field that can't be read at its place.
         ensures fault { IfErr result (RefusedBy (FirstFault (length o.now) F.grammar o.now)) }
-        // A fault is answered whether or not there is memory.
+        // A fault is reported whether or not there is memory.
         ensures refuses { (f : BodyFault) → FirstFault (length o.now) F.grammar o.now f
             → result ≡ Err (ParseFault.Body f) }
-        // It is what a view of the octets shows, or the same fault.
+        // The result is that of a view of the octets, or the same fault.
         ensures exact { Parses (λ p. body_fields p) result (body_at F.grammar o.now) }
         ensures body { IfOk result (λ p. body_octets p ≡ o.now) }
     {
@@ -219,7 +219,7 @@ impl<F: Body + Drop> Parsed<Vec<u8>, F> {
         Ok(Parsed { body, places })
     }
 
-    /// The octets of its body, which it gives up. Takes no memory.
+    /// Its body, as a vector. Allocates nothing.
     pub fn into_body(self) -> Vec<u8>
         ensures value { result.items ≡ body_octets self }
         ensures small { IsBodySized result.items }
@@ -228,9 +228,9 @@ impl<F: Body + Drop> Parsed<Vec<u8>, F> {
         body
     }
 
-    /// What a view shows, with octets of its own.
+    /// A copy of the viewed value, which owns its body.
     ///
-    /// An error is want of memory.
+    /// Fails only when out of memory.
     pub fn of(alloc: Global, view: Parsed<&[u8], F>) -> Result<Parsed<Vec<u8>, F>, OutOfMemory>
         ensures body { IfOk result (λ p. body_octets p ≡ body_octets view.entry) }
         ensures fields { IfOk result (λ p. body_fields p ≡ body_fields view.entry) }
@@ -253,17 +253,17 @@ impl<F: Body + Drop> Parsed<Vec<u8>, F> {
 impl<'a, F: Body + Drop> Parsed<&'a [u8], F> {
     ghost use Rattle.opgp_packet.specs.Parsed.{body_octets, body_fields};
 
-    /// What the octets spell, all of them. Takes no memory.
+    /// Reads a body to its end. Allocates nothing.
     ///
-    /// The error is the first fault of the octets.
+    /// The error is the body's first fault.
     pub fn parse_body(o: &'a [u8]) -> Result<Parsed<&'a [u8], F>, BodyFault>
         requires { IsBodySized o.now }
-        // The octets are the fields, one after the other.
+        // The body consists of the fields, one after the other.
         ensures found { IfOk result (λ p. IsBody F.grammar (body_fields p) o.now) }
-        // What is spelled so is read.
+        // Every body of such fields is read.
         ensures only { (fields : List Field) → IsBody F.grammar fields o.now
             → Reads (λ p. body_fields p) result (Ok fields) }
-        // Some fields begin the octets, and the next has no spelling there.
+        // The body begins with some fields, and the next one can't be read there.
         ensures fault { IfErr result (FirstFault (length o.now) F.grammar o.now) }
         ensures exact { Reads (λ p. body_fields p) result (body_at F.grammar o.now) }
         ensures body { IfOk result (λ p. body_octets p ≡ o.now) }

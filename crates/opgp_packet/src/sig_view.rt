@@ -1,4 +1,4 @@
-//! A signature over the octets of its body.
+//! A signature that borrows its body.
 
 ghost use Rattle.std.specs.Prelude.{◌≡◌, ◌≤◌, length, Ok, IfOk, IfErr};
 ghost use Rattle.opgp_octets.specs.Octets.{IsBodySized};
@@ -11,16 +11,16 @@ use crate::other_view::OtherView;
 use crate::three::ThreeView;
 use opgp_octets::{BodyFault, Reason};
 
-/// A signature over the octets of its body (RFC 9580, 5.2).
+/// A signature that borrows its body (RFC 9580, 5.2).
 #[derive(Clone, Copy)]
 pub enum SigView<'a> {
-    /// Version 3, by RSA or DSA.
+    /// Version 3, with RSA or DSA.
     Three(ThreeView<'a>),
     /// Version 4.
     Four(FourView<'a>),
     /// Version 6.
     Six(SixView<'a>),
-    /// Any other: its body as it is.
+    /// Any other, as an unread body.
     Other(OtherView<'a>),
 }
 
@@ -28,12 +28,12 @@ impl<'a> SigView<'a> {
     ghost use Rattle.opgp_packet.specs.SigView.{sig_view_value, sig_view_octets};
     ghost use Rattle.opgp_packet.specs.SigView.{kind_of, algorithm_of, hash_of, left_of};
 
-    /// The signature that the octets spell, all of them. Takes no memory: it is one pass over the
-    /// octets, which looks at no subpacket's meaning.
+    /// Reads the body of a signature to its end. Allocates nothing; it is one pass over the octets,
+    /// in which no subpacket's data is read.
     ///
-    /// A body of another version than 4 and 6 is never refused, unless it is empty. The errors are
+    /// A body of another version than 4 and 6 is never refused unless it is empty. The errors are
     /// [`Short`], [`AreaShort`], [`SubEmpty`] and [`SubShort`] at a subpacket, in version 6
-    /// [`SaltSize`] and [`MpiBits`], and [`Trailing`], each at the first field that isn't there.
+    /// [`SaltSize`] and [`MpiBits`], and [`Trailing`], each at the first field that can't be read.
     ///
     /// [`Short`]: opgp_octets::Reason::Short
     /// [`AreaShort`]: opgp_octets::Reason::AreaShort
@@ -44,12 +44,12 @@ impl<'a> SigView<'a> {
     /// [`Trailing`]: opgp_octets::Reason::Trailing
     pub fn parse_body(o: &'a [u8]) -> Result<SigView<'a>, BodyFault>
         requires { IsBodySized o.now }
-        // The octets are the fields of the signature, one after the other.
+        // The body consists of the fields of the signature, one after the other.
         ensures found { IfOk result (λ v. Spells (sig_view_value v) o.now) }
-        // What is spelled so is read.
+        // Every body of such fields is read.
         ensures only { (value : SignatureValue) → Spells value o.now
             → Reads sig_view_value result (Ok value) }
-        // Some fields begin the octets, and the next has no spelling there.
+        // The body begins with some fields, and the next one can't be read there.
         ensures fault { IfErr result (SignatureFault o.now) }
         ensures exact { Reads sig_view_value result (signature_at o.now) }
         ensures body { IfOk result (λ v. sig_view_octets v ≡ o.now) }
@@ -80,7 +80,7 @@ impl<'a> SigView<'a> {
         }
     }
 
-    /// Its type, where it is typed (RFC 9580, 5.2.1).
+    /// Its type, unless it is `Other` (RFC 9580, 5.2.1).
     pub fn kind(&self) -> Option<u8>
         ensures { result ≡ kind_of self.now }
     {
@@ -92,7 +92,7 @@ impl<'a> SigView<'a> {
         }
     }
 
-    /// The number of its key algorithm, where it is typed (RFC 9580, 9.1).
+    /// The number of its key algorithm, unless it is `Other` (RFC 9580, 9.1).
     pub fn algorithm(&self) -> Option<u8>
         ensures { result ≡ algorithm_of self.now }
     {
@@ -104,7 +104,7 @@ impl<'a> SigView<'a> {
         }
     }
 
-    /// The number of its hash algorithm, where it is typed (RFC 9580, 9.5).
+    /// The number of its hash algorithm, unless it is `Other` (RFC 9580, 9.5).
     pub fn hash(&self) -> Option<u8>
         ensures { result ≡ hash_of self.now }
     {
@@ -116,7 +116,8 @@ impl<'a> SigView<'a> {
         }
     }
 
-    /// The first two octets of the digest, as it says, where it is typed.
+    /// The left 16 bits of the signed hash value, as the signature states them, unless it is
+    /// `Other` (RFC 9580, 5.2.3).
     pub fn left(&self) -> Option<[u8; 2]>
         ensures { result ≡ left_of self.now }
     {

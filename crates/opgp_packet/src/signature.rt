@@ -17,16 +17,16 @@ use crate::three::{ThreePlaces, ThreeSignature};
 use opgp_octets::{BodyFault, OutOfMemory, ParseFault, Reason};
 use std::alloc::Global;
 
-/// A signature that owns the octets of its body (RFC 9580, 5.2).
+/// A signature that owns its body (RFC 9580, 5.2).
 #[derive(Drop)]
 pub enum Signature {
-    /// Version 3, by RSA or DSA.
+    /// Version 3, with RSA or DSA.
     Three(ThreeSignature),
     /// Version 4.
     Four(FourSignature),
     /// Version 6.
     Six(SixSignature),
-    /// Any other: its body as it is.
+    /// Any other, as an unread body.
     Other(OtherSignature),
 }
 
@@ -34,19 +34,20 @@ impl Signature {
     ghost use Rattle.opgp_packet.specs.Signature.{signature_value, signature_octets};
     ghost use Rattle.opgp_packet.specs.SigView.{sig_view_value, sig_view_octets};
 
-    /// The signature that the octets spell, all of them, with octets of its own.
+    /// Reads the body of a signature to its end, and keeps a copy of it.
     ///
-    /// The errors are those of [`SigView::parse_body`], which comes first, and want of memory.
+    /// The errors are those of [`SigView::parse_body`], which come first, and running out of
+    /// memory.
     pub fn parse_body(alloc: Global, o: &[u8]) -> Result<Signature, ParseFault>
         requires { IsBodySized o.now }
-        // The octets are the fields of the signature, one after the other.
+        // The body consists of the fields of the signature, one after the other.
         ensures found { IfOk result (λ s. Spells (signature_value s) o.now) }
-        // What is spelled so is read, unless memory runs out.
+        // Every body of such fields is read, unless memory runs out.
         ensures only { (value : SignatureValue) → Spells value o.now
             → Parses signature_value result (Ok value) }
-        // A fault is that of the first field that has no spelling at its place.
+        // A fault is that of the first field that can't be read at its place.
         ensures fault { IfErr result (RefusedBy (SignatureFault o.now)) }
-        // A fault is answered whether or not there is memory.
+        // A fault is reported whether or not there is memory.
         ensures refuses { (f : BodyFault) → SignatureFault o.now f
             → result ≡ Err (ParseFault.Body f) }
         ensures exact { Parses signature_value result (signature_at o.now) }
@@ -66,17 +67,17 @@ impl Signature {
         Ok(Signature::of(alloc, view)?)
     }
 
-    /// The signature that the octets spell, all of them, which it keeps. Takes no memory.
+    /// Reads the body of a signature to its end, and keeps it. Allocates nothing.
     ///
     /// The errors are those of [`SigView::parse_body`].
     pub fn from_body(body: Vec<u8>) -> Result<Signature, BodyFault>
         requires { IsBodySized body.items }
         ensures found { IfOk result (λ s. Spells (signature_value s) body.items) }
-        // What is spelled so is read.
+        // Every body of such fields is read.
         ensures only { (value : SignatureValue) → Spells value body.items
             → Reads signature_value result (Ok value) }
         ensures fault { IfErr result (SignatureFault body.items) }
-        // It is what a view of the octets shows, or the same fault.
+        // The result is that of a view of the octets, or the same fault.
         ensures exact { Reads signature_value result (signature_at body.items) }
         ensures body { IfOk result (λ s. signature_octets s ≡ body.items) }
     {
@@ -110,7 +111,7 @@ impl Signature {
         }
     }
 
-    /// The octets of its body, which it gives up. Takes no memory.
+    /// Its body, as a vector. Allocates nothing.
     pub fn into_body(self) -> Vec<u8>
         ensures value { result.items ≡ signature_octets self }
         ensures small { IsBodySized result.items }
@@ -123,9 +124,9 @@ impl Signature {
         }
     }
 
-    /// The signature that a view shows, with octets of its own.
+    /// A copy of the viewed signature, which owns its body.
     ///
-    /// An error is want of memory.
+    /// Fails only when out of memory.
     pub fn of(alloc: Global, view: SigView<'_>) -> Result<Signature, OutOfMemory>
         ensures body { IfOk result (λ s. signature_octets s ≡ sig_view_octets view.entry) }
         ensures fields { IfOk result (λ s. signature_value s ≡ sig_view_value view.entry) }
@@ -138,7 +139,7 @@ impl Signature {
         }
     }
 
-    /// The signature over its body. Takes no memory, and reads nothing again.
+    /// A view of it. Allocates nothing, and reads nothing again.
     pub fn view(&self) -> SigView<'_>
         ensures body { sig_view_octets result ≡ signature_octets self.now }
         ensures fields { sig_view_value result ≡ signature_value self.now }
@@ -169,11 +170,11 @@ impl Signature {
 
     /// Writes its body at the end of `out`.
     ///
-    /// An error is want of memory; `out` is then as it was.
+    /// Fails only when out of memory; `out` is then unchanged.
     pub fn write_body(&self, out: &mut Vec<u8>) -> Result<(), OutOfMemory>
         ensures ok { OnOk result (out.new.items ≡ out.old.items ++ signature_octets self.now) }
         ensures err { OnErr result (out.new.items ≡ out.old.items) }
-        // Room that is there suffices.
+        // It can't fail if the vector has the room.
         ensures succeeds { vec_len out.old + length (signature_octets self.now)
             ≤ vec_capacity out.old
             → IsOk result }
@@ -181,9 +182,9 @@ impl Signature {
         out.extend_from_slice(self.body())
     }
 
-    /// An equal signature.
+    /// A copy of this signature.
     ///
-    /// An error is want of memory.
+    /// Fails only when out of memory.
     pub fn copy(&self, alloc: Global) -> Result<Signature, OutOfMemory>
         ensures body { IfOk result (λ s. signature_octets s ≡ signature_octets self.now) }
         ensures fields { IfOk result (λ s. signature_value s ≡ signature_value self.now) }

@@ -14,7 +14,7 @@ use crate::signature_material::{MaterialPlaces, SignatureMaterial, SignatureMate
 use crate::{Cursor, MpiSpan, Span};
 use opgp_octets::{BodyFault, HashAlgorithm, KeyAlgorithm, Reason};
 
-/// The salt that comes next, which has the size of its hash algorithm (RFC 9580, 9.5).
+/// The salt, which comes next and has the size for its hash algorithm (RFC 9580, 9.5).
 pub(crate) fn salt_at(cursor: &mut Cursor<'_>, hash: u8) -> Result<Span, BodyFault>
     ensures reads { ReadsField (salt_of hash)
         (λ p. named (octets_in p (body_under cursor.old))) cursor.old cursor.new result }
@@ -27,7 +27,7 @@ pub(crate) fn salt_at(cursor: &mut Cursor<'_>, hash: u8) -> Result<Span, BodyFau
     }
 }
 
-/// The material of the algorithm that comes next, its integers strict or not.
+/// The algorithm-specific fields, which come next, their integers strict or not.
 #[inline(always)]
 pub(crate) fn material_at(
     cursor: &mut Cursor<'_>,
@@ -66,7 +66,7 @@ pub(crate) fn material_at(
     }
 }
 
-/// The same in version 3, where other algorithms than RSA and DSA are refused.
+/// The same in version 3, where algorithms other than RSA and DSA are refused.
 #[tactic(auto, unfolding(crate::specs::FieldReading::step_at, crate::specs::FieldReading::kind_at))]
 pub(crate) fn old_material_at(
     cursor: &mut Cursor<'_>,
@@ -92,7 +92,7 @@ pub(crate) fn old_material_at(
 }
 
 impl SignatureMaterial<MpiSpan, Span> {
-    /// The material that lies there.
+    /// The algorithm-specific fields at these places of the body.
     pub(crate) fn lend(self, body: &[u8]) -> SignatureMaterialView<'_>
         requires { AreIn self (length body.now) }
         ensures fields { material_fields result ≡ fields_in self body.now }

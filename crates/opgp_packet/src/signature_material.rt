@@ -1,11 +1,14 @@
-//! What a signature's algorithm made, by its algorithm.
+//! The algorithm-specific fields of a signature.
+
+ghost use Rattle.std.specs.Prelude.{◌≡◌, ⊤};
 
 use crate::{MpiSpan, Span};
 use opgp_octets::MpiView;
+use std::alloc::AllocError;
 
-/// What a signature's algorithm made (RFC 9580, 5.2.3.1 to 5.2.3.5), by its algorithm (9.1). `I`
-/// stands for an integer, `O` for octets.
-#[derive(Clone, Copy)]
+/// The algorithm-specific fields of a signature (RFC 9580, 5.2.3.1 to 5.2.3.5, 9.1). `I` stands for
+/// an integer, `O` for octets.
+#[derive(Copy)]
 pub enum SignatureMaterial<I, O> {
     /// RSA, algorithms 1 and 3.
     Rsa(I),
@@ -38,8 +41,19 @@ pub enum SignatureMaterial<I, O> {
     Opaque(O),
 }
 
-/// What a signature's algorithm made, over the signature's body (RFC 9580, 5.2.3.1 to 5.2.3.5).
+impl<I: Copy, O: Copy> Clone for SignatureMaterial<I, O> {
+    ghost is_clone = { λ p q. q ≡ p };
+
+    ghost is_infallible = { λ _. ⊤ };
+
+    fn clone(&self) -> Result<SignatureMaterial<I, O>, AllocError> {
+        Ok(*self)
+    }
+}
+
+/// The algorithm-specific fields of a signature, borrowed from its body (RFC 9580, 5.2.3.1 to
+/// 5.2.3.5).
 pub type SignatureMaterialView<'a> = SignatureMaterial<MpiView<'a>, &'a [u8]>;
 
-/// Where that lies in the signature's body.
+/// Where the algorithm-specific fields lie in the signature's body.
 pub(crate) type MaterialPlaces = SignatureMaterial<MpiSpan, Span>;

@@ -1,7 +1,7 @@
 //! Where the fields of a body lie in it.
 //!
-//! A value that owns its body can't borrow from it, so it keeps where its fields lie, and lends
-//! them from there. A body has at most 4,294,967,295 octets, so a place takes four.
+//! A value that owns its body can't borrow from it, so it keeps the places of its fields instead. A
+//! body has at most 4,294,967,295 octets, so an offset takes four.
 
 ghost use Rattle.std.specs.Prelude.{◌≡◌, length};
 
@@ -12,12 +12,12 @@ use opgp_octets::MpiView;
 pub struct Span {
     /// The offset of the first.
     pub start: u32,
-    /// The offset behind the last.
+    /// The offset after the last.
     pub end: u32,
 }
 
-/// Where the octets of a multiprecision integer's value begin, and how many bits it says that it
-/// has, which tells how many octets they are (RFC 9580, 3.2).
+/// Where the octets of a multiprecision integer's value begin, and the count of bits that it
+/// states, which says how many octets they are (RFC 9580, 3.2).
 #[derive(Clone, Copy)]
 pub struct MpiSpan {
     /// Its count of bits.
@@ -29,7 +29,7 @@ pub struct MpiSpan {
 impl Span {
     ghost use Rattle.opgp_packet.specs.Spans.{octets_in, IsIn};
 
-    /// The octets that lie there.
+    /// The octets at this place of the body.
     pub fn lend(self, body: &[u8]) -> &[u8]
         requires { IsIn self (length body.now) }
         ensures { result.now ≡ octets_in self body.now }
@@ -42,7 +42,7 @@ impl MpiSpan {
     ghost use Rattle.opgp_packet.specs.Spans.{mpi_in, IsMpiIn};
     ghost use Rattle.opgp_octets.specs.MpiView.{mpi_seen};
 
-    /// The multiprecision integer that lies there.
+    /// The multiprecision integer at this place of the body.
     pub fn lend(self, body: &[u8]) -> MpiView<'_>
         requires { IsMpiIn self (length body.now) }
         ensures { mpi_seen result ≡ mpi_in self body.now }

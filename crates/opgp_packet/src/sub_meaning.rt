@@ -1,4 +1,4 @@
-//! What a subpacket of a signature means.
+//! The typed data of a signature's subpackets.
 
 ghost use Rattle.std.specs.Prelude.{◌≡◌, MatchOption, length};
 ghost use Rattle.opgp_octets.specs.Octets.{IsBodySized};
@@ -13,11 +13,11 @@ use crate::forms::{
 use crate::sig_view::SigView;
 use opgp_octets::SubpacketKind;
 
-/// A key ID, as a signature names it: 8 octets (RFC 9580, 5.2.2, 5.2.3.12).
+/// A key ID, as a signature contains it: 8 octets (RFC 9580, 5.2.2, 5.2.3.12).
 pub type KeyId8 = [u8; 8];
 
-/// What a subpacket of a signature means, by its kind (RFC 9580, 5.2.3.11 to 5.2.3.36). Numbers are
-/// as they are written: nothing is refused for its value.
+/// The data of a signature's subpacket, by its kind (RFC 9580, 5.2.3.11 to 5.2.3.36). Numbers are
+/// kept as they are: no value is refused.
 #[derive(Clone, Copy, Debug)]
 pub enum SubMeaning<'a> {
     /// Kind 2: when the signature was made, in seconds since 1970.
@@ -69,7 +69,7 @@ pub enum SubMeaning<'a> {
     KeyServerPreferences(&'a [u8]),
     /// Kind 24: where updates of the key are.
     PreferredKeyServer(&'a [u8]),
-    /// Kind 25: whether the user ID is the main one; 0 for no.
+    /// Kind 25: whether it is the primary user ID; 0 for no.
     PrimaryUserId(u8),
     /// Kind 26: where the signature's policy is.
     PolicyUri(&'a [u8]),
@@ -84,9 +84,9 @@ pub enum SubMeaning<'a> {
         /// The text.
         text: &'a [u8],
     },
-    /// Kind 30: features that are understood, as flags.
+    /// Kind 30: features that are supported, as flags.
     Features(&'a [u8]),
-    /// Kind 31: the signature that this one is about.
+    /// Kind 31: the signature that this one refers to.
     SignatureTarget {
         /// The number of its key algorithm.
         algorithm: u8,
@@ -106,7 +106,7 @@ pub enum SubMeaning<'a> {
         /// The fingerprint: 20 octets in version 4, 32 in version 6.
         fingerprint: &'a [u8],
     },
-    /// Kind 35: the fingerprint of a recipient that is meant.
+    /// Kind 35: the fingerprint of an intended recipient.
     IntendedRecipient {
         /// The version of the key: 4 or 6.
         version: u8,
@@ -116,13 +116,13 @@ pub enum SubMeaning<'a> {
     /// Kind 39: AEAD ciphersuites, the most preferred first: pairs of a symmetric and an AEAD
     /// algorithm.
     PreferredAead(&'a [u8]),
-    /// One of these kinds, whose octets are of no such form.
+    /// One of these kinds, but the data doesn't have its form.
     Unfit,
     /// Any other kind.
     Unknown,
 }
 
-/// What the octets mean; None where they are unfit.
+/// The meaning of the data; None if it doesn't have the form of the kind.
 #[tactic(auto, unfolding(crate::specs::MeaningReading::meaning_of))]
 pub(crate) fn typed(kind: SubpacketKind, o: &[u8]) -> Option<SubMeaning<'_>>
     requires { IsBodySized o.now }

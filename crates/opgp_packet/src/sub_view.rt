@@ -10,7 +10,7 @@ use crate::forms::{key_id, named};
 use crate::sub_meaning::{KeyId8, SubMeaning, typed};
 use opgp_octets::{SubLen, SubpacketKind};
 
-/// A subpacket of a signature, over the octets of its area (RFC 9580, 5.2.3.7).
+/// A subpacket of a signature, borrowed from its area (RFC 9580, 5.2.3.7).
 #[derive(Clone, Copy)]
 pub struct SubView<'a> {
     pub(crate) sub: Subpacket<'a>,
@@ -24,14 +24,14 @@ impl<'a> SubView<'a> {
     ghost use Rattle.opgp_packet.specs.MeaningReading.{meaning_of};
     ghost use Rattle.opgp_packet.specs.SubMeaning.{meaning_shown};
 
-    /// Its length, which counts the type octet, and the form of the length.
+    /// Its length, which includes the type octet, and the form of the length.
     pub fn len(&self) -> SubLen
         ensures { result ≡ (sub_shown self.now).len }
     {
         self.sub.len()
     }
 
-    /// Whether it must be understood: bit 7 of the type octet.
+    /// Whether it is critical: bit 7 of the type octet.
     pub fn critical(&self) -> bool
         ensures { result ≡ is_critical (sub_shown self.now).kind }
     {
@@ -45,7 +45,7 @@ impl<'a> SubView<'a> {
         self.sub.kind() % 128
     }
 
-    /// Its octets, behind the type octet.
+    /// Its data: the octets after the type octet.
     pub fn octets(&self) -> &'a [u8]
         ensures value { result.now ≡ (sub_shown self.now).octets }
         ensures sub { IsSub (sub_shown self.now) }
@@ -54,8 +54,7 @@ impl<'a> SubView<'a> {
         self.sub.octets()
     }
 
-    /// The key ID of who made the signature, where the kind is 16 and there are 8 octets (RFC 9580,
-    /// 5.2.3.12).
+    /// The issuer's key ID, if the kind is 16 and there are 8 octets (RFC 9580, 5.2.3.12).
     pub fn issuer(&self) -> Option<KeyId8>
         ensures { result ≡ issuer_in (sub_shown self.now) }
     {
@@ -65,8 +64,8 @@ impl<'a> SubView<'a> {
         key_id(self.octets())
     }
 
-    /// The version and the fingerprint of the key that made the signature, where the kind is 33
-    /// and the fingerprint has 20 octets in version 4, or 32 in version 6 (RFC 9580, 5.2.3.35).
+    /// The version and the fingerprint of the issuer's key, if the kind is 33 and the fingerprint
+    /// has 20 octets in version 4, or 32 in version 6 (RFC 9580, 5.2.3.35).
     pub fn issuer_fingerprint(&self) -> Option<(u8, &'a [u8])>
         ensures { option_map (λ x. (x.0, x.1.now)) result
             ≡ issuer_fingerprint_in (sub_shown self.now) }
@@ -77,13 +76,13 @@ impl<'a> SubView<'a> {
         named(self.octets())
     }
 
-    /// What it means: its octets in the form of its kind, or [`SubMeaning::Unfit`], or
-    /// [`SubMeaning::Unknown`]. Takes no memory; the work is linear in its octets. For kind 32 it
-    /// reads a whole signature: whoever looks for another kind asks for [`SubView::kind`] first.
+    /// Its data in the form of its kind, or [`SubMeaning::Unfit`], or
+    /// [`SubMeaning::Unknown`]. Allocates nothing; the work is linear in the length of the data. For
+    /// kind 32 it reads a whole signature, so look at [`SubView::kind`] first for any other kind.
     pub fn meaning(&self) -> SubMeaning<'a>
         ensures means { Means (subpacket_kind_of (kind_shown (sub_shown self.now).kind))
             (sub_shown self.now).octets (meaning_shown result) }
-        // It is what reading the octets as that kind gives.
+        // It is what reading the data as that of the kind gives.
         ensures exact { meaning_shown result
             ≡ meaning_of (subpacket_kind_of (kind_shown (sub_shown self.now).kind))
             (sub_shown self.now).octets }

@@ -1,4 +1,4 @@
-//! A subpacket over the octets of its area.
+//! A subpacket borrowed from its area.
 
 ghost use Rattle.std.specs.Prelude.{◌≡◌, ◌<◌, ◌≤◌, suc, length, IfOk};
 ghost use Rattle.opgp_octets.specs.Octets.{IsOctets};
@@ -8,7 +8,7 @@ ghost use Rattle.opgp_packet.specs.AreaReading.{sub_at};
 
 use opgp_octets::{Reason, SubLen, read_sub_len};
 
-/// A subpacket over the octets of its area (RFC 9580, 5.2.3.7, 5.12).
+/// A subpacket borrowed from its area (RFC 9580, 5.2.3.7, 5.12).
 #[derive(Clone, Copy)]
 pub struct Subpacket<'a> {
     len: SubLen,
@@ -23,7 +23,7 @@ impl<'a> Subpacket<'a> {
     ghost use Rattle.opgp_packet.specs.Subpacket.{sub_seen};
     ghost use Rattle.opgp_packet.specs.Subpackets.{IsSub};
 
-    /// Its length, which counts the type octet, and the form of the length.
+    /// Its length, which includes the type octet, and the form of the length.
     pub fn len(&self) -> SubLen
         ensures { result ≡ (sub_seen self.now).len }
     {
@@ -37,7 +37,7 @@ impl<'a> Subpacket<'a> {
         self.kind
     }
 
-    /// Its octets, behind the type octet.
+    /// Its data: the octets after the type octet.
     pub fn octets(&self) -> &'a [u8]
         ensures value { result.now ≡ (sub_seen self.now).octets }
         ensures sub { IsSub (sub_seen self.now) }
@@ -46,7 +46,7 @@ impl<'a> Subpacket<'a> {
         self.octets
     }
 
-    /// The subpacket that begins the octets, and what follows.
+    /// The subpacket that begins the octets, and what follows it.
     ///
     /// The errors are [`Reason::SubEmpty`] and [`Reason::SubShort`].
     #[tactic(auto, unfolding(crate::specs::AreaReading::sub_at))]

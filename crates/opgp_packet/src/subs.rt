@@ -6,7 +6,7 @@ ghost use Rattle.opgp_packet.specs.AreaReading.{fault_in};
 use crate::Walk;
 use crate::sub_view::SubView;
 
-/// The subpackets of an area, one after the other. Takes no memory.
+/// The subpackets of an area, one after the other. Allocates nothing.
 #[derive(Clone, Copy)]
 pub struct Subs<'a> {
     walk: Walk<'a>,

@@ -15,7 +15,7 @@ use crate::signature_material::{MaterialPlaces, SignatureMaterialView};
 use crate::sub_meaning::KeyId8;
 use opgp_octets::{BodyFault, KeyAlgorithm, Reason};
 
-/// The fields of a version 3 signature; of its material, where they lie in the body.
+/// The fields of a version 3 signature; for the longer ones, where they lie in the body.
 #[derive(Clone, Copy)]
 pub struct ThreePlaces {
     kind: u8,
@@ -27,11 +27,11 @@ pub struct ThreePlaces {
     material: MaterialPlaces,
 }
 
-/// A version 3 signature that owns the octets of its body, and knows where its fields lie in them
-/// (RFC 9580, 5.2.2).
+/// A version 3 signature that owns its body, and knows where its fields lie in it (RFC 9580,
+/// 5.2.2).
 pub type ThreeSignature = Parsed<Vec<u8>, ThreePlaces>;
 
-/// A version 3 signature over the octets of its body (RFC 9580, 5.2.2).
+/// A version 3 signature that borrows its body (RFC 9580, 5.2.2).
 pub type ThreeView<'a> = Parsed<&'a [u8], ThreePlaces>;
 
 impl Body for ThreePlaces {
@@ -76,7 +76,7 @@ impl<'a> Parsed<&'a [u8], ThreePlaces> {
         self.places.kind
     }
 
-    /// When it was made, in seconds since 1970.
+    /// The creation time, in seconds since 1970.
     pub fn created(&self) -> u32
         ensures { result ≡ (three_value self.now).created }
     {
@@ -106,14 +106,14 @@ impl<'a> Parsed<&'a [u8], ThreePlaces> {
         self.places.hash
     }
 
-    /// The first two octets of the digest, as the signature says.
+    /// The left 16 bits of the signed hash value, as the signature states them (RFC 9580, 5.2.2).
     pub fn left(&self) -> [u8; 2]
         ensures { result ≡ (three_value self.now).left }
     {
         self.places.left
     }
 
-    /// What its algorithm made; which variant it is, its algorithm says.
+    /// The algorithm-specific fields; the variant is that of its algorithm.
     pub fn material(&self) -> SignatureMaterialView<'a>
         ensures fields { material_fields result ≡ (three_value self.now).material }
         ensures shape { shape result

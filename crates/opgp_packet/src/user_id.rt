@@ -11,7 +11,7 @@ ghost use Rattle.opgp_packet.specs.UserIdBody.{user_id, user_id_fields, SpellsUs
 use opgp_octets::{OutOfMemory, ParseFault};
 use std::alloc::Global;
 
-/// A user ID: any octets, mostly a name and a mail address in UTF-8 (RFC 9580, 5.11).
+/// A user ID: any octets, usually a name and a mail address in UTF-8 (RFC 9580, 5.11).
 #[derive(Drop)]
 pub struct UserId {
     body: Vec<u8>,
@@ -22,9 +22,9 @@ pub struct UserId {
 impl UserId {
     ghost use Rattle.opgp_packet.specs.UserId.{user_id_octets};
 
-    /// The user ID of these octets, with octets of its own.
+    /// The user ID of these octets, which it copies.
     ///
-    /// The only error is want of memory.
+    /// Fails only when out of memory.
     pub fn parse_body(alloc: Global, o: &[u8]) -> Result<UserId, ParseFault>
         requires { IsBodySized o.now }
         ensures found { IfOk result (λ u. SpellsUserId (user_id_octets u) o.now) }
@@ -51,7 +51,7 @@ impl UserId {
         })
     }
 
-    /// The user ID of these octets, which it keeps. Takes no memory.
+    /// The user ID of these octets, which it keeps. Allocates nothing.
     pub fn from_body(body: Vec<u8>) -> UserId
         requires { IsBodySized body.items }
         ensures { user_id_octets result ≡ body.items }
@@ -59,7 +59,7 @@ impl UserId {
         UserId { body }
     }
 
-    /// Its octets, which it gives up. Takes no memory.
+    /// Its body, as a vector. Allocates nothing.
     pub fn into_body(self) -> Vec<u8>
         ensures value { result.items ≡ user_id_octets self }
         ensures small { IsBodySized result.items }
@@ -68,7 +68,7 @@ impl UserId {
         body
     }
 
-    /// Its octets, which are those of its body.
+    /// Its octets, which are its whole body.
     pub fn octets(&self) -> &[u8]
         ensures value { result.now ≡ user_id_octets self.now }
         ensures small { IsBodySized result.now }
@@ -94,20 +94,20 @@ impl UserId {
 
     /// Writes its body at the end of `out`.
     ///
-    /// An error is want of memory; `out` is then as it was.
+    /// Fails only when out of memory; `out` is then unchanged.
     pub fn write_body(&self, out: &mut Vec<u8>) -> Result<(), OutOfMemory>
         ensures ok { OnOk result (out.new.items ≡ out.old.items ++ user_id_octets self.now) }
         ensures err { OnErr result (out.new.items ≡ out.old.items) }
-        // Room that is there suffices.
+        // It can't fail if the vector has the room.
         ensures succeeds { vec_len out.old + length (user_id_octets self.now) ≤ vec_capacity out.old
             → IsOk result }
     {
         out.extend_from_slice(&self.body)
     }
 
-    /// An equal user ID.
+    /// A copy of this user ID.
     ///
-    /// An error is want of memory.
+    /// Fails only when out of memory.
     pub fn copy(&self, alloc: Global) -> Result<UserId, OutOfMemory>
         ensures { IfOk result (λ u. user_id_octets u ≡ user_id_octets self.now) }
     {

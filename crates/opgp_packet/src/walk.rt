@@ -7,8 +7,8 @@ ghost use Rattle.opgp_packet.specs.AreaReading.{fault_in};
 use crate::subpacket::Subpacket;
 use opgp_octets::BodyFault;
 
-/// The first fault of an area that ends at this place of its body, if there is one. Takes no
-/// memory.
+/// The first fault of an area that ends at this offset of its body, if it has one. Allocates
+/// nothing.
 pub fn fault_in_area(area: &[u8], end: usize) -> Option<BodyFault>
     requires { length area.now ≤ end }
     ensures { result ≡ fault_in end area.now }
@@ -28,7 +28,7 @@ pub fn fault_in_area(area: &[u8], end: usize) -> Option<BodyFault>
     None
 }
 
-/// The subpackets of an area that has no fault, one after the other. Takes no memory.
+/// The subpackets of an area without a fault, one after the other. Allocates nothing.
 #[derive(Clone, Copy)]
 pub struct Walk<'a> {
     rest: &'a [u8],

@@ -373,7 +373,7 @@ fn given_back(body: Result<Vec<u8>, BodyFault>, octets: &[u8]) -> bool {
     }
 }
 
-// A growth makes each body; none copies it on its way into a value and out again.
+// One allocation makes each body; none copies it on its way into a value and out again.
 #[test]
 fn bodies_are_moved_in_4_growths(rt: HostRuntime) {
     let area = b"\x02\x01\x61".as_slice();

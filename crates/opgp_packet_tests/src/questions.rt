@@ -25,7 +25,7 @@ const BINDING: &[u8] =
 const HASHED: &[u8] =
     b"\x99\x00\x33\x04\x53\xF3\x5F\x0B\x16\x09\x2B\x06\x01\x04\x01\xDA\x47\x0F\x01\x01\x07\x40\x3F\x09\x89\x94\xBD\xD9\x16\xED\x40\x53\x19\x79\x34\xE4\xA8\x7C\x80\x73\x3A\x12\x80\xD6\x2F\x80\x10\x99\x2E\x43\xEE\x3B\x24\x06";
 
-// The types that are about content, a key, two keys, and a key with a user ID or user attribute.
+// The types that are made over a document, a key, two keys, and a key with a user ID or user attribute.
 const TYPES: [&[u8]; 4] = [
     b"\x00",
     b"\x1F\x20",
@@ -38,7 +38,7 @@ fn older(kind: u8, hash: u8) -> [u8; 14] {
     [4, kind, 22, hash, 0, 0, 0, 0, 0xAB, 0xCD, 0, 0, 0, 0]
 }
 
-/// What a signature asks of a subject that fits.
+/// What a signature hashes over a subject that fits.
 fn asks<'a>(
     rt: &impl Abort,
     body: &'a [u8],
@@ -48,7 +48,7 @@ fn asks<'a>(
     Ok(ask_view(SigView::parse_body(body)?, subject))
 }
 
-// The digests of the standard's signatures begin with the octets that the signatures say.
+// The digests of the standard's signatures begin with the octets that the signatures state.
 #[test]
 fn digests_of_the_standard(rt: HostRuntime) -> Result<(), Fail> {
     let primary = KeyView::parse_body(PRIMARY)?;
@@ -202,7 +202,7 @@ fn hash_algorithms(rt: HostRuntime) -> Result<(), Fail> {
     Ok(())
 }
 
-/// Where the types are about, of the tables' rows; None where they are about nothing.
+/// The row of the table that has the type; None if none has.
 fn row_of(kind: u8) -> Option<usize> {
     TYPES.iter().position(|row| row.contains(&kind))
 }
@@ -305,7 +305,7 @@ fn reopened_octets(rt: HostRuntime) -> Result<(), Fail> {
     Ok(())
 }
 
-// Octets are written in a growth of their own, or what stood there stands.
+// Octets are written with one allocation, or the vector is unchanged.
 #[test]
 fn octets_refused_growth(rt: HostRuntime) -> Result<(), Fail> {
     let body = older(0x00, 8);

@@ -1,4 +1,4 @@
--- What the signatures of a keyring ask, in the order in which they stand (RFC 9580, 5.2.4).
+-- What the signatures of a keyring hash, in order (RFC 9580, 5.2.4).
 use Rattle.std.specs.Prelude.{◌≡◌, ◌+◌, List, length, map, Option, Some, None, Result, Ok, Err}
 use Rattle.std.specs.Prelude.{slice_get}
 use Rattle.opgp_octets.specs.declared.fault.BodyFault.{BodyFault}
@@ -16,11 +16,11 @@ use Rattle.opgp_ring.specs.Keyring.{KeyringValue}
 use Rattle.opgp_report.specs.declared.finding.Finder.{Finder}
 use Rattle.opgp_report.specs.Standing.{Standing, standing_in}
 
--- a question, or why there is none
+-- a question, or why the signature isn't hashed
 abbrev pub Asked : Type 0
 Asked = Result QuestionValue Why
 
--- what octets ask about a subject; octets that are no signature ask nothing
+-- what the signature in these octets hashes over a subject; nothing if they aren't a signature
 abbrev pub asked_in : Site → SubjectValue → Result SignatureValue BodyFault → Asked
 asked_in site subject (Ok v) = ask_at_of site v subject
 asked_in site subject (Err fault) = Err Opaque
@@ -28,7 +28,7 @@ asked_in site subject (Err fault) = Err Opaque
 abbrev pub asked_by : Standing → Asked
 asked_by s = asked_in s.site s.subject (signature_at s.body)
 
--- what all signatures of a keyring ask
+-- what all signatures of a keyring hash
 abbrev pub asked_of : KeyringValue → List Asked
 asked_of r = map asked_by (standing_in r)
 
@@ -39,7 +39,7 @@ question_in (Some (Err why)) = None
 question_in None = None
 
 -- ---- looking for one
--- what is asked there stops it; shown a list without it, it has so many less left
+-- the signature of that number stops it; after a list without it, that many fewer are left
 abbrev pub Finds : Finder → List Standing → Result Finder (Result Question Why) → Type 0
 Finds f list (Err asked) =
     (read : Asked) × Reads question_value asked read

@@ -1,4 +1,4 @@
--- What rows are made with, and which are added.
+-- The state of the maker of rows, and the rows that it adds.
 use Rattle.std.specs.Prelude.{◌≡◌, ℕ, ⊤, List, ◌++◌, map, Result, Ok, Err}
 use Rattle.opgp_report.specs.declared.asker.Asker.{Asker}
 use Rattle.opgp_report.specs.Report.{Says, row_of}
@@ -10,7 +10,7 @@ use Rattle.opgp_report.specs.Standing.{Standing}
 abbrev pub asker_keys : {V : Type 0} → Asker V → List (List ℕ)
 asker_keys a = signers_keys a.signers
 
--- a row is added for each that it is shown, unless memory is wanting
+-- a row is added for each signature that it visits, unless memory runs out
 abbrev pub AddsRows : {V E : Type 0} → (V → Says) → Asker V → List Standing
     → Result (Asker V) E → Type 0
 AddsRows says a list (Ok b) = map row_value b.rows.items

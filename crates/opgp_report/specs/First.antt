@@ -1,4 +1,4 @@
--- The first of a list of keys that has a name.
+-- The first key of a list with a fingerprint or a key ID.
 use Rattle.std.specs.Prelude.{◌≡◌, ℕ, Bool, ◌&&◌, List, length, Option, Some, None, position}
 use Rattle.std.specs.Prelude.{◌==◌, if◌then◌else◌}
 use Rattle.std.specs.BTreeMap.{BTreeMap, get}
@@ -14,7 +14,7 @@ use Rattle.opgp_hash.specs.SubjectValue.{version_of}
 use Rattle.opgp_hash.specs.declared.fingerprints.Fingerprint.{Fingerprint}
 use Rattle.opgp_hash.specs.declared.fingerprints.Fingerprint.TheVariants.{Four, Six}
 
--- the fingerprint of the key that has this body
+-- the fingerprint of the key with this body
 abbrev pub print_of : List ℕ → Fingerprint
 print_of body = fingerprint_of (version_of body) body
 
@@ -27,7 +27,7 @@ abbrev pub has_print : ℕ → List ℕ → Fingerprint → Bool
 has_print version octets (Four o) = (version == 4) && bytes_eq o octets
 has_print version octets (Six o) = (version == 6) && bytes_eq o octets
 
--- where the first of these keys stands that has this key ID, or this version and fingerprint
+-- the place of the first key with this key ID, or with this version and fingerprint
 abbrev pub first_by_id : List ℕ → List Fingerprint → Option ℕ
 first_by_id id prints = position (has_id id) prints
 
@@ -35,27 +35,27 @@ abbrev pub first_by_print : ℕ → List ℕ → List Fingerprint → Option ℕ
 first_by_print version octets prints = position (has_print version octets) prints
 
 -- ---- what an index keeps
--- the octets of a fingerprint are as many as its version says
+-- a fingerprint has the size of its version
 abbrev pub is_sized : Fingerprint → Bool
 is_sized (Four o) = length o == 20
 is_sized (Six o) = length o == 32
 
--- a place that is kept, or else this one where the test is true
+-- the place that is kept, or else this one if the test is true
 abbrev pub first_or : Option ℕ → Bool → ℕ → Option ℕ
 first_or (Some n) test at = Some n
 first_or None test at = if test then Some at else None
 
--- the map has, at each octets, the place of the first that passes the test for them
+-- the map has, for each sequence of octets, the place of the first that passes its test
 abbrev pub HasFirsts : BTreeMap (List ℕ) ℕ → (List ℕ → Fingerprint → Bool) → List Fingerprint
     → Type 0
 HasFirsts m test prints = (o : List ℕ)
     → get (slice_cmp nat_cmp) m o ≡ position_from (test o) 0 prints
 
--- eight octets, as a key ID has
+-- eight octets, the size of a key ID
 abbrev pub IsId : List ℕ → Type 0
 IsId o = (length o ≡ 8) × IsOctets o
 
--- the map has, at the number that a key ID spells, the place of the first that has this key ID
+-- the map has, for the number of each key ID, the place of the first key with this key ID
 abbrev pub HasFirstIds : BTreeMap ℕ ℕ → List Fingerprint → Type 0
 HasFirstIds m prints = (o : List ℕ) → IsId o
     → get nat_cmp m (from_be_bytes w64 o) ≡ position_from (has_id o) 0 prints

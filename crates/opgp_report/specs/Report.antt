@@ -1,4 +1,4 @@
--- The report of a keyring: a row for each signature that stands in it (RFC 9580, 5.2.4).
+-- The report of a keyring: a row for each of its signatures (RFC 9580, 5.2.4).
 use Rattle.std.specs.Prelude.{ℕ, if◌then◌else◌, List, [], ◌∷◌, map, Option, Result, Ok, Err}
 use Rattle.std.specs.Prelude.{slice_get}
 use Rattle.std.specs.List.{flat_map}
@@ -28,12 +28,12 @@ certificate_keys c = c.primary.body ∷ flat_map subkey_bodies c.components
 abbrev pub keys_in : KeyringValue → List (List ℕ)
 keys_in r = flat_map certificate_keys r.certificates
 
--- the body of the first key that a signature names as its maker, if there is one
+-- the body of the first key that a signature names as its issuer's, if there is one
 abbrev pub signer_in : List (List ℕ) → SignatureValue → Option (List ℕ)
 signer_in keys v = option_and_then (λ i. slice_get keys i) (signer_of (map print_of keys) v)
 
 -- ---- rows
--- what a verifier says of a job
+-- the verdict of a verifier on a job
 abbrev pub Says : Type 0
 Says = JobValue → Verdict
 
@@ -44,7 +44,7 @@ module _ (says : Says) (keys : List (List ℕ)) where
       (option_map (λ body. id_of (print_of body)) (signer_in keys v)) (digest_of q)
       (says (record { signature = v; digest = digest_of q; signer = signer_in keys v }))
 
-  -- octets that are no signature ask nothing
+  -- octets that aren't a signature aren't hashed
   abbrev pub finding_at : Result SignatureValue BodyFault → Asked → FindingValue
   finding_at (Ok v) asked = finding_of v asked
   finding_at (Err fault) asked = not_asked Opaque
@@ -52,6 +52,6 @@ module _ (says : Says) (keys : List (List ℕ)) where
   abbrev pub row_of : Standing → RowValue
   row_of s = record { place = s.place; finding = finding_at (signature_at s.body) (asked_by s) }
 
--- the report of a keyring, by a verifier
+-- the report of a keyring with a verifier
 abbrev pub report_of : Says → KeyringValue → List RowValue
 report_of says r = map (row_of says (keys_in r)) (standing_in r)

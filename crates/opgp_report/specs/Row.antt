@@ -1,4 +1,4 @@
--- What the rows of a report show.
+-- The values of the rows of a report.
 use Rattle.std.specs.Prelude.{List, map}
 use Rattle.std.specs.Option.{option_map}
 use Rattle.opgp_packet.specs.Parsed.{body_octets}

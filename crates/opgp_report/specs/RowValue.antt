@@ -1,4 +1,4 @@
--- The rows of a report, and what a verifier is asked, without where their octets lie.
+-- The rows of a report, and the jobs of a verifier, by the contents of what they borrow.
 use Rattle.std.specs.Prelude.{ℕ, List, Option}
 use Rattle.opgp_packet.specs.SignatureBody.{SignatureValue}
 use Rattle.opgp_hash.specs.declared.digests.Digest.{Digest}
@@ -12,7 +12,7 @@ pub record JobValue : Type 0 where
   pub digest : Digest
   pub signer : Option (List ℕ)
 
--- what is found of a signature: why it asks nothing; or its type, its hash algorithm, the key ID of
+-- what is found of a signature: why it isn't hashed; or its type, its hash algorithm, the key ID of
 -- the key that it names, the digest, and the verdict
 pub data FindingValue : Type 0 where
   not_asked : Why → FindingValue

@@ -1,4 +1,4 @@
--- Which key made a signature, as its subpackets say (RFC 9580, 5.2.3.12, 5.2.3.35).
+-- The issuer's key, as a signature's subpackets name it (RFC 9580, 5.2.3.12, 5.2.3.35).
 use Rattle.std.specs.Prelude.{ℕ, List, [], ◌∷◌, Option, Some, None}
 use Rattle.opgp_packet.specs.Subpackets.{Sub}
 use Rattle.opgp_packet.specs.Areas.{hashed_subs, unhashed_subs}
@@ -21,12 +21,12 @@ key_named prints (Some x) id = first_by_print x.0 x.1 prints
 key_named prints None (Some id) = first_by_id id prints
 key_named prints None None = None
 
--- a fingerprint counts in the hashed area alone, and then no key ID is asked; a key ID counts in
+-- a fingerprint counts only in the hashed area, and then key IDs are ignored; a key ID counts in
 -- both, in the hashed area first
 abbrev pub signer_by : List Fingerprint → List Sub → List Sub → Option ℕ
 signer_by prints hashed unhashed = key_named prints (first_some issuer_fingerprint_in hashed)
     (some_or (first_some issuer_in hashed) (first_some issuer_in unhashed))
 
--- the place, in a list of keys, of the key that made the signature
+-- the place of the issuer's key in a list of keys
 abbrev pub signer_of : List Fingerprint → SignatureValue → Option ℕ
 signer_of prints signature = signer_by prints (hashed_subs signature) (unhashed_subs signature)

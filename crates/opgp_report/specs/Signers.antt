@@ -1,4 +1,4 @@
--- What the keys of a keyring show that can be named as signers.
+-- The keys of a keyring that can be named as issuers.
 use Rattle.std.specs.Prelude.{ℕ, List, map}
 use Rattle.opgp_packet.specs.Parsed.{body_octets}
 use Rattle.opgp_report.specs.declared.signers.Signers.{Signers}

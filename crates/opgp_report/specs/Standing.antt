@@ -1,5 +1,5 @@
--- What stands in a keyring, in order: each signature of a certificate, and behind the binding of a
--- subkey each signature that is embedded in it (RFC 9580, 5.2.4, 5.2.3.34).
+-- The signatures of a keyring, in order: each signature packet of a certificate, and after a subkey
+-- binding each signature that is embedded in it (RFC 9580, 5.2.4, 5.2.3.34).
 use Rattle.std.specs.Prelude.{ℕ, ◌+◌, Bool, true, false, ◌&&◌, ◌||◌, ◌==◌, if◌then◌else◌}
 use Rattle.std.specs.Prelude.{List, [], ◌∷◌, ◌++◌, Option, Some, None, is_none, slice_get}
 use Rattle.std.specs.Prelude.{Result, Ok, Err}
@@ -33,7 +33,7 @@ is_signature p = is_type packet.Signature p.kind
 abbrev pub is_key : PacketValue → Bool
 is_key p = is_type packet.PublicKey p.kind || is_type packet.PublicSubkey p.kind
 
--- ---- what signatures are about
+-- ---- what signatures are made over
 -- on a component, by its head: a user ID, a user attribute, or else a subkey
 abbrev pub on_head : List ℕ → PacketValue → SubjectValue
 on_head primary head =
@@ -49,7 +49,7 @@ is_on_two (on_user_id primary id) = false
 is_on_two (on_attribute primary body) = false
 
 -- ---- what is embedded
--- what a subpacket holds as a signature (5.2.3.34)
+-- the body of the signature in a subpacket, if it embeds one (5.2.3.34)
 abbrev pub held_body : Sub → List (List ℕ)
 held_body s =
     if kind_shown s.kind == subpacket_kind_number kinds.EmbeddedSignature then s.octets ∷ [] else []
@@ -57,20 +57,20 @@ held_body s =
 abbrev pub held_bodies : List Sub → List (List ℕ)
 held_bodies subs = flat_map held_body subs
 
--- the binding of a subkey (5.2.1.8)
+-- a subkey binding (5.2.1.8)
 abbrev pub is_binding : Option SignedValue → Bool
 is_binding None = false
 is_binding (Some s) = s.kind == signature_type_number types.SubkeyBinding
 
--- those of the binding of a subkey, the hashed area first
+-- those in a subkey binding, the hashed area first
 abbrev pub bodies_within : SubjectValue → Result SignatureValue BodyFault → List (List ℕ)
 bodies_within subject (Err fault) = []
 bodies_within subject (Ok v) =
     if is_on_two subject && is_binding (signed_of v)
     then held_bodies (hashed_subs v) ++ held_bodies (unhashed_subs v) else []
 
--- ---- what stands
--- octets that stand as a signature: how and where, what they are about, and which
+-- ---- the signatures
+-- octets in the role of a signature: at which site and place, over what, and which octets
 pub record Standing : Type 0 where
   pub site : Site
   pub place : Place
@@ -101,7 +101,7 @@ nested_at place n = record {
   nested = Some n;
 }
 
--- what is made of each item by its number, from this one, one after the other
+-- the results for the items by their number, counted from this one, one after the other
 abbrev pub by_number : {A B : Type 0} → (ℕ → A → List B) → ℕ → List A → List B
 by_number make n [] = []
 by_number make n (x ∷ xs) = make n x ++ by_number make (n + 1) xs
@@ -116,7 +116,7 @@ signature_standing place subject body =
     stands Hung place subject body
     ∷ by_number (nested_standing place subject) 0 (bodies_within subject (signature_at body))
 
--- what hangs on a primary key or a component: fillers don't stand as anything
+-- the signatures among the packets on a primary key or a component; fillers aren't any
 abbrev pub hang_standing : ℕ → Option ℕ → SubjectValue → ℕ → PacketValue → List Standing
 hang_standing certificate component subject n p =
     if is_signature p then signature_standing (hung_at certificate component n) subject p.body
@@ -138,18 +138,18 @@ certificate_standing n c =
 abbrev pub standing_in : KeyringValue → List Standing
 standing_in r = by_number certificate_standing 0 r.certificates
 
--- ---- which packet stands in a place
--- what hangs on a certificate's primary key, or on its component of this number
+-- ---- the packet at a place
+-- the packets on a certificate's primary key, or on its component of this number
 abbrev pub hangs_of : CertificateValue → Option ℕ → Option (List PacketValue)
 hangs_of c None = Some c.hangs
 hangs_of c (Some n) = option_map (λ k. k.hangs) (slice_get c.components n)
 
--- the packet that hangs in a place of a keyring, if there is one
+-- the packet at a place of a keyring, if there is one
 abbrev pub hang_at : KeyringValue → Place → Option PacketValue
 hang_at r place =
     option_and_then (λ c. option_and_then (λ hangs. slice_get hangs place.hang)
     (hangs_of c place.component)) (slice_get r.certificates place.certificate)
 
--- a row of what hangs in its place, and not of what is embedded in that
+-- a row of a packet's own signature, not of one embedded in it
 abbrev pub is_outer : RowValue → Bool
 is_outer row = is_none row.place.nested

@@ -1,4 +1,4 @@
--- What a row of a report tells of a question, whoever the verifier is.
+-- The part of a row that doesn't depend on the verifier.
 use Rattle.std.specs.Prelude.{ℕ, Result, Ok, Err}
 use Rattle.opgp_hash.specs.declared.digests.Digest.{Digest}
 use Rattle.opgp_hash.specs.declared.why.Why.{Why}
@@ -6,7 +6,7 @@ use Rattle.opgp_hash.specs.Digest.{digest_of}
 use Rattle.opgp_report.specs.Asked.{Asked}
 use Rattle.opgp_report.specs.RowValue.{FindingValue, RowValue, not_asked, asked_with}
 
--- the signature's type, its hash algorithm and the digest; or why there is none
+-- the signature's type, its hash algorithm and the digest; or why it isn't hashed
 abbrev pub Told : Type 0
 Told = Result (ℕ × ℕ × Digest) Why
 

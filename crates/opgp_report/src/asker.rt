@@ -1,4 +1,4 @@
-//! The rows of what stands in a keyring.
+//! The rows for the signatures of a keyring.
 
 ghost use Rattle.std.specs.Prelude.{◌≡◌, ◌++◌, [], List, Ok, Result, map};
 ghost use Rattle.std.specs.Result.{ForOk};
@@ -23,7 +23,7 @@ use opgp_octets::{BodyFault, OutOfMemory};
 use opgp_packet::SigView;
 use std::alloc::Global;
 
-/// Adds a row for each signature: knows the keys that may be signers, and who is asked.
+/// Adds a row for each signature: has the keys that may be signers, and the verifier.
 #[derive(Drop)]
 pub(crate) struct Asker<'a, V> {
     signers: Signers<'a>,
@@ -44,7 +44,7 @@ impl<'a, V: Verifier> Asker<'a, V> {
         }
     }
 
-    /// What is found of a signature by what it asks about the hasher's subject.
+    /// What is found of a signature over the hasher's current subject.
     fn finding(
         &self,
         hasher: &mut CertificateHasher<'_>,

@@ -13,20 +13,21 @@ use opgp_octets::OutOfMemory;
 use opgp_ring::Keyring;
 use std::alloc::Global;
 
-/// The report of a keyring: a row for each signature of a certificate, in order, and behind each
-/// version 4 or 6 signature of type 18 that hangs on a subkey a row for each of its subpackets of
-/// kind 32, those of the hashed area first (RFC 9580, 5.2.4, 5.2.3.34).
+/// The report of a keyring: a row for each signature of a certificate, in order, and after each
+/// subkey binding signature (type 18, version 4 or 6) on a subkey a row for each signature embedded
+/// in it, those of the hashed area first (RFC 9580, 5.2.4, 5.2.3.34).
 ///
-/// A row says why the signature asks nothing about what it hangs on; or the digest of its question,
-/// the key ID of the first key of the keyring that it names as its maker, and what the verifier says
-/// of both. Each key is hashed once for its name, and keys are found in time that grows with the
-/// logarithm of their number. The verifier is asked once for each question.
+/// A row says why the signature isn't hashed where it is; or its digest, the key ID of the first
+/// key of the keyring that it names as its issuer, and the verdict of the verifier on the
+/// signature, the digest and that key. Each key is hashed once for its fingerprint, and found in
+/// time that grows with the logarithm of the number of keys. The verifier is called once for each
+/// digest.
 ///
-/// In version 4 each primary key, and each user ID, attribute and subkey, is hashed once for each
-/// hash algorithm that is asked about it. In version 6 each digest hashes them anew, behind its
+/// In version 4 each primary key, user ID, attribute and subkey is hashed once for each hash
+/// algorithm that its signatures use. In version 6 each digest hashes them again, after its
 /// signature's salt: there the time grows with the product of signatures and octets.
 ///
-/// An error is want of memory.
+/// Fails only when out of memory.
 pub fn check<V: Verifier>(
     alloc: Global,
     keyring: &Keyring,

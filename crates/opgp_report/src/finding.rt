@@ -1,4 +1,4 @@
-//! The question of a row.
+//! The question of a row of the report.
 
 ghost use Rattle.std.specs.Prelude.{◌≡◌, true};
 ghost use Rattle.std.specs.List.{slice_get};
@@ -13,7 +13,7 @@ use opgp_octets::BodyFault;
 use opgp_packet::SigView;
 use opgp_ring::Keyring;
 
-/// Looks for what stands behind so many others.
+/// Looks for the signature of a given number.
 #[derive(Clone, Copy)]
 struct Finder {
     left: usize,
@@ -42,8 +42,8 @@ impl<'a> Visitor<'a> for Finder {
     }
 }
 
-/// What the signature asks that has this number among the rows of the keyring's report, from 0; None
-/// where it asks nothing, or where there is no such row. Takes no memory.
+/// The question of the signature in this row of the keyring's report, counted from 0; None if it
+/// isn't hashed, or there is no such row. Allocates nothing.
 pub fn question_at(keyring: &Keyring, row: usize) -> Option<Question<'_>>
     ensures { option_map (λ q. question_value q) result
         ≡ question_in (slice_get (asked_of keyring.now) row) }

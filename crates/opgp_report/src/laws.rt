@@ -11,15 +11,15 @@ ghost use Rattle.opgp_report.specs.Standing.{certificate_standing, hang_at, is_k
 ghost use Rattle.opgp_report.specs.Standing.{is_signature};
 ghost use Rattle.opgp_report.specs.Told.{asked_told, row_told};
 
-/// The rows of a keyring's report, whoever the verifier is, are those of what its signatures ask, in
-/// the same order: a row tells why nothing is asked, or the digest of the question.
+/// The rows of a keyring's report, with any verifier, belong to its signatures, in the same order:
+/// a row says why the signature isn't hashed, or the digest of its question.
 pub fn rows_are_those_of_questions()
     ensures { (says : Says) (r : KeyringValue)
         → map row_told (report_of says r) ≡ map asked_told (asked_of r) }
 {}
 
-/// The rows of a keyring's report that aren't of embedded signatures stand for its signature packets,
-/// in their order: each packet has one row, and hangs in that row's place.
+/// The rows that aren't of embedded signatures belong to the keyring's signature packets, in their
+/// order: each packet has one row, which states the packet's place.
 #[tactic(auto, using(crate::proofs::Standing::rows_stand))]
 pub fn rows_stand_where_signatures_hang()
     ensures { (says : Says) (r : KeyringValue) → IsKeyring r
@@ -27,26 +27,26 @@ pub fn rows_stand_where_signatures_hang()
         ≡ map Some (filter is_signature (flat r)) }
 {}
 
-/// The keys of a keyring are those of its key and subkey packets, in their order.
+/// The keys of a keyring are those in its key and subkey packets, in order.
 #[tactic(auto, using(crate::proofs::Scanning::packet_keys))]
 pub fn keys_of_a_keyring_are_those_of_its_packets()
     ensures { (r : KeyringValue) → IsKeyring r
         → keys_in r ≡ map (λ p. p.body) (filter is_key (flat r)) }
 {}
 
-/// In the current format a keyring has the report that it had, whoever the verifier is.
+/// In the current format a keyring has the same report, with any verifier.
 #[tactic(auto, using(crate::proofs::Rewriting::normal_rows))]
 pub fn normal_keyrings_have_the_same_report()
     ensures { (says : Says) (r : KeyringValue) → report_of says (normal_of r) ≡ report_of says r }
 {}
 
-/// In the current format a keyring asks what it asked, and has the keys that it had.
+/// In the current format a keyring has the same questions and keys.
 pub fn normal_keyrings_ask_the_same()
     ensures questions { (r : KeyringValue) → asked_of (normal_of r) ≡ asked_of r }
     ensures keys { (r : KeyringValue) → keys_in (normal_of r) ≡ keys_in r }
 {}
 
-/// A keyring whose packets are those of one, followed by those of another, asks what both ask, and has
+/// A keyring whose packets are those of one, followed by those of another, has the questions and
 /// the keys of both, in order.
 pub fn joined_keyrings_ask_what_both_ask()
     ensures questions { (a b r : KeyringValue) → IsKeyring a → IsKeyring b → IsKeyring r
@@ -55,7 +55,7 @@ pub fn joined_keyrings_ask_what_both_ask()
         → flat r ≡ flat a ++ flat b → keys_in r ≡ keys_in a ++ keys_in b }
 {}
 
-/// A certificate alone asks what it asked in its keyring, and has the keys that it had.
+/// A certificate alone has the questions and keys that it has in its keyring.
 pub fn one_certificate_asks_the_same()
     ensures questions { (r s : KeyringValue) (c : CertificateValue) (n : ℕ)
         → slice_get r.certificates n ≡ Some c → nth_of r n ≡ Some s

@@ -1,11 +1,12 @@
-//! The verifier that compares first octets.
+//! The verifier that compares the left 16 bits of the digest.
 
 ghost use Rattle.opgp_report.specs.Left.{says_left};
 
 use crate::verifier::{Job, Verdict, Verifier};
 
-/// A verifier without arithmetic: a signature is bad where its digest doesn't begin with the two
-/// octets that it says (RFC 9580, 5.2.3); else nothing can be said. Takes no memory.
+/// A verifier without arithmetic: a signature is bad if its digest doesn't begin with the left 16
+/// bits of the hash that the signature states (RFC 9580, 5.2.3); else nothing can be said.
+/// Allocates nothing.
 #[derive(Clone, Copy, Debug)]
 pub struct LeftOctets;
 

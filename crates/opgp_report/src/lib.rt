@@ -1,5 +1,5 @@
-//! What can be said of the signatures of a keyring: whom each names as its signer, what it asks, and
-//! what a verifier says of it.
+//! What can be said of the signatures of a keyring: which key each names as its issuer, what it
+//! hashes, and the verdict of a verifier.
 #![tactic(auto)]
 
 mod asker;

@@ -16,15 +16,15 @@ use opgp_octets::OutOfMemory;
 use std::alloc::Global;
 use std::collections::BTreeMap;
 
-/// The names of a list of keys: which is the first with a fingerprint, or with a key ID.
+/// An index of a list of keys: which is the first with a fingerprint, or with a key ID.
 ///
-/// Each answer takes time in the logarithm of how many keys there are, however many share a key ID.
+/// A look-up takes time in the logarithm of the number of keys, even if many share a key ID.
 #[derive(Drop)]
 pub struct Names {
     prints: Vec<Fingerprint>,
     four: BTreeMap<[u8; 20], usize>,
     six: BTreeMap<[u8; 32], usize>,
-    // At the number that a key ID's octets spell: a number is compared at once.
+    // By the number that a key ID is in big-endian order, since numbers compare fastest.
     ids: BTreeMap<u64, usize>,
     ghost sized: { list_all is_sized prints.items ≡ true },
     ghost fours: { HasFirsts four (has_print 4) prints.items } by { Prim.hlevel props },
@@ -35,7 +35,7 @@ pub struct Names {
 impl Names {
     ghost use Rattle.opgp_report.specs.Names.{prints_shown};
 
-    /// Of no keys.
+    /// The index of an empty list of keys.
     pub fn new(alloc: Global) -> Names
         ensures { prints_shown result ≡ [] }
     {
@@ -47,9 +47,9 @@ impl Names {
         }
     }
 
-    /// With one more key, behind the others.
+    /// The index with this key appended to the list.
     ///
-    /// An error is want of memory.
+    /// Fails only when out of memory.
     pub fn with(self, print: Fingerprint) -> Result<Names, OutOfMemory>
         ensures { IfOk result (λ n. prints_shown n ≡ prints_shown self ++ print ∷ []) }
     {
@@ -111,7 +111,7 @@ impl Names {
     }
 }
 
-/// Notes where a key stands, if no place is noted for it yet.
+/// Notes the place of a key, unless there is one for its fingerprint already.
 fn note<const N: usize>(
     map: &mut BTreeMap<[u8; N], usize>,
     key: [u8; N],
@@ -127,7 +127,7 @@ fn note<const N: usize>(
     Ok(())
 }
 
-/// Notes where a key of this key ID stands, if no place is noted for it yet.
+/// Notes the place of a key, unless there is one for its key ID already.
 fn note_id(ids: &mut BTreeMap<u64, usize>, id: [u8; 8], at: usize) -> Result<(), OutOfMemory>
     ensures { OnOk result ((o : List ℕ) → IsId o → get nat_cmp ids.new (from_be_bytes w64 o)
         ≡ first_or (get nat_cmp ids.old (from_be_bytes w64 o)) (bytes_eq id o) at) }

@@ -7,27 +7,27 @@ use opgp_hash::{Digest, KeyId, Why};
 /// What is found of a signature.
 #[derive(Clone, Copy)]
 pub enum Finding {
-    /// It asks a question.
+    /// It is hashed.
     Asked {
         /// The signature's type (RFC 9580, 5.2.1).
         kind: u8,
         /// The number of its hash algorithm (9.5).
         hash: u8,
-        /// The key ID of the key that it names as its maker, where the keyring has it.
+        /// The key ID of the key that it names as its issuer, where the keyring has it.
         signer: Option<KeyId>,
-        /// The question's digest (5.2.4).
+        /// The key ID of the key that it names as its issuer, if the keyring has that key.
         digest: Digest,
-        /// What the verifier says.
+        /// The verdict of the verifier.
         verdict: Verdict,
     },
-    /// It asks none, for this reason.
+    /// It isn't hashed, for this reason.
     NotAsked(Why),
 }
 
-/// A signature of a keyring: where it stands, and what is found of it.
+/// A signature of a keyring: its place, and what is found of it.
 #[derive(Clone, Copy)]
 pub struct Row {
-    /// Where it stands.
+    /// Its place in the keyring.
     pub place: Place,
     /// What is found of it.
     pub finding: Finding,

@@ -26,7 +26,7 @@ pub(crate) struct Signer<'a> {
     ghost named: { id.0 ≡ id_of (print_of (body_octets key)) },
 }
 
-/// Keys in order, with an index of their names.
+/// Keys in order, with an index of their fingerprints and key IDs.
 #[derive(Drop)]
 pub(crate) struct Signers<'a> {
     keys: Vec<Signer<'a>>,
@@ -47,7 +47,7 @@ impl<'a> Signers<'a> {
         }
     }
 
-    /// With one more key, behind the others. An error is want of memory.
+    /// With this key appended. Fails only when out of memory.
     fn with(self, key: KeyView<'a>) -> Result<Signers<'a>, OutOfMemory>
         ensures { IfOk result (λ s.
             signers_keys s ≡ signers_keys self.entry ++ body_octets key.entry ∷ []) }
@@ -62,7 +62,7 @@ impl<'a> Signers<'a> {
         Ok(Signers { keys, names })
     }
 
-    /// With the subkeys of components. An error is want of memory.
+    /// With the subkeys of components. Fails only when out of memory.
     fn with_components(self, components: &'a [Component]) -> Result<Signers<'a>, OutOfMemory>
         ensures { IfOk result (λ s. signers_keys s
             ≡ signers_keys self.entry ++ flat_map subkey_bodies components.now) }
@@ -78,7 +78,7 @@ impl<'a> Signers<'a> {
         Ok(signers)
     }
 
-    /// With the keys of a certificate. An error is want of memory.
+    /// With the keys of a certificate. Fails only when out of memory.
     fn with_certificate(self, certificate: &'a Certificate) -> Result<Signers<'a>, OutOfMemory>
         ensures { IfOk result (λ s. signers_keys s
             ≡ signers_keys self.entry ++ certificate_keys certificate.now) }
@@ -88,7 +88,7 @@ impl<'a> Signers<'a> {
         Ok(signers)
     }
 
-    /// The keys of a keyring. Each is hashed once. An error is want of memory.
+    /// The keys of a keyring. Each key is hashed once. Fails only when out of memory.
     pub(crate) fn of(alloc: Global, keyring: &'a Keyring) -> Result<Signers<'a>, OutOfMemory>
         ensures { IfOk result (λ s. signers_keys s ≡ keys_in keyring.now) }
     {
@@ -101,7 +101,7 @@ impl<'a> Signers<'a> {
         Ok(signers)
     }
 
-    /// The first key that the signature names as its maker.
+    /// The first key that the signature names as its issuer.
     pub(crate) fn find(&self, signature: SigView<'_>) -> Option<Signer<'a>>
         ensures { option_map (λ s. body_octets s.key) result
             ≡ signer_in (signers_keys self.now) (sig_view_value signature.entry) }
@@ -120,7 +120,7 @@ impl<'a> Signers<'a> {
 fn print_of(key: &KeyView<'_>) -> Fingerprint
     ensures { result ≡ print_of (body_octets key.now) }
 {
-    // What these promise ties the version that is hashed to the body's first octet.
+    // Called for their contracts, which tie the version that is hashed to the body's first octet.
     let _body = key.body();
     let _version = key.version();
     fingerprint_of_view(*key)

@@ -1,4 +1,4 @@
-//! Which key made a signature, as the signature says.
+//! The issuer's key, as a signature names it.
 
 ghost use Rattle.std.specs.Prelude.{◌≡◌, ℕ, List};
 ghost use Rattle.std.specs.Option.{option_map};
@@ -11,7 +11,7 @@ ghost use Rattle.opgp_report.specs.Signer.{first_some, signer_by, signer_of};
 use crate::names::Names;
 use opgp_packet::{SigView, Subs};
 
-/// The place of the key that made the signature: the first key with the fingerprint that its hashed
+/// The place of the issuer's key: the first key with the fingerprint that the signature's hashed
 /// area names, or else with the key ID that one of its areas names (RFC 9580, 5.2.3.12, 5.2.3.35).
 pub fn signer(names: &Names, signature: SigView<'_>) -> Option<usize>
     ensures { result ≡ signer_of (prints_shown names.now) (sig_view_value signature.entry) }
@@ -39,7 +39,7 @@ fn signer_by(names: &Names, hashed: Subs<'_>, unhashed: Subs<'_>) -> Option<usiz
     }
 }
 
-/// The version and fingerprint that the first subpacket names which names any.
+/// The version and fingerprint in the first subpacket that has them.
 fn first_print<'a>(subs: Subs<'a>) -> Option<(u8, &'a [u8])>
     ensures { option_map (λ x. (x.0, x.1.now)) result
         ≡ first_some issuer_fingerprint_in (subs_to_come subs.entry) }
@@ -52,7 +52,7 @@ fn first_print<'a>(subs: Subs<'a>) -> Option<(u8, &'a [u8])>
     None
 }
 
-/// The key ID that the first subpacket names which names any.
+/// The key ID in the first subpacket that has one.
 fn first_id(subs: Subs<'_>) -> Option<[u8; 8]>
     ensures { result ≡ first_some issuer_in (subs_to_come subs.entry) }
 {

@@ -1,4 +1,4 @@
-//! The walk over what stands in a keyring, in order.
+//! The walk over the signatures of a keyring, in order.
 
 ghost use Rattle.std.specs.Prelude.{◌≡◌, ◌∷◌, ◌++◌, [], ◌+◌, ◌<◌, ◌≤◌, ◌^◌, length, List, ℕ};
 ghost use Rattle.std.specs.Prelude.{Ok, Result, IfOk, Some, true};
@@ -22,15 +22,15 @@ use opgp_octets::{BodyFault, SignatureType, SubpacketKind};
 use opgp_packet::{KeyView, SigView, Subs};
 use opgp_ring::{Certificate, Component, Content, Head, Keyring, Member};
 
-/// Who is shown what stands in a keyring, one after the other.
+/// A visitor of the signatures of a keyring, one after the other.
 pub(crate) trait Visitor<'a> {
-    /// Why no more is wanted.
+    /// Why the walk stops early.
     type Stop;
 
-    // What becomes of it by a list of what stands: what it is then, or what stops it.
+    // What a list of signatures makes of it: its state after them, or what stops it.
     ghost becomes: { Self → List Standing → Result Self Self.Stop → Type 0 };
 
-    /// Takes what stands there about the hasher's subject: a signature, or why its octets are none.
+    /// Visits a signature over the hasher's subject, or octets that aren't one, with the reason.
     fn meet(
         &mut self,
         hasher: &mut CertificateHasher<'a>,
@@ -44,7 +44,8 @@ pub(crate) trait Visitor<'a> {
             self.new };
 }
 
-/// Shows what an area embeds, numbered from here, and answers the number behind the last.
+/// Visits the signatures embedded in an area, numbered from here, and returns the number after the
+/// last.
 fn visit_area<'a, V: Visitor<'a>>(
     visitor: &mut V,
     hasher: &mut CertificateHasher<'a>,
@@ -76,7 +77,7 @@ fn visit_area<'a, V: Visitor<'a>>(
     Ok(number)
 }
 
-/// Shows what two areas embed.
+/// Visits the signatures embedded in both areas.
 fn visit_areas<'a, V: Visitor<'a>>(
     visitor: &mut V,
     hasher: &mut CertificateHasher<'a>,
@@ -97,7 +98,7 @@ fn visit_areas<'a, V: Visitor<'a>>(
     Ok(())
 }
 
-/// Shows what is embedded in a signature about the hasher's subject.
+/// Visits the signatures embedded in a signature over the hasher's subject.
 fn visit_embedded<'a, V: Visitor<'a>>(
     visitor: &mut V,
     hasher: &mut CertificateHasher<'a>,
@@ -125,7 +126,7 @@ fn visit_embedded<'a, V: Visitor<'a>>(
     }
 }
 
-/// Shows what hangs on a primary key or a component, and what is embedded in that.
+/// Visits the signatures on a primary key or a component, each followed by those embedded in it.
 fn visit_hangs<'a, V: Visitor<'a>>(
     visitor: &mut V,
     hasher: &mut CertificateHasher<'a>,
@@ -158,7 +159,7 @@ fn visit_hangs<'a, V: Visitor<'a>>(
     Ok(())
 }
 
-/// What signatures that hang on a component are about.
+/// What signatures on a component are made over.
 fn subject_on<'a>(primary: KeyView<'a>, component: &'a Component) -> Subject<'a>
     ensures value { subject_value result
         ≡ on_head (body_octets primary.entry) component.now.head }
@@ -172,7 +173,7 @@ fn subject_on<'a>(primary: KeyView<'a>, component: &'a Component) -> Subject<'a>
     }
 }
 
-/// Shows what hangs on the components of the hasher's certificate.
+/// Visits the signatures on the components of the hasher's certificate.
 fn visit_components<'a, V: Visitor<'a>>(
     visitor: &mut V,
     hasher: &mut CertificateHasher<'a>,
@@ -202,7 +203,7 @@ fn visit_components<'a, V: Visitor<'a>>(
     Ok(())
 }
 
-/// Shows what stands in a certificate of this number.
+/// Visits the signatures of the certificate of this number.
 fn visit_certificate<'a, V: Visitor<'a>>(
     visitor: &mut V,
     number: usize,
@@ -223,7 +224,7 @@ fn visit_certificate<'a, V: Visitor<'a>>(
     )
 }
 
-/// Shows what stands in a keyring.
+/// Visits the signatures of a keyring.
 pub(crate) fn visit<'a, V: Visitor<'a>>(
     visitor: &mut V,
     keyring: &'a Keyring,

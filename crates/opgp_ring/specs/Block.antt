@@ -5,11 +5,11 @@ use Rattle.opgp_frame.specs.declared.packet.Placed.{Placed}
 use Rattle.opgp_ring.specs.declared.block_of.BlockOf.{BlockOf}
 use Rattle.opgp_ring.specs.Composition.{Item, of_label, of_packet}
 
--- its label, and then its packets
+-- its label, followed by its packets
 abbrev pub block_items : BlockOf → List Item
 block_items b = of_label b.block b.label_fits ∷ map of_packet b.packets.items
 
--- of blocks, in order
+-- those of blocks, in order
 abbrev pub items_of : List BlockOf → List Item
 items_of blocks = flat_map block_items blocks
 

@@ -9,7 +9,7 @@ use Rattle.opgp_frame.specs.declared.packet.Placed.{Placed}
 use Rattle.opgp_frame.specs.Packet.{PacketValue}
 use Rattle.opgp_ring.specs.PacketBody.{HasBodyFault}
 
--- the packet's body is none of its type, and this is its first fault
+-- the packet's body isn't one of its type, and this is its first fault
 abbrev pub HasFault : PacketValue → BodyFault → Type 0
 HasFault p f = HasBodyFault (packet_type_of p.kind) p.body f
 

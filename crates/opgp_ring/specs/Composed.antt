@@ -1,4 +1,4 @@
--- What is answered of packets: their keyring, or the one fault.
+-- The outcome of composing packets: their keyring, or the one fault.
 use Rattle.std.specs.Prelude.{◌≡◌, true, List, [], ◌∷◌, ◌++◌, map, All, ◌⊎◌}
 use Rattle.opgp_octets.specs.declared.limits.Limits.{Limits}
 use Rattle.opgp_octets.specs.declared.fault.Fault.{Fault}
@@ -9,29 +9,30 @@ use Rattle.opgp_ring.specs.Composition.{Item, of_label, of_packet, placed_in, pa
 use Rattle.opgp_ring.specs.Composition.{labels_fit, Composes, IsOrderFault}
 use Rattle.opgp_ring.specs.Keyring.{KeyringValue, CertificateValue}
 
--- bodies come first: a fault of the order is answered only where no body has one
+-- bodies come first: a fault in the order is reported only if no body has one
 abbrev pub IsFault : Limits → List Item → Fault → Type 0
 IsFault limits items f =
     IsFirstBodyFault (placed_in items) f
     ⊎ (All IsSound (placed_in items) × IsOrderFault limits items f)
 
--- a packet whose body is sound, or a label
+-- a packet whose body has no fault, or a label
 abbrev pub IsSoundItem : Item → Type 0
 IsSoundItem (of_label block fits) = Unit {0}
 IsSoundItem (of_packet p) = IsSound p
 
--- the bound of its numbers
+-- its numbers are octets
 abbrev pub HasOctets : Item → Type 0
 HasOctets (of_label block fits) = Unit {0}
 HasOctets (of_packet p) = IsOctets p.packet.body
 
--- all labels are the wanted ones, each body is sound, and the packets are those of the keyring
+-- all labels are the expected ones, no body has a fault, and the packets are those of the keyring
 pub record IsKeyringOf (limits : Limits) (items : List Item) (r : KeyringValue) : Type 0 where
   pub labels : labels_fit items ≡ true
   pub sound : All IsSound (placed_in items)
   pub composes : Composes limits (packets_in items) r
 
--- The parts of a keyring, as they become ready: the lead, if there is one, and each certificate.
+-- The parts of a keyring, in the order in which they become ready: the lead, if there is one, and
+-- each certificate.
 pub data PartValue : Type 0 where
   of_lead : List PacketValue → PartValue
   of_certificate : CertificateValue → PartValue

@@ -1,4 +1,4 @@
--- Composition: which keyring a list of packets is, and what the first is that ends every one (RFC
+-- Composition: which keyring a list of packets is, and the first fault of one that isn't any (RFC
 -- 9580, 10.1).
 use Rattle.std.specs.Prelude.{◌≡◌, ℕ, ◌≤◌, Bool, true, false, ◌||◌, ◌&&◌, not, List, []}
 use Rattle.std.specs.Prelude.{◌∷◌, ◌++◌, All, if◌then◌else◌}
@@ -16,7 +16,7 @@ use Rattle.opgp_ring.specs.Keyring.{KeyringValue, IsKeyring, flat, certificate_p
 use Rattle.opgp_frame.specs.Header.{is_type}
 use Rattle.opgp_ring.specs.Keyring.{is_primary, is_head, is_hung}
 
--- the lead and each certificate are spelled in no more octets than the limit
+-- the lead and each certificate take no more octets than the limit
 pub record FitsLimits (limits : Limits) (r : KeyringValue) : Type 0 where
   pub lead : octets_of r.lead ≤ cert_limit limits
   pub certificates : All (λ c. octets_of (certificate_packets c) ≤ cert_limit limits) r.certificates
@@ -33,26 +33,27 @@ AreKeyring limits ps = (r : KeyringValue) × Composes limits ps r
 
 -- ---- the first fault
 
--- packets of the type stand in keyrings
+-- keyrings have packets of this type
 abbrev pub stands_in_keyring : ℕ → Bool
 stands_in_keyring kind = is_primary kind || (is_head kind || is_hung kind)
 
--- signatures and heads of components come after a primary key
+-- signatures and heads of components must follow a primary key
 abbrev pub needs_primary : ℕ → Bool
 needs_primary kind = is_type packet.Signature kind || is_head kind
 
 abbrev pub has_primary : List PacketValue → Bool
 has_primary ps = list_any (λ p. is_primary p.kind) ps
 
--- why packets followed by this one are no keyring, where they alone are: the first that is true
+-- why packets followed by this one aren't a keyring, though they alone are: the first reason that
+-- is true
 abbrev pub order_reason : List PacketValue → PacketValue → Reason
 order_reason ps p =
     if not (stands_in_keyring p.kind) then reasons.NotInKeyring
     else (if needs_primary p.kind && not (has_primary ps) then reasons.NoPrimary
     else reasons.CertTooLong)
 
--- What is composed, in order: of each block its label, which is the wanted one or not, and then its
--- packets.
+-- What is composed, in order: the label of each block, which is the expected one or not, and then
+-- its packets.
 pub data Item : Type 0 where
   of_label : ℕ → Bool → Item
   of_packet : Placed → Item
@@ -67,7 +68,7 @@ packets_in [] = []
 packets_in (of_label block fits ∷ items) = packets_in items
 packets_in (of_packet p ∷ items) = p.packet ∷ packets_in items
 
--- each label is the wanted one
+-- each label is the expected one
 abbrev pub labels_fit : List Item → Bool
 labels_fit [] = true
 labels_fit (of_label block fits ∷ items) = fits && labels_fit items
@@ -77,7 +78,7 @@ abbrev pub fault_at : Reason → ℕ → ℕ → Fault
 fault_at reason block pos =
     record { layer = Composition; reason = reason; block = block; pos = pos; inner = 0 }
 
--- behind packets that are a keyring, this is at fault
+-- after packets that are a keyring, this is the fault
 abbrev pub IsFaultAt : Limits → List PacketValue → Item → Fault → Type 0
 IsFaultAt limits ps (of_label block fits) f =
     (fits ≡ false) × (f ≡ fault_at reasons.BlockLabel block 0)
@@ -85,7 +86,8 @@ IsFaultAt limits ps (of_packet p) f =
     (AreKeyring limits (ps ++ p.packet ∷ []) → ⊥)
     × (f ≡ fault_at (order_reason ps p.packet) p.block p.pos)
 
--- the first item at fault: the packets before it are a keyring, and the labels are the wanted ones
+-- the first item at fault: the packets before it are a keyring, and the labels before it the
+-- expected ones
 pub record IsOrderFault (limits : Limits) (items : List Item) (f : Fault) : Type 0 where
   pub before : List Item
   pub at : Item

@@ -1,4 +1,4 @@
--- What a packet of a keyring holds: its type and the octets of its body.
+-- The value of a packet's contents: its type and the octets of its body.
 use Rattle.std.specs.Prelude.{◌≡◌, ℕ, true, List}
 use Rattle.opgp_octets.specs.PacketType.{packet_type_number}
 use Rattle.opgp_octets.specs.declared.packet_type.PacketType.TheVariants as packet
@@ -25,7 +25,7 @@ content_octets (content.Attribute attribute) = body_octets attribute
 content_octets (content.Signature signature) = signature_octets signature
 content_octets (content.Filler kind body) = body.items
 
--- what is kept as it is may be
+-- a body that is kept unread is allowed for its type
 abbrev pub IsKept : Content → Type 0
 IsKept (content.Filler kind body) = is_filler kind ≡ true
 IsKept c = Unit {0}

@@ -12,19 +12,19 @@ use Rattle.opgp_ring.specs.State.{is_spent_state, fault_of_state, is_broken_stat
 use Rattle.opgp_ring.specs.State.{ready_octets, open_octets}
 use Rattle.opgp_ring.specs.Taken.{AreHandedOut, so_far}
 
--- a push has met want of memory
+-- a push ran out of memory
 abbrev pub is_spent : Composer → Bool
 is_spent c = is_spent_state c.state
 
--- the fault of what was given: that of the first body that has one, else that of the order
+-- the fault of what was given: that of the first body that has one, else that in the order
 abbrev pub fault_of : Composer → Option Fault
 fault_of c = fault_of_state c.state
 
--- that fault is a body's
+-- that fault is in a body
 abbrev pub is_broken : Composer → Bool
 is_broken c = is_broken_state c.state
 
--- a part waits to be taken
+-- a part is ready to be taken
 abbrev pub is_ready : Composer → Bool
 is_ready c = is_some c.ready
 
@@ -32,11 +32,11 @@ is_ready c = is_some c.ready
 abbrev pub limits_of : Composer → Limits
 limits_of c = c.limits
 
--- the spelled octets of the part that isn't finished, and of what is ready
+-- the octets of the unfinished part, and of what is ready
 abbrev pub held_of : Composer → ℕ
 held_of c = open_octets c.state + ready_octets c.ready
 
--- that of a body, or that of the order while all bodies are sound
+-- a fault in a body, or one in the order if no body has any
 abbrev pub IsFaultOf : Bool → Limits → List Item → Fault → Type 0
 IsFaultOf true limits given f = IsFirstBodyFault (placed_in given) f
 IsFaultOf false limits given f = All IsSound (placed_in given) × IsOrderFault limits given f
@@ -46,27 +46,27 @@ pub record Fed (limits : Limits) (c : Composer) (given : List Item)
     (taken : List PartValue) : Type 0 where
   pub limits_kept : c.limits ≡ limits
   pub unspent : is_spent c ≡ false
-  -- before the first fault all parts but the last were taken or are ready, and none behind it
+  -- up to the first fault all parts but the last were taken or are ready, and none after it
   pub handed : AreHandedOut limits given (so_far c taken)
-  -- until a fault comes all that was given is a keyring's, and its last part is kept
+  -- until there is a fault, all that was given is a keyring, and its last part is kept
   pub kept : fault_of c ≡ None → (r : KeyringValue) × IsKeyringOf limits given r
       × (parts_of r ≡ so_far c taken ++ open_parts c.state)
   pub fault : (f : Fault) → fault_of c ≡ Some f → IsFaultOf (is_broken c) limits given f
 
--- A fault stays, whatever follows; but one of the order gives way to that of a body.
+-- A fault stays, whatever follows; but one in the order is replaced by one in a body.
 abbrev pub StaysFaulty : Composer → Composer → Type 0
 StaysFaulty old new =
     (fault : Fault) → fault_of old ≡ Some fault
     → (fault_of new ≡ Some fault) ⊎ ((is_broken old ≡ false) × (is_broken new ≡ true))
 
--- Whatever the old composer was given and had handed out, the new one was given these items more
--- and has handed out these parts more.
+-- Whatever the old composer was given and had handed out, the new one was also given these items
+-- and has also handed out these parts.
 abbrev pub KeepsFed : Composer → Composer → List Item → List PartValue → Type 0
 KeepsFed old new items parts =
     (limits : Limits) (given : List Item) (taken : List PartValue)
     → Fed limits old given taken → Fed limits new (given ++ items) (taken ++ parts)
 
--- it was given this item more
+-- it was also given this item
 abbrev pub TakesIn : Composer → Composer → Item → Type 0
 TakesIn old new item =
     (limits : Limits) (given : List Item) (taken : List PartValue)

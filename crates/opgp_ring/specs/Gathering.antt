@@ -1,4 +1,4 @@
--- What parts were gathered from a composer.
+-- The parts that were gathered from a composer.
 use Rattle.std.specs.Prelude.{◌≡◌, false, List}
 use Rattle.opgp_octets.specs.declared.limits.Limits.{Limits}
 use Rattle.opgp_ring.specs.declared.gathering.Gathering.{Gathering}

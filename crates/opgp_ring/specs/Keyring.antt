@@ -1,4 +1,4 @@
--- Keyrings of public keys (RFC 9580, 10.1): what they are made of, and the packets that they are.
+-- Keyrings of public keys (RFC 9580, 10.1): their structure, and the packets that they consist of.
 use Rattle.std.specs.Prelude.{◌≡◌, ℕ, Bool, true, ◌||◌, nat_le, List, ◌∷◌, ◌++◌, length, All}
 use Rattle.std.specs.List.{flat_map}
 use Rattle.opgp_octets.specs.declared.packet_type.PacketType.TheVariants as packet
@@ -6,7 +6,7 @@ use Rattle.opgp_frame.specs.Header.{is_type}
 use Rattle.opgp_frame.specs.Packet.{PacketValue, spelling}
 
 -- marker, trust and padding packets (5.8, 5.10, 5.14), and those of types that aren't critical
--- (4.3): they stay in place
+-- (4.3), which are kept in their place
 abbrev pub is_filler : ℕ → Bool
 is_filler kind = is_type packet.Marker kind
     || (is_type packet.Trust kind || (is_type packet.Padding kind || nat_le 40 kind))
@@ -36,19 +36,19 @@ IsHead p = is_head p.kind ≡ true
 abbrev pub IsHung : PacketValue → Type 0
 IsHung p = is_hung p.kind ≡ true
 
--- Behind a user ID, an attribute or a subkey hang the signatures about it.
+-- A user ID, an attribute or a subkey is followed by the signatures on it.
 pub record ComponentValue : Type 0 where
   pub head : PacketValue
   pub hangs : List PacketValue
 
--- A transferable public key: the primary key, the signatures about it, and its components, in any
+-- A transferable public key: the primary key, the signatures on it, and its components, in any
 -- order.
 pub record CertificateValue : Type 0 where
   pub primary : PacketValue
   pub hangs : List PacketValue
   pub components : List ComponentValue
 
--- A keyring: transferable public keys one after the other; fillers may lead them.
+-- A keyring: transferable public keys one after the other; fillers may come first.
 pub record KeyringValue : Type 0 where
   pub lead : List PacketValue
   pub certificates : List CertificateValue
@@ -76,6 +76,6 @@ certificate_packets c = c.primary ∷ (c.hangs ++ flat_map component_packets c.c
 abbrev pub flat : KeyringValue → List PacketValue
 flat r = r.lead ++ flat_map certificate_packets r.certificates
 
--- how many octets packets are spelled in
+-- how many octets packets take
 unfoldable pub octets_of : List PacketValue → ℕ
 octets_of ps = length (flat_map spelling ps)

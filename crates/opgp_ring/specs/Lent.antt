@@ -1,4 +1,4 @@
--- What begins a component, lent.
+-- The packet that begins a component, borrowed.
 use Rattle.opgp_octets.specs.PacketType.{packet_type_number}
 use Rattle.opgp_octets.specs.declared.packet_type.PacketType.TheVariants as types
 use Rattle.opgp_frame.specs.declared.form.Form.{Form}

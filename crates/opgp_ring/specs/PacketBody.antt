@@ -8,9 +8,9 @@ use Rattle.opgp_packet.specs.KeyBody.{KeyFault}
 use Rattle.opgp_packet.specs.LiteralBody.{LiteralFault}
 use Rattle.opgp_packet.specs.SignatureBody.{SignatureFault}
 
--- The octets are no body of a packet of this type, and this is their first fault. Keys, attributes,
--- literals and signatures may have one; a user ID is any octets, and of other types nothing is
--- read.
+-- The octets aren't the body of a packet of this type, and this is their first fault. Keys,
+-- attributes, literals and signatures can have one; a user ID is any octets, and bodies of other
+-- types aren't read.
 abbrev pub HasBodyFault : PacketType → List ℕ → BodyFault → Type 0
 HasBodyFault packet.Signature o f = SignatureFault o f
 HasBodyFault packet.PublicKey o f = KeyFault o f

@@ -1,4 +1,4 @@
--- The packets of a keyring that are left.
+-- The packets of a keyring that are left to be visited.
 use Rattle.std.specs.Prelude.{List, ◌++◌}
 use Rattle.std.specs.List.{flat_map}
 use Rattle.opgp_frame.specs.Packet.{PacketValue}
@@ -7,12 +7,12 @@ use Rattle.opgp_ring.specs.declared.packets.Packets.{Packets}
 use Rattle.opgp_ring.specs.declared.packets.Part.{Part}
 use Rattle.opgp_ring.specs.declared.packets.Part.TheVariants.{Lead, Member}
 
--- the packet that is lent
+-- the packet, borrowed
 abbrev pub part_packet : Part → PacketValue
 part_packet (Lead packet) = packet.now
 part_packet (Member member) = member.now
 
--- before the first certificate there are fillers alone
+-- before the first certificate there are only fillers
 abbrev pub IsLent : Part → Type 0
 IsLent (Lead packet) = IsFiller packet.now
 IsLent (Member member) = Unit {0}

@@ -1,4 +1,4 @@
--- What a signed literal shows.
+-- The value of a signed literal.
 use Rattle.std.specs.Prelude.{ℕ, List}
 use Rattle.opgp_frame.specs.Packet.{PacketValue}
 use Rattle.opgp_ring.specs.declared.signatures.Signatures.{Signatures}
@@ -9,6 +9,6 @@ use Rattle.opgp_ring.specs.Signed.{signature_bodies}
 abbrev pub signed_packets : SignedLiteral → List PacketValue
 signed_packets l = l.flat.items
 
--- the bodies of the signatures that are left, in order
+-- the bodies of the signatures that are left to be visited, in order
 abbrev pub signatures_left : Signatures → List (List ℕ)
 signatures_left s = signature_bodies s.packets.now

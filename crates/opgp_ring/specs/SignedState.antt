@@ -1,4 +1,4 @@
--- Where the gathering of a signed literal stands.
+-- The state of the gathering of a signed literal, and what it says of the items given.
 use Rattle.std.specs.Prelude.{◌≡◌, ℕ, Bool, true, false, List, All}
 use Rattle.opgp_frame.specs.Packet.{PacketValue}
 use Rattle.opgp_ring.specs.declared.shape.Shape.{Shape}
@@ -9,7 +9,7 @@ use Rattle.opgp_ring.specs.Composition.{Item, placed_in, packets_in, labels_fit}
 use Rattle.opgp_ring.specs.Shape.{Stands, opened}
 use Rattle.opgp_ring.specs.Signed.{StopsAt}
 
--- the items have no fault so far, the packets are kept, and they have come to this place
+-- the items have no fault so far, the packets are kept, and they have come this far
 pub record IsOpen (shape : Shape) (items : List Item) (kept : List PacketValue) : Type 0 where
   pub labels : labels_fit items ≡ true
   pub sound : All IsSound (placed_in items)

@@ -1,4 +1,4 @@
--- What reading a packet for a keyring gives.
+-- The outcome of reading a packet for a keyring.
 use Rattle.std.specs.Prelude.{◌≡◌, true, false}
 use Rattle.opgp_frame.specs.Packet.{PacketValue}
 use Rattle.opgp_ring.specs.declared.sorted.Sorted.{Sorted}
@@ -13,7 +13,7 @@ sorted_packet (Behind p) = p
 sorted_packet (Filler p) = p
 sorted_packet (Stray p) = p
 
--- its type is one that has this place
+-- its type is one of this variant
 abbrev pub IsSorted : Sorted → Type 0
 IsSorted (Primary p) = IsPrimary p
 IsSorted (Behind p) = needs_primary p.kind ≡ true

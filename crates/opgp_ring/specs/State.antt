@@ -1,4 +1,4 @@
--- Where a composer stands.
+-- The state of a composer.
 use Rattle.std.specs.Prelude.{ℕ, Bool, true, false, List, [], ◌∷◌, Option, Some, None}
 use Rattle.opgp_ring.specs.declared.composer.State.{State}
 use Rattle.opgp_octets.specs.declared.fault.Fault.{Fault}
@@ -24,7 +24,7 @@ is_spent_state (state.Growing c) = false
 is_spent_state (state.Disordered f) = false
 is_spent_state (state.Broken f) = false
 
--- the part that isn't finished; none behind a fault
+-- the part that isn't finished; none after a fault
 abbrev pub open_parts : State → List PartValue
 open_parts (state.Leading lead) = lead_parts lead.items
 open_parts (state.Growing c) = of_certificate c ∷ []
@@ -46,7 +46,7 @@ ready_octets None = 0
 ready_octets (Some (Lead packets)) = octets_of packets.items
 ready_octets (Some (Certificate c)) = octets_of (certificate_packets c)
 
--- the fault of what came
+-- the fault of what was given
 abbrev pub fault_of_state : State → Option Fault
 fault_of_state (state.Leading lead) = None
 fault_of_state (state.Growing c) = None
@@ -54,7 +54,7 @@ fault_of_state (state.Disordered f) = Some f
 fault_of_state (state.Broken f) = Some f
 fault_of_state state.Spent = None
 
--- no fault has come, nor want of memory
+-- there is no fault, and memory hasn't run out
 abbrev pub is_open : State → Bool
 is_open (state.Leading lead) = true
 is_open (state.Growing c) = true
@@ -70,7 +70,7 @@ has_begun (state.Disordered f) = false
 has_begun (state.Broken f) = false
 has_begun state.Spent = false
 
--- a body was at fault
+-- the fault is in a body
 abbrev pub is_broken_state : State → Bool
 is_broken_state (state.Leading lead) = false
 is_broken_state (state.Growing c) = false

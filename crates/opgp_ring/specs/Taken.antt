@@ -1,4 +1,4 @@
--- What was taken from a composer, against the parts of a keyring.
+-- What was taken from a composer, compared with the parts of a keyring.
 use Rattle.std.specs.Prelude.{◌≡◌, List, [], ◌∷◌, ◌++◌, ◌⊎◌}
 use Rattle.opgp_octets.specs.declared.limits.Limits.{Limits}
 use Rattle.opgp_ring.specs.declared.composer.Composer.{Composer}
@@ -16,14 +16,14 @@ abbrev pub IsAllButLast : List PartValue → List PartValue → Type 0
 IsAllButLast front all =
     ((all ≡ []) × (front ≡ [])) ⊎ ((last : PartValue) × (all ≡ front ++ last ∷ []))
 
--- no keyring is that of the items with the next one, where there is a next one
+-- no keyring consists of the items with the next one, if there is a next one
 abbrev pub EndsKeyrings : Limits → List Item → List Item → Type 0
 EndsKeyrings limits front [] = Unit {0}
 EndsKeyrings limits front (next ∷ back) =
     (r : KeyringValue) → IsKeyringOf limits (front ++ next ∷ []) r → ⊥
 
--- The longest beginning of the items that is a keyring's: before the first fault, and all of them
--- where there is none. The parts are those of its keyring but the last.
+-- The longest beginning of the items that is a keyring: up to the first fault, or all of them if
+-- there is none. The parts are all of its keyring's but the last.
 pub record AreHandedOut (limits : Limits) (given : List Item)
     (parts : List PartValue) : Type 0 where
   pub front : List Item

@@ -12,14 +12,14 @@ use std::alloc::Global;
 pub struct BlockOf {
     /// The number of the armored block; 0 for binary input.
     pub block: u64,
-    /// Whether its label is the wanted one; true for binary input.
+    /// Whether its label is the expected one; true for binary input.
     pub label_fits: bool,
     /// Its packets, in order.
     pub packets: Vec<Placed>,
 }
 
 impl BlockOf {
-    /// An equal block. An error is want of memory.
+    /// A copy of this block. Fails only when out of memory.
     pub fn copy(&self, alloc: Global) -> Result<BlockOf, OutOfMemory>
         ensures block { IfOk result (λ b. b.block ≡ self.now.block) }
         ensures label_fits { IfOk result (λ b. b.label_fits ≡ self.now.label_fits) }

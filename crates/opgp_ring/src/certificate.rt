@@ -1,4 +1,4 @@
-//! A certificate.
+//! Certificates (transferable public keys).
 
 ghost use Rattle.std.specs.Prelude.{◌≡◌, ◌||◌, ◌++◌, ◌∷◌, [], true, All, OnOk, OnErr, IfOk};
 ghost use Rattle.opgp_ring.specs.Keyring.{CertificateValue, IsCertificate, certificate_packets};
@@ -16,8 +16,8 @@ use opgp_packet::Key;
 use std::alloc::Global;
 use std::marker::Model;
 
-/// A certificate, or transferable public key: a primary key, what hangs on it, and its components
-/// (RFC 9580, 10.1).
+/// A certificate, or transferable public key: a primary key, the signatures and fillers on it, and
+/// its components (RFC 9580, 10.1).
 #[derive(Drop)]
 pub struct Certificate {
     primary: Member,
@@ -46,7 +46,7 @@ impl Model for Certificate {
 impl Certificate {
     ghost use Rattle.opgp_packet.specs.Parsed.{body_octets};
 
-    /// A certificate of a primary key alone. Takes no memory.
+    /// A certificate of a primary key alone. Allocates nothing.
     pub(crate) fn new(alloc: Global, primary: Member) -> Certificate
         requires { IsPrimary primary }
         ensures { result ≡ record { primary = primary; hangs = []; components = [] } }
@@ -58,8 +58,8 @@ impl Certificate {
         }
     }
 
-    /// A certificate of its parts. The conditions are that the primary is a public key, that what
-    /// hangs on it are signatures and fillers, and that each component is one.
+    /// A certificate of its parts. The conditions are that the primary is a public key, that the
+    /// packets on it are signatures and fillers, and that each component is one.
     pub fn from_parts(
         primary: Member,
         hangs: Vec<Member>,
@@ -81,7 +81,7 @@ impl Certificate {
         }
     }
 
-    /// The primary key, what hangs on it, and the components.
+    /// The primary key, the packets on it, and the components.
     pub fn into_parts(self) -> (Member, Vec<Member>, Vec<Component>)
         ensures primary { result.0 ≡ self.primary }
         ensures hangs { result.1.items ≡ self.hangs }
@@ -96,10 +96,10 @@ impl Certificate {
         (primary, hangs, components)
     }
 
-    /// Adds what another certificate holds, but for its primary key: what hangs on that behind what
-    /// hangs on this one's, and its components behind this one's. Nothing is copied.
+    /// Adds what another certificate contains, except its primary key: the packets on that, after
+    /// those on this one's, and its components, after this one's. Nothing is copied.
     ///
-    /// An error is want of memory; this certificate is then as it was.
+    /// Fails only when out of memory; this certificate is then unchanged.
     pub fn absorb(&mut self, other: Certificate) -> Result<(), OutOfMemory>
         ensures ok { OnOk result (self.new ≡ record {
           primary = self.old.primary;
@@ -110,17 +110,17 @@ impl Certificate {
     {
         let (primary, mut hangs, mut components) = other.into_parts();
         drop(primary);
-        // room first, so that the last step can't fail behind the other
+        // Reserve first, so that the last step can't fail after the one before it.
         self.hangs.reserve(hangs.len())?;
         self.components.append(&mut components)?;
         self.hangs.append(&mut hangs)?;
         Ok(())
     }
 
-    /// Adds a packet behind the others: a user ID, an attribute or a subkey begins a component, and
-    /// others hang on the last one, or on the primary key where there is none.
+    /// Adds the next packet: a user ID, an attribute or a subkey begins a component; any other
+    /// belongs to the last component, or to the primary key if there is none.
     ///
-    /// An error is want of memory; the certificate is then as it was.
+    /// Fails only when out of memory; the certificate is then unchanged.
     #[inline(always)]
     pub(crate) fn add(&mut self, alloc: Global, packet: Member) -> Result<(), OutOfMemory>
         requires { (is_head packet.kind || is_hung packet.kind) ≡ true }
@@ -136,7 +136,7 @@ impl Certificate {
         }
     }
 
-    /// Begins a component. An error is want of memory; the certificate is then as it was.
+    /// Begins a component. Fails only when out of memory; the certificate is then unchanged.
     fn begin(&mut self, alloc: Global, head: Member) -> Result<(), OutOfMemory>
         requires { IsHead head }
         ensures ok { OnOk result
@@ -148,9 +148,9 @@ impl Certificate {
         Ok(())
     }
 
-    /// Hangs a packet on the last component, or on the primary key where there is none.
+    /// Adds a packet to the last component, or to the primary key if there is none.
     ///
-    /// An error is want of memory; the certificate is then as it was.
+    /// Fails only when out of memory; the certificate is then unchanged.
     #[inline(always)]
     fn hang(&mut self, packet: Member) -> Result<(), OutOfMemory>
         requires { IsHung packet }
@@ -179,7 +179,7 @@ impl Certificate {
         &self.primary
     }
 
-    /// The primary key itself (5.5.1.1).
+    /// The primary key (5.5.1.1).
     pub fn key(&self) -> &Key
         ensures { body_octets result.now ≡ self.now.primary.body }
     {
@@ -189,7 +189,7 @@ impl Certificate {
         }
     }
 
-    /// What hangs on the primary key, in order.
+    /// The signatures and fillers on the primary key, in order.
     pub fn hangs(&self) -> &[Member]
         ensures value { result.now ≡ self.now.hangs }
         ensures certificate { IsCertificate self.now }
@@ -205,8 +205,8 @@ impl Certificate {
         &self.components
     }
 
-    /// Hangs fillers on the last component, or on the primary key where there is none. An error is
-    /// want of memory.
+    /// Adds fillers to the last component, or to the primary key if there is none. Fails only when
+    /// out of memory.
     pub(crate) fn hang_all(&mut self, fillers: Vec<Packet>) -> Result<(), OutOfMemory>
         requires { All IsFiller fillers.items }
         ensures ok { OnOk result
@@ -221,7 +221,7 @@ impl Certificate {
         Ok(())
     }
 
-    /// An equal certificate. An error is want of memory.
+    /// A copy of this certificate. Fails only when out of memory.
     pub fn copy(&self, alloc: Global) -> Result<Certificate, OutOfMemory>
         ensures value { IfOk result (λ c. c ≡ self.now) }
         ensures certificate { IsCertificate self.now }

@@ -12,7 +12,7 @@ use opgp_octets::{Fault, PacketType};
 /// The fault of the first packet whose body has one, in order of blocks (RFC 9580, 5). Takes no
 /// memory.
 ///
-/// Keys, signatures, literals and user attributes may have one.
+/// Keys, signatures, literals and user attributes can have one.
 pub fn check_bodies(blocks: &[BlockOf]) -> Option<Fault>
     ensures { MatchOption result (All IsSound (placed_of blocks.now))
         (IsFirstBodyFault (placed_of blocks.now)) }

@@ -11,8 +11,8 @@ use opgp_octets::OutOfMemory;
 use std::alloc::Global;
 use std::marker::Model;
 
-/// A user ID, an attribute or a subkey of a certificate, and what hangs on it: signatures and
-/// fillers (RFC 9580, 10.1).
+/// A user ID, an attribute or a subkey of a certificate, and the signatures and fillers on it (RFC
+/// 9580, 10.1).
 #[derive(Drop)]
 pub struct Component {
     head: Member,
@@ -30,7 +30,7 @@ impl Model for Component {
 }
 
 impl Component {
-    /// A component on which nothing hangs. Takes no memory.
+    /// A component without signatures. Allocates nothing.
     pub(crate) fn new(alloc: Global, head: Member) -> Component
         requires { IsHead head }
         ensures { result ≡ record { head = head; hangs = [] } }
@@ -41,7 +41,7 @@ impl Component {
         }
     }
 
-    /// Hangs a packet on it. An error is want of memory; the component is then as it was.
+    /// Adds a signature or filler. Fails only when out of memory; the component is then unchanged.
     #[inline(always)]
     pub(crate) fn hang(&mut self, packet: Member) -> Result<(), OutOfMemory>
         requires { IsHung packet }
@@ -55,7 +55,7 @@ impl Component {
     }
 
     /// A component of its parts. The conditions are that the head is a user ID, an attribute or a
-    /// subkey, and that what hangs on it are signatures and fillers.
+    /// subkey, and that the packets on it are signatures and fillers.
     pub fn from_parts(head: Member, hangs: Vec<Member>) -> Component
         requires head { IsHead head }
         requires hangs { All IsHung hangs.items }
@@ -64,7 +64,7 @@ impl Component {
         Component { head, hangs }
     }
 
-    /// The head, and what hangs on it.
+    /// The head, and the packets on it.
     pub fn into_parts(self) -> (Member, Vec<Member>)
         ensures head { result.0 ≡ self.head }
         ensures hangs { result.1.items ≡ self.hangs }
@@ -74,9 +74,9 @@ impl Component {
         (head, hangs)
     }
 
-    /// Hangs what hangs on another component on this one too, behind its own. Nothing is copied.
+    /// Adds the packets on another component, after those on this one. Nothing is copied.
     ///
-    /// An error is want of memory; this component is then as it was.
+    /// Fails only when out of memory; this component is then unchanged.
     pub fn absorb(&mut self, other: Component) -> Result<(), OutOfMemory>
         ensures ok { OnOk result (self.new ≡ record {
           head = self.old.head;
@@ -98,7 +98,7 @@ impl Component {
         &self.head
     }
 
-    /// What hangs on it, in order.
+    /// The signatures and fillers on it, in order.
     pub fn hangs(&self) -> &[Member]
         ensures value { result.now ≡ self.now.hangs }
         ensures component { IsComponent self.now }
@@ -106,7 +106,7 @@ impl Component {
         &self.hangs
     }
 
-    /// An equal component. An error is want of memory.
+    /// A copy of this component. Fails only when out of memory.
     pub fn copy(&self, alloc: Global) -> Result<Component, OutOfMemory>
         ensures { IfOk result (λ c. c ≡ self.now) }
     {

@@ -26,25 +26,25 @@ use opgp_octets::{BodyFault, Fault, Layer, Limits, OutOfMemory, PushFault, Reaso
 use std::alloc::Global;
 use std::mem;
 
-/// Where a composer stands.
+/// The state of a composer.
 #[derive(Drop)]
 enum State {
     /// Before the first primary key: the fillers so far.
     Leading(Vec<Packet>),
     /// In a certificate.
     Growing(Certificate),
-    /// Behind a fault of the order, where a body may still be at fault.
+    /// After a fault in the order of packets; a body may still be at fault.
     Disordered(Fault),
-    /// Behind a fault of a body.
+    /// After a fault in a body.
     Broken(Fault),
-    /// After want of memory.
+    /// After running out of memory.
     Spent,
 }
 
 /// A composer of keyrings (RFC 9580, 10.1) that packets are pushed into, one at a time.
 ///
-/// It hands out the lead and each certificate as soon as it is whole. It keeps no more than the one
-/// that is unfinished or ready, and after a fault or want of memory nothing.
+/// It hands out the lead and each certificate as soon as it is complete. It keeps only the one that
+/// is unfinished or ready, and nothing after a fault or after running out of memory.
 #[derive(Drop)]
 pub struct Composer {
     alloc: Global,
@@ -66,7 +66,7 @@ impl Composer {
     ghost use Rattle.opgp_ring.specs.Composed.{IsSoundItem};
     ghost use Rattle.opgp_ring.specs.Composition.{IsFaultAt, fault_at, packets_in, needs_primary};
 
-    /// A composer that was given nothing. Takes no memory; pushes do, from `alloc`.
+    /// A composer that was given nothing yet. Allocates nothing; pushes do, from `alloc`.
     #[tactic(auto, unfolding(crate::specs::Keyring::octets_of))]
     pub fn new(alloc: Global, limits: Limits) -> Composer
         ensures fed { Fed limits result [] [] }
@@ -84,7 +84,7 @@ impl Composer {
         }
     }
 
-    /// Whether a part waits to be taken.
+    /// Whether a part is ready to be taken.
     pub fn ready(&self) -> bool
         ensures { result ≡ is_ready self.now }
     {
@@ -104,20 +104,20 @@ impl Composer {
         self.ready.take()
     }
 
-    /// Ends the packets. The condition is that nothing is ready. Answers the last part: the last
+    /// Ends the packets. The condition is that nothing is ready. Returns the last part: the last
     /// certificate, else a lead that isn't empty, else none.
     ///
-    /// An error is the fault of the first body that has one, else that of the order; after want of
-    /// memory its reason is `Spent` and its places are 0.
+    /// An error is the fault of the first body that has one, else that of the order; after running
+    /// out of memory its reason is `Spent` and its places are 0.
     ///
-    /// Takes no memory.
+    /// Allocates nothing.
     pub fn finish(self) -> Result<Option<Ready>, Fault>
         requires { is_ready self ≡ false }
         ensures ok { (limits : Limits) (given : List Item) (taken : List PartValue)
             → Fed limits self given taken
             → MatchResult result (λ last. (r : KeyringValue) × IsKeyringOf limits given r
             × (parts_of r ≡ taken ++ ready_parts last)) (IsFault limits given) }
-        // A fault that it has is answered.
+        // A fault that the composer has is returned.
         ensures faulty { (fault : Fault) → fault_of self ≡ Some fault → result ≡ Err fault }
         ensures spent { is_spent self ≡ true → result ≡ Err (record {
           layer = layer.Composition;
@@ -151,12 +151,12 @@ impl Composer {
 
     /// Takes the packet, which may make a part ready. The condition is that nothing is ready.
     ///
-    /// With a fault nothing becomes ready, nor after it. An error is want of memory; the composer is
-    /// spent from then on.
+    /// Nothing becomes ready with a fault, or after one. Fails only when out of memory; the
+    /// composer is spent from then on.
     pub fn push(&mut self, placed: Placed) -> Result<(), PushFault>
         requires { is_ready self.old ≡ false }
         ensures fed { OnOk result (KeepsFed self.old self.new (of_packet placed ∷ []) []) }
-        // With the packet that brings a fault nothing becomes ready.
+        // Nothing becomes ready with the packet that is at fault.
         ensures quiet { IsSome (fault_of self.new) → is_ready self.new ≡ false }
         // After a fault nothing becomes ready, and the fault stays.
         ensures faulty { IsSome (fault_of self.old) → IsOk result × (is_ready self.new ≡ false) }
@@ -189,7 +189,7 @@ impl Composer {
         }
     }
 
-    /// Begins a block, whose label is the wanted one or not.
+    /// Begins a block, whose label is the expected one or not.
     pub fn begin_block(&mut self, block: u64, label_fits: bool)
         ensures fed { KeepsFed self.old self.new (of_label block label_fits ∷ []) [] }
         ensures ready { is_ready self.new ≡ is_ready self.old }
@@ -232,7 +232,7 @@ impl Composer {
         }
     }
 
-    /// Want of memory: nothing is kept.
+    /// Runs out of memory: drops everything, and is spent.
     fn spend(&mut self)
         ensures spent { is_spent self.new ≡ true }
         ensures free { is_ready self.new ≡ false }
@@ -244,7 +244,7 @@ impl Composer {
         self.size = 0;
     }
 
-    /// Keeps the fault of the order, if it is the first.
+    /// Keeps a fault in the order of packets, if it is the first.
     fn refuse(&mut self, reason: Reason, block: u64, pos: u64)
         ensures fed { (limits : Limits) (given : List Item) (taken : List PartValue) (i : Item)
             → Fed limits self.old given taken → IsSoundItem i
@@ -270,7 +270,7 @@ impl Composer {
         }
     }
 
-    /// Keeps the fault of a body, if it is the first.
+    /// Keeps a fault in a body, if it is the first.
     fn break_off(&mut self, fault: BodyFault, block: u64, pos: u64)
         requires { is_spent self.old ≡ false }
         ensures fed { (p : PacketValue) → IsOctets p.body → HasFault p fault
@@ -288,7 +288,7 @@ impl Composer {
         }
     }
 
-    /// Adds a packet whose body is sound.
+    /// Adds a packet whose body has no fault.
     fn add(&mut self, sorted: Sorted, octets: u64, block: u64, pos: u64) -> Result<(), OutOfMemory>
         requires free { is_ready self.old ≡ false }
         requires unspent { is_spent self.old ≡ false }
@@ -332,7 +332,7 @@ impl Composer {
         }
     }
 
-    /// Begins a certificate; what came before it becomes ready.
+    /// Begins a certificate; the part before it becomes ready.
     fn begin(&mut self, primary: Member, octets: u64, block: u64, pos: u64)
         requires free { is_ready self.old ≡ false }
         requires open { is_open self.old.state ≡ true }
@@ -368,13 +368,13 @@ impl Composer {
         }
     }
 
-    /// Adds a packet behind a primary key; before the first one it is at fault.
+    /// Adds a packet that must follow a primary key; before the first one it is a fault.
     #[inline(always)]
     fn grow(&mut self, member: Member, octets: u64, block: u64, pos: u64) -> Result<(), OutOfMemory>
         requires open { is_open self.old.state ≡ true }
         requires unspent { is_spent self.old ≡ false }
         requires behind { (is_head member.kind || is_hung member.kind) ≡ true }
-        // Fillers may lead.
+        // Fillers may come before the first primary key.
         requires lead { has_begun self.old.state ≡ false → needs_primary member.kind ≡ true }
         requires sound { HasNoFault member }
         requires octets { octets ≡ length (spelling member) }

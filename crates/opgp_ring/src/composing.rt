@@ -1,4 +1,4 @@
-//! Composing blocks of packets to a keyring.
+//! Composing a keyring from blocks of packets.
 
 ghost use Rattle.std.specs.Prelude.{IfOk, MatchResult};
 ghost use Rattle.opgp_ring.specs.Block.{items_of};
@@ -12,9 +12,10 @@ use opgp_octets::{Fault, Limits, OutOfMemory};
 use std::alloc::Global;
 
 /// The keyring of the packets of all blocks, in order (RFC 9580, 10.1), or the one fault: that of
-/// the first body that has one, else the first of the order, a block's label before its packets.
+/// the first body that has one, else the first in the order, where a block's label comes before its
+/// packets.
 ///
-/// An error is want of memory.
+/// Fails only when out of memory.
 pub fn compose(
     alloc: Global,
     blocks: Vec<BlockOf>,
@@ -27,7 +28,7 @@ pub fn compose(
     gather(alloc, blocks, *limits)?.finish()
 }
 
-/// The parts of all blocks' packets but the last.
+/// All parts of the blocks' packets but the last.
 fn gather(alloc: Global, blocks: Vec<BlockOf>, limits: Limits) -> Result<Gathering, OutOfMemory>
     ensures { IfOk result (λ g. Gathers limits g (items_of blocks.items)) }
 {

@@ -1,4 +1,4 @@
-//! Composing blocks of packets to a signed literal.
+//! Composing a signed literal from blocks of packets.
 
 ghost use Rattle.std.specs.Prelude.{◌<◌, ◌^◌, IfOk, MatchResult};
 ghost use Rattle.opgp_ring.specs.Block.{items_of};
@@ -13,15 +13,15 @@ use opgp_octets::{Fault, OutOfMemory};
 use std::alloc::Global;
 
 /// The signed literal of the packets of all blocks, in order (RFC 9580, 10.3), or the one fault:
-/// that of the first body that has one, else the first of the order, a block's label before its
-/// packets.
+/// that of the first body that has one, else the first in the order, where a block's label comes
+/// before its packets.
 ///
 /// Fillers aside, the packets are one-pass signatures, at least one, then the literal, then as many
-/// signatures. The fault stands at the first packet with which no such list begins; where packets
-/// are missing, at the end of the last block. The condition is that this end is at most 2^64 - 1,
-/// which [`end_fits`](crate::end_fits) tells.
+/// signatures. The fault is at the first packet with which no such list begins; if packets are
+/// missing, at the end of the last block. The condition is that this end is at most 2^64 - 1, which
+/// [`end_fits`](crate::end_fits) tells.
 ///
-/// An error is want of memory.
+/// Fails only when out of memory.
 pub fn compose_signed(
     alloc: Global,
     blocks: Vec<BlockOf>,

@@ -1,4 +1,4 @@
-//! What packets of a keyring hold.
+//! The contents of a keyring's packets.
 
 ghost use Rattle.std.specs.Prelude.{◌≡◌, IfOk};
 ghost use Rattle.opgp_ring.specs.Content.{content_kind, content_octets, IsKept};
@@ -7,7 +7,7 @@ use opgp_octets::{OutOfMemory, PacketType};
 use opgp_packet::{Attribute, Key, Signature, UserId};
 use std::alloc::Global;
 
-/// The body of a packet of a keyring, read by the packet's type (RFC 9580, 10.1).
+/// The body of a packet of a keyring, read according to the packet's type (RFC 9580, 10.1).
 #[derive(Drop)]
 pub enum Content {
     /// A primary key (5.5.1.1).
@@ -20,8 +20,8 @@ pub enum Content {
     Attribute(Attribute),
     /// A signature (5.2).
     Signature(Signature),
-    /// The type and the body of a marker, trust or padding packet (5.8, 5.10, 5.14), or of one of a
-    /// type that isn't critical (4.3): it stays in place.
+    /// A filler's type and body: a marker, trust or padding packet (5.8, 5.10, 5.14), or one of a
+    /// type that isn't critical (4.3), which is kept in its place.
     Filler(u8, Vec<u8>),
 }
 
@@ -53,7 +53,7 @@ impl Content {
         }
     }
 
-    /// An equal content. An error is want of memory.
+    /// A copy of this content. Fails only when out of memory.
     pub(crate) fn copy(&self, alloc: Global) -> Result<Content, OutOfMemory>
         ensures kind { IfOk result (λ c. content_kind c ≡ content_kind self.now) }
         ensures body { IfOk result (λ c. content_octets c ≡ content_octets self.now) }

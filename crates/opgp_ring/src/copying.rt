@@ -1,11 +1,11 @@
-//! Copies of many values.
+//! Copying lists.
 
 ghost use Rattle.std.specs.Prelude.{◌≡◌, IfOk};
 
 use opgp_octets::OutOfMemory;
 use std::alloc::Global;
 
-/// Equal items, in order, of a closure that copies one. An error is want of memory.
+/// Copies of all items, in order, by a closure that copies one. Fails only when out of memory.
 pub(crate) fn copy_all<T: Drop, F: Fn(&T) -> Result<T, OutOfMemory>>(
     alloc: Global,
     items: &[T],

@@ -1,4 +1,4 @@
-//! Where blocks of packets end.
+//! The end of the last block.
 
 ghost use Rattle.std.specs.Prelude.{◌<◌, ◌^◌, ◌↔◌, IsTrue};
 ghost use Rattle.opgp_ring.specs.Block.{items_of};
@@ -6,8 +6,8 @@ ghost use Rattle.opgp_ring.specs.Signed.{end_pos};
 
 use crate::block_of::BlockOf;
 
-/// Whether the last block ends at 2^64 - 1 at most: the place of its last packet and its spelled
-/// length. Takes no memory.
+/// Whether the last block ends at 2^64 - 1 at most: the place of its last packet plus that packet's
+/// length. Allocates nothing.
 pub fn end_fits(blocks: &[BlockOf]) -> bool
     ensures { IsTrue result ↔ (end_pos (items_of blocks.now) < 2 ^ 64) }
 {

@@ -15,8 +15,8 @@ use opgp_frame::{Packet, Placed};
 use opgp_octets::{Fault, Limits, OutOfMemory};
 use std::alloc::{AllocError, Global};
 
-/// A keyring in the making (RFC 9580, 10.1): a composer, and the parts that were taken from it. For
-/// who wants the whole keyring of packets that come one at a time.
+/// A keyring in the making (RFC 9580, 10.1): a composer, and the parts that were taken from it. It
+/// is for callers that want the whole keyring of packets that come one at a time.
 #[derive(Drop)]
 pub struct Gathering {
     alloc: Global,
@@ -31,7 +31,7 @@ impl Gathering {
     ghost use Rattle.opgp_ring.specs.Gathering.{Gathers};
     ghost use Rattle.opgp_frame.specs.declared.packet.Placed.{Placed};
 
-    /// A keyring of nothing yet, within limits. Takes no memory; what is added does, from `alloc`.
+    /// An empty keyring, within limits. Allocates nothing; additions do, from `alloc`.
     pub fn new(alloc: Global, limits: Limits) -> Gathering
         ensures { Gathers limits result [] }
     {
@@ -60,7 +60,7 @@ impl Gathering {
         Ok(())
     }
 
-    /// Begins a block of this number, whose label is the wanted one or not. Takes no memory.
+    /// Begins a block of this number, whose label is the expected one or not. Allocates nothing.
     pub fn begin_block(&mut self, block: u64, label_fits: bool)
         ensures { (limits : Limits) (given : List Item) → Gathers limits self.old given
             → Gathers limits self.new (given ++ of_label block label_fits ∷ []) }
@@ -68,7 +68,7 @@ impl Gathering {
         self.composer.begin_block(block, label_fits);
     }
 
-    /// Adds the next packet of the block. An error is want of memory; the keyring is lost then.
+    /// Adds the next packet of the block. Fails only when out of memory; the keyring is lost then.
     pub fn add(&mut self, placed: Placed) -> Result<(), OutOfMemory>
         ensures { OnOk result ((limits : Limits) (given : List Item)
             → Gathers limits self.old given
@@ -86,10 +86,10 @@ impl Gathering {
     }
 
     /// The keyring of what was added, or the one fault: that of the first body that has one, else
-    /// the first of the order, a block's label before its packets. The condition is that nothing
-    /// was refused.
+    /// the first in the order, where a block's label comes before its packets. The condition is
+    /// that no addition failed.
     ///
-    /// An error is want of memory.
+    /// Fails only when out of memory.
     pub fn finish(self) -> Result<Result<Keyring, Fault>, OutOfMemory>
         requires { (limits : Limits) × (items : List Item) × Gathers limits self items }
         ensures { IfOk result (λ r. (limits : Limits) (items : List Item)
@@ -114,7 +114,7 @@ impl Gathering {
     }
 }
 
-/// Keeps the part that is ready. Most packets make none ready, so that this stands apart.
+/// Keeps the part that is ready. Not inlined, since most packets make none ready.
 #[inline(never)]
 fn keep(
     composer: &mut Composer,

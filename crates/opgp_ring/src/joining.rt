@@ -10,9 +10,9 @@ use opgp_octets::OutOfMemory;
 use std::alloc::Global;
 
 /// The keyring whose packets are those of the first, followed by those of the second (RFC 9580,
-/// 10.1): what leads the second hangs on the last part of the first. Nothing is copied.
+/// 10.1): the second one's lead follows the last packet of the first. Nothing is copied.
 ///
-/// An error is want of memory.
+/// Fails only when out of memory.
 pub fn join(first: Keyring, second: Keyring) -> Result<Keyring, OutOfMemory>
     ensures { IfOk result (λ r. flat r ≡ flat first ++ flat second) }
 {
@@ -22,7 +22,7 @@ pub fn join(first: Keyring, second: Keyring) -> Result<Keyring, OutOfMemory>
     Ok(Keyring::new(alloc, lead, certificates))
 }
 
-/// The keyring with these fillers behind it.
+/// The keyring with these fillers after its last packet.
 fn follow(ring: Keyring, mut fillers: Vec<Packet>) -> Result<Keyring, OutOfMemory>
     requires { All IsFiller fillers.items }
     ensures { IfOk result (λ r. flat r ≡ flat ring ++ fillers.items) }
@@ -40,9 +40,10 @@ fn follow(ring: Keyring, mut fillers: Vec<Packet>) -> Result<Keyring, OutOfMemor
     }
 }
 
-/// The certificate of this number alone, with no lead, where there is one. They count from 0.
+/// The certificate of this number, counted from 0, as a keyring without a lead; None if there is
+/// none.
 ///
-/// An error is want of memory.
+/// Fails only when out of memory.
 pub fn nth(alloc: Global, ring: &Keyring, n: usize) -> Result<Option<Keyring>, OutOfMemory>
     ensures { IfOk result (λ o. o ≡ nth_of ring.now n) }
 {

@@ -10,7 +10,7 @@ use opgp_octets::OutOfMemory;
 use std::alloc::Global;
 use std::marker::Model;
 
-/// A keyring: fillers that lead it, and certificates (RFC 9580, 10.1).
+/// A keyring: fillers, then certificates (RFC 9580, 10.1).
 #[derive(Drop)]
 pub struct Keyring {
     alloc: Global,
@@ -30,7 +30,7 @@ impl Model for Keyring {
 }
 
 impl Keyring {
-    /// A keyring of its parts. The conditions are that fillers alone lead it, and that each
+    /// A keyring of its parts. The conditions are that the lead has fillers alone, and that each
     /// certificate is one.
     pub fn new(alloc: Global, lead: Vec<Packet>, certificates: Vec<Certificate>) -> Keyring
         requires { IsKeyring (record { lead = lead.items; certificates = certificates.items }) }
@@ -73,7 +73,7 @@ impl Keyring {
         &self.certificates
     }
 
-    /// An equal keyring. An error is want of memory.
+    /// A copy of this keyring. Fails only when out of memory.
     pub fn copy(&self, alloc: Global) -> Result<Keyring, OutOfMemory>
         ensures { IfOk result (λ r. r ≡ self.now) }
     {

@@ -23,22 +23,22 @@ pub fn one_keyring()
     ensures { (r s : KeyringValue) → IsKeyring r → IsKeyring s → flat r ≡ flat s → r ≡ s }
 {}
 
-/// While the items are those of a keyring, what was taken from a composer and what is ready are all
-/// parts of it but the last: nothing, where there is one part or none.
+/// As long as the items are those of a keyring, what was taken from a composer and what is ready
+/// are all its parts but the last: nothing, if it has one part or none.
 pub fn all_parts_but_the_last()
     ensures { (limits : Limits) (c : Composer) (given : List Item) (taken : List PartValue)
         (r : KeyringValue) → Fed limits c given taken → IsKeyringOf limits given r
         → IsAllButLast (so_far c taken) (parts_of r) }
 {}
 
-/// After a fault or want of memory nothing is held, once nothing is ready.
+/// After a fault or running out of memory nothing is held, once nothing is ready.
 pub fn nothing_is_held_after_a_fault()
     ensures fault { (c : Composer) (fault : Fault) → fault_of c ≡ Some fault
         → is_ready c ≡ false → held_of c ≡ 0 }
     ensures spent { (c : Composer) → is_spent c ≡ true → is_ready c ≡ false → held_of c ≡ 0 }
 {}
 
-/// What begins the packets of a keyring is a keyring's.
+/// The first packets of a keyring are those of a keyring.
 pub fn prefixes_are_keyrings()
     ensures { (limits : Limits) (ps qs : List PacketValue) → AreKeyring limits (ps ++ qs)
         → AreKeyring limits ps }
@@ -53,7 +53,7 @@ pub fn one_body_fault()
     opgp_packet::signature_laws::one_fault();
 }
 
-/// Items that are a keyring have no fault.
+/// Items of a keyring have no fault.
 pub fn no_fault()
     ensures { (limits : Limits) (items : List Item) (r : KeyringValue) (f : Fault)
         → IsKeyringOf limits items r → IsFault limits items f → ⊥ }
@@ -67,7 +67,7 @@ pub fn one_fault()
     one_body_fault();
 }
 
-/// Items whose bodies are octets are a keyring's or have a fault.
+/// Items whose bodies are octets are those of a keyring or have a fault.
 pub fn some_answer()
     ensures { (limits : Limits) (items : List Item) → All HasOctets items
         → ((r : KeyringValue) × IsKeyringOf limits items r)
@@ -79,8 +79,8 @@ pub fn some_answer()
     opgp_packet::signature_laws::no_fault();
 }
 
-/// Behind the packets of a keyring, a packet is told as too long exactly where it would make them
-/// those of a keyring but for the limit.
+/// After the packets of a keyring, a packet is reported as too long exactly if with it they would
+/// be those of a keyring but for the limit.
 pub fn too_long_is_told_of_what_would_be_a_keyring()
     ensures { (limits : Limits) (ps : List PacketValue) (p : PacketValue) → AreKeyring limits ps
         → (order_reason ps p ≡ CertTooLong)
@@ -93,13 +93,13 @@ pub fn normalised_twice()
     ensures { (r : KeyringValue) → normal_of (normal_of r) ≡ normal_of r }
 {}
 
-/// Items are one signed literal at most.
+/// Items are those of one signed literal at most.
 pub fn one_signed_literal()
     ensures { (items : List Item) (ps qs : List PacketValue) → IsSignedOf items ps
         → IsSignedOf items qs → ps ≡ qs }
 {}
 
-/// Items that are a signed literal have no fault as one.
+/// Items of a signed literal have no fault as one.
 pub fn no_signed_fault()
     ensures { (items : List Item) (ps : List PacketValue) (f : Fault) → IsSignedOf items ps
         → IsSignedFault items f → ⊥ }
@@ -113,7 +113,7 @@ pub fn one_signed_fault()
     one_body_fault();
 }
 
-/// Items whose bodies are octets are a signed literal or have a fault as one.
+/// Items whose bodies are octets are those of a signed literal or have a fault as one.
 pub fn some_signed_answer()
     ensures { (items : List Item) → All HasOctets items
         → ((ps : List PacketValue) × IsSignedOf items ps)

@@ -1,8 +1,8 @@
-//! What begins a component, lent.
+//! The packet that begins a component, borrowed.
 
 use opgp_packet::{Attribute, Key, UserId};
 
-/// What begins a component of a certificate (RFC 9580, 10.1).
+/// The packet that begins a component of a certificate (RFC 9580, 10.1).
 #[derive(Clone, Copy)]
 pub enum Head<'a> {
     /// A user ID (5.11).

@@ -1,4 +1,4 @@
-//! Keyrings of OpenPGP's public keys, composed of packets (RFC 9580, 10.1).
+//! Keyrings of OpenPGP public keys, composed from packets (RFC 9580, 10.1).
 #![tactic(auto)]
 
 mod block_of;

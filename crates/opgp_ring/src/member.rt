@@ -59,7 +59,7 @@ impl Member {
         &self.form
     }
 
-    /// What it holds.
+    /// What its body contains.
     pub fn content(&self) -> &Content
         ensures value { packet_of self.now.form result.now ≡ self.now }
         ensures member { IsMember self.now.form result.now }
@@ -93,14 +93,15 @@ impl Member {
         )
     }
 
-    /// How many octets the packet is spelled in (RFC 9580, 4.2). Takes no memory.
+    /// How many octets the packet takes, header included (RFC 9580, 4.2). Allocates nothing.
     pub fn spelled_len(&self) -> u64
         ensures { result ≡ length (spelling self.now) }
     {
         spelled_len_of(self.form(), self.body().len() as u64)
     }
 
-    /// What begins a component. The condition is that it is a user ID, an attribute or a subkey.
+    /// The packet as the head of a component. The condition is that it is a user ID, an attribute or a
+    /// subkey.
     pub fn head(&self) -> Head<'_>
         requires { IsHead self.now }
         ensures { head_packet self.now.form result ≡ self.now }
@@ -113,7 +114,7 @@ impl Member {
         }
     }
 
-    /// The packet, with octets of its own. An error is want of memory.
+    /// A copy of the packet as it is framed. Fails only when out of memory.
     pub(crate) fn packet(&self, alloc: Global) -> Result<Packet, OutOfMemory>
         ensures { IfOk result (λ p. p ≡ self.now) }
     {
@@ -125,7 +126,7 @@ impl Member {
         }
     }
 
-    /// An equal packet. An error is want of memory.
+    /// A copy of this packet. Fails only when out of memory.
     pub fn copy(&self, alloc: Global) -> Result<Member, OutOfMemory>
         ensures { IfOk result (λ m. m ≡ self.now) }
     {

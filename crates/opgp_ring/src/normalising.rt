@@ -11,7 +11,7 @@ use crate::reframing::reframe_all;
 /// The same packets in the same places, each in the current format with its shortest length, never
 /// partial (RFC 9580, 4.2.1). No body is changed or copied.
 ///
-/// Takes no memory.
+/// Allocates nothing.
 pub fn normalise(ring: Keyring) -> Keyring
     ensures exact { result ≡ normal_of ring }
     ensures packets { flat result ≡ map reframed (flat ring) }

@@ -1,4 +1,4 @@
-//! The fault of any packet's body.
+//! The faults of packets' bodies, by type.
 
 ghost use Rattle.std.specs.Prelude.{◌≡◌, IfSome, IfNone, None};
 ghost use Rattle.opgp_octets.specs.declared.fault.BodyFault.{BodyFault};
@@ -8,10 +8,10 @@ ghost use Rattle.opgp_ring.specs.PacketBody.{HasBodyFault};
 use opgp_octets::{BodyFault, PacketType};
 use opgp_packet::{AttributeView, KeyView, Literal, SigView};
 
-/// The first fault of the body of a packet of this type, if it has one. Takes no memory.
+/// The first fault of the body of a packet of this type, if it has one. Allocates nothing.
 ///
-/// Public keys and subkeys, signatures, literals and user attributes may have one, which is that of
-/// their own parsers; a user ID is any octets, and the bodies of other types aren't read.
+/// Public keys and subkeys, signatures, literals and user attributes can have one, which is that of
+/// their parsers; a user ID is any octets, and the bodies of other types aren't read.
 pub fn body_fault(kind: PacketType, body: &[u8]) -> Option<BodyFault>
     requires { IsBodySized body.now }
     ensures fault { IfSome result (HasBodyFault kind body.now) }

@@ -13,7 +13,7 @@ use opgp_octets::OutOfMemory;
 use std::alloc::Global;
 use std::slice;
 
-/// A packet of a keyring, lent (RFC 9580, 10.1).
+/// A packet of a keyring, borrowed (RFC 9580, 10.1).
 #[derive(Clone, Copy)]
 pub enum Part<'a> {
     /// A filler before the first certificate.
@@ -25,7 +25,7 @@ pub enum Part<'a> {
 impl Part<'_> {
     ghost use Rattle.opgp_ring.specs.Packets.{part_packet};
 
-    /// The packet, with octets of its own. An error is want of memory.
+    /// A copy of the packet. Fails only when out of memory.
     pub(crate) fn packet(self, alloc: Global) -> Result<Packet, OutOfMemory>
         ensures { IfOk result (λ p. p ≡ part_packet self.entry) }
     {
@@ -36,7 +36,7 @@ impl Part<'_> {
     }
 }
 
-/// The packets of a keyring that are left, in order. Takes no memory.
+/// The packets of a keyring that are left to be visited, in order. Allocates nothing.
 #[derive(Clone, Copy)]
 pub struct Packets<'a> {
     lead: &'a [Packet],
@@ -90,7 +90,7 @@ impl<'a> Packets<'a> {
         self.begin()
     }
 
-    /// The next packet where nothing is left before a component or a certificate.
+    /// The next packet when nothing is left before the next component or certificate.
     fn begin(&mut self) -> Option<Part<'a>>
         requires lead { self.old.lead.now ≡ [] }
         requires hangs { self.old.hangs.now ≡ [] }

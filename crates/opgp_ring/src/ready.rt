@@ -3,7 +3,7 @@
 use crate::certificate::Certificate;
 use opgp_frame::Packet;
 
-/// A part of a keyring that is whole.
+/// A complete part of a keyring.
 #[derive(Drop)]
 pub enum Ready {
     /// The fillers before the first certificate, where there are any.

@@ -1,16 +1,16 @@
-//! What is given the current format, in place.
+//! Reframing in place: the current format for packets.
 
 ghost use Rattle.std.specs.Prelude.{◌≡◌, map};
 ghost use Rattle.opgp_frame.specs.Reframed.{reframed};
 
 use opgp_frame::Packet;
 
-/// A packet, or what is made of packets.
+/// A packet, or a value made of packets.
 pub(crate) trait Reframe {
-    // What it becomes.
+    // The value in the current format.
     ghost normal: { Self → Self };
 
-    /// Gives each of its packets the current format with its shortest length. Takes no memory.
+    /// Gives each of its packets the current format with its shortest length. Allocates nothing.
     fn reframe(&mut self)
         ensures { self.new ≡ normal self.old };
 }
@@ -23,7 +23,7 @@ impl Reframe for Packet {
     }
 }
 
-/// Gives each packet of each item the current format with its shortest length. Takes no memory.
+/// Gives each packet of each item the current format with its shortest length. Allocates nothing.
 pub(crate) fn reframe_all<T: Reframe>(items: &mut Vec<T>)
     ensures { items.new.items ≡ map T.normal items.old.items }
 {

@@ -1,4 +1,4 @@
-//! How far packets have come that begin a signed literal.
+//! How much of a signed literal has come.
 
 ghost use Rattle.std.specs.Prelude.{◌≡◌, ◌+◌, ◌∷◌, [], ◌++◌, ◌<◌, ◌≤◌, ◌^◌, false, List, IfSome};
 ghost use Rattle.std.specs.Prelude.{IfNone, replicate};
@@ -9,20 +9,19 @@ ghost use Rattle.opgp_ring.specs.Signed.{BeginsSigned, types_of};
 use crate::sorted::is_filler;
 use opgp_octets::PacketType;
 
-/// How far packets have come that begin a signed literal (RFC 9580, 10.3).
+/// How much of a signed literal has come (RFC 9580, 10.3).
 #[derive(Clone, Copy)]
 pub(crate) enum Shape {
-    /// Before the literal: so many one-pass signatures came.
+    /// Before the literal: the number of one-pass signatures so far.
     Opening(u64),
-    /// Behind the literal: so many signatures are still to come.
+    /// After the literal: the number of signatures still to come.
     Closing(u64),
 }
 
 impl Shape {
     ghost use Rattle.opgp_ring.specs.Shape.{IsClosing, Stands, is_whole, opened};
 
-    /// How far they are with one more packet of this type, or None where no signed literal begins
-    /// so.
+    /// The state after one more packet of this type, or None if no signed literal begins so.
     pub(crate) fn next(self, kind: u8) -> Option<Shape>
         requires { opened self < 2 ^ 63 }
         ensures stands { IfSome result (λ s. (ps : List PacketValue) (p : PacketValue)
@@ -40,7 +39,7 @@ impl Shape {
         }
     }
 
-    /// Whether nothing is missing.
+    /// Whether it is complete.
     pub(crate) fn is_whole(self) -> bool
         ensures { result ≡ is_whole self }
     {
@@ -50,7 +49,7 @@ impl Shape {
         }
     }
 
-    /// Before the literal.
+    /// The next state before the literal.
     fn open(count: u64, kind: u8) -> Option<Shape>
         requires small { count < 2 ^ 63 }
         requires kind { is_filler kind ≡ false }
@@ -73,7 +72,7 @@ impl Shape {
         }
     }
 
-    /// Behind the literal.
+    /// The next state after the literal.
     fn close(left: u64, kind: u8) -> Option<Shape>
         requires { is_filler kind ≡ false }
         ensures stands { IfSome result (λ s. (ps : List PacketValue) (p : PacketValue)

@@ -1,4 +1,4 @@
-//! The signatures of a literal, one after the other.
+//! The signatures after a literal, one after the other.
 
 ghost use Rattle.std.specs.Prelude.{◌≡◌, ◌∷◌, [], All, IfSome, MatchOption};
 ghost use Rattle.opgp_packet.specs.SigView.{sig_view_octets};
@@ -9,7 +9,7 @@ use opgp_frame::Packet;
 use opgp_octets::PacketType;
 use opgp_packet::SigView;
 
-/// The signatures that are left, in order. Takes no memory.
+/// The signatures that are left to be visited, in order. Allocates nothing.
 #[derive(Clone, Copy)]
 pub struct Signatures<'a> {
     packets: &'a [Packet],
@@ -19,7 +19,7 @@ pub struct Signatures<'a> {
 impl<'a> Signatures<'a> {
     ghost use Rattle.opgp_ring.specs.SignedLiteral.{signatures_left};
 
-    /// Those among packets whose bodies are sound.
+    /// The signatures among packets whose bodies have no fault.
     pub(crate) fn new(packets: &'a [Packet]) -> Signatures<'a>
         requires { All HasNoFault packets.now }
         ensures { signatures_left result ≡ signature_bodies packets.now }
@@ -46,7 +46,7 @@ impl<'a> Signatures<'a> {
     }
 }
 
-/// The first packet of a type, and those behind it.
+/// The first packet of a type, and those after it.
 pub(crate) fn first_of(packets: &[Packet], kind: u8) -> Option<(&Packet, &[Packet])>
     requires { All HasNoFault packets.now }
     ensures bodies { MatchOption result (bodies_of kind packets.now ≡ [])

@@ -17,14 +17,14 @@ use opgp_octets::{Fault, Layer, OutOfMemory, Reason};
 use std::alloc::Global;
 use std::slice;
 
-/// Where the gathering of a signed literal stands.
+/// The state of the gathering of a signed literal.
 #[derive(Clone, Copy)]
 enum SignedState {
-    /// The packets begin a signed literal, and have come so far.
+    /// The packets so far begin a signed literal.
     Open(Shape),
-    /// Behind a fault of the order, where a body may still be at fault.
+    /// After a fault in the order of packets; a body may still be at fault.
     Disordered(Fault),
-    /// Behind a fault of a body.
+    /// After a fault in a body.
     Broken(Fault),
 }
 
@@ -44,7 +44,7 @@ impl SignedGathering {
     ghost use Rattle.opgp_ring.specs.SignedGathering.{GathersSigned};
     ghost use Rattle.opgp_ring.specs.SignedLiteral.{signed_packets};
 
-    /// A signed literal of nothing yet. Takes no memory; what is added does, from `alloc`.
+    /// An empty one. Allocates nothing; additions do, from `alloc`.
     pub fn new(alloc: Global) -> SignedGathering
         ensures { GathersSigned result [] }
     {
@@ -72,7 +72,7 @@ impl SignedGathering {
         Ok(())
     }
 
-    /// Begins a block of this number, whose label is the wanted one or not. Takes no memory.
+    /// Begins a block of this number, whose label is the expected one or not. Allocates nothing.
     pub fn begin_block(&mut self, block: u64, label_fits: bool)
         ensures { (given : List Item) → GathersSigned self.old given
             → GathersSigned self.new (given ++ of_label block label_fits ∷ []) }
@@ -84,7 +84,7 @@ impl SignedGathering {
         }
     }
 
-    /// Adds the next packet of the block. An error is want of memory; the signed literal is lost
+    /// Adds the next packet of the block. Fails only when out of memory; the signed literal is lost
     /// then.
     pub fn add(&mut self, placed: Placed) -> Result<(), OutOfMemory>
         ensures { OnOk result ((given : List Item) → GathersSigned self.old given
@@ -105,11 +105,11 @@ impl SignedGathering {
     }
 
     /// The signed literal of what was added, or the one fault: that of the first body that has one,
-    /// else the first of the order, a block's label before its packets. Where packets are missing,
-    /// that is at the end of the last block.
+    /// else the first in the order, where a block's label comes before its packets. If packets are
+    /// missing, that is at the end of the last block.
     ///
-    /// The condition is that nothing was refused. An end past 2^64 - 1 is told as that place. Takes no
-    /// memory.
+    /// The condition is that no addition failed. An end past 2^64 - 1 is reported as that place.
+    /// Allocates nothing.
     pub fn finish(self) -> Result<SignedLiteral, Fault>
         requires { (items : List Item) × GathersSigned self items }
         ensures { (items : List Item) → GathersSigned self items → MatchResult result
@@ -134,7 +134,7 @@ impl SignedGathering {
         }
     }
 
-    /// Keeps a packet whose body is sound, where a signed literal begins so.
+    /// Keeps a packet whose body has no fault, if a signed literal can begin so.
     fn keep(&mut self, placed: Placed) -> Result<(), OutOfMemory>
         ensures state { OnOk result ((given : List Item) → IsSound placed
             → IsSignedIn self.old.state given self.old.flat.items
@@ -160,7 +160,7 @@ impl SignedGathering {
         Ok(())
     }
 
-    /// Keeps the fault of the order, if it is the first.
+    /// Keeps a fault in the order of packets, if it is the first.
     fn refuse(&mut self, reason: Reason, block: u64, pos: u64)
         ensures state { (given : List Item) (i : Item) → IsSoundItem i
             → (is_open self.old.state ≡ true
@@ -181,7 +181,7 @@ impl SignedGathering {
         }
     }
 
-    /// Keeps the fault of a body, if it is the first.
+    /// Keeps a fault in a body, if it is the first.
     fn break_off(&mut self, fault: Fault)
         ensures state { (given : List Item) (p : Placed) → IsFirstBodyFault (p ∷ []) fault
             → IsSignedIn self.old.state given self.old.flat.items

@@ -1,4 +1,4 @@
-//! A literal and the signatures of it.
+//! A literal and the signatures on it.
 
 ghost use Rattle.std.specs.Prelude.{◌≡◌, ◌∷◌, [], List, length, All, IfOk};
 ghost use Rattle.opgp_packet.specs.Parsed.{body_octets};
@@ -12,7 +12,7 @@ use opgp_octets::{OutOfMemory, PacketType};
 use opgp_packet::LiteralView;
 use std::alloc::Global;
 
-/// A literal with one-pass signatures before it and as many signatures behind it; fillers may stand
+/// A literal with one-pass signatures before it and as many signatures after it; fillers may be
 /// anywhere (RFC 9580, 10.3).
 #[derive(Drop)]
 pub struct SignedLiteral {
@@ -39,7 +39,7 @@ impl SignedLiteral {
         &self.flat
     }
 
-    /// The literal: the body of the one packet of that type. Takes no memory.
+    /// The literal. Allocates nothing.
     pub fn literal(&self) -> LiteralView<'_>
         ensures { literal_bodies (signed_packets self.now) ≡ body_octets result ∷ [] }
     {
@@ -52,14 +52,14 @@ impl SignedLiteral {
         }
     }
 
-    /// The signatures behind the literal, in order; fillers are left out. Takes no memory.
+    /// The signatures after the literal, in order, without fillers. Allocates nothing.
     pub fn signatures(&self) -> Signatures<'_>
         ensures { signatures_left result ≡ signature_bodies (signed_packets self.now) }
     {
         Signatures::new(&self.flat)
     }
 
-    /// All its packets, in order, which it gives up. Takes no memory.
+    /// All its packets, in order, as a vector. Allocates nothing.
     pub fn into_packets(self) -> Vec<Packet>
         ensures { result.items ≡ signed_packets self }
     {
@@ -67,7 +67,7 @@ impl SignedLiteral {
         flat
     }
 
-    /// An equal signed literal. An error is want of memory.
+    /// A copy of this signed literal. Fails only when out of memory.
     pub fn copy(&self, alloc: Global) -> Result<SignedLiteral, OutOfMemory>
         ensures { IfOk result (λ l. signed_packets l ≡ signed_packets self.now) }
     {

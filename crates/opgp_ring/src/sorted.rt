@@ -1,4 +1,4 @@
-//! Packets by the place that they have in keyrings.
+//! Packets by where they may be in a keyring.
 
 ghost use Rattle.std.specs.Prelude.{◌≡◌, IfOk, IfErr, OnOk};
 ghost use Rattle.opgp_frame.specs.Packet.{PacketValue, IsPacket};
@@ -12,20 +12,20 @@ use opgp_frame::Packet;
 use opgp_octets::{BodyFault, PacketType};
 use opgp_packet::{Attribute, Key, Literal, Signature, UserId};
 
-/// A packet by the place that it has in keyrings.
+/// A packet by where it may be in a keyring.
 #[derive(Drop)]
 pub(crate) enum Sorted {
     /// A primary key.
     Primary(Member),
-    /// A user ID, an attribute, a subkey or a signature: it stands behind a primary key.
+    /// A user ID, an attribute, a subkey or a signature: it must follow a primary key.
     Behind(Member),
     /// A marker, trust or padding packet, or one of a type that isn't critical.
     Filler(Packet),
-    /// None: its type stands in no keyring.
+    /// Nowhere: no keyring has packets of its type.
     Stray(Packet),
 }
 
-/// The packet with its body read, or the fault of its body. Takes no memory.
+/// The packet with its body read, or the fault of its body. Allocates nothing.
 pub(crate) fn sort(packet: Packet) -> Result<Sorted, BodyFault>
     ensures packet { IfOk result (λ s. sorted_packet s ≡ packet) }
     ensures sorted { IfOk result IsSorted }
@@ -70,7 +70,7 @@ pub(crate) fn sort(packet: Packet) -> Result<Sorted, BodyFault>
     }
 }
 
-/// Whether packets of the type stay in place wherever they stand.
+/// Whether packets of the type may be anywhere, and are kept in place.
 pub(crate) fn is_filler(kind: u8) -> bool
     ensures { result ≡ is_filler kind }
 {

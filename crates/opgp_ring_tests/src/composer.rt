@@ -7,7 +7,7 @@ use opgp_ring::{Composer, Ready};
 use std::alloc::Global;
 use std::test::Fail;
 
-// A filler, a user ID, a key at fault, and a packet that stands in no keyring.
+// A filler, a user ID, a key at fault, and a packet that no keyring has.
 const FILLER: &[u8] = b"\xE8\x00";
 
 const NAME: &[u8] = b"\xCD\x01\x61";

@@ -1,4 +1,4 @@
-//! Want of memory, and how many growths are made.
+//! Running out of memory, and how many allocations are made.
 
 use crate::reading::{KEY, SIGNATURE};
 use opgp_frame::{Form, Packet, Placed};
@@ -35,7 +35,7 @@ fn is_nothing(ready: Option<Ready>) -> bool {
     nothing
 }
 
-/// After want of memory nothing more is taken or given.
+/// After running out of memory nothing more is taken or given.
 fn is_spent(rt: &impl Abort, mut composer: Composer, placed: Placed) {
     assert!(rt; !composer.ready());
     assert!(rt; composer.push(placed) == Err(PushFault::Spent));
@@ -99,7 +99,7 @@ fn certificate_of(rt: &impl Abort, composer: Composer) -> Option<Certificate> {
     }
 }
 
-// A growth makes each body, one the components and one what hangs on the user ID: no body is
+// One allocation makes each body, one the components and one the packets on the user ID: no body is
 // copied.
 #[test]
 fn composing_moves_bodies_in_5_growths(rt: HostRuntime) {
@@ -161,7 +161,7 @@ fn signed(rt: &impl Abort, alloc: Global) -> Option<SignedLiteral> {
     }
 }
 
-/// The keyring twice, one behind the other.
+/// The keyring twice, one after the other.
 fn joins(rt: &impl Abort, alloc: Global, ring: Keyring) {
     if let Ok(copy) = ring.copy(alloc) {
         assert_eq!(rt; copy.certificates().len(), 1);

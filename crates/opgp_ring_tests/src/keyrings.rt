@@ -23,7 +23,7 @@ const MARKER: &[u8] = b"\xCA\x03PGP";
 
 const PADDING: &[u8] = b"\xD5\x00";
 
-// A packet that stands in no keyring, of a type that is critical.
+// A packet that no keyring has, of a critical type.
 const SESSION_KEY: &[u8] = b"\xC1\x00";
 
 // User IDs: empty; with a length of four octets; of the legacy format; and a trust packet of that.
@@ -162,7 +162,7 @@ fn has_answer(rt: &impl Abort, alloc: Global, parts: &[&[u8]], wanted: &str) -> 
     Ok(())
 }
 
-/// Whether certificates of 512 octets stand, and longer ones are refused. The user ID has 459, and
+/// Whether certificates of 512 octets are accepted, and longer ones refused. The user ID has 459, and
 /// the filler 512.
 fn is_limited<'a>(
     rt: &impl Abort,

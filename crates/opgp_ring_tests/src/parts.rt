@@ -44,7 +44,7 @@ fn is_packet(rt: &impl Abort, member: &Member, kind: u8, first: u8, len: u64) {
     }
 }
 
-/// The signature and the filler that hang on the user ID.
+/// The signature and the filler on the user ID.
 fn hang_there(rt: &impl Abort, name: &Component) {
     match name.hangs() {
         [signature, filler] => {

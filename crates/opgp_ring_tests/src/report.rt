@@ -10,17 +10,17 @@ use std::alloc::Global;
 use std::cell::Cell;
 use std::test::Fail;
 
-// More jobs than any verifier here is to be asked about.
+// More jobs than any verifier here should be given.
 const MOST: usize = 32;
 
-/// What a verifier was asked about: the signature's left octets, and the digest.
+/// What a verifier was given: the left 16 bits that the signature states, and the digest.
 #[derive(Clone, Copy)]
 struct AskedJob {
     left: [u8; 2],
     digest: Digest,
 }
 
-/// Says that each signature is good, and keeps what it was asked about, in order.
+/// Says that each signature is good, and keeps what it was given, in order.
 #[derive(Drop)]
 struct Recording {
     asked: Cell<usize>,
@@ -174,12 +174,12 @@ impl Packets {
         // The same once more.
         self.add_signature(0x13, 8, left(1))?;
         self.add(0xE8, b"")?;
-        // A type that asks nothing here.
+        // A type that isn't hashed here.
         self.add_signature(0x18, 8, left(2))?;
         self.add(0xD1, b"\x02\x64\x00")?;
         self.add_signature(0x10, 10, left(3))?;
         self.add_key(0xCE, created + 2)?;
-        // The third of these asks nothing where it is embedded.
+        // The third of these isn't hashed where it is embedded.
         let other = Signature {
             kind: 0x18,
             ..back(8, 7)
@@ -191,11 +191,11 @@ impl Packets {
     }
 }
 
-// The numbers of the signatures of such a certificate that ask something, in the order of the rows.
+// The numbers of the signatures of such a certificate that are hashed, in the order of the rows.
 const ASKING: [u8; 12] = [0, 1, 1, 3, 4, 5, 6, 8, 9, 10, 11, 12];
 
-// A verifier is asked once for each question, in the order of the rows, and never else: also where
-// two ask the same, and for what is embedded in either area. What it answers stands in the row.
+// A verifier is called once for each question, in the order of the rows, and never else: also if two
+// questions are equal, and for what is embedded in either area. Its verdict is in the row.
 #[test]
 fn a_verifier_is_asked_once_for_each_question(rt: HostRuntime) -> Result<(), Fail> {
     let mut packets = Packets::new(rt.alloc());
@@ -240,7 +240,7 @@ fn add_signatures(kind: u8, packets: &mut Packets) -> Result<(), Fail> {
     Ok(())
 }
 
-/// Two certificates with a user ID and a subkey, on each of which, and on the primary key, hang
+/// Two certificates with a user ID and a subkey; on each of these, and on the primary key, there are
 /// signatures by every hash algorithm.
 fn signed_by_all(alloc: Global) -> Result<Vec<u8>, Fail> {
     let mut packets = Packets::new(alloc);

@@ -11,13 +11,13 @@ use Rattle.opgp_stack.specs.declared.run_fault.RunFault.{RunFault}
 use Rattle.opgp_stack.specs.declared.run_fault.RunFault.TheVariants as run
 use Rattle.opgp_stack.specs.declared.task.Action.{Action}
 use Rattle.opgp_stack.specs.declared.task.Task.{Task}
-use Rattle.opgp_stack.specs.Keyrings.{ComposesTo, key_label}
-use Rattle.opgp_stack.specs.Packets.{ArePackets, any_label, block_values}
-use Rattle.opgp_stack.specs.Pulled.{OfAll}
-use Rattle.opgp_stack.specs.Reading.{AnswerOf, Outcome, shown}
+use Rattle.opgp_engine.specs.Keyrings.{ComposesTo, key_label}
+use Rattle.opgp_engine.specs.Packets.{ArePackets, any_label, block_values}
+use Rattle.opgp_engine.specs.Pulled.{OfAll}
+use Rattle.opgp_engine.specs.Reading.{AnswerOf, Outcome, shown}
 use Rattle.opgp_stack.specs.Running.{IsMade, Made, MakesBy, ReadsFor, Refused, RunsAs, makes, fails, lacks}
-use Rattle.opgp_stack.specs.Signed.{AreSigned, message_label}
-use Rattle.opgp_stack.proofs.Pulling.{of_all}
+use Rattle.opgp_engine.specs.Signed.{AreSigned, message_label}
+use Rattle.opgp_engine.proofs.Pulling.{of_all}
 
 -- what the tops answer
 abbrev pub PacketsOf : Task → List ℕ → Outcome (Vec BlockOf) → Type 0

@@ -1,15 +1,8 @@
--- The numbers of what ends a run, which stay, and its texts.
+-- The numbers of the errors of a run, which never change, and their texts.
 use Rattle.std.specs.Prelude.{ℕ, List, codes}
 use Rattle.opgp_octets.specs.Fault.{fault_text, reason_number}
-use Rattle.opgp_stack.specs.declared.engine_error.EngineError.{EngineError}
-use Rattle.opgp_stack.specs.declared.engine_error.EngineError.TheVariants as engine
 use Rattle.opgp_stack.specs.declared.run_fault.RunFault.{RunFault}
 use Rattle.opgp_stack.specs.declared.run_fault.RunFault.TheVariants as run
-
-abbrev pub engine_number : EngineError → ℕ
-engine_number engine.Read = 60
-engine_number engine.Write = 61
-engine_number engine.Memory = 62
 
 -- a refusal has its reason's number
 abbrev pub run_number : RunFault → ℕ

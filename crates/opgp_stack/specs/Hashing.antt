@@ -1,4 +1,4 @@
--- What the signatures of a signed literal ask (RFC 9580, 5.2.4, 10.3).
+-- What the signatures on a signed literal hash (RFC 9580, 5.2.4, 10.3).
 use Rattle.std.specs.Prelude.{ℕ, List, [], ◌∷◌, map, Result, Ok, Err}
 use Rattle.opgp_octets.specs.declared.fault.BodyFault.{BodyFault}
 use Rattle.opgp_packet.specs.FieldReading.{body_at}
@@ -25,12 +25,12 @@ first_content (body ∷ bodies) = content_of (body_at literal body)
 abbrev pub content_in : List PacketValue → List ℕ
 content_in packets = first_content (literal_bodies packets)
 
--- what a signature asks about content
+-- what a signature hashes over content
 abbrev pub asked_about : List ℕ → Result SignatureValue BodyFault → Asked
 asked_about content (Ok v) = ask_of v (binary content)
 asked_about content (Err fault) = Err Opaque
 
--- what the signatures among packets ask about the literal, in order
+-- what the signatures among packets hash over the literal, in order
 abbrev pub message_asked : List PacketValue → List Asked
 message_asked packets =
     map (λ body. asked_about (content_in packets) (signature_at body)) (signature_bodies packets)

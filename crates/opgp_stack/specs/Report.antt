@@ -31,7 +31,7 @@ verdict_name Bad = codes "bad"
 verdict_name Undecided = codes "undecided"
 
 -- ---- lines
--- behind its place: `none <why>`, or
+-- after its place: `none <why>`, or
 -- `asked type <T> hash <n> signer <key ID or -> digest <its first two octets> verdict <..>`
 abbrev pub finding_words : FindingValue → List (List ℕ)
 finding_words (not_asked why) = codes " : none " ∷ why_text why ∷ codes "\n" ∷ []

@@ -13,26 +13,26 @@ use Rattle.opgp_ring.specs.Composition.{Item}
 use Rattle.opgp_ring.specs.Keyring.{KeyringValue, CertificateValue, certificate_packets, flat}
 use Rattle.opgp_ring.specs.Normal.{normal_of}
 use Rattle.opgp_merge.specs.Merged.{merged_of}
-use Rattle.opgp_stack.specs.declared.engine_error.EngineError.{EngineError}
-use Rattle.opgp_stack.specs.declared.engine_error.EngineError.TheVariants as engine
+use Rattle.opgp_engine.specs.declared.engine_error.EngineError.{EngineError}
+use Rattle.opgp_engine.specs.declared.engine_error.EngineError.TheVariants as engine
 use Rattle.opgp_stack.specs.declared.run_fault.RunFault.{RunFault}
 use Rattle.opgp_stack.specs.declared.run_fault.RunFault.TheVariants as run
 use Rattle.opgp_stack.specs.declared.task.Action.{Action}
 use Rattle.opgp_stack.specs.declared.task.Action.TheVariants as action
-use Rattle.opgp_stack.specs.declared.task.Out.{Out}
+use Rattle.opgp_engine.specs.declared.out.Out.{Out}
 use Rattle.opgp_stack.specs.declared.task.Top.TheVariants as top
 use Rattle.opgp_stack.specs.declared.task.Task.{Task}
 use Rattle.opgp_stack.specs.Hashing.{message_asked}
-use Rattle.opgp_stack.specs.Keyrings.{ComposesTo, key_label}
+use Rattle.opgp_engine.specs.Keyrings.{ComposesTo, key_label}
 use Rattle.opgp_stack.specs.Listing.{listing}
-use Rattle.opgp_stack.specs.Packets.{ArePackets, BlockValue, any_label}
-use Rattle.opgp_stack.specs.Pulled.{OfAll}
-use Rattle.opgp_stack.specs.Reading.{AnswerOf, Outcome, Wanted}
+use Rattle.opgp_engine.specs.Packets.{ArePackets, BlockValue, any_label}
+use Rattle.opgp_engine.specs.Pulled.{OfAll}
+use Rattle.opgp_engine.specs.Reading.{AnswerOf, Outcome, Wanted}
 use Rattle.opgp_stack.specs.Report.{report_lines}
 use Rattle.opgp_stack.specs.Showing.{shown_blocks}
-use Rattle.opgp_stack.specs.Signed.{AreSigned, message_label}
-use Rattle.opgp_stack.specs.Writing.{certificates_text, packets_text}
-use Rattle.opgp_stack.specs.Written.{IsWritten}
+use Rattle.opgp_engine.specs.Signed.{AreSigned, message_label}
+use Rattle.opgp_engine.specs.Writing.{certificates_text, packets_text}
+use Rattle.opgp_engine.specs.Written.{IsWritten}
 
 -- ---- what is made
 -- a text to write, or why there is none
@@ -57,7 +57,7 @@ abbrev pub on_value : {A : Type 0} → (A → Made) → Outcome A → Made
 on_value make (Ok value) = make value
 on_value make (Err fault) = Refused fault
 
--- what a layer on top answers of the octets, and what is made of that
+-- what a layer on top makes of the octets, and what is made of that
 abbrev pub Asks : {A : Type 0} → Wanted → (Limits → List Item → Outcome A → Type 0) → (A → Made)
     → Task → List ℕ → Made → Type 0
 Asks {A} wanted top make task octets made = (answer : Outcome A)
@@ -124,7 +124,7 @@ pub data RunsAs {R W : Type 0} (left : R → Option (List ℕ)) (has_failed : R 
   lacks : result ≡ Err run.Memory → has_failed reader' ≡ false → writer' ≡ writer
       → RunsAs left has_failed held failed task reader reader' writer writer' result
 
--- What is read for a run: the answer, or the source has failed, or memory ran out.
+-- What is read for a run: the result, or the source has failed, or memory ran out.
 abbrev pub ReadsFor : {A : Type 0} → (Outcome A → Type 0) → (failed sound : Type 0)
     → Result A RunFault → Type 0
 ReadsFor answer failed sound (Ok value) = answer (Ok value)

@@ -17,7 +17,7 @@ use Rattle.opgp_packet.specs.MeaningReading.{meaning_of}
 use Rattle.opgp_packet.specs.SignatureBody.{SignatureValue, signature_at}
 use Rattle.opgp_packet.specs.SubView.{is_critical, kind_shown}
 use Rattle.opgp_frame.specs.Header.{is_type}
-use Rattle.opgp_stack.specs.Packets.{BlockValue}
+use Rattle.opgp_engine.specs.Packets.{BlockValue}
 use Rattle.opgp_stack.specs.declared.showing.Area.{Area}
 use Rattle.opgp_stack.specs.declared.showing.Area.TheVariants.{Hashed, Unhashed}
 
@@ -58,13 +58,13 @@ abbrev pub shape_text : ℕ → Form → ℕ → List ℕ
 shape_text kind form n = codes " type " ++ decimal kind ++ codes " form " ++ form_name form
     ++ codes " length " ++ decimal n ++ codes "\n"
 
--- where a packet stands, and its type, form and the length of its body
+-- a packet's place, its type, its form and the length of its body
 abbrev pub header_line : Placed → List ℕ
 header_line p = place_text p.block p.pos
     ++ shape_text p.packet.kind p.packet.form (length p.packet.body)
 
 -- `  <area> kind <n> critical <0 or 1> length <n> <typed, unfit or unknown>`, where the length
--- counts the type octet, as it is written
+-- includes the type octet, as in the subpacket
 abbrev pub subpacket_line : Area → Sub → List ℕ
 subpacket_line area s = codes "  " ++ area_name area ++ codes " kind " ++ decimal (kind_shown s.kind)
     ++ codes " critical " ++ bit_name (is_critical s.kind)

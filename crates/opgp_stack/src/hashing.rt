@@ -11,18 +11,17 @@ ghost use Rattle.opgp_packet.specs.SigView.{sig_view_octets};
 ghost use Rattle.opgp_stack.specs.Hashing.{asked_about, content_in, message_asked};
 ghost use Rattle.opgp_stack.specs.Running.{IsMade, question_made};
 
-use crate::engine_error::EngineError;
 use crate::run_fault::RunFault;
 use crate::running::end;
-use crate::writing::Text;
-use crate::writing_keyring::write;
+use opgp_engine::{EngineError, Text, write};
 use opgp_hash::{Question, Subject, ask_view, write_octets};
 use opgp_packet::SigView;
 use opgp_ring::SignedLiteral;
-use opgp_stream::Sink;
+use opgp_stream::{Output, Sink};
 use std::alloc::Global;
+use std::io;
 
-/// What a signature asks about a literal.
+/// What a signature hashes over a literal.
 fn question_about<'a>(message: &'a SignedLiteral, signature: SigView<'a>) -> Option<Question<'a>>
     ensures { option_map (λ q. question_value q) result ≡ question_in (Some
         (asked_about (content_in (signed_packets message.now))
@@ -36,8 +35,8 @@ fn question_about<'a>(message: &'a SignedLiteral, signature: SigView<'a>) -> Opt
     ask_view(signature, Subject::Binary(view.content())).ok()
 }
 
-/// The question of the signature of this number behind a literal, from 0; None where it asks nothing,
-/// or where there is no such signature.
+/// The question of the signature of this number after a literal, from 0; None if it isn't hashed,
+/// or if there is no such signature.
 pub(crate) fn question_of(message: &SignedLiteral, row: u64) -> Option<Question<'_>>
     ensures { option_map (λ q. question_value q) result
         ≡ question_in (slice_get (message_asked (signed_packets message.now)) row) }
@@ -53,7 +52,21 @@ pub(crate) fn question_of(message: &SignedLiteral, row: u64) -> Option<Question<
     None
 }
 
-/// Writes the octets that a question's hash is taken over.
+/// Octets as they are.
+#[derive(Clone, Copy)]
+struct OctetsText<'a> {
+    octets: &'a [u8],
+}
+
+impl Text for OctetsText<'_> {
+    ghost octets = { λ text. text.octets.now };
+
+    fn add<W: Sink>(self, output: &mut Output<'_, W>) -> io::Result<()> {
+        output.add(self.octets)
+    }
+}
+
+/// Writes the hashed octets of a question.
 pub(crate) fn write_question<W: Sink>(
     alloc: Global,
     question: Option<Question<'_>>,
@@ -69,7 +82,7 @@ pub(crate) fn write_question<W: Sink>(
     };
     let mut octets = Vec::new(alloc);
     match write_octets(&question, &mut octets) {
-        Ok(()) => end(write(alloc, Text::Octets(&octets), writer)),
+        Ok(()) => end(write(alloc, OctetsText { octets: &octets }, writer)),
         Err(_) => end(Err(EngineError::Memory)),
     }
 }

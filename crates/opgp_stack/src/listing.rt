@@ -1,4 +1,4 @@
-//! The lines of a keyring's listing, without memory.
+//! The lines of a keyring's listing, without an allocation.
 
 ghost use Rattle.std.specs.Prelude.{◌≡◌, ◌++◌, false, codes, length};
 ghost use Rattle.hex.specs.Hex.{encode_upper};
@@ -127,7 +127,7 @@ fn add_filler<W: Sink>(output: &mut Output<'_, W>, kind: u8, body: &[u8]) -> io:
     ])
 }
 
-/// Adds the line of a typed signature.
+/// Adds the line of a parsed signature.
 fn add_typed<W: Sink>(
     output: &mut Output<'_, W>,
     version: u8,

@@ -1,4 +1,4 @@
-//! The lines of a keyring's report, without memory.
+//! The lines of a keyring's report, without an allocation.
 
 ghost use Rattle.std.specs.Prelude.{◌≡◌, ◌++◌, false, codes, map, take};
 ghost use Rattle.std.specs.Option.{option_map};
@@ -55,7 +55,7 @@ fn left_of(digest: &Digest) -> [u8; 2]
     }
 }
 
-/// Adds the line of a signature that asks a question.
+/// Adds the line of a signature that is hashed.
 fn add_asked<W: Sink>(
     output: &mut Output<'_, W>,
     number: u64,
@@ -95,7 +95,7 @@ fn add_asked<W: Sink>(
     ])
 }
 
-/// Adds the line of a signature that asks no question.
+/// Adds the line of a signature that isn't hashed.
 fn add_none<W: Sink>(
     output: &mut Output<'_, W>,
     number: u64,

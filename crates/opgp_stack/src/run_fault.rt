@@ -1,9 +1,8 @@
-//! Why a run ends without its output.
+//! The errors of a run.
 
 ghost use Rattle.std.specs.Prelude.{◌≡◌, Some};
-ghost use Rattle.opgp_stack.specs.Faults.{engine_number, run_number, run_text};
+ghost use Rattle.opgp_stack.specs.Faults.{run_number, run_text};
 
-use crate::engine_error::EngineError;
 use opgp_octets::Fault;
 use std::error::Error;
 use std::fmt;
@@ -17,7 +16,7 @@ pub enum RunFault {
     Read,
     /// A write failed. A prefix of the output may be written.
     Write,
-    /// Want of memory.
+    /// Out of memory.
     Memory,
     /// There is no row of that number, or it has no octets.
     NoSuchRow,
@@ -26,7 +25,7 @@ pub enum RunFault {
 }
 
 impl RunFault {
-    /// The number, which stays: that of a refusal is its reason's.
+    /// The number, which never changes: that of a refusal is its reason's.
     pub fn number(&self) -> u8
         ensures { result ≡ run_number self.now }
     {
@@ -58,16 +57,3 @@ impl fmt::Display for RunFault {
 }
 
 impl Error for RunFault {}
-
-impl EngineError {
-    /// The number, which stays.
-    pub fn number(&self) -> u8
-        ensures { result ≡ engine_number self.now }
-    {
-        match self {
-            EngineError::Read => 60,
-            EngineError::Write => 61,
-            EngineError::Memory => 62,
-        }
-    }
-}

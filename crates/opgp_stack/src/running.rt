@@ -1,26 +1,25 @@
-//! Does what a task asks.
+//! Runs a task.
 
 ghost use Rattle.std.specs.Prelude.{◌≡◌, List, [], slice_get, true, false};
 ghost use Rattle.opgp_octets.specs.declared.limits.Limits.{Limits};
 ghost use Rattle.opgp_ring.specs.Keyring.{flat};
 ghost use Rattle.opgp_report.specs.Left.{says_left};
 ghost use Rattle.opgp_report.specs.Report.{report_of};
-ghost use Rattle.opgp_stack.specs.Pulled.{OfAll};
-ghost use Rattle.opgp_stack.specs.Reading.{AnswerOf};
+ghost use Rattle.opgp_engine.specs.Pulled.{OfAll};
+ghost use Rattle.opgp_engine.specs.Reading.{AnswerOf};
 ghost use Rattle.opgp_stack.specs.Report.{report_lines};
 ghost use Rattle.opgp_stack.specs.Running.{IsMade, Made, ReadsFor, RunsAs, ended, one_text};
 
-use crate::engine_error::EngineError;
 use crate::hashing::{question_of, write_question};
-use crate::packets::Packets;
-use crate::read_error::ReadError;
-use crate::reading::read_with;
-use crate::receiver::Receiver;
 use crate::run_fault::RunFault;
-use crate::task::{Action, Out, Task, Top};
-use crate::writing_keyring::{write_certificate, write_certificates, write_keyring, write_listing};
+use crate::task::{Action, Task, Top};
+use crate::writing_listing::write_listing;
 use crate::writing_report::write_report;
 use crate::writing_shown::write_shown;
+use opgp_engine::{
+    EngineError, Out, PacketBlocks, ReadError, Receiver, read_with, write_certificate,
+    write_certificates, write_keyring,
+};
 use opgp_merge::merge;
 use opgp_report::{LeftOctets, check, question_at};
 use opgp_ring::{Gathering, Keyring, SignedGathering, normalise};
@@ -28,7 +27,7 @@ use opgp_stream::{Sink, Source};
 use std::alloc::Global;
 use std::mem;
 
-/// Does what a task asks: reads packets, a keyring or a signed literal, and writes what is made of
+/// Runs a task: reads packets, a keyring or a signed literal, and writes what is made of
 /// it. The condition is that neither the source nor the sink has failed.
 ///
 /// With any error but `Write` nothing was written; after `Write` the sink has failed, and holds a
@@ -47,8 +46,8 @@ pub fn run<R: Source, W: Sink>(
     run_and(alloc, task, reader, writer, After::Frees)
 }
 
-/// Does what a task asks, as [`run`] does, but leaves the memory of what it read to the end of the
-/// process, which spares the time to give it back. It is for a program that does nothing more.
+/// Runs a task as [`run`] does, but leaves freeing what it read to the end of the
+/// process, which saves time. It is for a program that does nothing afterwards.
 pub fn run_last<R: Source, W: Sink>(
     alloc: Global,
     task: &Task,
@@ -63,16 +62,16 @@ pub fn run_last<R: Source, W: Sink>(
     run_and(alloc, task, reader, writer, After::Leaves)
 }
 
-/// What becomes of the memory of what was read.
+/// What happens to what was read.
 #[derive(Clone, Copy)]
 enum After {
-    /// It is given back.
+    /// It is freed.
     Frees,
-    /// It is left to the end of the process.
+    /// It is leaked: the end of the process frees it.
     Leaves,
 }
 
-/// Lets go of what was read, where the run ends so.
+/// Frees what was read, or leaks it.
 fn done<T: Drop>(end: Result<(), RunFault>, value: T, after: After) -> Result<(), RunFault>
     ensures { result ≡ end }
 {
@@ -83,7 +82,7 @@ fn done<T: Drop>(end: Result<(), RunFault>, value: T, after: After) -> Result<()
     end
 }
 
-/// Reads what a task is about.
+/// Reads the input of a task.
 fn ask<R: Source, T: Receiver + Drop>(
     alloc: Global,
     task: &Task,
@@ -104,7 +103,7 @@ fn ask<R: Source, T: Receiver + Drop>(
     }
 }
 
-/// Does what a task asks, and lets go of what it read.
+/// Runs a task, and frees or leaks what it read.
 fn run_and<R: Source, W: Sink>(
     alloc: Global,
     task: &Task,
@@ -119,7 +118,7 @@ fn run_and<R: Source, W: Sink>(
 {
     match task.action {
         Action::Show => {
-            let blocks = ask(alloc, task, reader, Packets::new(alloc))?;
+            let blocks = ask(alloc, task, reader, PacketBlocks::new(alloc))?;
             done(end(write_shown(alloc, &blocks, writer)), blocks, after)
         }
         Action::List => {
@@ -180,7 +179,7 @@ fn run_and<R: Source, W: Sink>(
     }
 }
 
-/// Writes the report of a keyring, by the first octets of digests.
+/// Writes the report of a keyring with the verifier [`LeftOctets`].
 fn check_all<W: Sink>(alloc: Global, keyring: &Keyring, writer: &mut W) -> Result<(), RunFault>
     requires { W.has_failed writer.old ≡ false }
     ensures { IsMade W.held W.has_failed writer.old writer.new result

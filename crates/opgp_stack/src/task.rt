@@ -1,16 +1,7 @@
-//! What the program is asked to do.
+//! The tasks of the program.
 
-use crate::mode::Mode;
+use opgp_engine::{Mode, Out};
 use opgp_octets::Limits;
-
-/// How a keyring is written.
-#[derive(Clone, Copy, Debug, PartialEq, Eq)]
-pub enum Out {
-    /// As armored text (RFC 9580, 6.2).
-    Armor,
-    /// As packets (RFC 9580, 4).
-    Binary,
-}
 
 /// What an input is read as.
 #[derive(Clone, Copy, Debug, PartialEq, Eq)]
@@ -63,7 +54,7 @@ pub enum Action {
     },
 }
 
-/// What the program is asked to do, how it reads its input, and within which limits.
+/// What the program is to do, how it reads its input, and within which limits.
 #[derive(Clone, Copy, Debug)]
 pub struct Task {
     /// How the input is read.

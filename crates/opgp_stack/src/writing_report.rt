@@ -1,29 +1,43 @@
 //! Writes a report into a sink.
 
-ghost use Rattle.std.specs.Prelude.{◌≡◌, false};
-ghost use Rattle.opgp_report.specs.Row.{report_rows};
+ghost use Rattle.std.specs.Prelude.{◌≡◌, false, map};
+ghost use Rattle.opgp_report.specs.Row.{report_rows, row_value};
 ghost use Rattle.opgp_stack.specs.Report.{report_lines};
-ghost use Rattle.opgp_stack.specs.Written.{IsWritten};
+ghost use Rattle.opgp_engine.specs.Written.{IsWritten};
 
-use crate::engine_error::EngineError;
-use crate::writing::Text;
-use crate::writing_keyring::write;
-use opgp_report::Report;
-use opgp_stream::Sink;
+use crate::reporting::add_report;
+use opgp_engine::{EngineError, Text, write};
+use opgp_report::{Report, Row};
+use opgp_stream::{Output, Sink};
 use std::alloc::Global;
+use std::io;
+
+/// A line for each row of a report.
+#[derive(Clone, Copy)]
+struct ReportText<'a> {
+    rows: &'a [Row],
+}
+
+impl Text for ReportText<'_> {
+    ghost octets = { λ text. report_lines 0 (map row_value text.rows.now) };
+
+    fn add<W: Sink>(self, output: &mut Output<'_, W>) -> io::Result<()> {
+        add_report(output, self.rows)
+    }
+}
 
 /// Writes a line for each row of a report. The condition is that the sink hasn't failed.
 ///
 /// A line begins `row <n> cert <n> part <n or -> hang <n> nested <n or -> : `, which is the number of
-/// the row, and where its signature stands: its certificate, the component that it hangs on, its
-/// number among what hangs there, and its number among what is embedded in that one. Then follows
+/// the row, and its signature's place: its certificate, the component that it is on, its
+/// number among the packets there, and its number among the embedded signatures. Then follows
 /// `asked type <T> hash <n> signer <key ID or -> digest <DDDD> verdict <good, bad or undecided>`, with
 /// the first two octets of the digest, or `none <opaque, kind, misplaced, version or hash>`, the reason
-/// why the signature asks nothing.
+/// why the signature isn't hashed.
 ///
 /// Numbers are decimal, types, key IDs and digests upper-case hexadecimal.
 ///
-/// All memory that it needs is taken before the first octet is written. The errors are `Memory`, with
+/// All memory is allocated before the first octet is written. The errors are `Memory`, with
 /// nothing written, and `Write`: the sink has failed, and holds a prefix of the lines.
 pub fn write_report<W: Sink>(
     alloc: Global,
@@ -34,5 +48,6 @@ pub fn write_report<W: Sink>(
     ensures { IsWritten W.held W.has_failed writer.old writer.new result
         (report_lines 0 (report_rows report.now)) }
 {
-    write(alloc, Text::Rows(report.rows()), writer)
+    let rows = report.rows();
+    write(alloc, ReportText { rows }, writer)
 }

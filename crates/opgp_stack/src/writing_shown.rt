@@ -1,30 +1,44 @@
 //! Writes what packets are into a sink.
 
 ghost use Rattle.std.specs.Prelude.{◌≡◌, false, map};
-ghost use Rattle.opgp_stack.specs.Packets.{block_value};
+ghost use Rattle.opgp_engine.specs.Packets.{block_value};
 ghost use Rattle.opgp_stack.specs.Showing.{shown_blocks};
-ghost use Rattle.opgp_stack.specs.Written.{IsWritten};
+ghost use Rattle.opgp_engine.specs.Written.{IsWritten};
 
-use crate::engine_error::EngineError;
-use crate::writing::Text;
-use crate::writing_keyring::write;
+use crate::showing::add_shown;
+use opgp_engine::{EngineError, Text, write};
 use opgp_ring::BlockOf;
-use opgp_stream::Sink;
+use opgp_stream::{Output, Sink};
 use std::alloc::Global;
+use std::io;
+
+/// Lines for each packet, with those of its subpackets.
+#[derive(Clone, Copy)]
+struct ShownText<'a> {
+    blocks: &'a [BlockOf],
+}
+
+impl Text for ShownText<'_> {
+    ghost octets = { λ text. shown_blocks (map block_value text.blocks.now) };
+
+    fn add<W: Sink>(self, output: &mut Output<'_, W>) -> io::Result<()> {
+        add_shown(output, self.blocks)
+    }
+}
 
 /// Writes a line for each packet of blocks, and one for each subpacket of a version 4 or 6 signature
-/// behind its own. The condition is that the sink hasn't failed.
+/// after its own. The condition is that the sink hasn't failed.
 ///
 /// - A packet: `block <b> at <pos> type <n> form <f> length <n>`, where the place is that of its first
 ///   octet in the octets of its block, the length that of its body, and the form of its header `old1`,
 ///   `old2`, `old4`, `new1`, `new2`, `new5`, or `part` for partial lengths (RFC 9580, 4.2).
 /// - A subpacket (5.2.3.7): two spaces, `hashed` or `unhashed`, and `kind <n> critical <0 or 1> length
-///   <n>`, where the length counts the type octet; then `typed`, or `unfit` where its octets are of no
-///   form that its kind has, or `unknown` where its kind isn't known.
+///   <n>`, where the length includes the type octet; then `typed`, or `unfit` if its data doesn't have
+///   the form of its kind, or `unknown` if its kind is unknown.
 ///
 /// Numbers are decimal.
 ///
-/// All memory that it needs is taken before the first octet is written. The errors are `Memory`, with
+/// All memory is allocated before the first octet is written. The errors are `Memory`, with
 /// nothing written, and `Write`: the sink has failed, and holds a prefix of the lines.
 pub fn write_shown<W: Sink>(
     alloc: Global,
@@ -35,5 +49,5 @@ pub fn write_shown<W: Sink>(
     ensures { IsWritten W.held W.has_failed writer.old writer.new result
         (shown_blocks (map block_value blocks.now)) }
 {
-    write(alloc, Text::Shown(blocks), writer)
+    write(alloc, ShownText { blocks }, writer)
 }

@@ -54,7 +54,7 @@ pub enum Trouble {
     TakesOne,
 }
 
-/// Takes at most `most` octets a write, and is in trouble at the write of this number.
+/// Takes at most `most` octets a write, and fails or takes nothing at the write of this number.
 #[derive(Drop)]
 pub struct Drips {
     pub held: Vec<u8>,

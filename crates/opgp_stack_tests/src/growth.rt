@@ -1,11 +1,11 @@
-//! Want of memory.
+//! Running out of memory.
 
 use crate::ends::in_pieces;
 use crate::keys::KEY_1;
 use opgp_octets::Limits;
 use opgp_stack::{Answer, EngineError, Mode, Out, Watched, read_keyring, write_keyring};
 
-// Where memory can't be had, it is told, and nothing is written.
+// If memory runs out, that is reported, and nothing is written.
 #[test]
 fn refused_growth(rt: HostRuntime) {
     let mut held = [b'.'; 256];

@@ -16,13 +16,13 @@ label_of a = a.label
 abbrev pub row_of : Armoring → List ℕ
 row_of a = a.row
 
--- the same beside the state of the output that the block is added to
+-- the same, together with the state of the output that the block is added to
 abbrev pub rows_of : {W : Type 0} → (W → Option (List ℕ)) → (W → Bool) → Output W → Armoring → Rows
 rows_of held has_failed o a = record { output = state_of held has_failed o; row = row_of a }
 
--- A block with these octets was begun at `start`: what was added since then is what its armor begins
--- with, whatever octets follow; behind it come the data lines of what waits and of what follows,
--- and the end line.
+-- A block with these octets was begun at `start`: what was added since then is the beginning of its
+-- armor, whatever octets follow; then come the data lines of what waits and of what follows, and
+-- the end line.
 pub record Armors (label : Label) (start now : State) (a : Armoring) (octets : List ℕ) : Type 0 where
   pub same : label_of a ≡ label
   pub text : List ℕ
@@ -30,7 +30,7 @@ pub record Armors (label : Label) (start now : State) (a : Armoring) (octets : L
   pub ahead : (more : List ℕ) → armor_text label [] (octets ++ more)
       ≡ text ++ (data_lines (row_of a ++ more) ++ closing label)
 
--- The sink has failed in the armor of the octets, whatever were to follow.
+-- The sink has failed within the armor of the octets, whatever was to follow.
 abbrev pub BreaksArmor : Label → State → State → List ℕ → Type 0
 BreaksArmor label start now octets =
     (more : List ℕ) → Breaks start now (armor_text label [] (octets ++ more))
@@ -39,7 +39,7 @@ BreaksArmor label start now octets =
 abbrev pub Tells : {T E : Type 0} → Result T E → Bool → Type 0
 Tells result failed = MatchResult result (λ _. failed ≡ false) (λ _. failed ≡ true)
 
--- A block is begun, or the sink has failed in it.
+-- A block was begun, or the sink has failed in it.
 pub record Begins {W E : Type 0} (held : W → Option (List ℕ)) (has_failed : W → Bool)
     (old new : Output W) (label : Label) (result : Result Armoring E) : Type 0 where
   pub same : sink_name new ≡ sink_name old
@@ -48,7 +48,7 @@ pub record Begins {W E : Type 0} (held : W → Option (List ℕ)) (has_failed : 
       (λ a. Armors label (state_of held has_failed old) (state_of held has_failed new) a [])
       (λ _. BreaksArmor label (state_of held has_failed old) (state_of held has_failed new) [])
 
--- The octets are added to a block behind those that it had, or the sink has failed in them.
+-- The octets were added to a block after those that it had, or the sink has failed in them.
 pub record ExtendsArmor {W T E : Type 0} (held : W → Option (List ℕ)) (has_failed : W → Bool)
     (old : Output W) (before : Armoring) (new : Output W) (after : Armoring) (result : Result T E)
     (octets : List ℕ) : Type 0 where
@@ -59,7 +59,7 @@ pub record ExtendsArmor {W T E : Type 0} (held : W → Option (List ℕ)) (has_f
       (λ _. Armors label start (state_of held has_failed new) after (given ++ octets))
       (λ _. BreaksArmor label start (state_of held has_failed new) (given ++ octets))
 
--- A block is ended, and so its armor is added; or the sink has failed in it.
+-- A block was ended, so all its armor is added; or the sink has failed in it.
 pub record Ends {W T E : Type 0} (held : W → Option (List ℕ)) (has_failed : W → Bool)
     (old : Output W) (a : Armoring) (new : Output W) (result : Result T E) : Type 0 where
   pub same : sink_name new ≡ sink_name old

@@ -1,4 +1,4 @@
--- What an output has put and what waits in it.
+-- The state of an output: what it has written, and what waits in it.
 use Rattle.std.specs.Prelude.{◌≡◌, ℕ, Bool, List, Option, Result, take}
 use Rattle.std.specs.Borrow.{GName}
 use Rattle.opgp_stream.specs.declared.buffer.Buffer.{Buffer}
@@ -17,12 +17,12 @@ sink_of o = o.sink.now
 abbrev pub sink_name : {W : Type 0} → Output W → GName
 sink_name o = o.sink.ghost_name
 
--- the octets that wait to be put
+-- the octets that wait to be written
 abbrev pub waiting_in : {W : Type 0} → Output W → List ℕ
 waiting_in o = held_in o.buffer.now
 
--- what the sink holds and whether it has failed, as `held` and `has_failed` of the sink's type
--- tell, and what waits
+-- what the sink holds and whether it has failed, by `held` and `has_failed` of the sink's type, and
+-- what waits
 abbrev pub state_of : {W : Type 0} → (W → Option (List ℕ)) → (W → Bool) → Output W → State
 state_of held has_failed o = record {
   held = held (sink_of o);
@@ -30,7 +30,7 @@ state_of held has_failed o = record {
   waiting = waiting_in o;
 }
 
--- The octets are added to the sink that the output had, or that sink has failed in them.
+-- The octets were added to the same sink as before, or that sink has failed in them.
 pub record Extends {W T E : Type 0} (held : W → Option (List ℕ)) (has_failed : W → Bool)
     (old new : Output W) (result : Result T E) (octets : List ℕ) : Type 0 where
   pub same : sink_name new ≡ sink_name old

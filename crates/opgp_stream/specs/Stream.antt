@@ -1,14 +1,14 @@
--- When a pull or a put fails, and what a failed writing leaves.
+-- When a pull or a put fails, and what a failed write leaves.
 use Rattle.std.specs.Prelude.{ℕ, ◌==◌, ◌&&◌, not, Bool, true, false, List, length, take}
 use Rattle.std.specs.Prelude.{Result, Ok, Err, Option}
 use Rattle.std.specs.Io.KnownBytes.{Appends}
 
--- a call that answers an error fails
+-- a call that returns an error fails
 abbrev pub pull_fails : {E : Type 0} → Result ℕ E → Bool
 pull_fails (Ok n) = false
 pull_fails (Err e) = true
 
--- an error, and a count of 0 for a piece that isn't empty
+-- an error, or a count of 0 for a piece that isn't empty
 abbrev pub put_fails : {E : Type 0} → Result ℕ E → List ℕ → Bool
 put_fails (Ok n) piece = (n == 0) && not (length piece == 0)
 put_fails (Err e) piece = true

@@ -1,4 +1,4 @@
--- What a watched reader or writer is made of.
+-- The parts of a watched reader or writer.
 use Rattle.std.specs.Prelude.{Bool}
 use Rattle.opgp_stream.specs.declared.watched.Watched.{Watched}
 

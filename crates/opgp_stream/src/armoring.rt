@@ -1,4 +1,4 @@
-//! Blocks of ASCII armor, their octets given in any pieces, without memory (RFC 9580, 6.2).
+//! Blocks of ASCII armor, from octets in pieces of any size, without an allocation (RFC 9580, 6.2).
 
 ghost use Rattle.std.specs.Prelude.{◌≡◌, ◌<◌, ◌≤◌, ◌++◌, ◌∷◌, [], false, length, take, IfOk, OnOk};
 ghost use Rattle.std.specs.Prelude.{OnErr};
@@ -38,8 +38,8 @@ fn add_row<W: Sink>(output: &mut Output<'_, W>, row: &[u8]) -> io::Result<()>
 
 /// A block of armor that is being added to an output, without headers (RFC 9580, 6.2).
 ///
-/// [`Armoring::begin`], then [`Armoring::add`] as often as needed, then [`Armoring::end`], each
-/// with the same output. After an error the output's sink has failed.
+/// Call [`Armoring::begin`], then [`Armoring::add`] as often as needed, then [`Armoring::end`],
+/// each with the same output. After an error the output's sink has failed.
 #[derive(Drop)]
 pub struct Armoring {
     label: Label,
@@ -63,7 +63,7 @@ impl Armoring {
         })
     }
 
-    /// Adds the data line of the octets that wait, if any do.
+    /// Adds the data line of the octets that wait, if there are any.
     fn add_waiting<W: Sink>(&self, output: &mut Output<'_, W>) -> io::Result<()>
         requires { W.has_failed (sink_of output.old) ≡ false }
         ensures { Extends W.held W.has_failed output.old output.new result
@@ -76,7 +76,8 @@ impl Armoring {
         Ok(())
     }
 
-    /// Adds a row, or lets octets wait for one, where there is room. Answers how many it took.
+    /// Adds a row, or buffers octets until there is one, if there is room. Returns how many it
+    /// took.
     fn add_front<W: Sink>(&mut self, output: &mut Output<'_, W>, octets: &[u8]) -> io::Result<usize>
         requires some { 0 < length octets.now }
         requires room { length (row_of self.old) < 48 }
@@ -99,7 +100,7 @@ impl Armoring {
         Ok(self.row.fill(octets))
     }
 
-    /// Makes room for octets to wait: a whole row that waits is added.
+    /// Makes room for more octets: adds the row that waits, if it is full.
     fn make_room<W: Sink>(&mut self, output: &mut Output<'_, W>) -> io::Result<()>
         requires { W.has_failed (sink_of output.old) ≡ false }
         ensures same { sink_name output.new ≡ sink_name output.old }
@@ -117,7 +118,7 @@ impl Armoring {
         Ok(())
     }
 
-    /// Adds a row, or lets octets wait for one. Answers how many it took.
+    /// Adds a row, or buffers octets until there is one. Returns how many it took.
     fn add_some<W: Sink>(&mut self, output: &mut Output<'_, W>, octets: &[u8]) -> io::Result<usize>
         requires some { 0 < length octets.now }
         requires sound { W.has_failed (sink_of output.old) ≡ false }
@@ -136,7 +137,7 @@ impl Armoring {
         self.add_front(output, octets)
     }
 
-    /// Adds the data lines of octets. Those that don't make a row wait for more, 48 at most.
+    /// Adds the data lines of octets. Up to 48 octets, which don't fill a row, wait for more.
     pub fn add<W: Sink>(&mut self, output: &mut Output<'_, W>, octets: &[u8]) -> io::Result<()>
         requires { W.has_failed (sink_of output.old) ≡ false }
         ensures { ExtendsArmor W.held W.has_failed output.old self.old output.new self.new result
@@ -153,7 +154,8 @@ impl Armoring {
         Ok(())
     }
 
-    /// Adds the data line of what waits, and the end line (RFC 9580, 6.2.3). No checksum is added.
+    /// Adds the data line of the octets that wait, and the end line (RFC 9580, 6.2.3). No checksum
+    /// is added.
     pub fn end<W: Sink>(self, output: &mut Output<'_, W>) -> io::Result<()>
         requires { W.has_failed (sink_of output.old) ≡ false }
         ensures { Ends W.held W.has_failed output.old self output.new result }

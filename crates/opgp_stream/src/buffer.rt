@@ -1,4 +1,4 @@
-//! Room for the octets that wait.
+//! The buffer of an output.
 
 ghost use Rattle.std.specs.Prelude.{◌≡◌, ◌+◌, ◌≤◌, ◌++◌, true, false, [], length, vec_len, IfOk};
 ghost use Rattle.opgp_stream.specs.Line.{line_text};
@@ -8,10 +8,10 @@ use crate::place::write_words;
 use opgp_octets::OutOfMemory;
 use std::alloc::Global;
 
-/// How many octets wait at most.
+/// The capacity of a buffer in octets.
 pub(crate) const SIZE: usize = 65_536;
 
-/// Room for 65,536 octets that wait to be put into a sink. It never grows.
+/// A buffer of 65,536 octets that wait to be written into a sink. It never grows.
 #[derive(Drop)]
 pub struct Buffer {
     octets: Vec<u8>,
@@ -23,7 +23,7 @@ pub struct Buffer {
 impl Buffer {
     ghost use Rattle.opgp_stream.specs.Output.{held_in};
 
-    /// The one growth of an output. An error is want of memory.
+    /// The only allocation of an output. Fails only when out of memory.
     pub fn new(alloc: Global) -> Result<Self, OutOfMemory>
         ensures { IfOk result (λ b. held_in b ≡ []) }
     {
@@ -38,14 +38,14 @@ impl Buffer {
         &self.octets.as_slice()[..self.filled]
     }
 
-    /// How many more octets may wait.
+    /// How many more octets fit.
     pub(crate) fn room(&self) -> usize
         ensures { result + length (held_in self.now) ≡ 65536 }
     {
         SIZE - self.filled
     }
 
-    /// Lets octets wait, where there is room for them.
+    /// Buffers octets, which must fit.
     pub(crate) fn hold(&mut self, octets: &[u8])
         requires { length (held_in self.old) + length octets.now ≤ 65536 }
         ensures { held_in self.new ≡ held_in self.old ++ octets.now }
@@ -57,8 +57,8 @@ impl Buffer {
         self.filled = end;
     }
 
-    /// Lets octets wait, and behind them others, and answers true; or false, where nothing changes,
-    /// as there is no room for both.
+    /// Buffers octets and then others, and returns true; or returns false and changes nothing, if
+    /// there is no room for both.
     pub(crate) fn hold_both(&mut self, front: &[u8], back: &[u8]) -> bool
         ensures held { result ≡ true
             → held_in self.new ≡ held_in self.old ++ (front.now ++ back.now) }
@@ -73,8 +73,8 @@ impl Buffer {
         true
     }
 
-    /// Lets words wait, one after the other, and answers true; or false, where nothing changes, as
-    /// there may be no room for them, or an escaped octet is among them.
+    /// Buffers words, one after the other, and returns true; or returns false and changes nothing,
+    /// if there may be no room for them, or if an octet among them has to be escaped.
     pub(crate) fn hold_words(&mut self, words: &[Word<'_>]) -> bool
         ensures held { result ≡ true → held_in self.new ≡ held_in self.old ++ line_text words.now }
         ensures same { result ≡ false → held_in self.new ≡ held_in self.old }
@@ -90,7 +90,7 @@ impl Buffer {
         }
     }
 
-    /// Forgets all octets.
+    /// Empties the buffer.
     pub(crate) fn clear(&mut self)
         ensures { held_in self.new ≡ [] }
     {

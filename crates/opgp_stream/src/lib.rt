@@ -1,8 +1,8 @@
-//! The two ends of a program: where octets come from, where they go, and output through one buffer
-//! of fixed size.
+//! Input and output: where octets come from, where they go, and output through one buffer of fixed
+//! size.
 //!
-//! An output takes octets, words of lines ([`Output`]) and blocks of armor ([`Armoring`]). All the
-//! memory that it needs is its [`Buffer`], which is made before anything is written.
+//! An output takes octets, words of lines ([`Output`]) and blocks of armor ([`Armoring`]). The only
+//! memory that it needs is its [`Buffer`], which is allocated before anything is written.
 #![tactic(auto)]
 
 mod armoring;

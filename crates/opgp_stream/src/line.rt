@@ -8,7 +8,7 @@ use crate::output::Output;
 use crate::sink::Sink;
 use std::io;
 
-/// A part of a line.
+/// A word of a line.
 #[derive(Clone, Copy)]
 pub enum Word<'a> {
     /// Octets as they are.
@@ -47,7 +47,7 @@ impl<'a, W: Sink> Output<'a, W> {
         self.add_each(words)
     }
 
-    /// Adds words, whatever room there is.
+    /// Adds words, even if they don't fit the buffer.
     #[inline(never)]
     fn add_each(&mut self, words: &[Word<'_>]) -> io::Result<()>
         requires { W.has_failed (sink_of self.old) ≡ false }

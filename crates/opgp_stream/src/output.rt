@@ -1,4 +1,4 @@
-//! A buffered writer that takes no memory.
+//! A buffered writer that allocates nothing.
 
 ghost use Rattle.std.specs.Prelude.{◌≡◌, ◌++◌, [], true, false, OnOk};
 ghost use Rattle.opgp_stream.specs.Added.{Adds};
@@ -9,9 +9,9 @@ use crate::sink::Sink;
 use crate::writing::put_all;
 use std::io;
 
-/// A writer over a sink. Octets wait in a buffer until it is full, or until [`Output::finish`].
+/// A writer into a sink. Octets wait in a buffer until it is full, or until [`Output::finish`].
 ///
-/// No call takes memory. After an error the sink has failed, and holds a prefix of what was added.
+/// No call allocates. After an error the sink has failed, and holds a prefix of what was added.
 #[derive(Drop)]
 pub struct Output<'a, W> {
     sink: &'a mut W,
@@ -19,7 +19,7 @@ pub struct Output<'a, W> {
 }
 
 impl<'a, W: Sink> Output<'a, W> {
-    /// Nothing is put, and nothing waits: the buffer forgets what an earlier output left in it.
+    /// An output to which nothing was added: what an earlier one left in the buffer is dropped.
     pub fn new(sink: &'a mut W, buffer: &'a mut Buffer) -> Self
         ensures same { sink_name result ≡ sink.entry.ghost_name }
         ensures kept { sink_of result ≡ sink.old }
@@ -29,7 +29,7 @@ impl<'a, W: Sink> Output<'a, W> {
         Output { sink, buffer }
     }
 
-    /// Adds octets. 65,536 and more aren't copied.
+    /// Adds octets. Pieces of 65,536 octets or more aren't copied.
     pub fn add(&mut self, octets: &[u8]) -> io::Result<()>
         requires { W.has_failed (sink_of self.old) ≡ false }
         ensures { Extends W.held W.has_failed self.old self.new result octets.now }
@@ -41,7 +41,7 @@ impl<'a, W: Sink> Output<'a, W> {
         self.add_past_room(octets)
     }
 
-    /// Adds octets, and behind them others, as two calls of [`Output::add`] do.
+    /// Adds octets and then others, as two calls of [`Output::add`] do.
     pub fn add_both(&mut self, front: &[u8], back: &[u8]) -> io::Result<()>
         requires { W.has_failed (sink_of self.old) ≡ false }
         ensures { Extends W.held W.has_failed self.old self.new result (front.now ++ back.now) }
@@ -52,8 +52,8 @@ impl<'a, W: Sink> Output<'a, W> {
         self.add_two(front, back)
     }
 
-    /// Adds octets, and behind them others, and answers true; or false, where nothing changes, as
-    /// there is no room for both to wait. Nothing is put into the sink.
+    /// Adds octets and then others, and returns true; or returns false and changes nothing, if
+    /// there is no room for both in the buffer. Nothing is written into the sink.
     #[inline]
     pub fn hold_both(&mut self, front: &[u8], back: &[u8]) -> bool
         requires { W.has_failed (sink_of self.old) ≡ false }
@@ -66,7 +66,7 @@ impl<'a, W: Sink> Output<'a, W> {
         self.buffer.hold_both(front, back)
     }
 
-    /// Adds octets, and behind them others, whatever room there is.
+    /// Adds octets and then others, even if they don't fit the buffer.
     #[inline(never)]
     fn add_two(&mut self, front: &[u8], back: &[u8]) -> io::Result<()>
         requires { W.has_failed (sink_of self.old) ≡ false }
@@ -76,7 +76,7 @@ impl<'a, W: Sink> Output<'a, W> {
         self.add(back)
     }
 
-    /// Adds octets, whatever room there is.
+    /// Adds octets, even if they don't fit the buffer.
     #[inline(never)]
     fn add_past_room(&mut self, octets: &[u8]) -> io::Result<()>
         requires { W.has_failed (sink_of self.old) ≡ false }
@@ -86,7 +86,7 @@ impl<'a, W: Sink> Output<'a, W> {
         self.add_first(octets)
     }
 
-    /// Adds octets where nothing waits. Many go straight to the sink.
+    /// Adds octets to an empty buffer. Large pieces go straight to the sink.
     fn add_first(&mut self, octets: &[u8]) -> io::Result<()>
         requires empty { waiting_in self.old ≡ [] }
         requires sound { W.has_failed (sink_of self.old) ≡ false }
@@ -99,7 +99,7 @@ impl<'a, W: Sink> Output<'a, W> {
         put_all(&mut *self.sink, octets)
     }
 
-    /// Puts all that waits.
+    /// Writes everything that waits into the sink.
     pub fn finish(&mut self) -> io::Result<()>
         requires { W.has_failed (sink_of self.old) ≡ false }
         ensures added { Extends W.held W.has_failed self.old self.new result [] }

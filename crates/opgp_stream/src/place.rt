@@ -1,4 +1,4 @@
-//! Words, written one after the other into a place of a fixed length.
+//! Words written one after the other into a slice of fixed length.
 
 ghost use Rattle.std.specs.Prelude.{◌≡◌, ◌<◌, ◌≤◌, ℕ, length, IfSome};
 ghost use Rattle.std.specs.Fmt.{decimal};
@@ -11,7 +11,7 @@ use crate::line::Word;
 use crate::words::plain_len;
 use opgp_octets::write_digits;
 
-/// How many digits a number of 64 bits has at most.
+/// The greatest number of digits of a number of 64 bits.
 const LONGEST: usize = 20;
 
 /// How many digits a number of at most four digits has.
@@ -43,7 +43,7 @@ fn decimal_len(n: u64) -> usize
     count + short_decimal_len(left)
 }
 
-/// Writes octets as they are. Answers where they end, or None where there is no room for them.
+/// Writes octets as they are. Returns where they end, or None if there is no room for them.
 fn write_text(place: &mut [u8], at: usize, octets: &[u8]) -> Option<usize>
     requires { at ≤ length place.old }
     ensures { IfSome result (λ end. Wrote place.old place.new at end octets.now) }
@@ -57,7 +57,7 @@ fn write_text(place: &mut [u8], at: usize, octets: &[u8]) -> Option<usize>
     Some(end)
 }
 
-/// Writes a number in decimal. Answers where it ends, or None where there may be no room for it.
+/// Writes a number in decimal. Returns where it ends, or None if there may be no room for it.
 fn write_decimal(place: &mut [u8], at: usize, n: u64) -> Option<usize>
     requires { at ≤ length place.old }
     ensures { IfSome result (λ end. Wrote place.old place.new at end (decimal n)) }
@@ -70,8 +70,8 @@ fn write_decimal(place: &mut [u8], at: usize, n: u64) -> Option<usize>
     Some(end)
 }
 
-/// Writes octets in upper-case hexadecimal. Answers where they end, or None where there is no room
-/// for them.
+/// Writes octets in upper-case hexadecimal. Returns where they end, or None if there is no room for
+/// them.
 fn write_hex(place: &mut [u8], at: usize, octets: &[u8]) -> Option<usize>
     requires { at ≤ length place.old }
     ensures { IfSome result (λ end. Wrote place.old place.new at end (encode_upper octets.now)) }
@@ -85,8 +85,8 @@ fn write_hex(place: &mut [u8], at: usize, octets: &[u8]) -> Option<usize>
     Some(end)
 }
 
-/// Writes plain octets as a text. Answers where they end, or None where one isn't plain, or there
-/// is no room for them.
+/// Writes octets as a text without escapes. Returns where they end, or None if one has to be
+/// escaped, or there is no room for them.
 fn write_escaped(place: &mut [u8], at: usize, octets: &[u8]) -> Option<usize>
     requires { at ≤ length place.old }
     ensures { IfSome result (λ end. Wrote place.old place.new at end (escaped octets.now)) }
@@ -97,8 +97,8 @@ fn write_escaped(place: &mut [u8], at: usize, octets: &[u8]) -> Option<usize>
     write_text(place, at, octets)
 }
 
-/// Writes a word. Answers where it ends, or None where there may be no room for it, or octets of it
-/// aren't plain.
+/// Writes a word. Returns where it ends, or None if there may be no room for it, or if an octet of
+/// it has to be escaped.
 fn write_word(place: &mut [u8], at: usize, word: &Word<'_>) -> Option<usize>
     requires { at ≤ length place.old }
     ensures { IfSome result (λ end. Wrote place.old place.new at end (word_text word.now)) }
@@ -111,8 +111,8 @@ fn write_word(place: &mut [u8], at: usize, word: &Word<'_>) -> Option<usize>
     }
 }
 
-/// Writes words, one after the other, at the front of a place. Answers where they end, or None
-/// where there may be no room for them, or octets of an escaped one aren't plain.
+/// Writes words, one after the other, at the front of a slice. Returns where they end, or None if
+/// there may be no room for them, or if an octet of an escaped one has to be escaped.
 pub(crate) fn write_words(place: &mut [u8], words: &[Word<'_>]) -> Option<usize>
     ensures { IfSome result (λ end. Wrote place.old place.new 0 end (line_text words.now)) }
 {

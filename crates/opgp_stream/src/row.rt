@@ -1,10 +1,10 @@
-//! The octets that wait for a row of armor.
+//! The octets that don't fill a row of armor yet.
 
 ghost use Rattle.std.specs.Prelude.{◌≡◌, ◌-◌, ◌≤◌, ◌++◌, [], length, min, take};
 
 use std::marker::Model;
 
-/// How many octets make a row, whose letters make a whole data line (RFC 9580, 6.2).
+/// How many octets a row has, whose letters are a full data line (RFC 9580, 6.2).
 pub(crate) const ROW: usize = 48;
 
 /// At most 48 octets.
@@ -43,7 +43,7 @@ impl Row {
         &self.octets[..self.filled]
     }
 
-    /// Adds as many octets as there is room for, and answers how many.
+    /// Adds as many octets as fit, and returns how many.
     pub(crate) fn fill(&mut self, octets: &[u8]) -> usize
         ensures count { result ≡ min (48 - length self.old) (length octets.now) }
         ensures value { self.new ≡ self.old ++ take result octets.now }
@@ -56,7 +56,7 @@ impl Row {
         n
     }
 
-    /// Forgets the octets.
+    /// Empties the row.
     pub(crate) fn clear(&mut self)
         ensures { self.new ≡ [] }
     {

@@ -8,15 +8,15 @@ use std::io;
 
 /// A writer that knows whether it has failed.
 pub trait Sink {
-    // The octets that it holds, or None where they aren't known.
+    // The octets that it has taken, or None if they aren't known.
     ghost held: { Self → Option (List ℕ) };
 
-    // Some call has answered an error, or taken nothing of a piece that isn't empty.
+    // Some call has returned an error, or taken nothing of a piece that isn't empty.
     ghost has_failed: { Self → Bool };
 
-    /// Writes the front of the octets, and answers how many it took.
+    /// Writes the first of the octets, and returns how many it took.
     ///
-    /// An error has written nothing. The condition is that no call has failed, which `failed` tells.
+    /// With an error nothing was written. The condition is that no call has failed (see `failed`).
     fn put(&mut self, octets: &[u8]) -> io::Result<usize>
         requires sound { has_failed self.old ≡ false }
         ensures bound { IfOk result (λ n. n ≤ length octets.now) }
@@ -24,7 +24,7 @@ pub trait Sink {
         ensures failed { has_failed self.new
             ≡ (has_failed self.old || put_fails result octets.now) };
 
-    /// Whether some call has answered an error, or taken nothing of a piece that isn't empty.
+    /// Whether some call has returned an error, or taken nothing of a piece that isn't empty.
     fn failed(&self) -> bool
         ensures { result ≡ has_failed self.now };
 }

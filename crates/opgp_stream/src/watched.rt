@@ -1,4 +1,4 @@
-//! Readers and writers under watch.
+//! Readers and writers that remember a failure.
 
 ghost use Rattle.std.specs.Prelude.{◌≡◌, true, false};
 ghost use Rattle.opgp_stream.specs.Watch.{watched_inner, watched_failed};
@@ -16,7 +16,7 @@ pub struct Watched<T> {
 }
 
 impl<T> Watched<T> {
-    /// It hasn't failed yet.
+    /// This reader or writer, which hasn't failed.
     pub fn new(inner: T) -> Self
         ensures inner { watched_inner result ≡ inner }
         ensures fresh { watched_failed result ≡ false }

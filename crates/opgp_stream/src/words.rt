@@ -11,7 +11,7 @@ use crate::sink::Sink;
 use opgp_octets::write_digits;
 use std::io;
 
-/// How many octets become digits at once.
+/// How many octets are turned into digits at a time.
 const PIECE: usize = 32;
 
 /// Printable ASCII other than `"` and `\`.
@@ -21,7 +21,7 @@ fn is_plain(octet: u8) -> bool
     32 <= octet && octet <= 126 && octet != b'"' && octet != b'\\'
 }
 
-/// How many plain octets there are before the first other one.
+/// How many octets come before the first that has to be escaped.
 pub(crate) fn plain_len(octets: &[u8]) -> usize
     ensures within { result ≤ length octets.now }
     ensures plain { escaped (take result octets.now) ≡ take result octets.now }
@@ -60,7 +60,7 @@ impl<'a, W: Sink> Output<'a, W> {
         Ok(())
     }
 
-    /// Adds a few octets in upper-case hexadecimal.
+    /// Adds at most 32 octets in upper-case hexadecimal.
     fn add_digits(&mut self, octets: &[u8]) -> io::Result<()>
         requires short { length octets.now ≤ 32 }
         requires sound { W.has_failed (sink_of self.old) ≡ false }
@@ -91,7 +91,7 @@ impl<'a, W: Sink> Output<'a, W> {
         Ok(())
     }
 
-    /// Adds an octet that isn't plain.
+    /// Adds an octet that has to be escaped.
     fn add_escape(&mut self, octet: u8) -> io::Result<()>
         requires other { is_plain octet ≡ false }
         requires sound { W.has_failed (sink_of self.old) ≡ false }

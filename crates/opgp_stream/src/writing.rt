@@ -1,4 +1,4 @@
-//! The writing of a whole output.
+//! Writing all of the octets.
 
 ghost use Rattle.std.specs.Prelude.{◌≡◌, true, false, OnOk, OnErr};
 ghost use Rattle.std.specs.Io.KnownBytes.{Appends};
@@ -7,7 +7,7 @@ ghost use Rattle.opgp_stream.specs.Stream.{AppendsPrefix};
 use crate::sink::Sink;
 use std::io;
 
-/// Puts all the octets. After an error the writer holds a prefix of them, and has failed.
+/// Writes all the octets. After an error the sink has failed, and holds a prefix of them.
 pub fn put_all<W: Sink>(writer: &mut W, octets: &[u8]) -> io::Result<()>
     requires { W.has_failed writer.old ≡ false }
     ensures octets { OnOk result (Appends (W.held writer.old) (W.held writer.new) octets.now) }

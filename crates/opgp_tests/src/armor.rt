@@ -42,7 +42,7 @@ const MAIL: [&[u8]; 20] = [
     b"",
 ];
 
-/// The parts, joined, each with the same octets behind it.
+/// The parts, joined, each with the same octets after it.
 fn joined(alloc: Global, parts: &[&[u8]], behind: &[u8]) -> Result<Vec<u8>, AllocError> {
     let mut text = Vec::new(alloc);
     for part in parts {
@@ -176,7 +176,7 @@ fn told(
     Ok(line)
 }
 
-/// What is answered over a text as a whole, and the same over its pieces.
+/// The answer to a text as a whole, which is that to its pieces.
 fn answer(
     rt: &impl Abort,
     alloc: Global,
@@ -192,7 +192,7 @@ fn answer(
     told(alloc, &whole, false)
 }
 
-// What stands behind the begin line of a block of a public key, and what is answered.
+// What follows the begin line of a block of a public key, and the answer.
 const BLOCKS: [(&[u8], &str); 17] = [
     (
         b"\nxgED\n-----END PGP PUBLIC KEY BLOCK-----",
@@ -237,7 +237,7 @@ const BLOCKS: [(&[u8], &str); 17] = [
     ),
 ];
 
-// Whole texts, and what is answered.
+// Whole texts, and their answers.
 const TEXTS: [(&[u8], &str); 5] = [
     (b"", "armor: NoBlock block 0 at 0 inner 0"),
     (b"hello\n", "armor: NoBlock block 0 at 6 inner 0"),
@@ -272,7 +272,7 @@ fn texts_and_their_faults(rt: HostRuntime) -> Result<(), Fail> {
     Ok(())
 }
 
-/// What is answered over the first octets of the key.
+/// The answer to the first octets of the key.
 fn answer_of_a_part(alloc: Global, n: usize) -> Result<String, AllocError> {
     match n {
         0..15 => format!(in alloc; "armor: NoBlock block 0 at {n} inner 0"),
@@ -402,7 +402,7 @@ fn every_label(rt: HostRuntime) -> Result<(), Fail> {
     Ok(())
 }
 
-// A message of three octets, for the growths of memory.
+// A message of three octets, for the tests of failing allocations.
 const SHORT: &[u8] = b"-----BEGIN PGP MESSAGE-----\nA: b\n\nxgED\n-----END PGP MESSAGE-----\n";
 
 const SHORT_OCTETS: &[u8] = b"\xC6\x01\x03";
@@ -413,7 +413,7 @@ fn is_short(rt: &impl Abort, block: &Block) {
     assert_eq!(rt; block.octets.as_slice(), SHORT_OCTETS);
 }
 
-/// What stands after want of memory, at whichever growth it comes.
+/// What holds after running out of memory, at whichever allocation.
 #[test]
 fn refused_growth(rt: HostRuntime) -> Result<(), Fail> {
     let alloc = rt.alloc();
@@ -434,7 +434,7 @@ fn refused_growth(rt: HostRuntime) -> Result<(), Fail> {
     Ok(())
 }
 
-/// What stands where the growth of a push is refused.
+/// What holds if an allocation of a push fails.
 fn refused_push(rt: &impl Abort, alloc: Global) {
     let mut reader = Dearmor::new(alloc, Limits::usual());
     if reader.push(b"-----").is_ok() {

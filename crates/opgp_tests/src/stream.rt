@@ -314,7 +314,7 @@ fn octets_left_by_another_output(rt: HostRuntime) -> Result<(), Fail> {
     Ok(())
 }
 
-// The buffer is all that an output needs: where it can't be had, nothing is written.
+// The buffer is all that an output allocates: if that fails, nothing is written.
 #[test]
 fn output_in_1_growths(rt: HostRuntime) -> Result<(), Fail> {
     let mut held = [b'.'; 256];

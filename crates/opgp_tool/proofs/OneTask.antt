@@ -7,7 +7,7 @@ use Rattle.std.specs.Str.Parse.{digits_value, without_leading_plus}
 use Rattle.clap.specs.Walk.{row_text}
 use Rattle.clap.specs.Words.{App, Row, Text, read_as}
 use Rattle.opgp_octets.specs.declared.limits.Limits.{Limits}
-use Rattle.opgp_stack.specs.declared.mode.Mode.{Mode}
+use Rattle.opgp_engine.specs.declared.mode.Mode.{Mode}
 use Rattle.opgp_stack.specs.declared.task.Action.{Action}
 use Rattle.opgp_stack.specs.declared.task.Action.TheVariants as action
 use Rattle.opgp_stack.specs.declared.task.Task.{Task}

@@ -4,7 +4,7 @@ use Rattle.opgp_octets.specs.Fault.{fault_text}
 use Rattle.opgp_stack.specs.declared.run_fault.RunFault.{RunFault}
 use Rattle.opgp_stack.specs.declared.run_fault.RunFault.TheVariants as run
 
--- the exit status: 0 done, 1 refused, 3 where a device or the memory failed
+-- the exit status: 0 success, 1 refused, 3 reading, writing or memory failed
 abbrev pub status_of : Result Unit RunFault → ℕ
 status_of (Ok done) = 0
 status_of (Err (run.Refused fault)) = 1

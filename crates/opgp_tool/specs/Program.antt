@@ -13,7 +13,7 @@ use Rattle.opgp_octets.specs.Ranges.{line_range, body_range, cert_range, input_r
 use Rattle.opgp_stack.specs.declared.task.Task.{Task}
 use Rattle.opgp_tool.specs.Words.{IsTask}
 
--- the words that an option takes
+-- the values that an option takes
 abbrev pub Choice : Type 0
 Choice = Bor (List (Bor Text))
 
@@ -29,12 +29,12 @@ valued_rule name p = record (new_rule name) {
   parser = Some p;
 }
 
--- one of some words, `usual` where the option isn't used
+-- one of some values, `usual` if the option isn't given
 abbrev pub choice_rule : Text → Choice → Text → Rule
 choice_rule name choice usual =
     record (valued_rule name (parser.Names choice)) { defaults = usual ∷ [] }
 
--- a limit, `usual` where the option isn't used
+-- a limit, `usual` if the option isn't given
 abbrev pub limit_rule : Text → Range → Text → Rule
 limit_rule name range usual =
     record (valued_rule name (parser.Unsigned range.least range.most)) { defaults = usual ∷ [] }
@@ -77,7 +77,7 @@ abbrev pub merge_rule : Rule
 merge_rule =
     record (new_rule (codes "merge")) { long = Some (codes "merge"); action = Some SetTrue }
 
--- the words of `--mode`, `--out` and `--of`
+-- the values of `--mode`, `--out` and `--of`
 abbrev pub AreModes : Choice → Type 0
 AreModes modes = words_in modes ≡ codes "auto" ∷ codes "armor" ∷ codes "binary" ∷ []
 
@@ -111,7 +111,7 @@ bare_program = record {
   subs = [];
 }
 
--- the eight commands, in order, each with its own words for `--mode`, `--of` and `--out`
+-- the eight commands, in order, each with its own values for `--mode`, `--of` and `--out`
 abbrev pub program_of : (show list check octets write normalise split join tops : Choice)
     → (write_outs normalise_outs split_outs join_outs : Choice) → App
 program_of show list check octets write normalise split join tops
@@ -149,11 +149,12 @@ pub record IsProgram (program : App) : Type 0 where
   pub is : program ≡ program_of show_modes list_modes check_modes octets_modes write_modes
       normalise_modes split_modes join_modes tops write_outs normalise_outs split_outs join_outs
 
--- by this program the words name a command, and the task is that of its name and its options
+-- the command line names a command of this program, and the task is that of its name and its
+-- options
 abbrev pub SaysTask : App → List Text → Task → Type 0
 SaysTask program words task = (name : Text) × (options : List Row)
     × (subcommand_of program words ≡ Some (name, options)) × IsTask name options task
 
--- the program doesn't take the words as they stand, or they say no task
+-- the program refuses the command line, or it names no task
 abbrev pub SaysNone : App → List Text → Type 0
 SaysNone program words = takes program words ≡ true → (task : Task) → SaysTask program words task → ⊥

@@ -1,5 +1,4 @@
--- What the words of a command line say: the command's name, and its options, a row each, as `clap`
--- finds them.
+-- What a command line says: the command's name, and its options, a row each, as `clap` finds them.
 use Rattle.std.specs.Prelude.{◌≡◌, ℕ, ◌<◌, ◌^◌, Bool, List, Option, Some, None, false, codes}
 use Rattle.std.specs.Prelude.{MatchOption, if◌then◌else◌}
 use Rattle.std.specs.Str.{bytes_eq}
@@ -7,23 +6,23 @@ use Rattle.std.specs.Str.Parse.{IsNumeral, digits_value, without_leading_plus}
 use Rattle.clap.specs.Words.{Row, Text, first_of, one_of}
 use Rattle.opgp_octets.specs.declared.limits.Limits.{Limits}
 use Rattle.opgp_octets.specs.Limits.{line_limit, body_limit, cert_limit, input_limit, pieces_limit}
-use Rattle.opgp_stack.specs.declared.mode.Mode.{Mode}
-use Rattle.opgp_stack.specs.declared.mode.Mode.TheVariants as mode
-use Rattle.opgp_stack.specs.declared.task.Out.{Out}
-use Rattle.opgp_stack.specs.declared.task.Out.TheVariants as out
+use Rattle.opgp_engine.specs.declared.mode.Mode.{Mode}
+use Rattle.opgp_engine.specs.declared.mode.Mode.TheVariants as mode
+use Rattle.opgp_engine.specs.declared.out.Out.{Out}
+use Rattle.opgp_engine.specs.declared.out.Out.TheVariants as out
 use Rattle.opgp_stack.specs.declared.task.Top.{Top}
 use Rattle.opgp_stack.specs.declared.task.Top.TheVariants as top
 use Rattle.opgp_stack.specs.declared.task.Action.{Action}
 use Rattle.opgp_stack.specs.declared.task.Action.TheVariants as action
 use Rattle.opgp_stack.specs.declared.task.Task.{Task}
 
--- the text says this number of 64 bits, in decimal digits, behind a plus or not
+-- the text is this number of 64 bits, in decimal digits, perhaps after a plus
 pub record IsNumber (text : Text) (n : ℕ) : Type 0 where
   pub digits : IsNumeral 10 (without_leading_plus text)
   pub value : n ≡ digits_value 10 (without_leading_plus text)
   pub fits : digits_value 10 (without_leading_plus text) < 2 ^ 64
 
--- the option has a text that says this number
+-- the option has a text that is this number
 abbrev pub HasNumber : List Row → Text → ℕ → Type 0
 HasNumber options id n = (text : Text) × (one_of id options ≡ Some text) × IsNumber text n
 
@@ -43,12 +42,12 @@ abbrev pub top_of : Option Text → Top
 top_of None = top.Ring
 top_of (Some word) = if bytes_eq word (codes "literal") then top.Literal else top.Ring
 
--- `--nth`: the number that its text says, or none where it isn't given
+-- `--nth`: the number that its text is, or none if it isn't given
 abbrev pub IsNth : List Row → Option ℕ → Type 0
 IsNth options nth = MatchOption nth (first_of (codes "nth") options ≡ None)
     (HasNumber options (codes "nth"))
 
--- `--merge`: given, for which `clap` writes the word `true`, or else not
+-- `--merge`: given, for which `clap` writes the value `true`, or not
 abbrev pub merge_of : Option Text → Bool
 merge_of None = false
 merge_of (Some word) = bytes_eq word (codes "true")

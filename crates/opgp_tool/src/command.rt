@@ -181,7 +181,7 @@ fn merge_option<'a>(alloc: Global) -> Arg<'a>
         .help("Makes certificates of one primary key one")
 }
 
-/// The command with an option more, its last.
+/// The command with this option added, as its last.
 fn with_option<'a>(command: Command<'a>, option: Arg<'a>) -> Result<Command<'a>, OutOfMemory>
     requires own { option.global ≡ false }
     ensures { IfOk result (λ r. app_of r ≡ with_rule (app_of command.entry)
@@ -190,7 +190,7 @@ fn with_option<'a>(command: Command<'a>, option: Arg<'a>) -> Result<Command<'a>,
     command.arg(option)
 }
 
-/// The program with a command more, its last, if that was made.
+/// The program with this command added, as its last, if it could be made.
 fn with_command<'a>(
     tool: Command<'a>,
     command: Result<Command<'a>, OutOfMemory>,

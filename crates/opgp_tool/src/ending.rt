@@ -1,4 +1,4 @@
-//! How a run ends, as its exit status and a line on standard error say.
+//! How a run ends: its exit status and its line on standard error.
 
 ghost use Rattle.std.specs.Prelude.{◌≡◌, IfOk, IsOk, Ok, string_bytes};
 ghost use Rattle.opgp_tool.specs.Ending.{status_of, line_of};
@@ -7,9 +7,10 @@ use opgp_octets::{OutOfMemory, fault_line};
 use opgp_stack::RunFault;
 use std::alloc::Global;
 
-/// The exit status of a run, and the line that it prints with its line feed, or nothing.
+/// The exit status of a run, and the line that it prints, with its line feed; the line may be
+/// empty.
 ///
-/// An error is want of memory; a run that is done needs none.
+/// Fails only when out of memory; a run that succeeded needs none.
 pub fn end_of(alloc: Global, outcome: &Result<(), RunFault>) -> Result<(u8, String), OutOfMemory>
     ensures status { IfOk result (λ end. end.0 ≡ status_of outcome.now) }
     ensures line { IfOk result (λ end. string_bytes end.1 ≡ line_of outcome.now) }

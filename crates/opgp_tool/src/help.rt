@@ -1,6 +1,6 @@
-//! What the help of the program and of each command ends with.
+//! The last paragraph of the help of the program and of each command.
 
-/// Behind the commands: where input and output are, and the exit statuses.
+/// After the commands: where input and output are, and the exit statuses.
 pub const PROGRAM_HELP: &str = "The input is standard input, and the output standard output: \
 opgp list < KEYRING
 Exit statuses: 0 done; 1 the input is refused, or has no such row or certificate;
@@ -9,7 +9,7 @@ memory failed; 4 the launcher couldn't build the program.";
 
 pub const SHOW_HELP: &str = "The input is any packets, those of a keyring or of a message. \
 A line for each packet
-has its place, type, form and length; behind a signature's stands one for each of its
+has its place, type, form and length; a signature's is followed by one for each of its
 subpackets.
 
 Example: opgp show < KEYRING";
@@ -20,22 +20,22 @@ key ID, uid with its text, uat and sig, and pkt for any other packet.
 
 Example: opgp list < KEYRING";
 
-pub const CHECK_HELP: &str = "A line for each signature says where it stands, which key it names \
-as its signer and how
-the digest of what it is about begins: bad where that isn't what it says. Whether it is genuine
-isn't checked.
+pub const CHECK_HELP: &str = "A line for each signature says where it is, which key it names \
+as its issuer, and the first
+octets of the digest of what it signs: bad if they aren't those that it states. No signature
+is verified.
 
 Example: opgp check < KEYRING | grep bad";
 
 pub const OCTETS_HELP: &str = "The row is that of check, or with --of literal the number of a \
-signature behind the
-literal of a signed message. The octets are written as they are hashed, none added.
+signature after the
+literal of a signed message. The octets are written as they are hashed, without armor.
 
 Example: opgp octets --row 0 < KEYRING | sha512sum";
 
-pub const WRITE_HELP: &str = "Each packet is written as it was framed. With --out binary that \
-gives the octets of all
-packets of the input again.
+pub const WRITE_HELP: &str = "Each packet is written as it was framed. With --out binary the \
+output is the octets of
+all packets of the input.
 
 Example: opgp write --out binary < KEYRING > KEYRING.pgp";
 
@@ -46,12 +46,12 @@ Example: opgp normalise < KEYRING > KEYRING.asc";
 
 pub const SPLIT_HELP: &str = "Each certificate is a block of its own, or packets one after the \
 other with --out
-binary; what leads the keyring is left out. Certificates count from 0.
+binary; packets before the first one are left out. Certificates count from 0.
 
 Example: opgp split --nth 0 < KEYRING > FIRST.asc";
 
 pub const JOIN_HELP: &str = "With --merge certificates of one primary key become one, in which \
 equal user IDs,
-attributes, subkeys and signatures stand once.
+attributes, subkeys and signatures are written once.
 
 Example: cat ONE.asc OTHER.asc | opgp join --merge > BOTH.asc";

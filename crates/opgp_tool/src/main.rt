@@ -13,7 +13,7 @@ use std::process::ExitCode;
 use std::{env, io};
 use task::{Usage, task_of};
 
-/// The exit status of words that name no task.
+/// The exit status of an invalid command line.
 const USAGE: u8 = 2;
 
 fn main(rt: HostRuntime) -> ExitCode {
@@ -25,7 +25,7 @@ fn main(rt: HostRuntime) -> ExitCode {
         Err(error) if error.kind() == io::ErrorKind::OutOfMemory => {
             end(&rt, &Err(RunFault::Memory))
         }
-        // A word isn't UTF-8.
+        // An argument isn't UTF-8.
         Err(_) => {
             let _ = eprintln!(rt; "opgp: usage");
             USAGE
@@ -34,7 +34,7 @@ fn main(rt: HostRuntime) -> ExitCode {
     ExitCode::from(status)
 }
 
-/// Does what the words say.
+/// Runs the task of a command line.
 fn run_words(rt: &HostRuntime, words: &[String]) -> u8 {
     match task_of(rt.alloc(), words) {
         Ok(task) => run_task(rt, &task),
@@ -46,14 +46,14 @@ fn run_words(rt: &HostRuntime, words: &[String]) -> u8 {
     }
 }
 
-/// Does the task, from standard input to standard output.
+/// Runs the task, from standard input to standard output.
 fn run_task(rt: &HostRuntime, task: &Task) -> u8 {
     let mut reader = Watched::new(rt.stdin());
     let mut writer = Watched::new(rt.stdout());
     end(rt, &run_last(rt.alloc(), task, &mut reader, &mut writer))
 }
 
-/// Prints the line of a run's end. A standard error that is closed or full changes no status.
+/// Prints the last line of a run. A standard error that is closed or full changes no status.
 fn end(rt: &HostRuntime, outcome: &Result<(), RunFault>) -> u8 {
     match end_of(rt.alloc(), outcome) {
         Ok((status, line)) => {

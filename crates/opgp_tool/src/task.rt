@@ -1,4 +1,4 @@
-//! The task that the words of a command line name.
+//! The task that a command line names.
 
 ghost use Rattle.std.specs.Prelude.{◌≡◌, ◌⊎◌, ℕ, Option, IfSome, IfNone, IfOk, IfErr, []};
 ghost use Rattle.std.specs.Prelude.{codes, map, option_map};
@@ -20,16 +20,16 @@ use opgp_stack::{Action, Mode, Out, Task, Top};
 use std::alloc::Global;
 use std::convert::AsStr;
 
-/// Why words name no task.
+/// Why a command line names no task.
 #[derive(Drop)]
 pub enum Usage {
-    /// They are refused, or help was asked for: the text that says so.
+    /// It is invalid, or help was asked for: the text to print.
     Text(String),
-    /// Want of memory.
+    /// Out of memory.
     Memory,
 }
 
-/// The word of an option, or None where it has none.
+/// The value of an option, or None if it has none.
 fn word_of<'a>(matches: &ArgMatches<'a>, id: &str) -> Option<&'a str>
     ensures { option_map (λ word. word.now) result
         ≡ first_of id.now (rows_of (found_of matches.now)) }
@@ -65,7 +65,7 @@ fn top_of(matches: &ArgMatches) -> Top
     }
 }
 
-/// The number of an option, or None where it has none.
+/// The number that is an option's value, or None if it has none.
 fn number_of(matches: &ArgMatches, id: &str) -> Option<u64>
     ensures some { IfSome result (HasNumber (rows_of (found_of matches.now)) id.now) }
     ensures none { IfNone result ((n : ℕ) → HasNumber (rows_of (found_of matches.now)) id.now n → ⊥) }
@@ -73,7 +73,7 @@ fn number_of(matches: &ArgMatches, id: &str) -> Option<u64>
     matches.get_one::<u64>(id)
 }
 
-/// The number of `--nth`, or none where it isn't given. None is the answer where its word is no number.
+/// The number of `--nth`, if it is given. The outer None means that its value isn't a number.
 fn nth_of(matches: &ArgMatches) -> Option<Option<u64>>
     ensures some { IfSome result (IsNth (rows_of (found_of matches.now))) }
     ensures none { IfNone result ((nth : Option ℕ)
@@ -154,7 +154,7 @@ fn task_from(name: &str, matches: &ArgMatches) -> Option<Task>
     })
 }
 
-/// What is said of a refusal of `clap`.
+/// The text to print for an error of `clap`.
 fn usage_of(alloc: Global, error: &Error) -> Usage
     ensures { kind_of error.now ≡ OutOfMemory → result ≡ Memory }
 {
@@ -174,15 +174,15 @@ fn usage_of(alloc: Global, error: &Error) -> Usage
     }
 }
 
-/// Whether a text of `clap` refuses a word that is no option, as the name of a file is.
+/// Whether a text of `clap` refuses an argument that isn't an option, such as the name of a file.
 fn is_about_a_file(text: &str) -> bool {
     text.starts_with("error: unexpected argument '")
         && !text.starts_with("error: unexpected argument '-")
 }
 
-/// The task that the words of a command line name, the program's own name first.
+/// The task that a command line names, whose first word is the program's own name.
 ///
-/// The refusals are the text of `clap`, for help too, and want of memory.
+/// The errors are the text of `clap`, also for help, and running out of memory.
 pub fn task_of<'a, S: AsStr>(alloc: Global, words: &'a [S]) -> Result<Task, Usage>
     ensures said { IfOk result (λ task. (program : App) × IsProgram program
         × (fault_of program (map S.text words.entry.now) ≡ [])
@@ -205,7 +205,7 @@ pub fn task_of<'a, S: AsStr>(alloc: Global, words: &'a [S]) -> Result<Task, Usag
     };
     match task {
         Some(task) => Ok(task),
-        // Words that `clap` passes name a task; no other is made up for them.
+        // `clap` accepts no command line without a task; there is no default for one.
         None => match String::from_str(alloc, "opgp: usage\n") {
             Ok(text) => Err(Usage::Text(text)),
             Err(_) => Err(Usage::Memory),

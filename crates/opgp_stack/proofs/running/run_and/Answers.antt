@@ -2,9 +2,9 @@ use Rattle.std.proofs.Common.{◌∙◌, refl, ap, Err, Ok, Option, ℕ, Bool}
 use Rattle.opgp_ring.specs.SignedLiteral.{signed_packets}
 use Rattle.opgp_stack.specs.declared.task.Action.TheVariants as action
 use Rattle.opgp_stack.specs.declared.task.Top.{Top}
-use Rattle.opgp_stack.specs.Packets.{ArePackets, any_label, block_values}
-use Rattle.opgp_stack.specs.Signed.{AreSigned, message_label}
-use Rattle.opgp_stack.proofs.Pulling.{answer_shown}
+use Rattle.opgp_engine.specs.Packets.{ArePackets, any_label, block_values}
+use Rattle.opgp_engine.specs.Signed.{AreSigned, message_label}
+use Rattle.opgp_engine.proofs.Pulling.{answer_shown}
 use Rattle.opgp_stack.proofs.Runs.{LiteralOf, PacketsOf, RingOf, ran, stopped}
 use Rattle.opgp_stack.proofs.running.run_and.Goals as goal
 

@@ -3,9 +3,9 @@ use Rattle.std.proofs.lemmas.List.Folds.{flat_map-map}
 use Rattle.opgp_ring.specs.declared.block_of.BlockOf.{BlockOf}
 use Rattle.opgp_stream.specs.Added.{State, Adds, Writes}
 use Rattle.opgp_stream.specs.Output.{state_of}
-use Rattle.opgp_stack.specs.Packets.{BlockValue, block_value}
+use Rattle.opgp_engine.specs.Packets.{BlockValue, block_value}
 use Rattle.opgp_stack.specs.Showing.{shown}
-use Rattle.opgp_stack.proofs.Loops.{broken_of, more_of}
+use Rattle.opgp_engine.proofs.Loops.{broken_of, more_of}
 use Rattle.opgp_stack.proofs.showing.add_shown.Goals as goal
 
 pub returns-in_err-add_packets : goal.returns-in_err-add_packets

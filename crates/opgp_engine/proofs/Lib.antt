@@ -1,0 +1,14 @@
+mod Again
+mod Ends
+mod Framing
+mod Handing
+mod Labels
+pub mod Loops
+mod OneAnswer
+mod OneTop
+mod Passing
+pub mod Pulling
+mod Put
+mod SomeAnswer
+mod Texts
+mod Ways

@@ -1,0 +1,190 @@
+-- Armored text, event by event.
+use Rattle.std.proofs.Common.{◌≡◌, ℕ, ◌+◌, ◌<◌, ◌≤◌, ◌^◌, Bool, true, false, List, [], ◌∷◌, ◌++◌, length, refl, sym, ◌∙◌, subst, Option, Some, None, is_some, Ok, Err, Result, map, arith, length-append, append-nil}
+use Rattle.std.proofs.lemmas.List.Sums.{fold-append}
+use Rattle.std.specs.List.{fold}
+use Rattle.std.specs.Result.{MatchResult, OnOk}
+use Rattle.opgp_octets.specs.declared.fault.Fault.{Fault}
+use Rattle.opgp_octets.specs.declared.limits.Limits.{Limits}
+use Rattle.opgp_octets.specs.Limits.{line_limit}
+use Rattle.opgp_armor.specs.declared.event.ArmorEvent.{ArmorEvent}
+use Rattle.opgp_armor.specs.declared.label.Label.TheVariants.{Message}
+use Rattle.opgp_armor.specs.declared.reader.Dearmor.{Dearmor}
+use Rattle.opgp_armor.specs.Armored.{Armored, Block, IsArmorFault}
+use Rattle.opgp_armor.specs.Events.{AreInOrder, Event, Begin, Header, Octets, End, Built, absorb, built, event_octets, events_of, is_open_behind}
+use Rattle.opgp_armor.specs.Fed.{Fed, events_so_far, is_ready, has_ended, count_of, line_limit_of}
+use Rattle.opgp_ring.specs.Composition.{Item}
+use Rattle.opgp_engine.specs.declared.framer.Framer.{Framer}
+use Rattle.opgp_engine.specs.Reading.{Wanted, armored_block}
+use Rattle.opgp_engine.specs.Framed.{Framed, open_count, number_of, has_begun}
+use Rattle.opgp_engine.specs.Through.{BegunAfter, FramesBuilt, MayCome, Through, IsEnd}
+
+-- what the reader of armor promises
+abbrev pub HandsOutNoMore : Type 0
+HandsOutNoMore = (d : Dearmor) (given : List ℕ) (taken more : List Event) → Fed d given (taken ++ more) → length (built taken).octets + event_octets more ≤ length given
+
+abbrev pub HasNoMoreBlocks : Type 0
+HasNoMoreBlocks = (d : Dearmor) (given : List ℕ) (taken : List Event) → Fed d given taken → length (built taken).blocks ≤ length given
+
+abbrev pub KeepsOrder : Type 0
+KeepsOrder = (d : Dearmor) (given : List ℕ) (taken : List Event) → Fed d given taken → AreInOrder false (events_so_far d taken)
+
+-- ---- the order of events
+-- events behind others are in order where these leave off
+order_behind : (inside : Bool) (es fs : List Event) → AreInOrder inside (es ++ fs) → AreInOrder (is_open_behind inside es) fs
+order_behind inside [] fs o = o
+order_behind false (Begin l ∷ es) fs o = order_behind true es fs o
+order_behind false (Header key value ∷ es) fs o = absurd o
+order_behind false (Octets x ∷ es) fs o = absurd o
+order_behind false (End ∷ es) fs o = absurd o
+order_behind true (Begin l ∷ es) fs o = absurd o
+order_behind true (Header key value ∷ es) fs o = order_behind true es fs o
+order_behind true (Octets x ∷ es) fs o = order_behind true es fs o
+order_behind true (End ∷ es) fs o = order_behind false es fs o
+
+inside-append : (inside : Bool) (es fs : List Event) → is_open_behind inside (es ++ fs) ≡ is_open_behind (is_open_behind inside es) fs
+inside-append inside [] fs = refl
+inside-append inside (Begin l ∷ es) fs = inside-append true es fs
+inside-append inside (Header key value ∷ es) fs = inside-append inside es fs
+inside-append inside (Octets o ∷ es) fs = inside-append inside es fs
+inside-append inside (End ∷ es) fs = inside-append false es fs
+
+none_of : (o : Option ArmorEvent) (taken : List Event) → is_some o ≡ false → taken ++ events_of o ≡ taken
+none_of None taken e = append-nil taken
+none_of (Some x) taken e = cc
+
+-- nothing is ready
+none_ready : (d : Dearmor) (taken : List Event) → is_ready d ≡ false → events_so_far d taken ≡ taken
+none_ready d taken quiet = none_of d.ready taken quiet
+
+not_both : (b : Bool) → b ≡ true → b ≡ false → ⊥
+not_both b t f = cc
+
+false_of : (b : Bool) → (b ≡ true → ⊥) → b ≡ false
+false_of true h = absurd (h refl)
+false_of false h = refl
+
+-- an event in order begins no block where the top knows of an open one
+may_come : (inside begun : Bool) (es : List Event) → AreInOrder inside es → (begun ≡ true → inside ≡ true) → MayCome begun es
+may_come inside begun [] o h = tt
+may_come false begun (Begin l ∷ es) o h = false_of begun (λ t. let e : false ≡ true = h t in cc)
+may_come true begun (Begin l ∷ es) o h = absurd o
+may_come inside begun (Header key value ∷ es) o h = tt
+may_come inside begun (Octets x ∷ es) o h = tt
+may_come inside begun (End ∷ es) o h = tt
+
+-- behind one event in order, or none, the top knows of an open block only where there is one
+abbrev pub IsOne : List Event → Type 0
+IsOne [] = Unit {0}
+IsOne (e ∷ []) = Unit {0}
+IsOne (e ∷ f ∷ es) = ⊥
+
+still_inside : (inside old new : Bool) (es : List Event) → IsOne es → AreInOrder inside es → (old ≡ true → inside ≡ true) → BegunAfter old new es → new ≡ true → is_open_behind inside es ≡ true
+still_inside inside old new [] one o h b t = h (sym b ∙ t)
+still_inside inside old new (Begin l ∷ []) one o h b t = refl
+still_inside inside old new (Header key value ∷ []) one o h b t = h (sym b ∙ t)
+still_inside false old new (Octets x ∷ []) one o h b t = absurd o
+still_inside true old new (Octets x ∷ []) one o h b t = refl
+still_inside inside old new (End ∷ []) one o h b t = absurd (not_both new t b)
+still_inside inside old new (e ∷ f ∷ es) one o h b t = absurd one
+
+one_event : (event : Option ArmorEvent) → IsOne (events_of event)
+one_event None = tt
+one_event (Some e) = tt
+
+mapped_length : (bs : List Block) → length (map armored_block bs) ≡ length bs
+mapped_length [] = refl
+mapped_length (b ∷ bs) = omega (arith, mapped_length bs)
+
+pub on_ok : (r : Result Unit Fault) (P : Type 0) → OnOk r P → r ≡ Ok tt → P
+on_ok (Ok u) P h e = h
+on_ok (Err f) P h e = cc
+
+pub fed_end : (d : Dearmor) (given : List ℕ) (taken : List Event) → Fed d (given ++ []) taken → Fed d given taken
+fed_end d given taken f = subst (λ (g : List ℕ). Fed d g taken) (append-nil given) f
+
+-- ---- what goes through
+module _ {T : Type 0} (fed_top : Limits → T → List Item → Type 0) (wanted : Wanted) where
+  pub through_none : (limits : Limits) (d : Dearmor) (f : Framer T) → Fed d [] [] → is_ready d ≡ false → has_ended d ≡ false → line_limit_of d ≡ line_limit limits → count_of d ≡ 0
+      → has_begun f ≡ false → Framed fed_top wanted limits f [] (Some Message) [] → Through fed_top wanted limits d f []
+  unfolding built
+  through_none limits d f fed quiet going limit count begun framed = record {
+    taken = [];
+    fed = fed;
+    framed = framed;
+    inside = λ t. absurd (not_both (has_begun f) t begun);
+    quiet = quiet;
+    going = going;
+    limit = limit;
+    count = count;
+    few = omega arith;
+  }
+
+  -- there is room for what a step hands out
+  pub room_for : (limits : Limits) (d : Dearmor) (f : Framer T) (input : List ℕ) (taken more : List Event) (count : ℕ) → HandsOutNoMore → Fed d input (taken ++ more) → FramesBuilt fed_top wanted limits f (built taken)
+      → length input ≤ count → count < 2 ^ 63 → open_count f + event_octets more < 2 ^ 63
+  room_for limits d f input taken more count law fed framed within few = omega (arith, law d input taken more fed, framed.counted)
+
+  -- there are few blocks
+  pub few_blocks : (limits : Limits) (d : Dearmor) (f : Framer T) (input : List ℕ) → HasNoMoreBlocks → Through fed_top wanted limits d f input → number_of f < 2 ^ 63
+  few_blocks limits d f input law t = omega (arith, law d input t.taken t.fed, t.framed.numbered, mapped_length (built t.taken).blocks, t.count, t.few)
+
+  frames_more : (limits : Limits) (f h : Framer T) (taken more : List Event) → ((limits : Limits) (b : Built) → FramesBuilt fed_top wanted limits f b → FramesBuilt fed_top wanted limits h (fold absorb b more))
+      → FramesBuilt fed_top wanted limits f (built taken) → FramesBuilt fed_top wanted limits h (built (taken ++ more))
+  unfolding built
+  frames_more limits f h taken more step framed = subst (FramesBuilt fed_top wanted limits h) (sym (fold-append absorb _ taken more)) (step limits (built taken) framed)
+
+  -- the events that were taken, and one more, in order
+  order_next : (d : Dearmor) (given : List ℕ) (taken more : List Event) → KeepsOrder → Fed d given (taken ++ more) → is_ready d ≡ false → AreInOrder (is_open_behind false taken) more
+  order_next d given taken more law fed quiet =
+      let P : List Event → Type 0 = λ l. AreInOrder false l in
+      order_behind false taken more (subst P (none_ready d (taken ++ more) quiet) (law d given (taken ++ more) fed))
+
+  pub comes : (limits : Limits) (d e : Dearmor) (f : Framer T) (input given : List ℕ) (more : List Event) (t : Through fed_top wanted limits d f input) → KeepsOrder → Fed e given (t.taken ++ more) → is_ready e ≡ false
+      → MayCome (has_begun f) more
+  comes limits d e f input given more t law fed quiet = may_come (is_open_behind false t.taken) (has_begun f) more (order_next e given t.taken more law fed quiet) t.inside
+
+  stays_inside : (limits : Limits) (d e : Dearmor) (f h : Framer T) (input given : List ℕ) (event : Option ArmorEvent) (t : Through fed_top wanted limits d f input) → KeepsOrder → Fed e given (t.taken ++ events_of event)
+      → is_ready e ≡ false → BegunAfter (has_begun f) (has_begun h) (events_of event) → has_begun h ≡ true → is_open_behind false (t.taken ++ events_of event) ≡ true
+  stays_inside limits d e f h input given event t law fed quiet after is =
+      inside-append false t.taken (events_of event)
+      ∙ still_inside (is_open_behind false t.taken) (has_begun f) (has_begun h) (events_of event) (one_event event) (order_next e given t.taken (events_of event) law fed quiet) t.inside after is
+
+  -- one event more, or none
+  pub through_more : (limits : Limits) (d e : Dearmor) (f h : Framer T) (input part : List ℕ) (event : Option ArmorEvent) (t : Through fed_top wanted limits d f input) → KeepsOrder → Fed e (input ++ part) (t.taken ++ events_of event)
+      → ((limits : Limits) (b : Built) → FramesBuilt fed_top wanted limits f b → FramesBuilt fed_top wanted limits h (fold absorb b (events_of event))) → BegunAfter (has_begun f) (has_begun h) (events_of event)
+      → is_ready e ≡ false → has_ended e ≡ false → line_limit_of e ≡ line_limit_of d
+      → count_of e ≡ count_of d + length part → count_of e < 2 ^ 63 → Through fed_top wanted limits e h (input ++ part)
+  through_more limits d e f h input part event t law fed step after quiet going limit count few = record {
+    taken = t.taken ++ events_of event;
+    fed = fed;
+    framed = frames_more limits f h t.taken (events_of event) step t.framed;
+    inside = stays_inside limits d e f h input (input ++ part) event t law fed quiet after;
+    quiet = quiet;
+    going = going;
+    limit = limit ∙ t.limit;
+    count = omega (arith, count, t.count, length-append input part);
+    few = few;
+  }
+
+  text_ends : (limits : Limits) (limit : ℕ) (h : Framer T) (input : List ℕ) (b : Built) (result : Result Unit Fault) → FramesBuilt fed_top wanted limits h b → limit ≡ line_limit limits
+      → MatchResult result (λ _. Armored limit input b.blocks) (IsArmorFault limit input) → (result ≡ Ok tt → has_begun h ≡ false) → IsEnd fed_top wanted false limits h input result
+  text_ends limits limit h input b (Ok tt) framed is armored closed = record {
+    blocks = map armored_block b.blocks;
+    holds = (b.blocks, subst (λ (n : ℕ). Armored n input b.blocks) is armored, refl);
+    label = Some b.label;
+    octets = b.octets;
+    framed = framed;
+    closed = closed refl;
+  }
+  text_ends limits limit h input b (Err fault) framed is faulty closed = subst (λ (n : ℕ). IsArmorFault n input fault) is faulty
+
+  -- the text has ended
+  pub through_end : (limits : Limits) (d e : Dearmor) (f h : Framer T) (input : List ℕ) (event : Option ArmorEvent) (result : Result Unit Fault) (t : Through fed_top wanted limits d f input) → KeepsOrder
+      → Fed e input (t.taken ++ events_of event) → is_ready e ≡ false
+      → ((limits : Limits) (b : Built) → FramesBuilt fed_top wanted limits f b → FramesBuilt fed_top wanted limits h (fold absorb b (events_of event))) → BegunAfter (has_begun f) (has_begun h) (events_of event)
+      → line_limit_of e ≡ line_limit_of d
+      → MatchResult result (λ _. Armored (line_limit_of e) input (built (t.taken ++ events_of event)).blocks) (IsArmorFault (line_limit_of e) input)
+      → (result ≡ Ok tt → is_open_behind false (t.taken ++ events_of event) ≡ false) → IsEnd fed_top wanted false limits h input result
+  through_end limits d e f h input event result t law fed quiet step after limit answer closed =
+      text_ends limits (line_limit_of e) h input (built (t.taken ++ events_of event)) result (frames_more limits f h t.taken (events_of event) step t.framed) (limit ∙ t.limit) answer
+      (λ ok. false_of (has_begun h) (λ is. not_both (is_open_behind false (t.taken ++ events_of event)) (stays_inside limits d e f h input input event t law fed quiet after is) (closed ok)))

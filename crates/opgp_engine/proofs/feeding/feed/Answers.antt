@@ -1,0 +1,58 @@
+use Rattle.std.proofs.Common.{◌++◌, ◌∷◌, List, [], ℕ, take, drop, arith, sym, subst, append-nil}
+use Rattle.std.proofs.Math.Seq.{take-add}
+use Rattle.std.proofs.lemmas.Grind.{common_steps}
+use Rattle.std.proofs.lemmas.List.{take_rest}
+use Rattle.opgp_frame.specs.declared.packet.Placed.{Placed}
+use Rattle.opgp_frame.specs.Fed.{KeepsFed as KeepsFedPackets}
+use Rattle.opgp_engine.proofs.Handing.{pushed_none, pushed_more, handed_none, handed_more}
+use Rattle.opgp_engine.proofs.feeding.feed.Goals as goal
+
+pub pushes-init : goal.pushes-init
+pushes-init g c = record {
+  within = omega arith;
+  fed = ([], pushed_none c.args.deframe.now, handed_none g.T.Receiver.fed c.args.top.now);
+  free = c.requires.free;
+  count = omega arith;
+}
+
+pub pushes-preserved-in-Ok-push : goal.pushes-preserved-in-Ok-push
+pushes-preserved-in-Ok-push g c =
+    let f = c.pushes.invariant.fed in
+    let at = c.pushes.at in
+    let n = c.in-Ok.n in
+    let piece : List ℕ = c.args.piece.now in
+    let part : List ℕ = take n (drop at piece) in
+    let pushed = rw (take_rest piece at) at c.in-Ok.ensures.fed in
+    let more : List Placed = c.in-Some.packet ∷ [] in
+    record {
+      within = grind (arith, common_steps);
+      fed = (
+        f.0 ++ more,
+        subst (λ (l : List ℕ). KeepsFedPackets c.args.deframe.now c.take.new.self l (f.0 ++ more)) (sym (take-add at n piece))
+            (pushed_more c.args.deframe.now c.pushes.deframe _ c.take.new.self (take at piece) part f.0 more f.1 pushed c.in-Some.ensures.fed),
+        handed_more g.T.Receiver.fed c.args.top.now c.pushes.top _ f.0 c.in-Some.packet f.2 c.in-Ok-push.ensures,
+      );
+      free = c.take.ensures.free;
+      count = grind (arith, common_steps);
+    }
+
+pub pushes-preserved : goal.pushes-preserved
+pushes-preserved g c =
+    let f = c.pushes.invariant.fed in
+    let at = c.pushes.at in
+    let n = c.in-Ok.n in
+    let piece : List ℕ = c.args.piece.now in
+    let part : List ℕ = take n (drop at piece) in
+    let pushed = rw (take_rest piece at) at c.in-Ok.ensures.fed in
+    record {
+      within = grind (arith, common_steps);
+      fed = (
+        f.0,
+        subst (λ (l : List ℕ). KeepsFedPackets c.args.deframe.now c.take.new.self l f.0) (sym (take-add at n piece))
+            (subst (KeepsFedPackets c.args.deframe.now c.take.new.self (take at piece ++ part)) (append-nil f.0)
+            (pushed_more c.args.deframe.now c.pushes.deframe _ c.take.new.self (take at piece) part f.0 [] f.1 pushed c.in_default.ensures.fed)),
+        f.2,
+      );
+      free = c.take.ensures.free;
+      count = grind (arith, common_steps);
+    }

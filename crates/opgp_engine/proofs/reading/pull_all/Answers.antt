@@ -1,0 +1,59 @@
+use Rattle.std.proofs.Common.{◌≡◌, ◌++◌, List, ℕ, take, length, arith, length-append}
+use Rattle.std.proofs.lemmas.Grind.{common_steps}
+use Rattle.std.proofs.lemmas.List.{length-take-le}
+use Rattle.std.proofs.KnownBytes.{Consumes-trans}
+use Rattle.opgp_engine.proofs.Pulling.{progress_none, pulled_all, pulled_many, reads_of, octets_append}
+use Rattle.opgp_engine.proofs.reading.pull_all.Goals as goal
+
+pub pulls-init : goal.pulls-init
+pulls-init g c = record {
+  within = omega arith;
+  room = c.requires.room;
+  sound = c.requires.sound;
+  progress = progress_none g.T.Receiver.fed g.T.Receiver.wanted c.args.mode c.args.limits _ c.args.pipeline c.requires.fed c.requires.count;
+}
+
+pub conclude-requires : goal.conclude-requires
+conclude-requires g c = (_, _, _, c.pulls.invariant.progress.fed)
+
+pub conclude-requires-2 : goal.conclude-requires-2
+conclude-requires-2 g c = (_, _, _, c.pulls.invariant.progress.fed)
+
+pub push-requires-clause-fed : goal.push-requires-clause-fed
+push-requires-clause-fed g c = (_, _, _, c.pulls.invariant.progress.fed)
+
+pub returns-then-n-eq0 : goal.returns-then-n-eq0
+returns-then-n-eq0 g c =
+    let p = c.pulls.invariant.progress in
+    let e = c.in-Ok.ensures in
+    reads_of g.R.Source.left g.R.Source.has_failed _ _ c.args.limits g.T.Receiver.wanted (g.T.Receiver.says c.args.limits) c.args.mode c.conclude.result p.octets e.sound
+    (pulled_all g.T.Receiver.fed g.T.Receiver.wanted c.args.mode c.args.limits _ _ _ c.pulls.pipeline c.pulls.count c.input-limit.result c.in-Ok.n c.pull_some.new.buf p e.taken c.if-n-eq0.true (e.end c.if-n-eq0.true) c.pulls-test.true c.input-limit.ensures.value)
+    (c.conclude.ensures _ _ p.octets p.fed)
+
+pub returns : goal.returns
+returns g c =
+    let p = c.pulls.invariant.progress in
+    reads_of g.R.Source.left g.R.Source.has_failed _ _ c.args.limits g.T.Receiver.wanted (g.T.Receiver.says c.args.limits) c.args.mode c.conclude-2.result p.octets c.pulls.invariant.sound
+    (pulled_many g.T.Receiver.fed g.T.Receiver.wanted c.args.mode c.args.limits _ _ c.pulls.pipeline c.pulls.count c.input-limit.result p c.pulls.invariant.within c.pulls-test.false c.input-limit.ensures.value)
+    (c.conclude-2.ensures _ _ p.octets p.fed)
+
+pub pulls-preserved : goal.pulls-preserved
+pulls-preserved g c =
+    let p = c.pulls.invariant.progress in
+    let n = c.in-Ok.n in
+    let e = c.in-Ok.ensures in
+    let piece : List ℕ = take n c.pull_some.new.buf in
+    let size : length piece ≡ n = length-take-le n c.pull_some.new.buf e.bound.0 in
+    record {
+      within = omega (arith, e.bound.1);
+      room = grind (arith, common_steps);
+      sound = e.sound;
+      progress = record {
+        octets = p.octets ++ piece;
+        each = octets_append p.octets piece p.each e.each;
+        taken = Consumes-trans _ _ _ _ _ p.taken e.taken;
+        fed = c.in-Ok-push.ensures.fed _ _ p.octets p.fed;
+        size = omega (arith, length-append p.octets piece, size, p.size);
+        counted = omega (arith, c.in-Ok-push.ensures.count, size, p.counted);
+      };
+    }

@@ -1,0 +1,6 @@
+use Rattle.opgp_engine.specs.Packets.{ArePackets, any_label, block_values}
+use Rattle.opgp_engine.proofs.Pulling.{reads_shown}
+use Rattle.opgp_engine.proofs.reading_packets.read_packets.Goals as goal
+
+pub returns : goal.returns
+returns g c = reads_shown g.R.Source.left g.R.Source.has_failed c.args.reader.now c.read_with.new.reader c.args.limits.now any_label ArePackets block_values c.args.mode c.read_with.result c.read_with.ensures

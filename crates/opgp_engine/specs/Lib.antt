@@ -1,0 +1,14 @@
+pub mod Errors
+pub mod Framed
+pub mod Keyrings
+pub mod Layers
+pub mod Packets
+pub mod Pipeline
+pub mod Pulled
+pub mod Reading
+pub mod Signed
+pub mod Through
+pub mod Via
+pub mod Writing
+pub mod Written
+pub mod Receiver

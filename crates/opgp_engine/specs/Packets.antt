@@ -1,0 +1,36 @@
+-- The packets of an input, as they are.
+use Rattle.std.specs.Prelude.{◌≡◌, ℕ, Bool, true, List, [], ◌∷◌, ◌++◌, All, map, Option, Ok, Err}
+use Rattle.std.specs.Global.{Vec}
+use Rattle.opgp_armor.specs.declared.label.Label.{Label}
+use Rattle.opgp_frame.specs.declared.packet.Placed.{Placed}
+use Rattle.opgp_ring.specs.declared.block_of.BlockOf.{BlockOf}
+use Rattle.opgp_ring.specs.Bodies.{IsSound, IsFirstBodyFault}
+use Rattle.opgp_ring.specs.Composition.{Item, placed_in}
+use Rattle.opgp_engine.specs.Reading.{Outcome, block_items}
+
+-- a block of packets, by the contents of its vectors
+pub record BlockValue : Type 0 where
+  pub number : ℕ
+  pub fits : Bool
+  pub packets : List Placed
+
+abbrev pub block_value : BlockOf → BlockValue
+block_value b = record { number = b.block; fits = b.label_fits; packets = b.packets.items }
+
+abbrev pub block_values : Vec BlockOf → List BlockValue
+block_values blocks = map block_value blocks.items
+
+-- the labels and packets of blocks, in order
+abbrev pub items_in : List BlockValue → List Item
+items_in [] = []
+items_in (b ∷ bs) = block_items b.number b.fits b.packets ++ items_in bs
+
+-- any label is accepted
+abbrev pub any_label : Option Label → Bool
+any_label label = true
+
+-- The labels and packets are those of the blocks, and no body has a fault; or this is the fault of
+-- the first body that has one.
+abbrev pub ArePackets : List Item → Outcome (List BlockValue) → Type 0
+ArePackets items (Ok blocks) = (items_in blocks ≡ items) × All IsSound (placed_in items)
+ArePackets items (Err fault) = IsFirstBodyFault (placed_in items) fault

@@ -1,0 +1,27 @@
+-- Keyrings as they are written.
+use Rattle.std.specs.Prelude.{◌≡◌, ℕ, Bool, true, false, List, [], Option, Result, MatchResult}
+use Rattle.std.specs.List.{flat_map}
+use Rattle.std.specs.Io.KnownBytes.{Appends}
+use Rattle.opgp_armor.specs.declared.label.Label.TheVariants.{PublicKeyBlock}
+use Rattle.opgp_armor.specs.Written.{armor_text}
+use Rattle.opgp_frame.specs.Packet.{PacketValue, packets_octets}
+use Rattle.opgp_ring.specs.Keyring.{CertificateValue, certificate_packets}
+use Rattle.opgp_engine.specs.declared.out.Out.{Out}
+use Rattle.opgp_engine.specs.declared.out.Out.TheVariants.{Armor, Binary}
+use Rattle.opgp_stream.specs.Stream.{AppendsPrefix}
+
+-- the octets of packets, in binary or as one block of armor
+abbrev pub packets_text : Out → List PacketValue → List ℕ
+packets_text Armor ps = armor_text PublicKeyBlock [] (packets_octets ps)
+packets_text Binary ps = packets_octets ps
+
+-- each certificate on its own, one after the other
+abbrev pub certificates_text : Out → List CertificateValue → List ℕ
+certificates_text out cs = flat_map (λ c. packets_text out (certificate_packets c)) cs
+
+-- The text is written into a sink; or the sink has failed, and holds a prefix of it.
+abbrev pub Puts : {W T E : Type 0} → (W → Option (List ℕ)) → (W → Bool) → W → W → Result T E
+    → List ℕ → Type 0
+Puts held failed old new result text = MatchResult result
+    (λ _. Appends (held old) (held new) text × (failed new ≡ false))
+    (λ _. AppendsPrefix (held old) (held new) text × (failed new ≡ true))

@@ -1,0 +1,42 @@
+//! The keyring of an input, each block of which must be a public key block.
+
+ghost use Rattle.std.specs.Prelude.{◌≡◌, ◌∷◌, [], true, List, OnOk, IfOk};
+ghost use Rattle.opgp_octets.specs.declared.limits.Limits.{Limits};
+ghost use Rattle.opgp_ring.specs.Gathering.{Gathers};
+ghost use Rattle.opgp_engine.specs.Keyrings.{ComposesTo, key_label};
+
+use crate::receiver::Receiver;
+use opgp_armor::Label;
+use opgp_frame::Placed;
+use opgp_octets::{Fault, OutOfMemory};
+use opgp_ring::{Gathering, Keyring};
+
+impl Receiver for Gathering {
+    type Value = Keyring;
+
+    ghost wanted = { key_label };
+
+    ghost fed = { λ limits t items. Gathers limits t items };
+
+    ghost says = { ComposesTo };
+
+    fn wants(label: Option<Label>) -> bool {
+        match label {
+            None | Some(Label::PublicKeyBlock) => true,
+            Some(Label::Message | Label::PrivateKeyBlock | Label::Signature) => false,
+        }
+    }
+
+    fn begin_block(&mut self, block: u64, fits: bool) -> Result<(), OutOfMemory> {
+        Gathering::begin_block(self, block, fits);
+        Ok(())
+    }
+
+    fn push(&mut self, packet: Placed) -> Result<(), OutOfMemory> {
+        self.add(packet)
+    }
+
+    fn finish(self) -> Result<Result<Keyring, Fault>, OutOfMemory> {
+        Gathering::finish(self)
+    }
+}

@@ -1,0 +1,41 @@
+//! The engine: armored or binary octets, in any pieces, to what a layer on top makes of the packets,
+//! or the one fault; and keyrings into a sink.
+#![tactic(auto)]
+
+mod answer;
+mod engine_error;
+mod feeding;
+mod framer;
+mod keyrings;
+pub mod laws;
+mod mode;
+mod out;
+mod packets;
+mod pipeline;
+mod read_error;
+mod reading;
+mod reading_keyring;
+mod reading_packets;
+mod reading_signed;
+mod receiver;
+mod signed;
+mod unarmoring;
+mod via;
+mod writing;
+mod writing_keyring;
+
+pub use answer::Answer;
+pub use engine_error::EngineError;
+pub use mode::Mode;
+pub use opgp_stream::{Sink, Source, Watched};
+pub use out::Out;
+pub use packets::PacketBlocks;
+pub use pipeline::Pipeline;
+pub use read_error::ReadError;
+pub use reading::read_with;
+pub use reading_keyring::read_keyring;
+pub use reading_packets::read_packets;
+pub use reading_signed::read_signed;
+pub use receiver::Receiver;
+pub use writing::{Text, write};
+pub use writing_keyring::{write_certificate, write_certificates, write_keyring};

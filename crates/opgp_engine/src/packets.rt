@@ -1,0 +1,76 @@
+//! The packets of an input, as they are.
+
+ghost use Rattle.std.specs.Prelude.{◌≡◌, ◌∷◌, [], true, List, OnOk, IfOk};
+ghost use Rattle.opgp_octets.specs.declared.limits.Limits.{Limits};
+ghost use Rattle.opgp_ring.specs.Block.{items_of};
+ghost use Rattle.opgp_ring.specs.Composition.{Item};
+ghost use Rattle.opgp_engine.specs.Packets.{ArePackets, any_label, block_values};
+ghost use Rattle.opgp_engine.specs.Reading.{shown};
+ghost use Rattle.opgp_engine.specs.Receiver.{from_label};
+
+use crate::receiver::Receiver;
+use opgp_armor::Label;
+use opgp_frame::Placed;
+use opgp_octets::{Fault, OutOfMemory};
+use opgp_ring::{BlockOf, check_bodies};
+use std::alloc::Global;
+
+/// The blocks of an input with their packets. Any label is accepted.
+#[derive(Drop)]
+pub struct PacketBlocks {
+    alloc: Global,
+    blocks: Vec<BlockOf>,
+}
+
+impl PacketBlocks {
+    /// No blocks yet. Allocates nothing; additions do, from `alloc`.
+    pub fn new(alloc: Global) -> PacketBlocks
+        ensures { result.blocks.items ≡ [] }
+    {
+        PacketBlocks {
+            alloc,
+            blocks: Vec::new(alloc),
+        }
+    }
+}
+
+impl Receiver for PacketBlocks {
+    type Value = Vec<BlockOf>;
+
+    ghost wanted = { any_label };
+
+    ghost fed = { λ _ t items. items_of t.blocks.items ≡ from_label items };
+
+    ghost says = { λ _ items r. ArePackets items (shown block_values r) };
+
+    fn wants(_label: Option<Label>) -> bool {
+        true
+    }
+
+    fn begin_block(&mut self, block: u64, fits: bool) -> Result<(), OutOfMemory> {
+        self.blocks.push(BlockOf {
+            block,
+            label_fits: fits,
+            packets: Vec::new(self.alloc),
+        })?;
+        Ok(())
+    }
+
+    fn push(&mut self, packet: Placed) -> Result<(), OutOfMemory> {
+        match self.blocks.last_mut() {
+            Some(last) => {
+                last.packets.push(packet)?;
+                Ok(())
+            }
+            // Unreachable: each block begins before its packets.
+            None => Ok(()),
+        }
+    }
+
+    fn finish(self) -> Result<Result<Vec<BlockOf>, Fault>, OutOfMemory> {
+        match check_bodies(&self.blocks) {
+            None => Ok(Ok(self.blocks)),
+            Some(fault) => Ok(Err(fault)),
+        }
+    }
+}

@@ -1,0 +1,44 @@
+//! The signed literal of an input, each block of which must be a message.
+
+ghost use Rattle.std.specs.Prelude.{◌≡◌, ◌∷◌, [], true, List, OnOk, IfOk};
+ghost use Rattle.opgp_octets.specs.declared.limits.Limits.{Limits};
+ghost use Rattle.opgp_ring.specs.SignedGathering.{GathersSigned};
+ghost use Rattle.opgp_ring.specs.SignedLiteral.{signed_packets};
+ghost use Rattle.opgp_engine.specs.Reading.{shown};
+ghost use Rattle.opgp_engine.specs.Signed.{AreSigned, message_label};
+
+use crate::receiver::Receiver;
+use opgp_armor::Label;
+use opgp_frame::Placed;
+use opgp_octets::{Fault, OutOfMemory};
+use opgp_ring::{SignedGathering, SignedLiteral};
+
+impl Receiver for SignedGathering {
+    type Value = SignedLiteral;
+
+    ghost wanted = { message_label };
+
+    ghost fed = { λ _ t items. GathersSigned t items };
+
+    ghost says = { λ _ items r. AreSigned items (shown signed_packets r) };
+
+    fn wants(label: Option<Label>) -> bool {
+        match label {
+            None | Some(Label::Message) => true,
+            Some(Label::PublicKeyBlock | Label::PrivateKeyBlock | Label::Signature) => false,
+        }
+    }
+
+    fn begin_block(&mut self, block: u64, fits: bool) -> Result<(), OutOfMemory> {
+        SignedGathering::begin_block(self, block, fits);
+        Ok(())
+    }
+
+    fn push(&mut self, packet: Placed) -> Result<(), OutOfMemory> {
+        self.add(packet)
+    }
+
+    fn finish(self) -> Result<Result<SignedLiteral, Fault>, OutOfMemory> {
+        Ok(SignedGathering::finish(self))
+    }
+}

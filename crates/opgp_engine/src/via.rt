@@ -1,0 +1,161 @@
+//! Packets on their way to an output, in binary or as armor, without an allocation.
+
+ghost use Rattle.std.specs.Prelude.{◌≡◌, ◌++◌, [], if◌then◌else◌, true, false};
+ghost use Rattle.opgp_frame.specs.Packet.{IsPacket, packets_octets, spelling};
+ghost use Rattle.opgp_ring.specs.Packets.{packets_left, part_packet};
+ghost use Rattle.opgp_engine.specs.Via.{AddsVia, ExtendsVia};
+ghost use Rattle.opgp_stream.specs.Added.{Adds};
+ghost use Rattle.opgp_stream.specs.Output.{sink_name, sink_of, state_of};
+
+use opgp_frame::{Form, Spelling};
+use opgp_ring::{Packets, Part};
+use opgp_stream::{Armoring, Output, Sink};
+use std::io;
+
+/// Adds octets, as rows of armor if a block is open.
+fn add<W: Sink>(
+    output: &mut Output<'_, W>,
+    armoring: &mut Option<Armoring>,
+    octets: &[u8],
+) -> io::Result<()>
+    requires { W.has_failed (sink_of output.old) ≡ false }
+    ensures { ExtendsVia W.held W.has_failed output.old armoring.old output.new armoring.new result
+        octets.now }
+{
+    match armoring {
+        Some(armoring) => armoring.add(output, octets),
+        None => output.add(octets),
+    }
+}
+
+/// Adds a header and what follows it.
+fn add_part<W: Sink>(
+    output: &mut Output<'_, W>,
+    armoring: &mut Option<Armoring>,
+    header: &[u8],
+    piece: &[u8],
+) -> io::Result<()>
+    requires { W.has_failed (sink_of output.old) ≡ false }
+    ensures { ExtendsVia W.held W.has_failed output.old armoring.old output.new armoring.new result
+        (header.now ++ piece.now) }
+{
+    if armoring.is_none() {
+        return output.add_both(header, piece);
+    }
+    add(output, armoring, header)?;
+    add(output, armoring, piece)?;
+    Ok(())
+}
+
+/// Adds the packet of this form, type and body (RFC 9580, 4.2). The condition is that there is such
+/// a packet.
+fn add_packet<W: Sink>(
+    output: &mut Output<'_, W>,
+    armoring: &mut Option<Armoring>,
+    form: &Form,
+    kind: u8,
+    body: &[u8],
+) -> io::Result<()>
+    requires packet { IsPacket (record { form = form.now; kind = kind; body = body.now }) }
+    requires sound { W.has_failed (sink_of output.old) ≡ false }
+    ensures { ExtendsVia W.held W.has_failed output.old armoring.old output.new armoring.new result
+        (spelling (record { form = form.now; kind = kind; body = body.now })) }
+{
+    let mut spelling = Spelling::new(form, kind, body);
+    'parts: while let Some((header, piece)) = spelling.next() {
+        add_part(output, armoring, header.as_slice(), piece)?;
+    }
+    Ok(())
+}
+
+/// Adds the packet of this form, type and body if it has one header and the output has room for
+/// it, and returns true; else changes nothing and returns false.
+#[inline(always)]
+fn hold_packet<W: Sink>(output: &mut Output<'_, W>, form: &Form, kind: u8, body: &[u8]) -> bool
+    requires packet { IsPacket (record { form = form.now; kind = kind; body = body.now }) }
+    requires sound { W.has_failed (sink_of output.old) ≡ false }
+    ensures same { sink_name output.new ≡ sink_name output.old }
+    ensures held { result ≡ true → Adds (state_of W.held W.has_failed output.old)
+        (state_of W.held W.has_failed output.new)
+        (spelling (record { form = form.now; kind = kind; body = body.now })) }
+    ensures left { result ≡ false → state_of W.held W.has_failed output.new
+        ≡ state_of W.held W.has_failed output.old }
+{
+    let mut spelling = Spelling::new(form, kind, body);
+    match (spelling.next(), spelling.next()) {
+        (Some((header, piece)), None) => output.hold_both(header.as_slice(), piece),
+        _ => false,
+    }
+}
+
+/// Adds a packet of a keyring if the output is binary and has room for it, and returns true; else
+/// adds nothing and returns false. So nearly all packets are added without an `io::Result`, which is
+/// large and would be moved from call to call.
+#[inline(always)]
+fn hold_one<W: Sink>(
+    output: &mut Output<'_, W>,
+    armoring: &Option<Armoring>,
+    part: Part<'_>,
+) -> bool
+    requires { W.has_failed (sink_of output.old) ≡ false }
+    ensures { AddsVia W.held W.has_failed output.old armoring.now output.new armoring.now
+        (if result then spelling (part_packet part.entry) else []) }
+{
+    if armoring.is_some() {
+        return false;
+    }
+    match part {
+        Part::Lead(packet) => hold_packet(output, packet.form(), packet.kind(), packet.body()),
+        Part::Member(member) => hold_packet(output, member.form(), member.kind(), member.body()),
+    }
+}
+
+/// Adds a packet of a keyring.
+fn add_one<W: Sink>(
+    output: &mut Output<'_, W>,
+    armoring: &mut Option<Armoring>,
+    part: Part<'_>,
+) -> io::Result<()>
+    requires { W.has_failed (sink_of output.old) ≡ false }
+    ensures { ExtendsVia W.held W.has_failed output.old armoring.old output.new armoring.new result
+        (spelling (part_packet part.entry)) }
+{
+    match part {
+        Part::Lead(packet) => {
+            add_packet(
+                output,
+                armoring,
+                packet.form(),
+                packet.kind(),
+                packet.body(),
+            )
+        }
+        Part::Member(member) => {
+            add_packet(
+                output,
+                armoring,
+                member.form(),
+                member.kind(),
+                member.body(),
+            )
+        }
+    }
+}
+
+/// Adds all packets that are left.
+pub(crate) fn add_packets<W: Sink>(
+    output: &mut Output<'_, W>,
+    armoring: &mut Option<Armoring>,
+    mut packets: Packets<'_>,
+) -> io::Result<()>
+    requires { W.has_failed (sink_of output.old) ≡ false }
+    ensures { ExtendsVia W.held W.has_failed output.old armoring.old output.new armoring.new result
+        (packets_octets (packets_left packets.entry)) }
+{
+    'packets: while let Some(part) = packets.next() {
+        if !hold_one(output, armoring, part) {
+            add_one(output, armoring, part)?;
+        }
+    }
+    Ok(())
+}

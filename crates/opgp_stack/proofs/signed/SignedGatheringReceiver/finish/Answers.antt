@@ -1,5 +1,0 @@
-use Rattle.opgp_stack.proofs.Ends.{signed_is}
-use Rattle.opgp_stack.proofs.signed.SignedGatheringReceiver.finish.Goals as goal
-
-pub returns : goal.returns
-returns c limits items fed read = signed_is items c.finish.result read.ends (c.finish.ensures items fed)

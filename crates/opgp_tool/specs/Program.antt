@@ -2,7 +2,7 @@
 use Rattle.std.specs.Prelude.{◌≡◌, List, [], ◌∷◌, Some, true, false, codes, map}
 use Rattle.std.specs.Borrow.{Bor}
 use Rattle.std.specs.List.{AllByRecursion}
-use Rattle.clap.specs.Words.{App, Row, Rule, Shape, Text, app_of, new_rule, subcommand_of, takes}
+use Rattle.clap.specs.Words.{App, Row, Rule, Shape, Text, app_of, new_rule, subcommand_of, takes, with_rule}
 use Rattle.clap.specs.Simple.{new_shape}
 use Rattle.clap.specs.declared.builder.action.ArgAction.TheVariants.{Set, SetTrue}
 use Rattle.clap.specs.declared.builder.command.Command.{Command}
@@ -86,6 +86,11 @@ AreOuts outs = words_in outs ≡ codes "armor" ∷ codes "binary" ∷ []
 
 abbrev pub AreTops : Choice → Type 0
 AreTops tops = words_in tops ≡ codes "ring" ∷ codes "literal" ∷ []
+
+-- the program's command with the options of the limits added
+abbrev pub with_limits : App → App
+with_limits app = with_rule (with_rule (with_rule (with_rule (with_rule app line_rule) body_rule)
+    cert_rule) input_rule) pieces_rule
 
 -- the command of this name takes the mode, the limits, and these options
 abbrev pub command_shape : Text → Choice → List Rule → Shape

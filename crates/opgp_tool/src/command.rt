@@ -3,16 +3,17 @@
 ghost use Rattle.std.specs.Prelude.{◌≡◌, true, false, IfOk, IsOkAnd, [], ◌∷◌, codes};
 ghost use Rattle.clap.specs.Words.{rule_of, app_of, shape_of, with_rule, with_subcommand};
 ghost use Rattle.opgp_tool.specs.Program.{Choice, AreModes, AreOuts, AreTops, mode_rule, out_rule};
-ghost use Rattle.opgp_tool.specs.Program.{of_rule, line_rule, body_rule, cert_rule, input_rule};
-ghost use Rattle.opgp_tool.specs.Program.{pieces_rule, row_rule, nth_rule, merge_rule};
+ghost use Rattle.opgp_tool.specs.Program.{of_rule, limit_rule, row_rule, nth_rule, merge_rule};
+ghost use Rattle.opgp_tool.specs.Program.{with_limits};
 ghost use Rattle.opgp_tool.specs.Program.{IsCommand, IsProgram, bare_program};
 
 use crate::help::{
     CHECK_HELP, JOIN_HELP, LIST_HELP, NORMALISE_HELP, OCTETS_HELP, PROGRAM_HELP, SHOW_HELP,
     SPLIT_HELP, WRITE_HELP,
 };
+use clap::builder::ValueParser;
 use clap::{Arg, ArgAction, Command};
-use opgp_octets::{Limits, OutOfMemory};
+use opgp_octets::{Limits, OutOfMemory, Range};
 use std::alloc::Global;
 
 static MODES: [&str; 3] = ["auto", "armor", "binary"];
@@ -63,84 +64,45 @@ fn of_option<'a>(alloc: Global) -> Arg<'a>
         .help("What the input is read as")
 }
 
-/// `--line`: a number in its range.
-fn line_option<'a>(alloc: Global) -> Arg<'a>
-    ensures rule { rule_of result ≡ line_rule }
+/// A limit: a number in its range, or `usual` if the option isn't given.
+fn limit_option<'a>(
+    alloc: Global,
+    name: &'a str,
+    range: Range,
+    usual: &'a str,
+    help: &'a str,
+) -> Arg<'a>
+    ensures rule { rule_of result ≡ limit_rule name.entry.now range usual.entry.now }
     ensures own { result.global ≡ false }
 {
-    Arg::new(alloc, "line")
-        .long("line")
+    Arg::new(alloc, name)
+        .long(name)
         .value_name("N")
         .action(ArgAction::Set)
-        .value_parser(clap::value_parser!(u64).range(
-            Limits::LINE.least as i64..=Limits::LINE.most as i64,
-        ))
-        .default_value("8192")
-        .help("The most octets of an armored line, 128 to 1048576")
+        .value_parser(ValueParser::unsigned(range.least, range.most))
+        .default_value(usual)
+        .help(help)
 }
 
-/// `--body`: a number in its range.
-fn body_option<'a>(alloc: Global) -> Arg<'a>
-    ensures rule { rule_of result ≡ body_rule }
-    ensures own { result.global ≡ false }
+/// The command with the options of the limits added, as its last.
+fn with_limits<'a>(alloc: Global, command: Command<'a>) -> Result<Command<'a>, OutOfMemory>
+    ensures { IfOk result (λ r. app_of r ≡ with_limits (app_of command.entry)) }
 {
-    Arg::new(alloc, "body")
-        .long("body")
-        .value_name("N")
-        .action(ArgAction::Set)
-        .value_parser(clap::value_parser!(u64).range(
-            Limits::BODY.least as i64..=Limits::BODY.most as i64,
-        ))
-        .default_value("16777216")
-        .help("The most octets of a packet's body, 512 to 4294967295")
-}
-
-/// `--cert`: a number in its range.
-fn cert_option<'a>(alloc: Global) -> Arg<'a>
-    ensures rule { rule_of result ≡ cert_rule }
-    ensures own { result.global ≡ false }
-{
-    Arg::new(alloc, "cert")
-        .long("cert")
-        .value_name("N")
-        .action(ArgAction::Set)
-        .value_parser(clap::value_parser!(u64).range(
-            Limits::CERT.least as i64..=Limits::CERT.most as i64,
-        ))
-        .default_value("67108864")
-        .help("The most octets of a certificate, 512 to 1099511627776")
-}
-
-/// `--input`: a number in its range.
-fn input_option<'a>(alloc: Global) -> Arg<'a>
-    ensures rule { rule_of result ≡ input_rule }
-    ensures own { result.global ≡ false }
-{
-    Arg::new(alloc, "input")
-        .long("input")
-        .value_name("N")
-        .action(ArgAction::Set)
-        .value_parser(clap::value_parser!(u64).range(
-            Limits::INPUT.least as i64..=Limits::INPUT.most as i64,
-        ))
-        .default_value("1099511627776")
-        .help("The most octets of the input, 0 to 4611686018427387904")
-}
-
-/// `--pieces`: a number in its range.
-fn pieces_option<'a>(alloc: Global) -> Arg<'a>
-    ensures rule { rule_of result ≡ pieces_rule }
-    ensures own { result.global ≡ false }
-{
-    Arg::new(alloc, "pieces")
-        .long("pieces")
-        .value_name("N")
-        .action(ArgAction::Set)
-        .value_parser(clap::value_parser!(u64).range(
-            Limits::PIECES.least as i64..=Limits::PIECES.most as i64,
-        ))
-        .default_value("1048576")
-        .help("The most partial lengths of a packet, 1 to 16777216")
+    let help = "The most octets of an armored line, 128 to 1048576";
+    let line = limit_option(alloc, "line", Limits::LINE, "8192", help);
+    let command = with_option(command, line)?;
+    let help = "The most octets of a packet's body, 512 to 4294967295";
+    let body = limit_option(alloc, "body", Limits::BODY, "16777216", help);
+    let command = with_option(command, body)?;
+    let help = "The most octets of a certificate, 512 to 1099511627776";
+    let cert = limit_option(alloc, "cert", Limits::CERT, "67108864", help);
+    let command = with_option(command, cert)?;
+    let help = "The most octets of the input, 0 to 4611686018427387904";
+    let input = limit_option(alloc, "input", Limits::INPUT, "1099511627776", help);
+    let command = with_option(command, input)?;
+    let help = "The most partial lengths of a packet, 1 to 16777216";
+    let pieces = limit_option(alloc, "pieces", Limits::PIECES, "1048576", help);
+    with_option(command, pieces)
 }
 
 /// `--row`: any `u64`, and required.
@@ -212,12 +174,7 @@ fn new_command<'a>(
     ensures { IfOk result (IsCommand name.entry.now []) }
 {
     let command = Command::new(alloc, name).about(about).after_help(more);
-    let command = with_option(command, mode_option(alloc))?;
-    let command = with_option(command, line_option(alloc))?;
-    let command = with_option(command, body_option(alloc))?;
-    let command = with_option(command, cert_option(alloc))?;
-    let command = with_option(command, input_option(alloc))?;
-    with_option(command, pieces_option(alloc))
+    with_limits(alloc, with_option(command, mode_option(alloc))?)
 }
 
 fn octets_command<'a>(alloc: Global) -> Result<Command<'a>, OutOfMemory>

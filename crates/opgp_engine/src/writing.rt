@@ -1,4 +1,4 @@
-//! Writing packets and lines, without an allocation once it has begun.
+//! Writing packets, and any other text, without an allocation once it has begun.
 
 ghost use Rattle.std.specs.Prelude.{◌≡◌, ℕ, [], List, false};
 ghost use Rattle.opgp_armor.specs.Written.{armor_text};

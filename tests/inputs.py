@@ -22,16 +22,16 @@ def some(rng, most):
 
 
 def integer(rng, strict):
-    """A multiprecision integer; where it needn't be strict, with a count of bits that may be off."""
+    """A multiprecision integer; where it needn't be strict, or seldom, with a count of bits that may be off."""
     bits = rng.choice((0, 1, 7, 8, 9, 16, 17, 255, 256, rng.randrange(600)))
     octets = bytearray(rng.randbytes((bits + 7) // 8))
-    if octets and (strict or rng.random() < 0.7):
+    if octets and rng.random() < (0.98 if strict else 0.7):
         top = (bits - 1) % 8
         octets[0] = (octets[0] | 1 << top) & (2 << top) - 1
     return number(2, bits) + bytes(octets)
 
 
-def sized(rng, forbidden=0.02):
+def sized(rng, forbidden=0.05):
     """Octets behind a size octet that isn't 0 or 255, or seldom is."""
     if rng.random() < forbidden:
         return bytes([rng.choice((0, 255))])
@@ -106,7 +106,8 @@ def subpacket(rng, keys, depth):
 
 
 def area(rng, keys, depth, most=4):
-    return b"".join(subpacket(rng, keys, depth) for _ in range(rng.randrange(most)))
+    empty = rng.choice((b"\0", b"\xff\0\0\0\0")) if rng.random() < 0.002 else b""
+    return b"".join(subpacket(rng, keys, depth) for _ in range(rng.randrange(most))) + empty
 
 
 def signature(rng, keys=(), depth=0, kind=None):
@@ -147,7 +148,8 @@ def attribute(rng):
 
 def literal(rng):
     name = some(rng, 20)
-    return rng.choice((b"b", b"t", b"u", b"\0")) + bytes([len(name)]) + name + rng.randbytes(4) + some(rng, 700)
+    content = rng.randbytes(rng.choice((0, 1, rng.randrange(700), rng.randrange(5000), rng.randrange(5000))))
+    return rng.choice((b"b", b"t", b"u", b"\0")) + bytes([len(name)]) + name + rng.randbytes(4) + content
 
 
 def user_id(rng):
@@ -249,10 +251,23 @@ def certificate(rng):
     return parts
 
 
+def another_of(rng, parts):
+    """A certificate with the same primary key, and some of the same packets in any order and form."""
+    for part in [parts[0], *rng.choices(parts, k=rng.randrange(2 * len(parts)))]:
+        try:
+            kind, _, body, _ = model.packet_of(part, 0, 0, model.USUAL)
+            yield packet(rng, kind, body)
+        except model.Refused:
+            yield part
+
+
 def keyring(rng):
     parts = [filler(rng) for _ in range(rng.choice((0, 0, 0, 1, 2)))]
     for _ in range(rng.choice((0, 1, 1, 1, 2, 3))):
-        parts += certificate(rng)
+        one = certificate(rng)
+        parts += one
+        if rng.random() < 0.15:
+            parts += another_of(rng, one)
     if rng.random() < 0.05:
         parts.insert(rng.randrange(len(parts) + 1), some_packet(rng))
     return parts
@@ -268,9 +283,10 @@ def message(rng):
 def large(rng):
     """A literal, filler or key of many octets."""
     octets = rng.randbytes(rng.choice((65_529, 65_530, 70_000, 140_000)))
-    kind = rng.choice((11, 11, 40, 6, 6))
+    kind = rng.choice((11, 40, 6, 6, 6))
     if kind == 6:
-        body = rng.choice((b"\6\0\0\0\0\xc8" + number(4, len(octets)) + octets, b"\4\0\0\0\0\xc8" + octets))
+        counted = b"\6\0\0\0\0\xc8" + number(4, len(octets))
+        body = rng.choice((counted, b"\4\0\0\0\0\xc8", b"\4\0\0\0\0\xc8")) + octets
     else:
         body = b"b\0\0\0\0\0" + octets
     return [packet(rng, kind, body)]
@@ -282,7 +298,7 @@ def packets(rng):
         return keyring(rng)
     if made < 0.74:
         return message(rng)
-    if made < 0.995:
+    if made < 0.98:
         return [some_packet(rng) for _ in range(rng.choice((0, 1, 1, 2, 4)))]
     return large(rng)
 
@@ -291,13 +307,6 @@ def packets(rng):
 
 
 LABELS = (b"PUBLIC KEY BLOCK",) * 12 + (b"MESSAGE",) * 4 + (b"PRIVATE KEY BLOCK", b"SIGNATURE", b"SIGNED MESSAGE")
-
-
-def armor(octets, label=b"PUBLIC KEY BLOCK"):
-    """The text in the form that the program writes."""
-    letters = base64.b64encode(octets)
-    rows = [letters[at : at + 64] + b"\n" for at in range(0, len(letters), 64)]
-    return b"-----BEGIN PGP " + label + b"-----\n\n" + b"".join(rows) + b"-----END PGP " + label + b"-----\n"
 
 
 def block(rng, octets):
@@ -317,6 +326,7 @@ def block(rng, octets):
             lines.append(b"")
     if rng.random() < 0.4:
         lines.append(rng.choice((b"=AAAA", b"=zz!", b"=")))
+        lines += [b"AAAA"] * (rng.random() < 0.03)
     lines.append(b"-----END PGP " + label + b"-----")
     return lines
 

@@ -1,4 +1,4 @@
-"""What list, show, check and octets answer to an input, written from docs/FORMAT.md, tests/vectors and RFC 9580 alone and as plainly as it
+"""What each command answers to an input, written from docs/FORMAT.md, tests/vectors and RFC 9580 alone and as plainly as it
 goes: an answer to hold the program's against."""
 
 import base64
@@ -478,6 +478,68 @@ def shown(packets):
                     yield f"  {area} kind {octet & 127} critical {octet >> 7} length {n} {meaning(octet & 127, octets)}"
 
 
+# What is written.
+
+
+def armor(octets, label=b"PUBLIC KEY BLOCK"):
+    """The text in the form that the program writes."""
+    letters = base64.b64encode(octets)
+    rows = [letters[at : at + 64] + b"\n" for at in range(0, len(letters), 64)]
+    return b"-----BEGIN PGP " + label + b"-----\n\n" + b"".join(rows) + b"-----END PGP " + label + b"-----\n"
+
+
+def as_it_is(blocks, packet):
+    block, at, *_, n = packet
+    return blocks[block][1][at : at + n]
+
+
+def in_normal_form(packet):
+    _, _, kind, _, body, _ = packet
+    n = len(body)
+    length = b"\xff" + n.to_bytes(4, "big")
+    if n < 192:
+        length = bytes([n])
+    elif n < 8384:
+        length = (n - 192 + (192 << 8)).to_bytes(2, "big")
+    return bytes([0xC0 + kind]) + length + body
+
+
+def flat(certificates):
+    return [index for parts in certificates for head, hangs in parts for index in (head, *hangs)]
+
+
+def merged(packets, certificates):
+    """A certificate for each primary key; of the packets of a place that have the same type and body the first one."""
+
+    def named(index):
+        return packets[index][2:5:2]
+
+    keys = {}
+    for parts in certificates:
+        places = keys.setdefault(named(parts[0][0]), {})
+        for head, hangs in parts:
+            _, kept = places.setdefault(named(head), (head, {}))
+            for index in hangs:
+                kept.setdefault(named(index), index)
+    return [[(head, [*kept.values()]) for head, kept in places.values()] for places in keys.values()]
+
+
+def written(command, blocks, packets, lead, certificates, nth, binary):
+    """What write, normalise, split, nth (split --nth), join and merge (join --merge) write, in binary or in armor."""
+    spelled = in_normal_form if command == "normalise" else lambda it: as_it_is(blocks, it)
+    if command == "merge":
+        certificates = merged(packets, certificates)
+    if command == "nth":
+        certificates = certificates[nth : nth + 1]
+        if not certificates:
+            return 1, b"", b"opgp: no such certificate\n"
+    alone = command in ("split", "nth")
+    texts = [[it] for it in certificates] if alone else [certificates]
+    texts = [(flat(it) if alone else lead + flat(it)) for it in texts]
+    texts = [b"".join(spelled(packets[index]) for index in it) for it in texts]
+    return 0, b"".join(it if binary else armor(it) for it in texts), b""
+
+
 # Reports.
 
 
@@ -605,8 +667,9 @@ def hashed_of_a_literal(literal, signatures):
         yield octets if it else None
 
 
-def answer(command, octets, row=0, limits=USUAL):
-    """The status, the standard output and the standard error. The commands are list, show, check, octets and literal."""
+def answer(command, octets, row=0, limits=USUAL, bare=False):
+    """The status, the standard output and the standard error. The commands are list, show, check, octets, literal (octets
+    --of literal), and those of written()."""
     wanted = b"MESSAGE" if command == "literal" else b"PUBLIC KEY BLOCK"
     try:
         binary = not octets or octets[0] >= 128
@@ -615,9 +678,11 @@ def answer(command, octets, row=0, limits=USUAL):
         check_bodies(packets)
         if command == "literal":
             return hashed(list(hashed_of_a_literal(*signed(blocks, packets))), row)
-        certificates = compose(blocks, packets, limits)[1] if command != "show" else []
+        lead, certificates = compose(blocks, packets, limits) if command != "show" else ([], [])
     except Refused as refused:
         return 1, b"", refused.args[0]
+    if command not in ("list", "show", "check", "octets"):
+        return written(command, blocks, packets, lead, certificates, row, bare)
     if command == "show":
         lines = shown(packets)
     elif command == "list":

@@ -17,6 +17,7 @@ pub use Rattle.opgp_ring.specs.Lent
 pub use Rattle.opgp_ring.specs.Normal
 pub use Rattle.opgp_ring.specs.PacketBody
 pub use Rattle.opgp_ring.specs.Packets
+pub use Rattle.opgp_ring.specs.Parts
 pub use Rattle.opgp_ring.specs.Shape
 pub use Rattle.opgp_ring.specs.Signed
 pub use Rattle.opgp_ring.specs.SignedGathering

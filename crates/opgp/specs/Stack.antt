@@ -3,7 +3,9 @@ pub use Rattle.opgp_stack.specs.declared
 pub use Rattle.opgp_stack.specs.Faults
 pub use Rattle.opgp_stack.specs.Hashing
 pub use Rattle.opgp_stack.specs.Listing
+pub use Rattle.opgp_stack.specs.Parts
 pub use Rattle.opgp_stack.specs.Report
 pub use Rattle.opgp_stack.specs.Role
 pub use Rattle.opgp_stack.specs.Running
 pub use Rattle.opgp_stack.specs.Showing
+pub use Rattle.opgp_stack.specs.Shown

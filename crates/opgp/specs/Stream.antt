@@ -2,6 +2,7 @@
 pub use Rattle.opgp_stream.specs.declared
 pub use Rattle.opgp_stream.specs.Added
 pub use Rattle.opgp_stream.specs.Armoring
+pub use Rattle.opgp_stream.specs.Held
 pub use Rattle.opgp_stream.specs.Line
 pub use Rattle.opgp_stream.specs.Output
 pub use Rattle.opgp_stream.specs.Place

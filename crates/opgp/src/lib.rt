@@ -14,9 +14,9 @@ pub mod armor {
 /// Keyrings read from a reader and written to a writer.
 pub mod engine {
     pub use opgp_engine::{
-        Answer, EngineError, Mode, Out, PacketBlocks, Pipeline, ReadError, Receiver, Sink, Source,
-        Text, Watched, laws, read_keyring, read_packets, read_signed, read_with, write,
-        write_certificate, write_certificates, write_keyring,
+        Answer, Draft, EngineError, Mode, Out, PacketBlocks, PacketsText, Pipeline, ReadError,
+        Receiver, Sink, Source, Text, Watched, laws, read_keyring, read_packets, read_signed,
+        read_with, write, write_certificate, write_certificates, write_keyring,
     };
 }
 
@@ -74,9 +74,10 @@ pub mod report {
 /// Keyrings, certificates and signed literals (RFC 9580, 10).
 pub mod ring {
     pub use opgp_ring::{
-        BlockOf, Certificate, Component, Composer, Content, Gathering, Head, Keyring, Member,
-        Packets, Part, Ready, Signatures, SignedGathering, SignedLiteral, body_fault, check_bodies,
-        compose, compose_signed, end_fits, flatten, join, laws, normalise, nth,
+        BlockOf, Certificate, Component, Composer, Content, Gathering, Head, Keeper, Keyring, Lead,
+        Member, Packets, Part, Ready, Signatures, SignedGathering, SignedLiteral, body_fault,
+        check_bodies, compose, compose_signed, end_fits, flatten, join, laws, normalise, nth,
+        packet_fault,
     };
 }
 
@@ -89,5 +90,7 @@ pub mod stack {
 
 /// Lines, octets and armor through one buffer into a writer.
 pub mod stream {
-    pub use opgp_stream::{Armoring, Buffer, Output, Sink, Source, Watched, Word, laws, put_all};
+    pub use opgp_stream::{
+        Armoring, Buffer, Held, Output, Sink, Source, Watched, Word, laws, put_all,
+    };
 }

@@ -2,6 +2,7 @@ mod Again
 mod Ends
 mod Framing
 mod Handing
+pub mod Kept
 mod Labels
 pub mod Loops
 mod OneAnswer

@@ -4,9 +4,10 @@ use Rattle.std.specs.Prelude.{MatchResult}
 use Rattle.opgp_octets.specs.declared.limits.Limits.{Limits}
 use Rattle.opgp_armor.specs.declared.label.Label.{Label}
 use Rattle.opgp_armor.specs.declared.label.Label.TheVariants as label
-use Rattle.opgp_ring.specs.Composed.{IsKeyringOf, IsFault}
+use Rattle.opgp_ring.specs.Composed.{IsKeyringOf, IsFault, PartValue}
 use Rattle.opgp_ring.specs.Composition.{Item}
 use Rattle.opgp_ring.specs.Keyring.{KeyringValue}
+use Rattle.opgp_ring.specs.Parts.{HasAll}
 use Rattle.opgp_engine.specs.declared.answer.Answer.{Answer}
 use Rattle.opgp_engine.specs.declared.answer.Answer.TheVariants as answer
 use Rattle.opgp_engine.specs.declared.engine_error.EngineError.{EngineError}
@@ -28,6 +29,12 @@ key_label (Some label.Signature) = false
 abbrev pub ComposesTo : Limits → List Item → Outcome KeyringValue → Type 0
 ComposesTo limits items answer =
     MatchResult answer (IsKeyringOf limits items) (IsFault limits items)
+
+-- the labels and packets are those of a keyring, all whose parts are kept; or this is their fault
+abbrev pub KeepsAll : {K : Type 0} → (K → List PartValue → Type 0) → Limits → List Item → Outcome K
+    → Type 0
+KeepsAll kept limits items answer =
+    MatchResult answer (HasAll kept limits items) (IsFault limits items)
 
 -- a refusal is a result and not an error; nothing is written
 abbrev pub AnswersAs : (Result KeyringValue ReadError → Type 0) → Result Answer EngineError → Type 0

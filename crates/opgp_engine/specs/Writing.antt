@@ -10,10 +10,14 @@ use Rattle.opgp_engine.specs.declared.out.Out.{Out}
 use Rattle.opgp_engine.specs.declared.out.Out.TheVariants.{Armor, Binary}
 use Rattle.opgp_stream.specs.Stream.{AppendsPrefix}
 
--- the octets of packets, in binary or as one block of armor
+-- octets, in binary or as one block of armor
+abbrev pub octets_text : Out → List ℕ → List ℕ
+octets_text Armor octets = armor_text PublicKeyBlock [] octets
+octets_text Binary octets = octets
+
+-- those of packets
 abbrev pub packets_text : Out → List PacketValue → List ℕ
-packets_text Armor ps = armor_text PublicKeyBlock [] (packets_octets ps)
-packets_text Binary ps = packets_octets ps
+packets_text out ps = octets_text out (packets_octets ps)
 
 -- each certificate on its own, one after the other
 abbrev pub certificates_text : Out → List CertificateValue → List ℕ

@@ -3,22 +3,22 @@
 ghost use Rattle.std.specs.Prelude.{◌≡◌, ◌∷◌, [], true, List, OnOk, IfOk};
 ghost use Rattle.opgp_octets.specs.declared.limits.Limits.{Limits};
 ghost use Rattle.opgp_ring.specs.Gathering.{Gathers};
-ghost use Rattle.opgp_engine.specs.Keyrings.{ComposesTo, key_label};
+ghost use Rattle.opgp_engine.specs.Keyrings.{KeepsAll, key_label};
 
 use crate::receiver::Receiver;
 use opgp_armor::Label;
 use opgp_frame::Placed;
 use opgp_octets::{Fault, OutOfMemory};
-use opgp_ring::{Gathering, Keyring};
+use opgp_ring::{Gathering, Keeper};
 
-impl Receiver for Gathering {
-    type Value = Keyring;
+impl<K: Keeper + Drop> Receiver for Gathering<K> {
+    type Value = K;
 
     ghost wanted = { key_label };
 
-    ghost fed = { λ limits t items. Gathers limits t items };
+    ghost fed = { λ limits t items. Gathers K.kept limits t items };
 
-    ghost says = { ComposesTo };
+    ghost says = { KeepsAll K.kept };
 
     fn wants(label: Option<Label>) -> bool {
         match label {
@@ -36,7 +36,7 @@ impl Receiver for Gathering {
         self.add(packet)
     }
 
-    fn finish(self) -> Result<Result<Keyring, Fault>, OutOfMemory> {
+    fn finish(self) -> Result<Result<K, Fault>, OutOfMemory> {
         Gathering::finish(self)
     }
 }

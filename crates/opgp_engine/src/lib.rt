@@ -3,6 +3,7 @@
 #![tactic(auto)]
 
 mod answer;
+mod draft;
 mod engine_error;
 mod feeding;
 mod framer;
@@ -25,6 +26,7 @@ mod writing;
 mod writing_keyring;
 
 pub use answer::Answer;
+pub use draft::Draft;
 pub use engine_error::EngineError;
 pub use mode::Mode;
 pub use opgp_stream::{Sink, Source, Watched};
@@ -38,4 +40,4 @@ pub use reading_packets::read_packets;
 pub use reading_signed::read_signed;
 pub use receiver::Receiver;
 pub use writing::{Text, write};
-pub use writing_keyring::{write_certificate, write_certificates, write_keyring};
+pub use writing_keyring::{PacketsText, write_certificate, write_certificates, write_keyring};

@@ -23,9 +23,9 @@ pub struct PacketBlocks {
 }
 
 impl PacketBlocks {
-    /// No blocks yet. Allocates nothing; additions do, from `alloc`.
+    /// No blocks yet: it was given nothing. Allocates nothing; additions do, from `alloc`.
     pub fn new(alloc: Global) -> PacketBlocks
-        ensures { result.blocks.items ≡ [] }
+        ensures { (limits : Limits) → ⟦<PacketBlocks as Receiver>⟧.fed limits result [] }
     {
         PacketBlocks {
             alloc,

@@ -11,7 +11,7 @@ use crate::mode::Mode;
 use crate::read_error::ReadError;
 use crate::reading::read_with;
 use opgp_octets::Limits;
-use opgp_ring::Gathering;
+use opgp_ring::{Gathering, Keyring};
 use opgp_stream::Source;
 use std::alloc::Global;
 
@@ -32,7 +32,8 @@ pub fn read_keyring<R: Source>(
     ensures { AnswersAs (ReadsAs R.left R.has_failed reader.old reader.new limits.now
         (AnswerOf key_label (ComposesTo limits.now) mode limits.now)) result }
 {
-    match read_with(alloc, reader, mode, limits, Gathering::new(alloc, *limits)) {
+    let top = Gathering::new(alloc, *limits, Keyring::empty(alloc));
+    match read_with(alloc, reader, mode, limits, top) {
         Ok(keyring) => Ok(Answer::Ring(keyring)),
         Err(ReadError::Refused(fault)) => Ok(Answer::Refused(fault)),
         Err(ReadError::Read) => Err(EngineError::Read),

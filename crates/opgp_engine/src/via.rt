@@ -1,15 +1,16 @@
 //! Packets on their way to an output, in binary or as armor, without an allocation.
 
-ghost use Rattle.std.specs.Prelude.{◌≡◌, ◌++◌, [], if◌then◌else◌, true, false};
+ghost use Rattle.std.specs.Prelude.{◌≡◌, ◌++◌, [], ℕ, List, if◌then◌else◌, true, false};
 ghost use Rattle.opgp_frame.specs.Packet.{IsPacket, packets_octets, spelling};
 ghost use Rattle.opgp_ring.specs.Packets.{packets_left, part_packet};
 ghost use Rattle.opgp_engine.specs.Via.{AddsVia, ExtendsVia};
 ghost use Rattle.opgp_stream.specs.Added.{Adds};
+ghost use Rattle.opgp_stream.specs.Held.{held_octets, pieces_octets};
 ghost use Rattle.opgp_stream.specs.Output.{sink_name, sink_of, state_of};
 
 use opgp_frame::{Form, Spelling};
 use opgp_ring::{Packets, Part};
-use opgp_stream::{Armoring, Output, Sink};
+use opgp_stream::{Armoring, Held, Output, Sink};
 use std::io;
 
 /// Adds octets, as rows of armor if a block is open.
@@ -142,8 +143,68 @@ fn add_one<W: Sink>(
     }
 }
 
+/// Octets that go to an output, as they are or as rows of armor.
+pub(crate) trait Payload {
+    // All of them.
+    ghost octets: { Self → List ℕ };
+
+    /// Adds them, as rows of armor if a block is open.
+    fn add_via<W: Sink>(
+        self,
+        output: &mut Output<'_, W>,
+        armoring: &mut Option<Armoring>,
+    ) -> io::Result<()>
+        requires { W.has_failed (sink_of output.old) ≡ false }
+        ensures { ExtendsVia W.held W.has_failed output.old armoring.old output.new armoring.new
+            result (octets self) };
+}
+
+impl Payload for Packets<'_> {
+    ghost octets = { λ packets. packets_octets (packets_left packets) };
+
+    fn add_via<W: Sink>(
+        self,
+        output: &mut Output<'_, W>,
+        armoring: &mut Option<Armoring>,
+    ) -> io::Result<()> {
+        add_packets(output, armoring, self)
+    }
+}
+
+impl Payload for &Held {
+    ghost octets = { λ held. held_octets held.now };
+
+    fn add_via<W: Sink>(
+        self,
+        output: &mut Output<'_, W>,
+        armoring: &mut Option<Armoring>,
+    ) -> io::Result<()> {
+        let (full, last) = self.pieces();
+        add_pieces(output, armoring, full)?;
+        add(output, armoring, last)
+    }
+}
+
+/// Adds pieces, one after the other.
+fn add_pieces<W: Sink>(
+    output: &mut Output<'_, W>,
+    armoring: &mut Option<Armoring>,
+    pieces: &[Vec<u8>],
+) -> io::Result<()>
+    requires { W.has_failed (sink_of output.old) ≡ false }
+    ensures { ExtendsVia W.held W.has_failed output.old armoring.old output.new armoring.new result
+        (pieces_octets pieces.now) }
+{
+    let mut rest = pieces;
+    'pieces: while let Some((piece, more)) = rest.split_first() {
+        add(output, armoring, piece)?;
+        rest = more;
+    }
+    Ok(())
+}
+
 /// Adds all packets that are left.
-pub(crate) fn add_packets<W: Sink>(
+fn add_packets<W: Sink>(
     output: &mut Output<'_, W>,
     armoring: &mut Option<Armoring>,
     mut packets: Packets<'_>,

@@ -2,62 +2,59 @@
 
 ghost use Rattle.std.specs.Prelude.{◌≡◌, ℕ, [], List, false};
 ghost use Rattle.opgp_armor.specs.Written.{armor_text};
-ghost use Rattle.opgp_frame.specs.Packet.{packets_octets};
-ghost use Rattle.opgp_ring.specs.Packets.{packets_left};
-ghost use Rattle.opgp_engine.specs.Writing.{Puts, certificates_text, packets_text};
+ghost use Rattle.opgp_engine.specs.Writing.{Puts, certificates_text, octets_text};
 ghost use Rattle.opgp_engine.specs.Written.{IsWritten};
 ghost use Rattle.opgp_stream.specs.Output.{Extends, sink_name, sink_of, waiting_in};
 
 use crate::engine_error::EngineError;
 use crate::out::Out;
-use crate::via::add_packets;
+use crate::via::Payload;
 use opgp_armor::Label;
 use opgp_ring::{Certificate, Packets};
 use opgp_stream::{Armoring, Buffer, Output, Sink};
 use std::alloc::Global;
 use std::io;
 
-/// Adds packets as they are.
-fn add_bare<W: Sink>(output: &mut Output<'_, W>, packets: Packets<'_>) -> io::Result<()>
+/// Adds octets as they are.
+fn add_bare<W: Sink, P: Payload + Copy>(output: &mut Output<'_, W>, payload: P) -> io::Result<()>
     requires { W.has_failed (sink_of output.old) ≡ false }
-    ensures { Extends W.held W.has_failed output.old output.new result
-        (packets_octets (packets_left packets.entry)) }
+    ensures { Extends W.held W.has_failed output.old output.new result (P.octets payload) }
 {
     let mut none = None;
-    add_packets(output, &mut none, packets)
+    payload.add_via(output, &mut none)
 }
 
-/// Adds packets as one block of armor (RFC 9580, 6.2).
-fn add_block<W: Sink>(
+/// Adds octets as one block of armor (RFC 9580, 6.2).
+fn add_block<W: Sink, P: Payload + Copy>(
     output: &mut Output<'_, W>,
     label: Label,
-    packets: Packets<'_>,
+    payload: P,
 ) -> io::Result<()>
     requires { W.has_failed (sink_of output.old) ≡ false }
     ensures { Extends W.held W.has_failed output.old output.new result
-        (armor_text label [] (packets_octets (packets_left packets.entry))) }
+        (armor_text label [] (P.octets payload)) }
 {
     let mut armoring = Some(Armoring::begin(output, label)?);
-    add_packets(output, &mut armoring, packets)?;
+    payload.add_via(output, &mut armoring)?;
     match armoring {
         Some(armoring) => armoring.end(output),
         None => unreachable!(),
     }
 }
 
-/// Adds packets, in binary or as one block of armor.
-pub(crate) fn add_text<W: Sink>(
+/// Adds octets, in binary or as one block of armor.
+pub(crate) fn add_text<W: Sink, P: Payload + Copy>(
     output: &mut Output<'_, W>,
     out: Out,
-    packets: Packets<'_>,
+    payload: P,
 ) -> io::Result<()>
     requires { W.has_failed (sink_of output.old) ≡ false }
     ensures { Extends W.held W.has_failed output.old output.new result
-        (packets_text out (packets_left packets.entry)) }
+        (octets_text out (P.octets payload)) }
 {
     match out {
-        Out::Armor => add_block(output, Label::PublicKeyBlock, packets),
-        Out::Binary => add_bare(output, packets),
+        Out::Armor => add_block(output, Label::PublicKeyBlock, payload),
+        Out::Binary => add_bare(output, payload),
     }
 }
 
@@ -89,7 +86,7 @@ pub trait Text {
 }
 
 /// Writes a text into an empty output.
-fn put<W: Sink, T: Text>(output: &mut Output<'_, W>, text: T) -> io::Result<()>
+pub(crate) fn put<W: Sink, T: Text>(output: &mut Output<'_, W>, text: T) -> io::Result<()>
     requires none { waiting_in output.old ≡ [] }
     requires sound { W.has_failed (sink_of output.old) ≡ false }
     ensures same { sink_name output.new ≡ sink_name output.old }

@@ -16,9 +16,11 @@ use std::io;
 
 /// Packets, in binary or as one block of armor.
 #[derive(Clone, Copy)]
-struct PacketsText<'a> {
-    out: Out,
-    packets: Packets<'a>,
+pub struct PacketsText<'a> {
+    /// How they are written.
+    pub out: Out,
+    /// The packets.
+    pub packets: Packets<'a>,
 }
 
 impl Text for PacketsText<'_> {

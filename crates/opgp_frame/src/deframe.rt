@@ -524,8 +524,9 @@ impl Deframe {
 
 /// Makes room in a body for octets of a piece: `there` of them have come, of `want` in all.
 ///
-/// A last piece gets no more room than it needs, and at most 4,096 octets, or as much again as the
-/// body has, before they have come. A partial piece gets none here: the vector grows as it is
+/// Where they don't fit, a last piece gets no more room than it needs, and at most 4,096 octets, or as
+/// much again as the body has, before they have come: so a body that comes in small parts is copied a
+/// few times, and not with each of them. A partial piece gets none here: the vector grows as it is
 /// appended to.
 fn make_room(
     body: &mut Vec<u8>,
@@ -535,7 +536,7 @@ fn make_room(
 ) -> Result<(), OutOfMemory>
     ensures { body.new.items ≡ body.old.items }
 {
-    if partial {
+    if partial || there <= body.capacity().saturating_sub(body.len()) {
         return Ok(());
     }
     let more = there.max(body.len()).max(4_096);

@@ -1,17 +1,18 @@
 //! The question of a row of the report.
 
-ghost use Rattle.std.specs.Prelude.{◌≡◌, true};
+ghost use Rattle.std.specs.Prelude.{◌≡◌, ◌+◌, ◌<◌, length, MatchOption, true};
 ghost use Rattle.std.specs.List.{slice_get};
 ghost use Rattle.std.specs.Option.{option_map};
 ghost use Rattle.opgp_hash.specs.Question.{question_value};
 ghost use Rattle.opgp_report.specs.Asked.{Finds, asked_of, question_in};
+ghost use Rattle.opgp_report.specs.Standing.{certificate_standing};
 
 use crate::place::Place;
-use crate::walk::{Visitor, visit};
+use crate::walk::{Visitor, visit, visit_certificate};
 use opgp_hash::{CertificateHasher, Question, Site, Why, ask_at};
 use opgp_octets::BodyFault;
 use opgp_packet::SigView;
-use opgp_ring::Keyring;
+use opgp_ring::{Certificate, Keyring};
 
 /// Looks for the signature of a given number.
 #[derive(Clone, Copy)]
@@ -51,5 +52,19 @@ pub fn question_at(keyring: &Keyring, row: usize) -> Option<Question<'_>>
     match visit(&mut Finder { left: row }, keyring) {
         Err(asked) => asked.ok(),
         Ok(()) => None,
+    }
+}
+
+/// How many rows of a report are left to pass before the row of this number, counted from the
+/// certificate's first, once those of the certificate are; None if it is one of them. Allocates
+/// nothing.
+pub fn rows_left(certificate: &Certificate, row: usize) -> Option<usize>
+    ensures { MatchOption result (row < length (certificate_standing 0 certificate.now))
+        (λ left. row ≡ length (certificate_standing 0 certificate.now) + left) }
+{
+    let mut finder = Finder { left: row };
+    match visit_certificate(&mut finder, 0, certificate) {
+        Ok(()) => Some(finder.left),
+        Err(_) => None,
     }
 }

@@ -17,7 +17,7 @@ mod verifier;
 mod walk;
 
 pub use checking::check;
-pub use finding::question_at;
+pub use finding::{question_at, rows_left};
 pub use left_octets::LeftOctets;
 pub use names::Names;
 pub use place::Place;

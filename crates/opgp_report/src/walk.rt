@@ -204,7 +204,7 @@ fn visit_components<'a, V: Visitor<'a>>(
 }
 
 /// Visits the signatures of the certificate of this number.
-fn visit_certificate<'a, V: Visitor<'a>>(
+pub(crate) fn visit_certificate<'a, V: Visitor<'a>>(
     visitor: &mut V,
     number: usize,
     certificate: &'a Certificate,

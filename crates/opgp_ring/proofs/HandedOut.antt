@@ -38,12 +38,12 @@ handed_in limits (Leading lead) given parts is = record {
     front = given;
     back = [];
     whole = sym (append-nil given);
-    ring = keyring lead.items [];
+    ring = keyring lead [];
     composed = is.stands;
     ends = tt;
-    but_last = subst (λ (ps : List PartValue). IsAllButLast ps (parts_of (keyring lead.items []))) (sym is.none) (lead_last lead.items);
+    but_last = subst (λ (ps : List PartValue). IsAllButLast ps (parts_of (keyring lead []))) (sym is.none) (lead_last lead);
   };
-  kept = λ _. (keyring lead.items [], is.stands, append-nil (lead_parts lead.items) ∙ ap (λ (ps : List PartValue). ps ++ lead_parts lead.items) (sym is.none));
+  kept = λ _. (keyring lead [], is.stands, append-nil (lead_parts lead) ∙ ap (λ (ps : List PartValue). ps ++ lead_parts lead) (sym is.none));
 }
 handed_in limits (Growing c) given parts is =
     let all : parts_of (keyring is.lead (is.done ++ c ∷ [])) ≡ parts ++ of_certificate c ∷ [] = sym (parts_push is.lead is.done c) ∙ ap (λ (ps : List PartValue). ps ++ of_certificate c ∷ []) (sym is.so_far) in
@@ -170,7 +170,7 @@ pub all_but_last : (limits : Limits) (given : List Item) (parts : List PartValue
 all_but_last limits given parts r h k = whole_out limits given h.front h.back parts h.ring r h.whole h.composed h.ends h.but_last k
 
 stands_in : (limits : Limits) (s : State) (given : List Item) (parts : List PartValue) → Handed limits s given parts → is_spent_state s ≡ false → ((f : Fault) → fault_of_state s ≡ Some f → IsFaultOf (is_broken_state s) limits given f) → IsIn limits s given parts
-stands_in limits (Leading lead) given parts h unspent fault = let k = h.kept refl in leading limits given parts lead.items k.0 k.1 (all_but_last limits given parts k.0 h.out k.1) k.2
+stands_in limits (Leading lead) given parts h unspent fault = let k = h.kept refl in leading limits given parts lead k.0 k.1 (all_but_last limits given parts k.0 h.out k.1) k.2
 stands_in limits (Growing c) given parts h unspent fault = let k = h.kept refl in growing limits given parts c k.0 k.1 k.2
 stands_in limits (Disordered f) given parts h unspent fault = (h.out, fault f refl)
 stands_in limits (Broken f) given parts h unspent fault = (h.out, fault f refl)

@@ -3,6 +3,7 @@ pub mod FirstBodyFaults
 pub mod BlockEnds
 pub mod Faults
 pub mod Feeding
+pub mod Gathered
 pub mod HandedOut
 pub mod Hanging
 pub mod Holding

@@ -81,8 +81,11 @@ components_normal cs a = All-map IsComponent normal_component cs (All-weaker IsC
 pub certificate_normal : (c : CertificateValue) → IsCertificate c → IsCertificate (normal_certificate c)
 certificate_normal c k = record { primary = k.primary; hangs = hung_normal c.hangs k.hangs; components = components_normal c.components k.components }
 
+pub fillers_normal : (ps : List PacketValue) → All IsFiller ps → All IsFiller (map reframed ps)
+fillers_normal ps a = All-map IsFiller reframed ps a
+
 pub keyring_normal : (r : KeyringValue) → IsKeyring r → IsKeyring (normal_of r)
 keyring_normal r k = record {
-  lead = All-map IsFiller reframed r.lead k.lead;
+  lead = fillers_normal r.lead k.lead;
   certificates = All-map IsCertificate normal_certificate r.certificates (All-weaker IsCertificate (λ c. IsCertificate (normal_certificate c)) certificate_normal r.certificates k.certificates);
 }

@@ -26,7 +26,7 @@ pub record IsGrowing (limits : Limits) (c : CertificateValue) (given : List Item
 
 -- what a state says of the items given, and of the parts so far
 abbrev pub IsIn : Limits → State → List Item → List PartValue → Type 0
-IsIn limits (Leading lead) given parts = IsLeading limits lead.items given parts
+IsIn limits (Leading lead) given parts = IsLeading limits lead given parts
 IsIn limits (Growing c) given parts = IsGrowing limits c given parts
 IsIn limits (Disordered f) given parts = AreHandedOut limits given parts × IsFaultOf false limits given f
 IsIn limits (Broken f) given parts = AreHandedOut limits given parts × IsFaultOf true limits given f

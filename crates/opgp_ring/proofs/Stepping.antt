@@ -1,12 +1,10 @@
 -- The steps of a composer, over its state.
 use Rattle.std.proofs.Common.{◌≡◌, ℕ, ◌+◌, ◌-◌, ◌≤◌, ◌<◌, Bool, true, false, not, ◌||◌, ◌&&◌, ◌==◌, List, [], ◌∷◌, ◌++◌, length, Option, Some, None, is_some, refl, sym, ap, subst, ◌∙◌, append-nil, arith, inl, inr}
-use Rattle.std.proofs.Common.{Vec, Global}
 use Rattle.opgp_octets.specs.declared.limits.Limits.{Limits}
 use Rattle.opgp_octets.specs.Limits.{cert_limit}
 use Rattle.opgp_octets.specs.declared.fault.Reason.TheVariants.{NoPrimary, CertTooLong}
 use Rattle.opgp_frame.specs.declared.packet.Placed.{Placed}
 use Rattle.opgp_frame.specs.Packet.{PacketValue, spelling}
-use Rattle.opgp_frame.specs.declared.packet.Packet.{Packet}
 use Rattle.opgp_ring.specs.declared.composer.State.{State}
 use Rattle.opgp_ring.specs.declared.composer.State.TheVariants.{Leading, Growing, Disordered, Broken, Spent}
 use Rattle.opgp_ring.specs.declared.ready.Ready.{Ready}
@@ -31,14 +29,14 @@ room_short m s o h k = omega arith
 pub room_fits : (m s o : ℕ) → s ≤ m → o ≤ m - s → s + o ≤ m
 room_fits m s o h k = omega arith
 
-pub closed : (s : State) → ((x : Vec Packet Global) → s ≡ Leading x → ⊥) → ((x : CertificateValue) → s ≡ Growing x → ⊥) → is_open s ≡ false
+pub closed : (s : State) → ((x : List PacketValue) → s ≡ Leading x → ⊥) → ((x : CertificateValue) → s ≡ Growing x → ⊥) → is_open s ≡ false
 closed (Leading lead) a b = absurd (a lead refl)
 closed (Growing c) a b = absurd (b c refl)
 closed (Disordered f) a b = refl
 closed (Broken f) a b = refl
 closed Spent a b = refl
 
-pub closed_lead : (s : State) → ((x : Vec Packet Global) → s ≡ Leading x → ⊥) → has_begun s ≡ false → is_open s ≡ false
+pub closed_lead : (s : State) → ((x : List PacketValue) → s ≡ Leading x → ⊥) → has_begun s ≡ false → is_open s ≡ false
 closed_lead s a none = closed s a (λ c e. let begun : has_begun s ≡ true = ap has_begun e in cc)
 
 pub none_ready : (taken : List PartValue) (o : Option Ready) → is_some o ≡ false → taken ++ ready_parts o ≡ taken
@@ -58,20 +56,20 @@ pub filler_free : (k : ℕ) → is_filler k ≡ true → needs_primary k ≡ fal
 filler_free k f = ap (λ (b : Bool). b || is_head k) (filler_no_signature k f) ∙ hung_no_head k (filler_hung k f)
 
 -- no primary key came before
-pub lead_lacks : (limits : Limits) (s : State) (lead : Vec Packet Global) (given : List Item) (parts : List PartValue) (p : Placed) → IsIn limits s given parts → s ≡ Leading lead → needs_primary p.packet.kind ≡ true
+pub lead_lacks : (limits : Limits) (s : State) (lead : List PacketValue) (given : List Item) (parts : List PartValue) (p : Placed) → IsIn limits s given parts → s ≡ Leading lead → needs_primary p.packet.kind ≡ true
     → IsFaultAt limits (packets_in given) (of_packet p) (fault_at NoPrimary p.block p.pos)
 lead_lacks limits s lead given parts p is e needs =
-    let k : IsLeading limits lead.items given parts = subst (λ (t : State). IsIn limits t given parts) e is in
-    let none : has_primary (packets_in given) ≡ false = ap has_primary (sym k.stands.composes.whole ∙ append-nil lead.items) ∙ fillers_lack lead.items k.stands.composes.keyring.lead in
+    let k : IsLeading limits lead given parts = subst (λ (t : State). IsIn limits t given parts) e is in
+    let none : has_primary (packets_in given) ≡ false = ap has_primary (sym k.stands.composes.whole ∙ append-nil lead) ∙ fillers_lack lead k.stands.composes.keyring.lead in
     lacking_fault limits (packets_in given) p (behind_stands p.packet.kind (needs_behind p.packet.kind needs)) needs none
 
 -- a filler that makes the lead too long
-pub lead_long : (limits : Limits) (s : State) (lead : Vec Packet Global) (given : List Item) (parts : List PartValue) (p : Placed) → IsIn limits s given parts → s ≡ Leading lead → IsFiller p.packet
-    → cert_limit limits < octets_of lead.items + length (spelling p.packet) → IsFaultAt limits (packets_in given) (of_packet p) (fault_at CertTooLong p.block p.pos)
+pub lead_long : (limits : Limits) (s : State) (lead : List PacketValue) (given : List Item) (parts : List PartValue) (p : Placed) → IsIn limits s given parts → s ≡ Leading lead → IsFiller p.packet
+    → cert_limit limits < octets_of lead + length (spelling p.packet) → IsFaultAt limits (packets_in given) (of_packet p) (fault_at CertTooLong p.block p.pos)
 lead_long limits s lead given parts p is e filler long =
-    let k : IsLeading limits lead.items given parts = subst (λ (t : State). IsIn limits t given parts) e is in
+    let k : IsLeading limits lead given parts = subst (λ (t : State). IsIn limits t given parts) e is in
     long_fault limits (packets_in given) p (behind_stands p.packet.kind (filler_behind p.packet.kind filler)) (ap (λ (b : Bool). b && not (has_primary (packets_in given))) (filler_free p.packet.kind filler))
-    (leads_too_long limits lead.items given parts p k filler long)
+    (leads_too_long limits lead given parts p k filler long)
 
 pub and_false : (a : Bool) → (a && false) ≡ false
 and_false true = refl
@@ -97,11 +95,11 @@ primary_long limits s given parts p is e primary long =
 
 -- ---- what is kept
 
-pub lead_more : (limits : Limits) (s : State) (lead more : Vec Packet Global) (given : List Item) (parts : List PartValue) (p : Placed) → IsIn limits s given parts → s ≡ Leading lead → HasNoFault p.packet → IsFiller p.packet
-    → octets_of lead.items + length (spelling p.packet) ≤ cert_limit limits → more.items ≡ lead.items ++ p.packet ∷ [] → IsLeading limits more.items (given ++ of_packet p ∷ []) parts
+pub lead_more : (limits : Limits) (s : State) (lead more : List PacketValue) (given : List Item) (parts : List PartValue) (p : Placed) → IsIn limits s given parts → s ≡ Leading lead → HasNoFault p.packet → IsFiller p.packet
+    → octets_of lead + length (spelling p.packet) ≤ cert_limit limits → more ≡ lead ++ p.packet ∷ [] → IsLeading limits more (given ++ of_packet p ∷ []) parts
 lead_more limits s lead more given parts p is e sound filler short items =
-    let k : IsLeading limits lead.items given parts = subst (λ (t : State). IsIn limits t given parts) e is in
-    subst (λ (l : List PacketValue). IsLeading limits l (given ++ of_packet p ∷ []) parts) (sym items) (leads limits lead.items given parts p k sound filler short)
+    let k : IsLeading limits lead given parts = subst (λ (t : State). IsIn limits t given parts) e is in
+    subst (λ (l : List PacketValue). IsLeading limits l (given ++ of_packet p ∷ []) parts) (sym items) (leads limits lead given parts p k sound filler short)
 
 pub certificate_more : (limits : Limits) (s : State) (c d : CertificateValue) (given : List Item) (parts : List PartValue) (p : Placed) → IsIn limits s given parts → s ≡ Growing c → HasNoFault p.packet
     → certificate_packets d ≡ certificate_packets c ++ p.packet ∷ [] → IsCertificate d → octets_of (certificate_packets c) + length (spelling p.packet) ≤ cert_limit limits
@@ -109,10 +107,10 @@ pub certificate_more : (limits : Limits) (s : State) (c d : CertificateValue) (g
 certificate_more limits s c d given parts p is e sound packets certificate short =
     grows limits c d given parts p (subst (λ (t : State). IsIn limits t given parts) e is) sound packets certificate short
 
-pub first_more : (limits : Limits) (s : State) (lead : Vec Packet Global) (given : List Item) (parts : List PartValue) (p : Placed) → IsIn limits s given parts → s ≡ Leading lead → HasNoFault p.packet → IsPrimary p.packet
-    → length (spelling p.packet) ≤ cert_limit limits → IsGrowing limits (begun p.packet) (given ++ of_packet p ∷ []) (parts ++ lead_parts lead.items)
+pub first_more : (limits : Limits) (s : State) (lead : List PacketValue) (given : List Item) (parts : List PartValue) (p : Placed) → IsIn limits s given parts → s ≡ Leading lead → HasNoFault p.packet → IsPrimary p.packet
+    → length (spelling p.packet) ≤ cert_limit limits → IsGrowing limits (begun p.packet) (given ++ of_packet p ∷ []) (parts ++ lead_parts lead)
 first_more limits s lead given parts p is e sound primary short =
-    begins_first limits lead.items given parts p (subst (λ (t : State). IsIn limits t given parts) e is) sound primary short
+    begins_first limits lead given parts p (subst (λ (t : State). IsIn limits t given parts) e is) sound primary short
 
 pub next_more : (limits : Limits) (s : State) (b : CertificateValue) (given : List Item) (parts : List PartValue) (p : Placed) → IsIn limits s given parts → s ≡ Growing b → HasNoFault p.packet → IsPrimary p.packet
     → length (spelling p.packet) ≤ cert_limit limits → IsGrowing limits (begun p.packet) (given ++ of_packet p ∷ []) (parts ++ of_certificate b ∷ [])

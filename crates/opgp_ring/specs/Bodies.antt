@@ -24,6 +24,13 @@ abbrev pub placed_fault : Placed → BodyFault → Fault
 placed_fault p f =
     record { layer = Body; reason = f.reason; block = p.block; pos = p.pos; inner = f.inner }
 
+-- the fault of the packet's body
+pub record IsPlacedFault (p : Placed) (f : Fault) : Type 0 where
+  pub why : BodyFault
+  pub octets : IsOctets p.packet.body
+  pub here : HasFault p.packet why
+  pub is : f ≡ placed_fault p why
+
 -- the fault of the first packet whose body has one
 pub record IsFirstBodyFault (ps : List Placed) (f : Fault) : Type 0 where
   pub before : List Placed

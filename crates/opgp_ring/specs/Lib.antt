@@ -15,6 +15,7 @@ pub mod Lent
 pub mod Normal
 pub mod PacketBody
 pub mod Packets
+pub mod Parts
 pub mod Shape
 pub mod Signed
 pub mod SignedGathering

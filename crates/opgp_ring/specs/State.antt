@@ -10,7 +10,7 @@ use Rattle.opgp_ring.specs.Keyring.{certificate_packets, octets_of}
 
 -- a part that became ready
 abbrev pub part_of : Ready → PartValue
-part_of (Lead packets) = of_lead packets.items
+part_of (Lead packets) = of_lead packets
 part_of (Certificate c) = of_certificate c
 
 abbrev pub ready_parts : Option Ready → List PartValue
@@ -26,7 +26,7 @@ is_spent_state (state.Broken f) = false
 
 -- the part that isn't finished; none after a fault
 abbrev pub open_parts : State → List PartValue
-open_parts (state.Leading lead) = lead_parts lead.items
+open_parts (state.Leading lead) = lead_parts lead
 open_parts (state.Growing c) = of_certificate c ∷ []
 open_parts (state.Disordered f) = []
 open_parts (state.Broken f) = []
@@ -34,7 +34,7 @@ open_parts state.Spent = []
 
 -- its octets
 abbrev pub open_octets : State → ℕ
-open_octets (state.Leading lead) = octets_of lead.items
+open_octets (state.Leading lead) = octets_of lead
 open_octets (state.Growing c) = octets_of (certificate_packets c)
 open_octets (state.Disordered f) = 0
 open_octets (state.Broken f) = 0
@@ -43,7 +43,7 @@ open_octets state.Spent = 0
 -- the octets of what is ready
 abbrev pub ready_octets : Option Ready → ℕ
 ready_octets None = 0
-ready_octets (Some (Lead packets)) = octets_of packets.items
+ready_octets (Some (Lead packets)) = octets_of packets
 ready_octets (Some (Certificate c)) = octets_of (certificate_packets c)
 
 -- the fault of what was given

@@ -1,7 +1,7 @@
 //! The faults of packets' bodies.
 
 ghost use Rattle.std.specs.Prelude.{All, MatchOption};
-ghost use Rattle.opgp_ring.specs.Bodies.{IsSound, IsFirstBodyFault};
+ghost use Rattle.opgp_ring.specs.Bodies.{IsSound, IsFirstBodyFault, IsPlacedFault};
 ghost use Rattle.opgp_ring.specs.Block.{placed_of};
 
 use crate::block_of::BlockOf;
@@ -30,10 +30,22 @@ pub(crate) fn check_packets(packets: &[Placed]) -> Option<Fault>
     ensures { MatchOption result (All IsSound packets.now) (IsFirstBodyFault packets.now) }
 {
     for placed in packets {
-        let packet = &placed.packet;
-        if let Some(fault) = body_fault(PacketType::from(packet.kind()), packet.body()) {
-            return Some(fault.placed(placed.block, placed.pos));
+        if let Some(fault) = packet_fault(placed) {
+            return Some(fault);
         }
     }
     None
+}
+
+/// The fault of the packet's body, if it has one (RFC 9580, 5). Allocates nothing.
+///
+/// Keys, signatures, literals and user attributes can have one.
+pub fn packet_fault(placed: &Placed) -> Option<Fault>
+    ensures { MatchOption result (IsSound placed.now) (IsPlacedFault placed.now) }
+{
+    let packet = &placed.packet;
+    match body_fault(PacketType::from(packet.kind()), packet.body()) {
+        Some(fault) => Some(fault.placed(placed.block, placed.pos)),
+        None => None,
+    }
 }

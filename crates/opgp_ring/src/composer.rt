@@ -18,6 +18,7 @@ ghost use Rattle.opgp_ring.specs.Keyring.{is_head, is_hung};
 ghost use Rattle.opgp_ring.specs.State.{open_octets, ready_octets, ready_parts};
 
 use crate::certificate::Certificate;
+use crate::lead::Lead;
 use crate::member::Member;
 use crate::ready::Ready;
 use crate::sorted::{Sorted, sort};
@@ -30,7 +31,7 @@ use std::mem;
 #[derive(Drop)]
 enum State {
     /// Before the first primary key: the fillers so far.
-    Leading(Vec<Packet>),
+    Leading(Lead),
     /// In a certificate.
     Growing(Certificate),
     /// After a fault in the order of packets; a body may still be at fault.
@@ -78,7 +79,7 @@ impl Composer {
         Composer {
             alloc,
             limits,
-            state: State::Leading(Vec::new(alloc)),
+            state: State::Leading(Lead::new(alloc)),
             size: 0,
             ready: None,
         }
@@ -436,9 +437,9 @@ impl Composer {
 
 /// The lead as a part, where there is one.
 #[tactic(auto, unfolding(crate::specs::Keyring::octets_of))]
-fn lead_part(lead: Vec<Packet>) -> Option<Ready>
-    ensures part { ready_parts result ≡ lead_parts lead.items }
-    ensures octets { ready_octets result ≡ octets_of lead.items }
+fn lead_part(lead: Lead) -> Option<Ready>
+    ensures part { ready_parts result ≡ lead_parts lead }
+    ensures octets { ready_octets result ≡ octets_of lead }
 {
     if lead.is_empty() {
         None

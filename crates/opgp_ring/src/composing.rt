@@ -4,6 +4,7 @@ ghost use Rattle.std.specs.Prelude.{IfOk, MatchResult};
 ghost use Rattle.opgp_ring.specs.Block.{items_of};
 ghost use Rattle.opgp_ring.specs.Composed.{IsFault, IsKeyringOf};
 ghost use Rattle.opgp_ring.specs.Gathering.{Gathers};
+ghost use Rattle.opgp_ring.specs.Parts.{HasParts};
 
 use crate::block_of::BlockOf;
 use crate::gathering::Gathering;
@@ -29,10 +30,14 @@ pub fn compose(
 }
 
 /// All parts of the blocks' packets but the last.
-fn gather(alloc: Global, blocks: Vec<BlockOf>, limits: Limits) -> Result<Gathering, OutOfMemory>
-    ensures { IfOk result (λ g. Gathers limits g (items_of blocks.items)) }
+fn gather(
+    alloc: Global,
+    blocks: Vec<BlockOf>,
+    limits: Limits,
+) -> Result<Gathering<Keyring>, OutOfMemory>
+    ensures { IfOk result (λ g. Gathers HasParts limits g (items_of blocks.items)) }
 {
-    let mut gathering = Gathering::new(alloc, limits);
+    let mut gathering = Gathering::new(alloc, limits, Keyring::empty(alloc));
     for block in blocks {
         if let Err(refused) = gathering.add_block(block) {
             drop(gathering);

@@ -1,14 +1,16 @@
 //! Keyrings.
 
-ghost use Rattle.std.specs.Prelude.{◌≡◌, IfOk};
+ghost use Rattle.std.specs.Prelude.{◌≡◌, ◌++◌, ◌∷◌, [], IfOk, OnErr, OnOk};
 ghost use Rattle.opgp_ring.specs.Keyring.{KeyringValue, IsKeyring};
 
 use crate::certificate::Certificate;
 use crate::copying::copy_all;
+use crate::lead::Lead;
 use opgp_frame::Packet;
 use opgp_octets::OutOfMemory;
 use std::alloc::Global;
 use std::marker::Model;
+use std::mem;
 
 /// A keyring: fillers, then certificates (RFC 9580, 10.1).
 #[derive(Drop)]
@@ -41,6 +43,42 @@ impl Keyring {
             lead,
             certificates,
         }
+    }
+
+    /// An empty keyring. Allocates nothing.
+    pub fn empty(alloc: Global) -> Keyring
+        ensures { result ≡ record { lead = []; certificates = [] } }
+    {
+        Keyring::new(alloc, Vec::new(alloc), Vec::new(alloc))
+    }
+
+    /// The keyring of one certificate. Fails only when out of memory.
+    pub fn of(alloc: Global, certificate: Certificate) -> Result<Keyring, OutOfMemory>
+        ensures { IfOk result (λ r. r ≡ record { lead = []; certificates = certificate ∷ [] }) }
+    {
+        let mut keyring = Keyring::empty(alloc);
+        keyring.add(certificate)?;
+        Ok(keyring)
+    }
+
+    /// Takes these fillers as those before the first certificate.
+    pub(crate) fn begin(&mut self, lead: Lead)
+        ensures { self.new ≡ record { lead = lead; certificates = self.old.certificates } }
+    {
+        drop(mem::replace(&mut self.lead, lead.into_packets()));
+    }
+
+    /// Adds a certificate. Fails only when out of memory; the keyring is then unchanged.
+    pub(crate) fn add(&mut self, certificate: Certificate) -> Result<(), OutOfMemory>
+        ensures ok { OnOk result (self.new ≡ record {
+          lead = self.old.lead;
+          certificates = self.old.certificates ++ certificate ∷ [];
+        }) }
+        ensures err { OnErr result (self.new ≡ self.old) }
+    {
+        let _known = certificate.primary();
+        self.certificates.push(certificate)?;
+        Ok(())
     }
 
     /// The fillers before the first certificate, the certificates, and the allocator.

@@ -7,6 +7,7 @@ ghost use Rattle.opgp_ring.specs.Keyring.{IsFiller, certificate_packets, flat};
 use crate::certificate::Certificate;
 use crate::component::Component;
 use crate::keyring::Keyring;
+use crate::lead::Lead;
 use crate::member::Member;
 use opgp_frame::Packet;
 use opgp_octets::OutOfMemory;
@@ -58,6 +59,18 @@ impl<'a> Packets<'a> {
             hangs: &[],
             components: &[],
             certificates: keyring.certificates(),
+        }
+    }
+
+    /// The fillers before the first certificate.
+    pub fn of_lead(lead: &'a Lead) -> Packets<'a>
+        ensures { packets_left result ≡ lead.now }
+    {
+        Packets {
+            lead: lead.packets(),
+            hangs: &[],
+            components: &[],
+            certificates: &[],
         }
     }
 

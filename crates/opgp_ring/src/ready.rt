@@ -1,13 +1,49 @@
 //! What a composer hands out.
 
+ghost use Rattle.std.specs.Prelude.{◌≡◌};
+ghost use Rattle.opgp_ring.specs.Packets.{packets_left};
+ghost use Rattle.opgp_ring.specs.Parts.{normal_part, part_packets};
+ghost use Rattle.opgp_ring.specs.State.{part_of};
+
 use crate::certificate::Certificate;
-use opgp_frame::Packet;
+use crate::lead::Lead;
+use crate::packets::Packets;
+use crate::reframing::Reframe;
 
 /// A complete part of a keyring.
 #[derive(Drop)]
 pub enum Ready {
     /// The fillers before the first certificate, where there are any.
-    Lead(Vec<Packet>),
+    Lead(Lead),
     /// A certificate.
     Certificate(Certificate),
+}
+
+impl Ready {
+    /// Its packets, in order.
+    pub fn packets(&self) -> Packets<'_>
+        ensures { packets_left result ≡ part_packets (part_of self.now) }
+    {
+        match self {
+            Ready::Lead(lead) => Packets::of_lead(lead),
+            Ready::Certificate(certificate) => Packets::of_certificate(certificate),
+        }
+    }
+
+    /// The same packets in the same places, each in the current format with its shortest length,
+    /// never partial (RFC 9580, 4.2.1). No body is changed or copied. Allocates nothing.
+    pub fn normalise(self) -> Ready
+        ensures { part_of result ≡ normal_part (part_of self) }
+    {
+        match self {
+            Ready::Lead(mut lead) => {
+                lead.reframe();
+                Ready::Lead(lead)
+            }
+            Ready::Certificate(mut certificate) => {
+                certificate.reframe();
+                Ready::Certificate(certificate)
+            }
+        }
+    }
 }

@@ -3,6 +3,7 @@
 ghost use Rattle.std.specs.Prelude.{◌≡◌, map};
 ghost use Rattle.opgp_frame.specs.Reframed.{reframed};
 
+use crate::lead::Lead;
 use opgp_frame::Packet;
 
 /// A packet, or a value made of packets.
@@ -20,6 +21,14 @@ impl Reframe for Packet {
 
     fn reframe(&mut self) {
         Packet::reframe(self);
+    }
+}
+
+impl Reframe for Lead {
+    ghost normal = { map reframed };
+
+    fn reframe(&mut self) {
+        self.reframe_each();
     }
 }
 

@@ -1,27 +1,29 @@
 -- How a run goes by what was read and made.
 use Rattle.std.proofs.Common.{◌≡◌, ℕ, Bool, true, false, List, refl, sym, ap, subst, Option, Result, Ok, Err, IsErr}
-use Rattle.std.specs.Global.{Vec}
 use Rattle.std.specs.Result.{IsErrAnd}
 use Rattle.opgp_octets.specs.declared.fault.Fault.{Fault}
-use Rattle.opgp_ring.specs.declared.block_of.BlockOf.{BlockOf}
 use Rattle.opgp_ring.specs.declared.signed_literal.SignedLiteral.{SignedLiteral}
+use Rattle.opgp_ring.specs.Composition.{placed_in}
 use Rattle.opgp_ring.specs.Keyring.{KeyringValue}
 use Rattle.opgp_ring.specs.SignedLiteral.{signed_packets}
 use Rattle.opgp_stack.specs.declared.run_fault.RunFault.{RunFault}
 use Rattle.opgp_stack.specs.declared.run_fault.RunFault.TheVariants as run
 use Rattle.opgp_stack.specs.declared.task.Action.{Action}
 use Rattle.opgp_stack.specs.declared.task.Task.{Task}
-use Rattle.opgp_engine.specs.Keyrings.{ComposesTo, key_label}
-use Rattle.opgp_engine.specs.Packets.{ArePackets, any_label, block_values}
+use Rattle.opgp_engine.specs.Keyrings.{ComposesTo, KeepsAll, key_label}
+use Rattle.opgp_engine.specs.Packets.{any_label}
 use Rattle.opgp_engine.specs.Pulled.{OfAll}
 use Rattle.opgp_engine.specs.Reading.{AnswerOf, Outcome, shown}
 use Rattle.opgp_stack.specs.Running.{IsMade, Made, MakesBy, ReadsFor, Refused, RunsAs, makes, fails, lacks}
+use Rattle.opgp_stack.specs.Shown.{IsShown}
 use Rattle.opgp_engine.specs.Signed.{AreSigned, message_label}
+use Rattle.opgp_ring.specs.Parts.{HasParts}
+use Rattle.opgp_engine.proofs.Kept.{ring_kept}
 use Rattle.opgp_engine.proofs.Pulling.{of_all}
 
 -- what the tops answer
-abbrev pub PacketsOf : Task → List ℕ → Outcome (Vec BlockOf) → Type 0
-PacketsOf task octets r = AnswerOf any_label (λ items s. ArePackets items (shown block_values s)) task.mode task.limits octets r
+abbrev pub ShownOf : Task → List ℕ → Outcome (List ℕ) → Type 0
+ShownOf task octets r = AnswerOf any_label (λ items. IsShown (placed_in items)) task.mode task.limits octets r
 
 abbrev pub RingOf : Task → List ℕ → Outcome KeyringValue → Type 0
 RingOf task octets r = AnswerOf key_label (ComposesTo task.limits) task.mode task.limits octets r
@@ -57,3 +59,15 @@ module _ {R W A : Type 0} {left : R → Option (List ℕ)} {has_failed : R → B
       → ReadsFor (λ answer. OfAll left has_failed reader reader' task.limits (λ octets. answers octets answer)) (has_failed reader' ≡ true) (has_failed reader' ≡ false) (Err e)
       → IsErr result × IsErrAnd result (λ y. y ≡ e) → RunsAs left has_failed held failed task reader reader' writer writer result
   stopped result e by read err = subst (λ (r : Result Unit RunFault). RunsAs left has_failed held failed task reader reader' writer writer r) (sym (err_is result e err.0 err.1)) (stops e by read)
+
+-- what keeps a keyring's parts as they are reads the keyring
+pub ring_read : {R : Type 0} (left : R → Option (List ℕ)) (has_failed : R → Bool) (old new : R) (task : Task) (result : Result KeyringValue RunFault)
+    → ReadsFor (λ answer. OfAll left has_failed old new task.limits (λ octets. AnswerOf key_label (KeepsAll HasParts task.limits) task.mode task.limits octets answer)) (has_failed new ≡ true) (has_failed new ≡ false) result
+    → ReadsFor (λ answer. OfAll left has_failed old new task.limits (λ octets. AnswerOf key_label (ComposesTo task.limits) task.mode task.limits octets answer)) (has_failed new ≡ true) (has_failed new ≡ false) result
+ring_read left has_failed old new task (Ok ring) h = of_all left has_failed old new task.limits _ _ (λ octets. ring_kept task.mode task.limits octets (Ok ring)) h
+ring_read left has_failed old new task (Err (run.Refused fault)) h = of_all left has_failed old new task.limits _ _ (λ octets. ring_kept task.mode task.limits octets (Err fault)) h
+ring_read left has_failed old new task (Err run.Read) h = h
+ring_read left has_failed old new task (Err run.Memory) h = h
+ring_read left has_failed old new task (Err run.Write) h = h
+ring_read left has_failed old new task (Err run.NoSuchRow) h = h
+ring_read left has_failed old new task (Err run.NoSuchCertificate) h = h

@@ -1,7 +1,10 @@
 pub mod Faults
 pub mod Hashing
 pub mod Listing
+pub mod OnePart
+pub mod Parts
 pub mod Report
 pub mod Role
 pub mod Running
 pub mod Showing
+pub mod Shown

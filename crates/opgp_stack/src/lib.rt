@@ -5,19 +5,22 @@
 mod hashing;
 pub mod laws;
 mod listing;
+mod one_part;
+mod part_texts;
 mod reporting;
 mod run_fault;
 mod running;
 mod showing;
+mod shown_text;
 mod task;
 mod writing_listing;
 mod writing_report;
 mod writing_shown;
 
 pub use opgp_engine::{
-    Answer, EngineError, Mode, Out, PacketBlocks, Pipeline, ReadError, Receiver, Sink, Source,
-    Text, Watched, read_keyring, read_packets, read_signed, read_with, write, write_certificate,
-    write_certificates, write_keyring,
+    Answer, Draft, EngineError, Mode, Out, PacketBlocks, PacketsText, Pipeline, ReadError,
+    Receiver, Sink, Source, Text, Watched, read_keyring, read_packets, read_signed, read_with,
+    write, write_certificate, write_certificates, write_keyring,
 };
 pub use run_fault::RunFault;
 pub use running::{run, run_last};

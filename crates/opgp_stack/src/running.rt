@@ -1,30 +1,40 @@
 //! Runs a task.
 
-ghost use Rattle.std.specs.Prelude.{◌≡◌, List, [], slice_get, true, false};
+ghost use Rattle.std.specs.Prelude.{◌≡◌, List, [], true, false};
 ghost use Rattle.opgp_octets.specs.declared.limits.Limits.{Limits};
 ghost use Rattle.opgp_ring.specs.Keyring.{flat};
+ghost use Rattle.opgp_ring.specs.Composition.{placed_in};
 ghost use Rattle.opgp_report.specs.Left.{says_left};
 ghost use Rattle.opgp_report.specs.Report.{report_of};
+ghost use Rattle.opgp_engine.specs.Keyrings.{ComposesTo, key_label};
+ghost use Rattle.opgp_engine.specs.Packets.{any_label};
 ghost use Rattle.opgp_engine.specs.Pulled.{OfAll};
 ghost use Rattle.opgp_engine.specs.Reading.{AnswerOf};
+ghost use Rattle.opgp_stack.specs.OnePart.{HasNth, HasRow, found_question};
+ghost use Rattle.opgp_stack.specs.Parts.{HasText, OfKeyring};
 ghost use Rattle.opgp_stack.specs.Report.{report_lines};
+ghost use Rattle.opgp_stack.specs.Shown.{IsShown};
 ghost use Rattle.opgp_stack.specs.Running.{IsMade, Made, ReadsFor, RunsAs, ended, one_text};
+ghost use Rattle.opgp_stack.specs.Running.{question_made};
 
 use crate::hashing::{question_of, write_question};
+use crate::one_part::{NthCertificate, Number, RowFound};
+use crate::part_texts::{
+    ArmoredAlone, AsTheyAre, BareAlone, EachPart, Lines, Normalised, PartTexts,
+};
 use crate::run_fault::RunFault;
+use crate::shown_text::ShownText;
 use crate::task::{Action, Task, Top};
-use crate::writing_listing::write_listing;
 use crate::writing_report::write_report;
-use crate::writing_shown::write_shown;
 use opgp_engine::{
-    EngineError, Out, PacketBlocks, ReadError, Receiver, read_with, write_certificate,
-    write_certificates, write_keyring,
+    Draft, EngineError, Out, ReadError, Receiver, read_with, write_certificate, write_keyring,
 };
 use opgp_merge::merge;
 use opgp_report::{LeftOctets, check, question_at};
-use opgp_ring::{Gathering, Keyring, SignedGathering, normalise};
+use opgp_ring::{Certificate, Gathering, Keyring, SignedGathering};
 use opgp_stream::{Sink, Source};
 use std::alloc::Global;
+use std::marker::Brand;
 use std::mem;
 
 /// Runs a task: reads packets, a keyring or a signed literal, and writes what is made of
@@ -103,6 +113,102 @@ fn ask<R: Source, T: Receiver + Drop>(
     }
 }
 
+/// Reads packets, and returns what is shown of them. No packet is kept once that is made.
+fn shown_of<R: Source>(alloc: Global, task: &Task, reader: &mut R) -> Result<Draft, RunFault>
+    requires { R.has_failed reader.old ≡ false }
+    ensures { ReadsFor (λ answer. OfAll R.left R.has_failed reader.old reader.new task.now.limits
+        (λ octets. AnswerOf any_label (λ items. IsShown (placed_in items)) task.now.mode
+        task.now.limits octets answer)) (R.has_failed reader.new ≡ true)
+        (R.has_failed reader.new ≡ false) result }
+{
+    let text = match ShownText::new(alloc) {
+        Ok(text) => text,
+        Err(_) => return Err(RunFault::Memory),
+    };
+    ask(alloc, task, reader, text)
+}
+
+/// Reads a keyring.
+fn ring_of<R: Source>(alloc: Global, task: &Task, reader: &mut R) -> Result<Keyring, RunFault>
+    requires { R.has_failed reader.old ≡ false }
+    ensures { ReadsFor (λ answer. OfAll R.left R.has_failed reader.old reader.new task.now.limits
+        (λ octets. AnswerOf key_label (ComposesTo task.now.limits) task.now.mode task.now.limits
+        octets answer)) (R.has_failed reader.new ≡ true) (R.has_failed reader.new ≡ false) result }
+{
+    let top = Gathering::new(alloc, task.limits, Keyring::empty(alloc));
+    ask(alloc, task, reader, top)
+}
+
+/// Reads a keyring, and returns what is written of its parts. No part is kept once that is made.
+fn text_of<R: Source, E: EachPart>(
+    alloc: Global,
+    task: &Task,
+    reader: &mut R,
+) -> Result<Draft, RunFault>
+    requires { R.has_failed reader.old ≡ false }
+    ensures { ReadsFor (λ answer. OfAll R.left R.has_failed reader.old reader.new task.now.limits
+        (λ octets. AnswerOf key_label (OfKeyring (HasText E.text) task.now.limits) task.now.mode
+        task.now.limits octets answer)) (R.has_failed reader.new ≡ true)
+        (R.has_failed reader.new ≡ false) result }
+{
+    let texts: PartTexts<E> = match PartTexts::new(alloc) {
+        Ok(texts) => texts,
+        Err(_) => return Err(RunFault::Memory),
+    };
+    match ask(
+        alloc,
+        task,
+        reader,
+        Gathering::new(alloc, task.limits, texts),
+    ) {
+        Ok(texts) => Ok(texts.into_draft()),
+        Err(fault) => Err(fault),
+    }
+}
+
+/// Reads a keyring, and returns its certificate of this number, if there is one. No other is kept.
+fn nth_of<R: Source, N: Number>(
+    alloc: Global,
+    task: &Task,
+    reader: &mut R,
+    number: u64,
+) -> Result<Option<Certificate>, RunFault>
+    requires sound { R.has_failed reader.old ≡ false }
+    requires number { number ≡ N.number }
+    ensures { ReadsFor (λ answer. OfAll R.left R.has_failed reader.old reader.new task.now.limits
+        (λ octets. AnswerOf key_label (OfKeyring (HasNth number) task.now.limits) task.now.mode
+        task.now.limits octets answer)) (R.has_failed reader.new ≡ true)
+        (R.has_failed reader.new ≡ false) result }
+{
+    let top = NthCertificate::<N>::new(number as usize);
+    match ask(alloc, task, reader, Gathering::new(alloc, task.limits, top)) {
+        Ok(kept) => Ok(kept.found()),
+        Err(fault) => Err(fault),
+    }
+}
+
+/// Reads a keyring, and returns a keyring of the certificate that has the row of this number, if
+/// there is one, and the row's number there. No other certificate is kept.
+fn row_of<R: Source, N: Number>(
+    alloc: Global,
+    task: &Task,
+    reader: &mut R,
+    number: u64,
+) -> Result<(Option<Keyring>, usize), RunFault>
+    requires sound { R.has_failed reader.old ≡ false }
+    requires number { number ≡ N.number }
+    ensures { ReadsFor (λ answer. OfAll R.left R.has_failed reader.old reader.new task.now.limits
+        (λ octets. AnswerOf key_label (OfKeyring (HasRow number) task.now.limits) task.now.mode
+        task.now.limits octets answer)) (R.has_failed reader.new ≡ true)
+        (R.has_failed reader.new ≡ false) result }
+{
+    let top = RowFound::<N>::new(alloc, number as usize);
+    match ask(alloc, task, reader, Gathering::new(alloc, task.limits, top)) {
+        Ok(kept) => Ok(kept.found()),
+        Err(fault) => Err(fault),
+    }
+}
+
 /// Runs a task, and frees or leaks what it read.
 fn run_and<R: Source, W: Sink>(
     alloc: Global,
@@ -118,22 +224,21 @@ fn run_and<R: Source, W: Sink>(
 {
     match task.action {
         Action::Show => {
-            let blocks = ask(alloc, task, reader, PacketBlocks::new(alloc))?;
-            done(end(write_shown(alloc, &blocks, writer)), blocks, after)
+            let text = shown_of(alloc, task, reader)?;
+            end(text.write(Out::Binary, writer))
         }
         Action::List => {
-            let ring = ask(alloc, task, reader, Gathering::new(alloc, task.limits))?;
-            done(end(write_listing(alloc, &ring, writer)), ring, after)
+            let text = text_of::<R, Lines>(alloc, task, reader)?;
+            end(text.write(Out::Binary, writer))
         }
         Action::Check => {
-            let ring = ask(alloc, task, reader, Gathering::new(alloc, task.limits))?;
+            let ring = ring_of(alloc, task, reader)?;
             done(check_all(alloc, &ring, writer), ring, after)
         }
         Action::Octets { row, top } => match top {
             Top::Ring => {
-                let ring = ask(alloc, task, reader, Gathering::new(alloc, task.limits))?;
-                let question = question_at(&ring, row as usize);
-                done(write_question(alloc, question, writer), ring, after)
+                let found = row_of::<R, Brand>(alloc, task, reader, row)?;
+                done(write_row(alloc, &found, writer), found, after)
             }
             Top::Literal => {
                 let message = ask(alloc, task, reader, SignedGathering::new(alloc))?;
@@ -142,38 +247,39 @@ fn run_and<R: Source, W: Sink>(
             }
         },
         Action::Write { out } => {
-            let ring = ask(alloc, task, reader, Gathering::new(alloc, task.limits))?;
-            done(end(write_keyring(alloc, &ring, out, writer)), ring, after)
+            let text = text_of::<R, AsTheyAre>(alloc, task, reader)?;
+            end(text.write(out, writer))
         }
         Action::Normalise { out } => {
-            let ring = ask(alloc, task, reader, Gathering::new(alloc, task.limits))?;
-            let ring = normalise(ring);
-            done(end(write_keyring(alloc, &ring, out, writer)), ring, after)
+            let text = text_of::<R, Normalised>(alloc, task, reader)?;
+            end(text.write(out, writer))
         }
         Action::Split { out, nth } => match nth {
-            None => {
-                let ring = ask(alloc, task, reader, Gathering::new(alloc, task.limits))?;
-                done(
-                    end(write_certificates(alloc, &ring, out, writer)),
-                    ring,
-                    after,
-                )
-            }
+            None => match out {
+                Out::Armor => {
+                    let text = text_of::<R, ArmoredAlone>(alloc, task, reader)?;
+                    end(text.write(Out::Binary, writer))
+                }
+                Out::Binary => {
+                    let text = text_of::<R, BareAlone>(alloc, task, reader)?;
+                    end(text.write(Out::Binary, writer))
+                }
+            },
             Some(n) => {
-                let ring = ask(alloc, task, reader, Gathering::new(alloc, task.limits))?;
-                done(write_one(alloc, out, &ring, n, writer), ring, after)
+                let found = nth_of::<R, Brand>(alloc, task, reader, n)?;
+                done(write_one(alloc, out, &found, writer), found, after)
             }
         },
         Action::Join { out, merge: merges } => {
             if merges {
-                let ring = ask(alloc, task, reader, Gathering::new(alloc, task.limits))?;
+                let ring = ring_of(alloc, task, reader)?;
                 match merge(ring) {
                     Ok(ring) => done(end(write_keyring(alloc, &ring, out, writer)), ring, after),
                     Err(_) => end(Err(EngineError::Memory)),
                 }
             } else {
-                let ring = ask(alloc, task, reader, Gathering::new(alloc, task.limits))?;
-                done(end(write_keyring(alloc, &ring, out, writer)), ring, after)
+                let text = text_of::<R, AsTheyAre>(alloc, task, reader)?;
+                end(text.write(out, writer))
             }
         }
     }
@@ -191,21 +297,35 @@ fn check_all<W: Sink>(alloc: Global, keyring: &Keyring, writer: &mut W) -> Resul
     }
 }
 
-/// Writes the certificate of a number.
+/// Writes a certificate, if there is one.
 fn write_one<W: Sink>(
     alloc: Global,
     out: Out,
-    keyring: &Keyring,
-    n: u64,
+    found: &Option<Certificate>,
+    writer: &mut W,
+) -> Result<(), RunFault>
+    requires { W.has_failed writer.old ≡ false }
+    ensures { IsMade W.held W.has_failed writer.old writer.new result (one_text out found.now) }
+{
+    match found {
+        None => Err(RunFault::NoSuchCertificate),
+        Some(certificate) => end(write_certificate(alloc, certificate, out, writer)),
+    }
+}
+
+/// Writes the hashed octets of a row of a keyring's report, if there is one.
+fn write_row<W: Sink>(
+    alloc: Global,
+    found: &(Option<Keyring>, usize),
     writer: &mut W,
 ) -> Result<(), RunFault>
     requires { W.has_failed writer.old ≡ false }
     ensures { IsMade W.held W.has_failed writer.old writer.new result
-        (one_text out (slice_get keyring.now.certificates n)) }
+        (question_made (found_question found.now.0 found.now.1)) }
 {
-    match keyring.certificates().get(n as usize) {
-        None => Err(RunFault::NoSuchCertificate),
-        Some(certificate) => end(write_certificate(alloc, certificate, out, writer)),
+    match &found.0 {
+        None => Err(RunFault::NoSuchRow),
+        Some(ring) => write_question(alloc, question_at(ring, found.1), writer),
     }
 }
 

@@ -173,7 +173,7 @@ fn add_content<W: Sink>(output: &mut Output<'_, W>, kind: u8, body: &[u8]) -> io
 }
 
 /// Adds the lines of a packet.
-fn add_packet<W: Sink>(output: &mut Output<'_, W>, placed: &Placed) -> io::Result<()>
+pub(crate) fn add_packet<W: Sink>(output: &mut Output<'_, W>, placed: &Placed) -> io::Result<()>
     requires { W.has_failed (sink_of output.old) ≡ false }
     ensures { Extends W.held W.has_failed output.old output.new result (packet_lines placed.now) }
 {

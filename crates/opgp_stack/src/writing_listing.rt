@@ -15,8 +15,8 @@ use std::io;
 
 /// A line for each packet.
 #[derive(Clone, Copy)]
-struct ListingText<'a> {
-    packets: Packets<'a>,
+pub(crate) struct ListingText<'a> {
+    pub(crate) packets: Packets<'a>,
 }
 
 impl Text for ListingText<'_> {

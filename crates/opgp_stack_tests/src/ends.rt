@@ -3,11 +3,9 @@
 ghost use Rattle.std.specs.Prelude.{◌≡◌, false};
 ghost use Rattle.opgp_stream.specs.Watch.{watched_failed};
 
-use opgp_octets::{Limits, fault_line};
+use opgp_octets::Limits;
 use opgp_ring::Keyring;
-use opgp_stack::{
-    Answer, Mode, Out, ReadError, Watched, read_keyring, read_packets, write_keyring,
-};
+use opgp_stack::{Answer, EngineError, Mode, Out, Watched, read_keyring, write_keyring};
 use std::alloc::Global;
 use std::io;
 use std::io::{Read, Write};
@@ -57,7 +55,7 @@ pub enum Trouble {
 /// Takes at most `most` octets a write, and fails or takes nothing at the write of this number.
 #[derive(Drop)]
 pub struct Drips {
-    pub held: Vec<u8>,
+    held: Vec<u8>,
     most: usize,
     at: u64,
     trouble: Trouble,
@@ -96,6 +94,41 @@ pub fn in_drips(alloc: Global, most: usize, at: u64, trouble: Trouble) -> Watche
     })
 }
 
+/// Whether a sink of `most` octets a write holds these octets, or, where the write of this number failed, what it took before,
+/// and was asked no more.
+pub fn holds(drips: &Drips, octets: &[u8], most: usize, at: u64, fails: bool) -> bool {
+    let size = if fails {
+        most.saturating_mul(at.saturating_sub(1) as usize)
+    } else {
+        octets.len()
+    };
+    let front = octets.get(..size).unwrap_or_default();
+    drips.held.as_slice() == front && (!fails || drips.writes == at)
+}
+
+/// How reading a keyring ends (0: a keyring, 1: a fault, 2: a failed read, 3: out of memory), how many fillers lead it, how
+/// many certificates it has, and how many reads it took.
+pub fn read_of(
+    alloc: Global,
+    mut reader: Watched<Pieces<'_>>,
+    mode: Mode,
+    limits: &Limits,
+) -> [u64; 4]
+    requires { watched_failed reader ≡ false }
+{
+    let [end, lead, certificates] = match read_keyring(alloc, &mut reader, mode, limits) {
+        Ok(Answer::Ring(ring)) => [
+            0,
+            ring.lead().len() as u64,
+            ring.certificates().len() as u64,
+        ],
+        Ok(Answer::Refused(_)) => [1, 0, 0],
+        Err(EngineError::Read) => [2, 0, 0],
+        Err(_) => [3, 0, 0],
+    };
+    [end, lead, certificates, reader.into_inner().reads]
+}
+
 /// The keyring of an input.
 pub fn ring_of(alloc: Global, input: &[u8], most: usize, mode: Mode) -> Result<Keyring, Fail> {
     match read_keyring(
@@ -109,37 +142,19 @@ pub fn ring_of(alloc: Global, input: &[u8], most: usize, mode: Mode) -> Result<K
     }
 }
 
-/// How many fillers lead the keyring of an input, and how many certificates it has; or its fault.
-pub fn ring_line(alloc: Global, input: &[u8], mode: Mode, limits: &Limits) -> Result<String, Fail> {
-    match read_keyring(alloc, &mut in_pieces(input, 7, 0), mode, limits)? {
-        Answer::Ring(ring) => {
-            let lead = ring.lead().len();
-            let certificates = ring.certificates().len();
-            Ok(format!(in alloc; "lead {lead} certificates {certificates}")?)
-        }
-        Answer::Refused(fault) => Ok(fault_line(alloc, &fault)?),
-    }
-}
-
-/// The number and the count of packets of each block of an input; or its fault.
-pub fn packets_line(alloc: Global, input: &[u8], mode: Mode) -> Result<String, Fail> {
-    match read_packets(alloc, &mut in_pieces(input, 7, 0), mode, &Limits::usual()) {
-        Ok(blocks) => {
-            let mut line = String::new(alloc);
-            for block in &blocks {
-                let (number, count) = (block.block, block.packets.len());
-                line.push_str(format!(in alloc; "block {number}: {count};")?.as_str())?;
-            }
-            Ok(line)
-        }
-        Err(ReadError::Refused(fault)) => Ok(fault_line(alloc, &fault)?),
-        Err(error) => Err(error.into()),
-    }
-}
-
-/// What is written of a keyring.
-pub fn written(alloc: Global, ring: &Keyring, out: Out) -> Result<Vec<u8>, Fail> {
+/// Whether these octets are written of the keyring of an input.
+pub fn is_written(
+    alloc: Global,
+    reader: Watched<Pieces<'_>>,
+    out: Out,
+    octets: &[u8],
+) -> Result<bool, Fail>
+    requires { watched_failed reader ≡ false }
+{
+    let mut reader = reader;
     let mut sink = Watched::new(Vec::new(alloc));
-    write_keyring(alloc, ring, out, &mut sink)?;
-    Ok(sink.into_inner())
+    if let Answer::Ring(ring) = read_keyring(alloc, &mut reader, Mode::Auto, &Limits::usual())? {
+        write_keyring(alloc, &ring, out, &mut sink)?;
+    }
+    Ok(sink.into_inner().as_slice() == octets)
 }

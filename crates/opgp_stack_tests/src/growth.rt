@@ -11,22 +11,17 @@ fn refused_growth(rt: HostRuntime) {
     let mut held = [b'.'; 256];
     let mut sink = Watched::new(held.as_mut_slice());
     let mut reader = in_pieces(KEY_1, 100, 0);
-    let ring = match read_keyring(rt.alloc(), &mut reader, Mode::Auto, &Limits::usual()) {
-        Ok(Answer::Ring(ring)) => ring,
-        Ok(Answer::Refused(_)) => panic!(rt; "refused"),
-        Err(error) => {
-            assert!(rt; matches!(&error, EngineError::Memory) && !reader.failed());
-            return;
-        }
+    let read = read_keyring(rt.alloc(), &mut reader, Mode::Auto, &Limits::usual());
+    let ended = match read {
+        Ok(Answer::Ring(ring)) => write_keyring(rt.alloc(), &ring, Out::Armor, &mut sink),
+        Ok(Answer::Refused(_)) => Err(EngineError::Read),
+        Err(error) => Err(error),
     };
-    match write_keyring(rt.alloc(), &ring, Out::Armor, &mut sink) {
-        Ok(()) => {
-            assert!(rt; !sink.failed());
-            assert!(rt; held.starts_with(KEY_1) && held[147..] == [b'.'; 109]);
-        }
-        Err(error) => {
-            assert!(rt; matches!(&error, EngineError::Memory) && !sink.failed());
-            assert!(rt; held == [b'.'; 256]);
-        }
-    }
+    let (written, refused) = match ended {
+        Ok(()) => (147, false),
+        Err(error) => (0, matches!(error, EngineError::Memory)),
+    };
+    assert!(rt; !reader.failed() && !sink.failed() && refused == (written == 0));
+    assert!(rt; held.starts_with(&KEY_1[..written]));
+    assert!(rt; held[written..].iter().all(|octet| *octet == b'.'));
 }

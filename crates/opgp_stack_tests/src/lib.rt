@@ -12,6 +12,4 @@ mod reading;
 #[cfg(test)]
 mod running;
 #[cfg(test)]
-mod signed;
-#[cfg(test)]
 mod writing;

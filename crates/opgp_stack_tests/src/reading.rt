@@ -1,163 +1,105 @@
-//! Inputs cut into pieces, faults in more than one layer, inputs of the limit, and reads that fail.
+//! Inputs cut into pieces, inputs of the limit, reads that fail, and packets and signed literals that are read.
 
-use crate::ends::{in_pieces, packets_line, ring_line, ring_of, written};
-use crate::keys::{KEYS, TWO_BLOCKS};
+use crate::ends::{in_pieces, is_written, read_of};
+use crate::keys::{KEY_1, KEY_3, KEYS, TWO_BLOCKS};
 use opgp_octets::Limits;
-use opgp_stack::{Answer, EngineError, Mode, Out, read_keyring, read_packets};
+use opgp_stack::{EngineError, Mode, Out, read_packets, read_signed};
+use std::alloc::Global;
 use std::test::Fail;
 
-#[test]
-fn two_blocks_however_cut(rt: HostRuntime) -> Result<(), Fail> {
-    let alloc = rt.alloc();
-    for most in [1, 2, 3, 1000] {
-        for mode in [Mode::Auto, Mode::Armor] {
-            let ring = ring_of(alloc, TWO_BLOCKS, most, mode)?;
-            assert_eq!(rt; ring.lead().len(), 0);
-            assert_eq!(rt; ring.certificates().len(), 2);
-            let octets = written(alloc, &ring, Out::Binary)?;
-            assert!(rt; octets.as_slice() == KEYS, "in pieces of {most}");
+// A one-pass signature, a literal of `a`, and its signature.
+const MESSAGE: &[u8] =
+    b"\xC4\x0D\x00\x00\x00\x00\x00\x00\x00\x00\x00\x00\x00\x00\x00\xCB\x07\x62\x00\x00\x00\x00\
+    \x00\x61\xC2\x0E\x04\x00\x16\x08\x00\x00\x00\x00\xAB\xCD\x00\x00\x00\x00";
+
+const ARMORED: &[u8] = b"-----BEGIN PGP MESSAGE-----\n\n\
+    xA0AAAAAAAAAAAAAAAAAywdiAAAAAABhwg4EABYIAAAAAKvNAAAAAA==\n\
+    -----END PGP MESSAGE-----\n";
+
+/// How many blocks an input has and how many packets are in them; the sum of the packets' places, with 1,000 for each block
+/// before, and that of their bodies' sizes. Zeros where it is refused.
+fn packets_of(alloc: Global, input: &[u8], most: usize, mode: Mode) -> [u64; 4] {
+    let mut reader = in_pieces(input, most, 0);
+    let mut said = [0u64; 4];
+    if let Ok(blocks) = read_packets(alloc, &mut reader, mode, &Limits::usual()) {
+        said[0] = blocks.len() as u64;
+        for block in &blocks {
+            for placed in &block.packets {
+                let place = placed.block.wrapping_mul(1000).wrapping_add(placed.pos);
+                said[1] = said[1].wrapping_add(1);
+                said[2] = said[2].wrapping_add(place);
+                said[3] = said[3].wrapping_add(placed.packet.body().len() as u64);
+            }
         }
-        let mut reader = in_pieces(TWO_BLOCKS, most, 0);
-        let blocks = read_packets(alloc, &mut reader, Mode::Auto, &Limits::usual())?;
-        assert_eq!(rt; blocks.len(), 2);
-        assert!(rt; blocks[0].block == 0 && blocks[0].label_fits);
-        assert_eq!(rt; blocks[0].packets.len(), 1);
-        assert_eq!(rt; blocks[0].packets[0].packet.body(), &KEYS[2..53]);
-        assert!(rt; blocks[1].block == 1 && blocks[1].label_fits);
-        assert_eq!(rt; blocks[1].packets.len(), 4);
-        let third = &blocks[1].packets[2];
-        assert_eq!(rt; (third.block, third.pos), (1, 223));
     }
-    Ok(())
+    said
 }
 
-// In base64: "zQFh" is a user ID, "zQJh" one of two octets of which one is there, "xgED" a key of
-// version 3. An input, and what is answered for its keyring and for its packets.
-const CASES: [(&[u8], &str, &str); 8] = [
-    // The second block has a letter that is none, the first a packet that isn't whole.
-    (
-        b"-----BEGIN PGP PUBLIC KEY BLOCK-----\n\nzQJh\n-----END PGP PUBLIC KEY BLOCK-----\n\
-        -----BEGIN PGP PUBLIC KEY BLOCK-----\n\nxg!D\n-----END PGP PUBLIC KEY BLOCK-----\n",
-        "armor: Letters block 1 at 116 inner 0",
-        "armor: Letters block 1 at 116 inner 0",
-    ),
-    // The second block has a packet that isn't whole, the first a key that isn't read.
-    (
-        b"-----BEGIN PGP PUBLIC KEY BLOCK-----\n\nxgED\n-----END PGP PUBLIC KEY BLOCK-----\n\
-        -----BEGIN PGP PUBLIC KEY BLOCK-----\n\nzQJh\n-----END PGP PUBLIC KEY BLOCK-----\n",
-        "framing: Truncated block 1 at 0 inner 1",
-        "framing: Truncated block 1 at 0 inner 1",
-    ),
-    // Both blocks have a packet that isn't whole.
-    (
-        b"-----BEGIN PGP PUBLIC KEY BLOCK-----\n\nzQJh\n-----END PGP PUBLIC KEY BLOCK-----\n\
-        -----BEGIN PGP PUBLIC KEY BLOCK-----\n\nzQJh\n-----END PGP PUBLIC KEY BLOCK-----\n",
-        "framing: Truncated block 0 at 0 inner 1",
-        "framing: Truncated block 0 at 0 inner 1",
-    ),
-    // The second block has a key that isn't read, the first a user ID and another label.
-    (
-        b"-----BEGIN PGP MESSAGE-----\n\nzQFh\n-----END PGP MESSAGE-----\n\
-        -----BEGIN PGP PUBLIC KEY BLOCK-----\n\nxgED\n-----END PGP PUBLIC KEY BLOCK-----\n",
-        "body: KeyVersion block 1 at 0 inner 0",
-        "body: KeyVersion block 1 at 0 inner 0",
-    ),
-    (
-        b"-----BEGIN PGP PUBLIC KEY BLOCK-----\n\nzQFh\n-----END PGP PUBLIC KEY BLOCK-----\n",
-        "composition: NoPrimary block 0 at 0 inner 0",
-        "block 0: 1;",
-    ),
-    (
-        b"-----BEGIN PGP MESSAGE-----\n\nzQFh\n-----END PGP MESSAGE-----\n",
-        "composition: BlockLabel block 0 at 0 inner 0",
-        "block 0: 1;",
-    ),
-    (
-        b"hello\n",
-        "armor: NoBlock block 0 at 6 inner 0",
-        "armor: NoBlock block 0 at 6 inner 0",
-    ),
-    (
-        b"\xCD\x01\x61\x41",
-        "framing: NotAPacket block 0 at 3 inner 0",
-        "framing: NotAPacket block 0 at 3 inner 0",
-    ),
-];
-
-#[test]
-fn lowest_layer_first(rt: HostRuntime) -> Result<(), Fail> {
-    let alloc = rt.alloc();
-    for (input, ring, packets) in CASES {
-        let line = ring_line(alloc, input, Mode::Auto, &Limits::usual())?;
-        assert_eq!(rt; line.as_str(), ring);
-        assert_eq!(rt; packets_line(alloc, input, Mode::Auto)?.as_str(), packets);
+/// How many packets a signed literal has and how long its content is. Zeros where it is refused.
+fn literal_of(alloc: Global, input: &[u8], most: usize, mode: Mode) -> [usize; 2] {
+    let mut reader = in_pieces(input, most, 0);
+    match read_signed(alloc, &mut reader, mode, &Limits::usual()) {
+        Ok(literal) => [literal.flat().len(), literal.literal().content().len()],
+        Err(_) => [0, 0],
     }
-    let line = packets_line(alloc, b"hello\n", Mode::Binary)?;
-    assert_eq!(rt; line.as_str(), "framing: NotAPacket block 0 at 0 inner 0");
-    let line = packets_line(alloc, b"\xCD\x01\x61", Mode::Armor)?;
-    assert_eq!(rt; line.as_str(), "armor: NoBlock block 0 at 3 inner 0");
-    Ok(())
 }
 
 #[test]
-fn nothing_is_an_empty_keyring(rt: HostRuntime) -> Result<(), Fail> {
+fn inputs_however_cut(rt: HostRuntime) -> Result<(), Fail> {
     let alloc = rt.alloc();
-    for mode in [Mode::Auto, Mode::Binary] {
-        let ring = ring_of(alloc, b"", 7, mode)?;
-        assert!(rt; ring.lead().is_empty() && ring.certificates().is_empty());
-        assert_eq!(rt; packets_line(alloc, b"", mode)?.as_str(), "block 0: 0;");
-        assert!(rt; written(alloc, &ring, Out::Binary)?.is_empty());
-        let text = b"-----BEGIN PGP PUBLIC KEY BLOCK-----\n\n-----END PGP PUBLIC KEY BLOCK-----\n";
-        assert_eq!(rt; text.len(), 73);
-        assert_eq!(rt;
-            written(alloc, &ring, Out::Armor)?.as_slice(),
-            text.as_slice()
+    let limits = Limits::usual();
+    for most in [1, 2, 3, 1000] {
+        let [end, lead, certificates, _] = read_of(
+            alloc,
+            in_pieces(TWO_BLOCKS, most, 0),
+            Mode::Armor,
+            &limits,
         );
+        assert_eq!(rt; [end, lead, certificates], [0, 0, 2]);
+        for (text, out, octets) in [
+            (TWO_BLOCKS, Out::Binary, KEYS),
+            (KEY_1, Out::Armor, KEY_1),
+            (KEY_3, Out::Armor, KEY_3),
+        ] {
+            assert!(rt; is_written(alloc, in_pieces(text, most, 0), out, octets)?);
+        }
+        let packets = packets_of(alloc, TWO_BLOCKS, most, Mode::Auto);
+        assert_eq!(rt; packets, [2, 5, 4534, 467]);
+        assert_eq!(rt; literal_of(alloc, MESSAGE, most, Mode::Auto), [3, 1]);
+        assert_eq!(rt; literal_of(alloc, ARMORED, most, Mode::Armor), [3, 1]);
+        assert_eq!(rt; literal_of(alloc, KEY_1, most, Mode::Auto), [0, 0]);
     }
-    let line = ring_line(alloc, b"", Mode::Armor, &Limits::usual())?;
-    assert_eq!(rt; line.as_str(), "armor: NoBlock block 0 at 0 inner 0");
     Ok(())
 }
 
-// The key is of 53 octets. One octet a read: a read for each octet, and one for the end.
+// The key is of 53 octets. One octet a read: a read for each octet, and one for the end. A read that fails is the last.
 #[test]
-fn inputs_of_the_limit(rt: HostRuntime) -> Result<(), Fail> {
+fn reads_of_an_input(rt: HostRuntime) -> Result<(), Fail> {
     let alloc = rt.alloc();
-    for (most, wanted, reads) in [
-        (0, "input: InputTooLong block 0 at 0 inner 0", 1),
-        (52, "input: InputTooLong block 0 at 52 inner 0", 53),
-        (53, "lead 0 certificates 1", 54),
-        (54, "lead 0 certificates 1", 54),
+    let key = &KEYS[..53];
+    for (most, wanted) in [
+        (0, [1, 0, 0, 1]),
+        (52, [1, 0, 0, 53]),
+        (53, [0, 0, 1, 54]),
+        (54, [0, 0, 1, 54]),
     ] {
         let limits = Limits::new(8192, 512, 512, most, 1).ok_or("limits")?;
-        let line = ring_line(alloc, &KEYS[..53], Mode::Auto, &limits)?;
-        assert_eq!(rt; line.as_str(), wanted);
-        let mut reader = in_pieces(&KEYS[..53], 1, 0);
-        let answer = read_keyring(alloc, &mut reader, Mode::Auto, &limits)?;
-        assert_eq!(rt; matches!(&answer, Answer::Ring(_)), most > 52);
-        assert_eq!(rt; reader.into_inner().reads, reads);
+        assert_eq!(rt;
+            read_of(alloc, in_pieces(key, 1, 0), Mode::Auto, &limits),
+            wanted
+        );
     }
-    Ok(())
-}
-
-// 53 octets and the end in 54 reads, each of which fails in turn: nothing is read then. And how an
-// error prints.
-#[test]
-fn reads_that_fail(rt: HostRuntime) -> Result<(), Fail> {
-    let alloc = rt.alloc();
     for fails_at in 1..=55u64 {
-        let mut reader = in_pieces(&KEYS[..53], 1, fails_at);
-        match read_keyring(alloc, &mut reader, Mode::Auto, &Limits::usual()) {
-            Ok(answer) => {
-                assert!(rt; fails_at == 55 && !reader.failed());
-                assert!(rt; matches!(&answer, Answer::Ring(_)));
-            }
-            Err(error) => {
-                assert!(rt; fails_at < 55 && reader.failed());
-                assert!(rt; matches!(&error, EngineError::Read));
-                assert_eq!(rt; reader.into_inner().reads, fails_at);
-            }
-        }
+        let wanted = if fails_at < 55 {
+            [2, 0, 0, fails_at]
+        } else {
+            [0, 0, 1, 54]
+        };
+        let reader = in_pieces(key, 1, fails_at);
+        assert_eq!(rt;
+            read_of(alloc, reader, Mode::Auto, &Limits::usual()),
+            wanted
+        );
     }
     for (error, line) in [
         (EngineError::Read, "read failed"),

@@ -1,6 +1,6 @@
 //! Runs of each action whose reads or writes fail.
 
-use crate::ends::{Drips, Trouble, in_drips, in_pieces};
+use crate::ends::{Trouble, holds, in_drips, in_pieces};
 use crate::keys::KEYS;
 use opgp_octets::Limits;
 use opgp_stack::{Action, Mode, Out, RunFault, Task, Watched, run};
@@ -61,21 +61,23 @@ fn output_of(alloc: Global, action: Action) -> Result<Vec<u8>, Fail> {
 // 477 octets and the end in 6 reads, each of which fails in turn: nothing is read then, and nothing
 // written.
 #[test]
-fn runs_whose_reads_fail(rt: HostRuntime) -> Result<(), Fail> {
-    let alloc = rt.alloc();
+fn runs_whose_reads_fail(rt: HostRuntime) {
     for action in ACTIONS {
         for fails_at in 1..=7u64 {
             let fails = fails_at < 7;
             let mut reader = in_pieces(KEYS, 100, fails_at);
-            let mut sink = in_drips(alloc, 1000, 0, Trouble::Error);
-            let result = run(alloc, &task_of(action), &mut reader, &mut sink);
-            assert_eq!(rt; result, if fails { Err(RunFault::Read) } else { Ok(()) });
-            assert!(rt; reader.failed() == fails && !sink.failed());
+            let mut sink = in_drips(rt.alloc(), 1000, 0, Trouble::Error);
+            let fault = run(rt.alloc(), &task_of(action), &mut reader, &mut sink).err();
+            let failed = [
+                reader.failed(),
+                sink.failed(),
+                sink.into_inner().writes == 0,
+            ];
+            assert!(rt; failed == [fails, false, fails]);
+            assert!(rt; fault == if fails { Some(RunFault::Read) } else { None });
             assert_eq!(rt; reader.into_inner().reads, fails_at.min(6));
-            assert_eq!(rt; sink.into_inner().writes == 0, fails);
         }
     }
-    Ok(())
 }
 
 // Into a sink that takes `most` octets a write, and is in trouble at each in turn: it holds the front
@@ -92,20 +94,28 @@ fn runs_whose_writes_fail(rt: HostRuntime) -> Result<(), Fail> {
                     let fails = at <= all && trouble != Trouble::TakesOne;
                     let mut reader = in_pieces(KEYS, 1000, 0);
                     let mut sink = in_drips(alloc, most, at, trouble);
-                    let result = run(alloc, &task_of(action), &mut reader, &mut sink);
-                    assert_eq!(rt; result, if fails { Err(RunFault::Write) } else { Ok(()) });
-                    assert!(rt; !reader.failed() && sink.failed() == fails);
-                    let Drips { held, writes, .. } = sink.into_inner();
-                    let size = if fails {
-                        most.saturating_mul(at as usize - 1)
-                    } else {
-                        whole.len()
-                    };
-                    assert!(rt; held.len() == size && whole.starts_with(held.as_slice()));
-                    assert!(rt; !fails || writes == at);
+                    let fault = run(alloc, &task_of(action), &mut reader, &mut sink).err();
+                    let failed = [reader.failed(), sink.failed()];
+                    let held = holds(&sink.into_inner(), &whole, most, at, fails);
+                    assert!(rt; held && failed == [false, fails]);
+                    assert!(rt; fault == if fails { Some(RunFault::Write) } else { None });
                 }
             }
         }
     }
     Ok(())
+}
+
+// If memory runs out, that is reported, and nothing is written.
+#[test]
+fn runs_refused_growth(rt: HostRuntime) {
+    for action in ACTIONS {
+        let mut held = [b'.'; 2048];
+        let mut sink = Watched::new(held.as_mut_slice());
+        let mut reader = in_pieces(KEYS, 100, 0);
+        let fault = run(rt.alloc(), &task_of(action), &mut reader, &mut sink).err();
+        let sound = !reader.failed() && !sink.failed();
+        assert!(rt; sound && (fault.is_none() || fault == Some(RunFault::Memory)));
+        assert!(rt; fault.is_none() || held.iter().all(|octet| *octet == b'.'));
+    }
 }

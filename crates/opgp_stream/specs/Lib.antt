@@ -1,5 +1,6 @@
 pub mod Added
 pub mod Armoring
+pub mod Held
 pub mod Line
 pub mod Output
 pub mod Place

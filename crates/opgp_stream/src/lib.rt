@@ -7,6 +7,7 @@
 
 mod armoring;
 mod buffer;
+mod held;
 pub mod laws;
 mod line;
 mod output;
@@ -20,6 +21,7 @@ mod writing;
 
 pub use armoring::Armoring;
 pub use buffer::Buffer;
+pub use held::Held;
 pub use line::Word;
 pub use output::Output;
 pub use sink::Sink;

@@ -3,7 +3,7 @@
 ghost use Rattle.std.specs.Prelude.{◌≡◌, false};
 
 use opgp_armor::{Label, armor};
-use opgp_stream::{Armoring, Buffer, Output, Sink, Watched, Word, put_all};
+use opgp_stream::{Armoring, Buffer, Held, Output, Sink, Watched, Word, put_all};
 use std::alloc::{AllocError, Global};
 use std::io;
 use std::io::Write;
@@ -334,4 +334,56 @@ fn output_in_1_growths(rt: HostRuntime) -> Result<(), Fail> {
         assert_eq!(rt; held, [b'.'; 256]);
     }
     Ok(())
+}
+
+/// Puts pieces of this size until `all` octets are held, and says whether each was taken whole and the octets are held in order.
+fn is_held(alloc: Global, size: usize, all: usize) -> Result<bool, AllocError> {
+    let mut held = Held::new(alloc)?;
+    let octets = vec![in alloc; 7u8; size]?;
+    let mut left = all;
+    while left > 0 {
+        let piece = octets.get(..left.min(size)).unwrap_or_default();
+        if held.failed() || put_all(&mut held, piece).is_err() {
+            return Err(AllocError);
+        }
+        left = left.saturating_sub(size.max(1));
+    }
+    let (full, last) = held.pieces();
+    let mut count = last.len();
+    for piece in full {
+        count = count.saturating_add(piece.len());
+    }
+    Ok(count == all && last.iter().all(|octet| *octet == 7))
+}
+
+// In memory: octets of the size of a piece, one fewer and one more, in small and large pieces.
+#[test]
+fn octets_held_in_memory(rt: HostRuntime) -> Result<(), Fail> {
+    let alloc = rt.alloc();
+    for all in [
+        0, 1, 65_535, 65_536, 65_537, 1_114_111, 1_114_112, 1_114_113, 4_194_304,
+    ] {
+        for size in [255, 65_536, 70_000, 4_194_304] {
+            assert!(rt;
+                is_held(alloc, size, all)?,
+                "{all} octets in pieces of {size}"
+            );
+        }
+    }
+    Ok(())
+}
+
+// The first piece, the second, and the vector of pieces: none is copied to grow.
+#[test]
+fn octets_held_in_3_growths(rt: HostRuntime) {
+    if let Ok(mut held) = Held::new(rt.alloc()) {
+        for _ in 0..10 {
+            if !held.failed() {
+                let put = put_all(&mut held, [7; 10_000].as_slice());
+                assert!(rt; put.is_err() == held.failed());
+            }
+        }
+        let (full, last) = held.pieces();
+        assert!(rt; held.failed() || (full.len() == 1 && last.len() == 34_464));
+    }
 }

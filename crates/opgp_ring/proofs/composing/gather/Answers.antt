@@ -4,6 +4,7 @@ use Rattle.opgp_ring.specs.declared.block_of.BlockOf.{BlockOf}
 use Rattle.opgp_ring.specs.Block.{block_items, items_of}
 use Rattle.opgp_ring.specs.Composition.{Item}
 use Rattle.opgp_ring.specs.Gathering.{Gathers}
+use Rattle.opgp_ring.specs.Parts.{HasParts}
 use Rattle.opgp_ring.proofs.composing.gather.Goals as goal
 
 items_push : (bs : List BlockOf) (b : BlockOf)
@@ -12,6 +13,6 @@ items_push bs b = ap (λ (items : List Item). items_of bs ++ items) (sym (append
     ∙ sym (flat_map-append block_items bs (b ∷ []))
 
 pub loop-block-preserved : goal.loop-block-preserved
-loop-block-preserved c = subst (λ (items : List Item). Gathers c.args.limits c.add_block.new.self items)
+loop-block-preserved c = subst (λ (items : List Item). Gathers HasParts c.args.limits c.add_block.new.self items)
     (items_push c.loop-block.yielded c.in-Some.block)
     (c.in_default.ensures c.args.limits _ c.loop-block.invariant)

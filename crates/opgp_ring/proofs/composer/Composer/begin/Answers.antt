@@ -43,7 +43,7 @@ returns-in-Leading-clause-fed c limits given taken f =
     let s = c.args.self.now.state in
     let limit : c.cert.result ≡ cert_limit limits = c.cert.ensures.value ∙ ap cert_limit f.limits_kept in
     let is = subst (λ (ps : List PartValue). IsIn limits s given ps) (none_ready taken c.args.self.now.ready c.requires.free) (standing_of f).state in
-    let parts : ready_parts c.replace-in-Leading.new.dest ≡ lead_parts c.in-Leading.lead.items = ap ready_parts c.replace-in-Leading.ensures.after ∙ c.lead_part-ready.ensures.part in
+    let parts : ready_parts c.replace-in-Leading.new.dest ≡ lead_parts c.in-Leading.lead = ap ready_parts c.replace-in-Leading.ensures.after ∙ c.lead_part-ready.ensures.part in
     fed_of (record {
       limits_kept = f.limits_kept;
       state = rw (c.replace.ensures.after, c.new.ensures, parts)

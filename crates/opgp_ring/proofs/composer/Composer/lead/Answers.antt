@@ -15,7 +15,7 @@ pub returns-in-Leading-clause-fed : goal.returns-in-Leading-clause-fed
 returns-in-Leading-clause-fed c limits given taken f =
     let size = c.args.self.now.size in
     let limit : c.cert.result ≡ cert_limit limits = c.cert.ensures.value ∙ ap cert_limit f.limits_kept in
-    let counted : octets_of c.in-Leading.field-0.items ≡ size = ap open_octets (sym c.in-Leading.is) ∙ c.args.self.now.counted in
+    let counted : octets_of c.in-Leading.field-0 ≡ size = ap open_octets (sym c.in-Leading.is) ∙ c.args.self.now.counted in
     let short : size ≤ c.cert.result = omega (arith, c.args.self.now.short, c.cert.ensures.value) in
     let long : c.cert.result < size + c.args.octets = room_short c.cert.result size c.args.octets short c.if-octets-room.true in
     c.refuse.ensures.fed limits given taken (of_packet (record { packet = c.args.filler; block = c.args.block; pos = c.args.pos })) (fed_of (record { limits_kept = f.limits_kept; state = subst (λ (s : State). IsIn limits s given (taken ++ ready_parts c.args.self.now.ready)) c.in-Leading.is (standing_of f).state })) c.requires.sound
@@ -24,10 +24,10 @@ returns-in-Leading-clause-fed c limits given taken f =
 pub invariant_of-self-in-Leading-2 : goal.invariant_of-self-in-Leading-2
 invariant_of-self-in-Leading-2 c =
     let size = c.args.self.now.size in
-    let counted : octets_of c.in-Leading.field-0.items ≡ size = ap open_octets (sym c.in-Leading.is) ∙ c.args.self.now.counted in
+    let counted : octets_of c.in-Leading.field-0 ≡ size = ap open_octets (sym c.in-Leading.is) ∙ c.args.self.now.counted in
     let short : size ≤ c.cert.result = omega (arith, c.args.self.now.short, c.cert.ensures.value) in
     let fits : size + c.args.octets ≤ c.cert.result = room_fits c.cert.result size c.args.octets short c.if-octets-room.false in
-    let more : octets_of c.push.new.self.items ≡ octets_of c.in-Leading.field-0.items + length (spelling c.args.filler) = ap octets_of c.in_ok-push-in-Leading-2.ensures.items ∙ octets_of-push c.in-Leading.field-0.items c.args.filler in
+    let more : octets_of c.push.new.self ≡ octets_of c.in-Leading.field-0 + length (spelling c.args.filler) = ap octets_of c.in_ok-push-in-Leading-2.ensures.ok ∙ octets_of-push c.in-Leading.field-0 c.args.filler in
     record {
       short = omega (arith, fits, c.cert.ensures.value);
       counted = omega (arith, more, counted, c.requires.octets);
@@ -38,12 +38,12 @@ pub returns-in_ok-push-in-Leading-2-clause-fed : goal.returns-in_ok-push-in-Lead
 returns-in_ok-push-in-Leading-2-clause-fed c limits given taken f =
     let size = c.args.self.now.size in
     let limit : c.cert.result ≡ cert_limit limits = c.cert.ensures.value ∙ ap cert_limit f.limits_kept in
-    let counted : octets_of c.in-Leading.field-0.items ≡ size = ap open_octets (sym c.in-Leading.is) ∙ c.args.self.now.counted in
+    let counted : octets_of c.in-Leading.field-0 ≡ size = ap open_octets (sym c.in-Leading.is) ∙ c.args.self.now.counted in
     let short : size ≤ c.cert.result = omega (arith, c.args.self.now.short, c.cert.ensures.value) in
     let fits : size + c.args.octets ≤ c.cert.result = room_fits c.cert.result size c.args.octets short c.if-octets-room.false in
     fed_of (record {
       limits_kept = f.limits_kept;
-      state = lead_more limits c.args.self.now.state c.in-Leading.field-0 c.push.new.self given _ (record { packet = c.args.filler; block = c.args.block; pos = c.args.pos }) (standing_of f).state c.in-Leading.is c.requires.sound c.requires.filler (omega (arith, fits, limit, counted, c.requires.octets)) c.in_ok-push-in-Leading-2.ensures.items;
+      state = lead_more limits c.args.self.now.state c.in-Leading.field-0 c.push.new.self given _ (record { packet = c.args.filler; block = c.args.block; pos = c.args.pos }) (standing_of f).state c.in-Leading.is c.requires.sound c.requires.filler (omega (arith, fits, limit, counted, c.requires.octets)) c.in_ok-push-in-Leading-2.ensures.ok;
     })
 
 pub unreachable-requires : goal.unreachable-requires

@@ -1,0 +1,12 @@
+use Rattle.opgp_ring.proofs.Sorting.{untyped}
+use Rattle.opgp_ring.proofs.checking.packet_fault.Goals as goal
+
+pub returns-in-Some : goal.returns-in-Some
+returns-in-Some c =
+    let p = c.args.placed.now in
+    record {
+      why = c.in-Some.fault;
+      octets = c.kind.ensures.packet.octets;
+      here = untyped p.packet c.kind.result c.from.result c.body.result.now c.in-Some.fault c.kind.ensures.value c.from.ensures.0 c.body.ensures.value c.in-Some.ensures.fault;
+      is = c.placed.ensures;
+    }

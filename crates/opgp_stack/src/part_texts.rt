@@ -1,0 +1,149 @@
+//! What is written of a keyring, made part by part.
+
+ghost use Rattle.std.specs.Prelude.{◌≡◌, ◌++◌, ◌∷◌, [], ℕ, List, IfOk, OnOk};
+ghost use Rattle.std.specs.List.{flat_map};
+ghost use Rattle.opgp_engine.specs.declared.out.Out.TheVariants as outs;
+ghost use Rattle.opgp_ring.specs.Composed.{PartValue};
+ghost use Rattle.opgp_ring.specs.Parts.{AreParts, part_packets};
+ghost use Rattle.opgp_ring.specs.State.{part_of};
+ghost use Rattle.opgp_frame.specs.Packet.{packets_octets};
+ghost use Rattle.opgp_stack.specs.Parts.{certificate_text, normal_octets, part_lines, part_octets};
+
+use crate::writing_listing::ListingText;
+use opgp_engine::{Draft, Out, PacketsText};
+use opgp_octets::OutOfMemory;
+use opgp_ring::{Keeper, Packets, Ready};
+use std::alloc::Global;
+use std::marker::PhantomData;
+
+/// What is written of each part of a keyring.
+pub(crate) trait EachPart {
+    // It of a part.
+    ghost text: { PartValue → List ℕ };
+
+    /// Adds it. Fails only when out of memory.
+    fn add(draft: &mut Draft, part: Ready) -> Result<(), OutOfMemory>
+        ensures { OnOk result (draft.new ≡ draft.old ++ text (part_of part)) };
+}
+
+/// A line for each packet.
+#[derive(Clone, Copy)]
+pub(crate) struct Lines;
+
+impl EachPart for Lines {
+    ghost text = { part_lines };
+
+    fn add(draft: &mut Draft, part: Ready) -> Result<(), OutOfMemory> {
+        let packets = part.packets();
+        draft.add(ListingText { packets })
+    }
+}
+
+/// The packets as they are.
+#[derive(Clone, Copy)]
+pub(crate) struct AsTheyAre;
+
+impl EachPart for AsTheyAre {
+    ghost text = { part_octets };
+
+    fn add(draft: &mut Draft, part: Ready) -> Result<(), OutOfMemory> {
+        add_packets(draft, &part)
+    }
+}
+
+/// The packets in the current format.
+#[derive(Clone, Copy)]
+pub(crate) struct Normalised;
+
+impl EachPart for Normalised {
+    ghost text = { normal_octets };
+
+    fn add(draft: &mut Draft, part: Ready) -> Result<(), OutOfMemory> {
+        add_packets(draft, &part.normalise())
+    }
+}
+
+/// Each certificate on its own, as a block of armor.
+#[derive(Clone, Copy)]
+pub(crate) struct ArmoredAlone;
+
+impl EachPart for ArmoredAlone {
+    ghost text = { certificate_text outs.Armor };
+
+    fn add(draft: &mut Draft, part: Ready) -> Result<(), OutOfMemory> {
+        add_certificate(draft, Out::Armor, part)
+    }
+}
+
+/// Each certificate on its own, in binary.
+#[derive(Clone, Copy)]
+pub(crate) struct BareAlone;
+
+impl EachPart for BareAlone {
+    ghost text = { certificate_text outs.Binary };
+
+    fn add(draft: &mut Draft, part: Ready) -> Result<(), OutOfMemory> {
+        add_certificate(draft, Out::Binary, part)
+    }
+}
+
+/// Adds the packets of a part.
+fn add_packets(draft: &mut Draft, part: &Ready) -> Result<(), OutOfMemory>
+    ensures { OnOk result (draft.new ≡ draft.old ++ part_octets (part_of part.now)) }
+{
+    let out = Out::Binary;
+    let packets = part.packets();
+    draft.add(PacketsText { out, packets })
+}
+
+/// Adds a certificate on its own, and nothing of the lead.
+fn add_certificate(draft: &mut Draft, out: Out, part: Ready) -> Result<(), OutOfMemory>
+    ensures { OnOk result (draft.new ≡ draft.old ++ certificate_text out (part_of part)) }
+{
+    match part {
+        Ready::Lead(lead) => {
+            drop(lead);
+            Ok(())
+        }
+        Ready::Certificate(certificate) => {
+            let packets = Packets::of_certificate(&certificate);
+            draft.add(PacketsText { out, packets })
+        }
+    }
+}
+
+/// What is written of the parts of a keyring that came so far. No part is kept.
+#[derive(Drop)]
+pub(crate) struct PartTexts<E> {
+    draft: Draft,
+    each: PhantomData<E>,
+}
+
+impl<E: EachPart> PartTexts<E> {
+    /// Nothing yet. Fails only when out of memory.
+    pub(crate) fn new(alloc: Global) -> Result<PartTexts<E>, OutOfMemory>
+        ensures { IfOk result (λ k. k.draft ≡ []) }
+    {
+        let draft = Draft::new(alloc)?;
+        Ok(PartTexts {
+            draft,
+            each: PhantomData,
+        })
+    }
+
+    /// What is written.
+    pub(crate) fn into_draft(self) -> Draft
+        ensures { result ≡ self.draft }
+    {
+        self.draft
+    }
+}
+
+impl<E: EachPart> Keeper for PartTexts<E> {
+    ghost kept = { λ k parts. k.draft ≡ flat_map E.text parts };
+
+    fn keep(&mut self, part: Ready) -> Result<(), OutOfMemory> {
+        E::add(&mut self.draft, part)?;
+        Ok(())
+    }
+}

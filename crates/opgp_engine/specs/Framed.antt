@@ -23,6 +23,10 @@ number_of f = f.number
 abbrev pub has_begun : {T : Type 0} → Framer T → Bool
 has_begun f = f.begun
 
+-- how many packets the top was given, as it is shown
+abbrev pub packet_count : {T : Type 0} → Framer T → ℕ
+packet_count f = f.packets
+
 -- The label and packets of the open block that the top was given: none before it was told of it, and
 -- then no octet has come.
 abbrev pub AreOpen : Limits → Wanted → ℕ → Option Label → Deframe → Bool → List ℕ → List Item → Type 0

@@ -1,6 +1,7 @@
 //! Text that is held back until it is known to be right.
 
-ghost use Rattle.std.specs.Prelude.{◌≡◌, ◌++◌, [], ℕ, List, false, IfOk, OnOk};
+ghost use Rattle.std.specs.Prelude.{◌≡◌, ◌++◌, [], ℕ, List, false, IfErr, IfOk, OnOk};
+ghost use Rattle.opgp_engine.specs.declared.engine_error.EngineError.TheVariants as error;
 ghost use Rattle.opgp_engine.specs.Writing.{octets_text};
 ghost use Rattle.opgp_engine.specs.Written.{IsWritten};
 ghost use Rattle.opgp_stream.specs.Held.{held_failed, held_octets};
@@ -71,8 +72,9 @@ impl Draft {
     /// Allocates nothing. The error is `Write`: the sink has failed, and holds a prefix of the text.
     pub fn write<W: Sink>(self, out: Out, writer: &mut W) -> Result<(), EngineError>
         requires { W.has_failed writer.old ≡ false }
-        ensures { IsWritten W.held W.has_failed writer.old writer.new result
+        ensures written { IsWritten W.held W.has_failed writer.old writer.new result
             (octets_text out self) }
+        ensures only { IfErr result (λ e. e ≡ error.Write) }
     {
         let Draft { held, mut buffer } = self;
         let mut output = Output::new(writer, &mut buffer);

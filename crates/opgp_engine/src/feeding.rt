@@ -11,12 +11,13 @@ use opgp_frame::Deframe;
 use opgp_octets::OutOfMemory;
 use std::alloc::AllocError;
 
-/// Pushes a whole piece, and passes each packet that it completes to the top.
+/// Pushes a whole piece, passes each packet that it completes to the top, and returns how many these
+/// are.
 pub(crate) fn feed<T: Receiver>(
     deframe: &mut Deframe,
     piece: &[u8],
     top: &mut T,
-) -> Result<(), OutOfMemory>
+) -> Result<u64, OutOfMemory>
     requires free { is_ready deframe.old ≡ false }
     requires room { count_of deframe.old + length piece.now < 2 ^ 63 }
     ensures fed { OnOk result ((packets : List Placed)
@@ -26,6 +27,7 @@ pub(crate) fn feed<T: Receiver>(
     ensures count { OnOk result (count_of deframe.new ≡ count_of deframe.old + length piece.now) }
 {
     let mut at = 0;
+    let mut passed = 0u64;
     'pushes: while at < piece.len() {
         match deframe.push(&piece[at..]) {
             Ok(n) => at += n,
@@ -33,10 +35,10 @@ pub(crate) fn feed<T: Receiver>(
         }
         if let Some(packet) = deframe.take() {
             match top.push(packet) {
-                Ok(()) => {}
+                Ok(()) => passed = passed.saturating_add(1),
                 Err(_) => return Err(AllocError),
             }
         }
     }
-    Ok(())
+    Ok(passed)
 }

@@ -29,11 +29,12 @@ pub(crate) struct Framer<T> {
     deframe: Deframe,
     top: T,
     fault: Option<Fault>,
+    packets: u64,
     ghost free: { is_ready deframe ≡ false },
 }
 
 impl<T: Receiver + Drop> Framer<T> {
-    ghost use Rattle.opgp_engine.specs.Framed.{Framed, open_count, number_of, has_begun};
+    ghost use Rattle.opgp_engine.specs.Framed.{Framed, open_count, number_of, has_begun, packet_count};
 
     /// A framer that was given nothing, like its top. Its open block has this label.
     pub(crate) fn new(alloc: Global, limits: Limits, label: Option<Label>, top: T) -> Framer<T>
@@ -51,6 +52,7 @@ impl<T: Receiver + Drop> Framer<T> {
             deframe: Deframe::new(alloc, 0, limits),
             top,
             fault: None,
+            packets: 0,
         }
     }
 
@@ -97,8 +99,16 @@ impl<T: Receiver + Drop> Framer<T> {
             return Ok(());
         }
         self.tell()?;
-        feed(&mut self.deframe, piece, &mut self.top)?;
+        let passed = feed(&mut self.deframe, piece, &mut self.top)?;
+        self.packets = self.packets.saturating_add(passed);
         Ok(())
+    }
+
+    /// How many packets the top was given, at most 2^64 - 1.
+    pub(crate) fn packets(&self) -> u64
+        ensures { result ≡ packet_count self.now }
+    {
+        self.packets
     }
 
     /// Ends the open block, and opens one with the same label.

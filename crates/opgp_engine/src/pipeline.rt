@@ -3,7 +3,7 @@
 ghost use Rattle.std.specs.Prelude.{◌≡◌, ◌≢◌, ◌<◌, ◌+◌, ◌^◌, ◌++◌, ◌∷◌, [], ℕ, List, length, OnOk};
 ghost use Rattle.std.specs.Prelude.{IfOk, false};
 ghost use Rattle.opgp_octets.specs.declared.limits.Limits.{Limits};
-ghost use Rattle.opgp_engine.specs.Framed.{Framed, has_begun};
+ghost use Rattle.opgp_engine.specs.Framed.{Framed, has_begun, packet_count};
 ghost use Rattle.opgp_engine.specs.Pipeline.{Fed, Passed, count_of};
 ghost use Rattle.opgp_engine.specs.Reading.{AnswerOf, is_binary};
 ghost use Rattle.opgp_engine.specs.Through.{IsEnd};
@@ -122,6 +122,13 @@ impl<T: Receiver + Drop> Pipeline<T> {
         pass(&mut self.front, &mut self.framer, piece)?;
         self.given += piece.len() as u64;
         Ok(())
+    }
+
+    /// How many packets the top was given, at most 2^64 - 1.
+    pub fn packets(&self) -> u64
+        ensures { result ≡ packet_count self.now.framer }
+    {
+        self.framer.packets()
     }
 
     /// Ends the input, and returns its result. Fails only when out of memory.

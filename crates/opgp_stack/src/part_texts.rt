@@ -18,7 +18,7 @@ use std::marker::PhantomData;
 
 /// What is written of each part of a keyring.
 pub(crate) trait EachPart {
-    // It of a part.
+    // The octets that are written of a part.
     ghost text: { PartValue → List ℕ };
 
     /// Adds it. Fails only when out of memory.

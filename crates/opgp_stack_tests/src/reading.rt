@@ -3,7 +3,7 @@
 use crate::ends::{in_pieces, is_written, read_of};
 use crate::keys::{KEY_1, KEY_3, KEYS, TWO_BLOCKS};
 use opgp_octets::Limits;
-use opgp_stack::{EngineError, Mode, Out, read_packets, read_signed};
+use opgp_stack::{Mode, Out, read_packets, read_signed};
 use std::alloc::Global;
 use std::test::Fail;
 
@@ -100,13 +100,6 @@ fn reads_of_an_input(rt: HostRuntime) -> Result<(), Fail> {
             read_of(alloc, reader, Mode::Auto, &Limits::usual()),
             wanted
         );
-    }
-    for (error, line) in [
-        (EngineError::Read, "read failed"),
-        (EngineError::Write, "write failed"),
-        (EngineError::Memory, "out of memory"),
-    ] {
-        assert_eq!(rt; format!(in alloc; "{error}")?.as_str(), line);
     }
     Ok(())
 }

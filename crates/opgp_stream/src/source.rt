@@ -27,4 +27,11 @@ pub trait Source {
     /// Whether some call has returned an error.
     fn failed(&self) -> bool
         ensures { result ≡ has_failed self.now };
+
+    /// Hears how many packets the octets so far have. A source that tells nobody does nothing.
+    fn note(&mut self, _packets: u64)
+        ensures left { left self.new ≡ left self.old }
+        ensures failed { has_failed self.new ≡ has_failed self.old }
+    {
+    }
 }

@@ -1,4 +1,5 @@
-use Rattle.std.proofs.Common.{◌≡◌, ◌++◌, List, ℕ, take, length, arith, length-append}
+use Rattle.std.proofs.Common.{◌≡◌, ◌++◌, ◌∙◌, List, Option, ℕ, take, length, arith, length-append, subst, sym}
+use Rattle.std.specs.Io.KnownBytes.{Consumes}
 use Rattle.std.proofs.lemmas.Grind.{common_steps}
 use Rattle.std.proofs.lemmas.List.{length-take-le}
 use Rattle.std.proofs.KnownBytes.{Consumes-trans}
@@ -47,11 +48,12 @@ pulls-preserved g c =
     record {
       within = omega (arith, e.bound.1);
       room = grind (arith, common_steps);
-      sound = e.sound;
+      sound = c.note.ensures.failed ∙ e.sound;
       progress = record {
         octets = p.octets ++ piece;
         each = octets_append p.octets piece p.each e.each;
-        taken = Consumes-trans _ _ _ _ _ p.taken e.taken;
+        taken = subst (λ (o : Option (List ℕ)). Consumes (g.R.Source.left c.args.reader.now) o (p.octets ++ piece)) (sym c.note.ensures.left)
+            (Consumes-trans _ _ _ _ _ p.taken e.taken);
         fed = c.in-Ok-push.ensures.fed _ _ p.octets p.fed;
         size = omega (arith, length-append p.octets piece, size, p.size);
         counted = omega (arith, c.in-Ok-push.ensures.count, size, p.counted);

@@ -26,7 +26,7 @@ returns-in_err-text-in-Show g c = stopped (ShownOf c.args.task.now) _ c.in-Show.
 pub returns-in_ok-text-in-Show : goal.returns-in_ok-text-in-Show
 returns-in_ok-text-in-Show g c =
     ran (ShownOf c.args.task.now) _ c.in-Show.is _ _ _ c.in_ok-text-in-Show.text _ (λ octets. made_of_packets c.args.task.now octets c.in_ok-text-in-Show.text)
-    c.in_ok-text-in-Show.ensures refl (_, c.end.ensures, c.write.ensures)
+    c.in_ok-text-in-Show.ensures refl (_, c.end.ensures, c.write.ensures.written)
 
 pub returns-in_err-text-in-List : goal.returns-in_err-text-in-List
 returns-in_err-text-in-List g c = stopped (KeyringOf (HasText part_lines) c.args.task.now) _ c.in-List.is _ _ (refused_of (HasText part_lines) _ c.args.task.now) c.in_err-text-in-List.ensures c.from_residual-in_err-text-in-List.ensures
@@ -34,7 +34,7 @@ returns-in_err-text-in-List g c = stopped (KeyringOf (HasText part_lines) c.args
 pub returns-in_ok-text-in-List : goal.returns-in_ok-text-in-List
 returns-in_ok-text-in-List g c =
     ran (KeyringOf (HasText part_lines) c.args.task.now) _ c.in-List.is _ _ _ c.in_ok-text-in-List.text _ (λ octets. made_of (HasText part_lines) Text (λ r. Text (listing (flat r))) (λ r o h. ap Text (h ∙ lines_text r)) c.args.task.now octets c.in_ok-text-in-List.text)
-    c.in_ok-text-in-List.ensures refl (_, c.end-in-List.ensures, c.write-in-List.ensures)
+    c.in_ok-text-in-List.ensures refl (_, c.end-in-List.ensures, c.write-in-List.ensures.written)
 
 pub returns-in_err-ring-in-Check : goal.returns-in_err-ring-in-Check
 returns-in_err-ring-in-Check g c = stopped (RingOf c.args.task.now) _ c.in-Check.is _ _ (λ octets fault h. (Err fault, h, refl)) c.in_err-ring-in-Check.ensures c.from_residual-in_err-ring-in-Check.ensures
@@ -58,7 +58,7 @@ returns-in_err-text-in-Write g c = stopped (KeyringOf (HasText part_octets) c.ar
 pub returns-in_ok-text-in-Write : goal.returns-in_ok-text-in-Write
 returns-in_ok-text-in-Write g c =
     ran (KeyringOf (HasText part_octets) c.args.task.now) _ c.in-Write.is _ _ _ c.in_ok-text-in-Write.text _ (λ octets. made_of (HasText part_octets) (λ o. Text (octets_text c.in-Write.out o)) (λ r. Text (octets_text c.in-Write.out (packets_octets (flat r)))) (λ r o h. ap (λ (x : List ℕ). Text (octets_text c.in-Write.out x)) (h ∙ packets_text_of r)) c.args.task.now octets c.in_ok-text-in-Write.text)
-    c.in_ok-text-in-Write.ensures refl (_, c.end-in-Write.ensures, c.write-in-Write.ensures)
+    c.in_ok-text-in-Write.ensures refl (_, c.end-in-Write.ensures, c.write-in-Write.ensures.written)
 
 pub returns-in_err-text-in-Normalise : goal.returns-in_err-text-in-Normalise
 returns-in_err-text-in-Normalise g c = stopped (KeyringOf (HasText normal_octets) c.args.task.now) _ c.in-Normalise.is _ _ (refused_of (HasText normal_octets) _ c.args.task.now) c.in_err-text-in-Normalise.ensures c.from_residual-in_err-text-in-Normalise.ensures
@@ -66,7 +66,7 @@ returns-in_err-text-in-Normalise g c = stopped (KeyringOf (HasText normal_octets
 pub returns-in_ok-text-in-Normalise : goal.returns-in_ok-text-in-Normalise
 returns-in_ok-text-in-Normalise g c =
     ran (KeyringOf (HasText normal_octets) c.args.task.now) _ c.in-Normalise.is _ _ _ c.in_ok-text-in-Normalise.text _ (λ octets. made_of (HasText normal_octets) (λ o. Text (octets_text c.in-Normalise.out o)) (λ r. Text (octets_text c.in-Normalise.out (packets_octets (flat (normal_of r))))) (λ r o h. ap (λ (x : List ℕ). Text (octets_text c.in-Normalise.out x)) (h ∙ normal_text r)) c.args.task.now octets c.in_ok-text-in-Normalise.text)
-    c.in_ok-text-in-Normalise.ensures refl (_, c.end-in-Normalise.ensures, c.write-in-Normalise.ensures)
+    c.in_ok-text-in-Normalise.ensures refl (_, c.end-in-Normalise.ensures, c.write-in-Normalise.ensures.written)
 
 pub returns-in_err-text-in-Armor : goal.returns-in_err-text-in-Armor
 returns-in_err-text-in-Armor g c = stopped (KeyringOf (HasText (certificate_text outs.Armor)) c.args.task.now) _ (c.in-Split.is ∙ ap (λ (n : Option ℕ). action.Split c.in-Split.out n) c.in-None.is ∙ ap (λ (o : Out). action.Split o None) c.in-Armor.is) _ _ (refused_of (HasText (certificate_text outs.Armor)) _ c.args.task.now) c.in_err-text-in-Armor.ensures c.from_residual-in_err-text-in-Armor.ensures
@@ -74,7 +74,7 @@ returns-in_err-text-in-Armor g c = stopped (KeyringOf (HasText (certificate_text
 pub returns-in_ok-text-in-Armor : goal.returns-in_ok-text-in-Armor
 returns-in_ok-text-in-Armor g c =
     ran (KeyringOf (HasText (certificate_text outs.Armor)) c.args.task.now) _ (c.in-Split.is ∙ ap (λ (n : Option ℕ). action.Split c.in-Split.out n) c.in-None.is ∙ ap (λ (o : Out). action.Split o None) c.in-Armor.is) _ _ _ c.in_ok-text-in-Armor.text _ (λ octets. made_of (HasText (certificate_text outs.Armor)) Text (λ r. Text (certificates_text outs.Armor r.certificates)) (λ r o h. ap Text (h ∙ (alone_text outs.Armor) r)) c.args.task.now octets c.in_ok-text-in-Armor.text)
-    c.in_ok-text-in-Armor.ensures refl (_, c.end-in-Armor.ensures, c.write-in-Armor.ensures)
+    c.in_ok-text-in-Armor.ensures refl (_, c.end-in-Armor.ensures, c.write-in-Armor.ensures.written)
 
 pub returns-in_err-text-in-Binary : goal.returns-in_err-text-in-Binary
 returns-in_err-text-in-Binary g c = stopped (KeyringOf (HasText (certificate_text outs.Binary)) c.args.task.now) _ (c.in-Split.is ∙ ap (λ (n : Option ℕ). action.Split c.in-Split.out n) c.in-None.is ∙ ap (λ (o : Out). action.Split o None) c.in-Binary.is) _ _ (refused_of (HasText (certificate_text outs.Binary)) _ c.args.task.now) c.in_err-text-in-Binary.ensures c.from_residual-in_err-text-in-Binary.ensures
@@ -82,7 +82,7 @@ returns-in_err-text-in-Binary g c = stopped (KeyringOf (HasText (certificate_tex
 pub returns-in_ok-text-in-Binary : goal.returns-in_ok-text-in-Binary
 returns-in_ok-text-in-Binary g c =
     ran (KeyringOf (HasText (certificate_text outs.Binary)) c.args.task.now) _ (c.in-Split.is ∙ ap (λ (n : Option ℕ). action.Split c.in-Split.out n) c.in-None.is ∙ ap (λ (o : Out). action.Split o None) c.in-Binary.is) _ _ _ c.in_ok-text-in-Binary.text _ (λ octets. made_of (HasText (certificate_text outs.Binary)) Text (λ r. Text (certificates_text outs.Binary r.certificates)) (λ r o h. ap Text (h ∙ (alone_text outs.Binary) r)) c.args.task.now octets c.in_ok-text-in-Binary.text)
-    c.in_ok-text-in-Binary.ensures refl (_, c.end-in-Binary.ensures, c.write-in-Binary.ensures)
+    c.in_ok-text-in-Binary.ensures refl (_, c.end-in-Binary.ensures, c.write-in-Binary.ensures.written)
 
 pub returns-in_err-ring-in-Join : goal.returns-in_err-ring-in-Join
 returns-in_err-ring-in-Join g c = stopped (RingOf c.args.task.now) _ (c.in-Join.is ∙ ap (λ (m : Bool). action.Join c.in-Join.out m) c.if-merges.true) _ _ (λ octets fault h. (Err fault, h, refl)) c.in_err-ring-in-Join.ensures c.from_residual-in_err-ring-in-Join.ensures
@@ -98,7 +98,7 @@ returns-in_err-text-in-Join g c = stopped (KeyringOf (HasText part_octets) c.arg
 pub returns-in_ok-text-in-Join : goal.returns-in_ok-text-in-Join
 returns-in_ok-text-in-Join g c =
     ran (KeyringOf (HasText part_octets) c.args.task.now) _ (c.in-Join.is ∙ ap (λ (m : Bool). action.Join c.in-Join.out m) c.if-merges.false) _ _ _ c.in_ok-text-in-Join.text _ (λ octets. made_of (HasText part_octets) (λ o. Text (octets_text c.in-Join.out o)) (λ r. Text (octets_text c.in-Join.out (packets_octets (flat r)))) (λ r o h. ap (λ (x : List ℕ). Text (octets_text c.in-Join.out x)) (h ∙ packets_text_of r)) c.args.task.now octets c.in_ok-text-in-Join.text)
-    c.in_ok-text-in-Join.ensures refl (_, c.end-else-merges.ensures, c.write-else-merges.ensures)
+    c.in_ok-text-in-Join.ensures refl (_, c.end-else-merges.ensures, c.write-else-merges.ensures.written)
 
 pub returns-in_err-found-in-Ring : goal.returns-in_err-found-in-Ring
 returns-in_err-found-in-Ring g c = stopped (KeyringOf (HasRow c.in-Octets.row) c.args.task.now) _ (c.in-Octets.is ∙ ap (λ (t : Top). action.Octets c.in-Octets.row t) c.in-Ring.is) _ _ (refused_of (HasRow c.in-Octets.row) _ c.args.task.now) c.in_err-found-in-Ring.ensures c.from_residual-in_err-found-in-Ring.ensures

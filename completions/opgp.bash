@@ -1,7 +1,13 @@
 # Completion of opgp for bash.
 _opgp() {
     local word=${COMP_WORDS[COMP_CWORD]} before=${COMP_WORDS[COMP_CWORD - 1]} words
-    local limits="--mode --line --body --cert --input --pieces --help"
+    local limits="--mode --line --body --cert --input --pieces --progress --help"
+    # Bash takes --out=binary for three words.
+    if [ "$word" = = ]; then
+        word=
+    elif [ "$before" = = ]; then
+        before=${COMP_WORDS[COMP_CWORD - 2]}
+    fi
     if [ "$COMP_CWORD" = 1 ]; then
         words="show list check octets write normalise split join help --help"
     else
@@ -9,7 +15,10 @@ _opgp() {
             --mode) words="auto armor binary" ;;
             --out) words="armor binary" ;;
             --of) words="ring literal" ;;
-            --row | --nth | --line | --body | --cert | --input | --pieces) return ;;
+            --row | --nth | --line | --body | --cert | --input | --pieces)
+                compopt +o default # a number, and no file
+                return
+                ;;
             *)
                 case ${COMP_WORDS[1]} in
                     show | list | check) words=$limits ;;

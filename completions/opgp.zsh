@@ -14,24 +14,25 @@ _opgp() {
         'help:prints the help of the program or of a command'
     )
     limits=(
-        '--mode[how the input is read]:mode:(auto armor binary)'
-        '--line[the most octets of an armored line]:number:'
-        '--body[the most octets of a packet'"'"'s body]:number:'
-        '--cert[the most octets of a certificate]:number:'
-        '--input[the most octets of the input]:number:'
-        '--pieces[the most partial lengths of a packet]:number:'
+        '--mode=[how the input is read]:mode:(auto armor binary)'
+        '--line=[the most octets of an armored line]:number:'
+        '--body=[the most octets of a packet'"'"'s body]:number:'
+        '--cert=[the most octets of a certificate]:number:'
+        '--input=[the most octets of the input]:number:'
+        '--pieces=[the most partial lengths of a packet]:number:'
+        '--progress[shows on standard error how much was read]'
         '--help[prints the help]'
     )
-    out=('--out[how keyrings are written]:form:(armor binary)')
+    out=('--out=[how keyrings are written]:form:(armor binary)')
     if ((CURRENT == 2)); then
         _describe command commands
         return
     fi
     case $words[2] in
         show | list | check) shift words; ((CURRENT--)); _arguments $limits ;;
-        octets) shift words; ((CURRENT--)); _arguments $limits '--row[the number of the row]:number:' '--of[what the input is read as]:top:(ring literal)' ;;
+        octets) shift words; ((CURRENT--)); _arguments $limits '--row=[the number of the row]:number:' '--of=[what the input is read as]:top:(ring literal)' ;;
         write | normalise) shift words; ((CURRENT--)); _arguments $limits $out ;;
-        split) shift words; ((CURRENT--)); _arguments $limits $out '--nth[the number of the certificate]:number:' ;;
+        split) shift words; ((CURRENT--)); _arguments $limits $out '--nth=[the number of the certificate]:number:' ;;
         join) shift words; ((CURRENT--)); _arguments $limits $out '--merge[makes certificates of one primary key one]' ;;
         help) _describe command commands ;;
     esac

@@ -1,5 +1,5 @@
 -- Words name one task at most.
-use Rattle.std.proofs.Common.{◌≡◌, ◌∙◌, ap, sym, subst, refl, ℕ, List, Option, Some, None, codes}
+use Rattle.std.proofs.Common.{◌≡◌, ◌∙◌, ap, sym, subst, refl, Bool, ℕ, List, Option, Some, None, codes}
 use Rattle.std.proofs.lemmas.Option.{same_Some, none-some}
 use Rattle.std.specs.Prelude.{slice_get, option_and_then, option_map}
 use Rattle.std.specs.Str.{bytes_eq}
@@ -11,8 +11,9 @@ use Rattle.opgp_engine.specs.declared.mode.Mode.{Mode}
 use Rattle.opgp_stack.specs.declared.task.Action.{Action}
 use Rattle.opgp_stack.specs.declared.task.Action.TheVariants as action
 use Rattle.opgp_stack.specs.declared.task.Task.{Task}
+use Rattle.opgp_tool.specs.declared.task.Request.{Request}
 use Rattle.opgp_tool.specs.Program.{SaysTask}
-use Rattle.opgp_tool.specs.Words.{HasLimits, HasNumber, IsAction, IsNth, IsTask}
+use Rattle.opgp_tool.specs.Words.{HasLimits, HasNumber, IsAction, IsNth, IsRequest, IsTask}
 use Rattle.opgp_tool.proofs.Reading.{apart}
 use Rattle.opgp_tool.proofs.SameLimits.{same_limits}
 
@@ -86,8 +87,17 @@ one_said name options a b m n =
     ∙ ap (λ (x : Limits). task_with b.mode x a.action) (one_limits options _ _ m.limits n.limits)
     ∙ ap (task_with b.mode b.limits) (one_action name options _ _ m.action n.action)
 
-pub one_task : (program : App) (words : List Text) (a b : Task) → SaysTask program words a
+abbrev request_with : Task → Bool → Request
+request_with task progress = record { task = task; progress = progress }
+
+one_request : (name : Text) (options : List Row) (a b : Request) → IsRequest name options a
+    → IsRequest name options b → a ≡ b
+one_request name options a b m n =
+    ap (λ (x : Task). request_with x a.progress) (one_said name options _ _ m.task n.task)
+    ∙ ap (request_with b.task) (m.progress ∙ sym n.progress)
+
+pub one_task : (program : App) (words : List Text) (a b : Request) → SaysTask program words a
     → SaysTask program words b → a ≡ b
 one_task program words a b m n =
     let same : (m.0, m.1) ≡ (n.0, n.1) = same_Some _ _ (sym m.2 ∙ n.2) in
-    one_said n.0 n.1 a b (subst (λ (p : Text × List Row). IsTask p.0 p.1 a) same m.3) n.3
+    one_request n.0 n.1 a b (subst (λ (p : Text × List Row). IsRequest p.0 p.1 a) same m.3) n.3

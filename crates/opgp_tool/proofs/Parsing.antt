@@ -4,9 +4,9 @@ use Rattle.std.proofs.Common.{Some, None}
 use Rattle.std.specs.Prelude.{IfSome, option_map}
 use Rattle.clap.specs.Words.{App, Row, Text, is_simple, is_simple_and_free, subcommand_of, takes}
 use Rattle.clap.proofs.OnLiterals.{clap_on_literals}
-use Rattle.opgp_stack.specs.declared.task.Task.{Task}
+use Rattle.opgp_tool.specs.declared.task.Request.{Request}
 use Rattle.opgp_tool.specs.Program.{Choice, IsProgram, SaysNone, program_of}
-use Rattle.opgp_tool.specs.Words.{IsTask}
+use Rattle.opgp_tool.specs.Words.{IsRequest}
 
 program_is_simple : (show list check octets write normalise split join tops : Choice)
     → (write_outs normalise_outs split_outs join_outs : Choice)
@@ -55,18 +55,18 @@ refused_or app words M made memory = go (takes app words) refl
     go : (b : Bool) → takes app words ≡ b
         → M ⊎ ((program : App) × IsProgram program × SaysNone program words)
     go true is = inl (memory is)
-    go false is = inr (app, made, λ taken task said. absurd (cc (is, taken)))
+    go false is = inr (app, made, λ taken request said. absurd (cc (is, taken)))
 
 -- words say only what their one command says
 pub none_said : (app : App) (words : List Text) (name : Text) (rows : List Row)
     → subcommand_of app words ≡ Some (name, rows)
-    → ((task : Task) → IsTask name rows task → ⊥) → SaysNone app words
-none_said app words name rows entered none taken task said =
+    → ((request : Request) → IsRequest name rows request → ⊥) → SaysNone app words
+none_said app words name rows entered none taken request said =
     let same : (said.0, said.1) ≡ (name, rows) = cc (said.2, entered) in
-    none task (subst (λ (p : Text × List Row). IsTask p.0 p.1 task) same said.3)
+    none request (subst (λ (p : Text × List Row). IsRequest p.0 p.1 request) same said.3)
 
 pub nothing_said : (app : App) (words : List Text) (o : Option (Text × List Row))
     → o ≡ subcommand_of app words → None ≡ option_map (λ (p : Text × List Row). p.1) o
     → SaysNone app words
-nothing_said app words None is none taken task said = absurd (cc (is, said.2))
-nothing_said app words (Some p) is none taken task said = absurd (cc none)
+nothing_said app words None is none taken request said = absurd (cc (is, said.2))
+nothing_said app words (Some p) is none taken request said = absurd (cc none)

@@ -10,8 +10,8 @@ use Rattle.clap.specs.declared.builder.value_parser.ValueParser.{ValueParser}
 use Rattle.clap.specs.declared.builder.value_parser.ValueParser.TheVariants as parser
 use Rattle.opgp_octets.specs.declared.limits.Range.{Range}
 use Rattle.opgp_octets.specs.Ranges.{line_range, body_range, cert_range, input_range, pieces_range}
-use Rattle.opgp_stack.specs.declared.task.Task.{Task}
-use Rattle.opgp_tool.specs.Words.{IsTask}
+use Rattle.opgp_tool.specs.declared.task.Request.{Request}
+use Rattle.opgp_tool.specs.Words.{IsRequest}
 
 -- the values that an option takes
 abbrev pub Choice : Type 0
@@ -73,9 +73,15 @@ row_rule = record (number_rule (codes "row")) { required = true }
 abbrev pub nth_rule : Rule
 nth_rule = number_rule (codes "nth")
 
+-- an option `--name` without a value
+abbrev pub flag_rule : Text → Rule
+flag_rule name = record (new_rule name) { long = Some name; action = Some SetTrue }
+
 abbrev pub merge_rule : Rule
-merge_rule =
-    record (new_rule (codes "merge")) { long = Some (codes "merge"); action = Some SetTrue }
+merge_rule = flag_rule (codes "merge")
+
+abbrev pub progress_rule : Rule
+progress_rule = flag_rule (codes "progress")
 
 -- the values of `--mode`, `--out` and `--of`
 abbrev pub AreModes : Choice → Type 0
@@ -92,10 +98,11 @@ abbrev pub with_limits : App → App
 with_limits app = with_rule (with_rule (with_rule (with_rule (with_rule app line_rule) body_rule)
     cert_rule) input_rule) pieces_rule
 
--- the command of this name takes the mode, the limits, and these options
+-- the command of this name takes the mode, the limits, `--progress`, and these options
 abbrev pub command_shape : Text → Choice → List Rule → Shape
 command_shape name modes more = record (new_shape name) {
-  rules = mode_rule modes ∷ line_rule ∷ body_rule ∷ cert_rule ∷ input_rule ∷ pieces_rule ∷ more;
+  rules = mode_rule modes ∷ line_rule ∷ body_rule ∷ cert_rule ∷ input_rule ∷ pieces_rule
+      ∷ progress_rule ∷ more;
 }
 
 pub record IsCommand (name : Text) (more : List Rule) (c : Command) : Type 0 where
@@ -154,12 +161,13 @@ pub record IsProgram (program : App) : Type 0 where
   pub is : program ≡ program_of show_modes list_modes check_modes octets_modes write_modes
       normalise_modes split_modes join_modes tops write_outs normalise_outs split_outs join_outs
 
--- the command line names a command of this program, and the task is that of its name and its
+-- the command line names a command of this program, and the request is that of its name and its
 -- options
-abbrev pub SaysTask : App → List Text → Task → Type 0
-SaysTask program words task = (name : Text) × (options : List Row)
-    × (subcommand_of program words ≡ Some (name, options)) × IsTask name options task
+abbrev pub SaysTask : App → List Text → Request → Type 0
+SaysTask program words request = (name : Text) × (options : List Row)
+    × (subcommand_of program words ≡ Some (name, options)) × IsRequest name options request
 
 -- the program refuses the command line, or it names no task
 abbrev pub SaysNone : App → List Text → Type 0
-SaysNone program words = takes program words ≡ true → (task : Task) → SaysTask program words task → ⊥
+SaysNone program words =
+    takes program words ≡ true → (request : Request) → SaysTask program words request → ⊥

@@ -15,6 +15,7 @@ use Rattle.opgp_stack.specs.declared.task.Top.TheVariants as top
 use Rattle.opgp_stack.specs.declared.task.Action.{Action}
 use Rattle.opgp_stack.specs.declared.task.Action.TheVariants as action
 use Rattle.opgp_stack.specs.declared.task.Task.{Task}
+use Rattle.opgp_tool.specs.declared.task.Request.{Request}
 
 -- the text is this number of 64 bits, in decimal digits, perhaps after a plus
 pub record IsNumber (text : Text) (n : ℕ) : Type 0 where
@@ -47,10 +48,10 @@ abbrev pub IsNth : List Row → Option ℕ → Type 0
 IsNth options nth = MatchOption nth (first_of (codes "nth") options ≡ None)
     (HasNumber options (codes "nth"))
 
--- `--merge`: given, for which `clap` writes the value `true`, or not
-abbrev pub merge_of : Option Text → Bool
-merge_of None = false
-merge_of (Some word) = bytes_eq word (codes "true")
+-- a flag: given, for which `clap` writes the value `true`, or not
+abbrev pub is_given : Option Text → Bool
+is_given None = false
+is_given (Some word) = bytes_eq word (codes "true")
 
 -- each limit is the number of the option of its name
 pub record HasLimits (options : List Row) (limits : Limits) : Type 0 where
@@ -75,10 +76,15 @@ IsAction name options (action.Split out nth) = (name ≡ codes "split")
     × (out ≡ out_of (first_of (codes "out") options)) × IsNth options nth
 IsAction name options (action.Join out merge) = (name ≡ codes "join")
     × (out ≡ out_of (first_of (codes "out") options))
-    × (merge ≡ merge_of (first_of (codes "merge") options))
+    × (merge ≡ is_given (first_of (codes "merge") options))
 
 -- the task of the command of this name with these options
 pub record IsTask (name : Text) (options : List Row) (task : Task) : Type 0 where
   pub mode : task.mode ≡ mode_of (first_of (codes "mode") options)
   pub limits : HasLimits options task.limits
   pub action : IsAction name options task.action
+
+-- that task, and whether `--progress` is given
+pub record IsRequest (name : Text) (options : List Row) (request : Request) : Type 0 where
+  pub task : IsTask name options request.task
+  pub progress : request.progress ≡ is_given (first_of (codes "progress") options)

@@ -3,7 +3,7 @@
 ghost use Rattle.std.specs.Prelude.{◌≡◌, true, false, IfOk, IsOkAnd, [], ◌∷◌, codes};
 ghost use Rattle.clap.specs.Words.{rule_of, app_of, shape_of, with_rule, with_subcommand};
 ghost use Rattle.opgp_tool.specs.Program.{Choice, AreModes, AreOuts, AreTops, mode_rule, out_rule};
-ghost use Rattle.opgp_tool.specs.Program.{of_rule, limit_rule, row_rule, nth_rule, merge_rule};
+ghost use Rattle.opgp_tool.specs.Program.{of_rule, limit_rule, row_rule, nth_rule, flag_rule, merge_rule};
 ghost use Rattle.opgp_tool.specs.Program.{with_limits};
 ghost use Rattle.opgp_tool.specs.Program.{IsCommand, IsProgram, bare_program};
 
@@ -132,15 +132,15 @@ fn nth_option<'a>(alloc: Global) -> Arg<'a>
         .help("The number of the one certificate that is written, from 0")
 }
 
-/// `--merge`: a flag.
-fn merge_option<'a>(alloc: Global) -> Arg<'a>
-    ensures rule { rule_of result ≡ merge_rule }
+/// A flag, which takes no value.
+fn flag_option<'a>(alloc: Global, name: &'a str, help: &'a str) -> Arg<'a>
+    ensures rule { rule_of result ≡ flag_rule name.entry.now }
     ensures own { result.global ≡ false }
 {
-    Arg::new(alloc, "merge")
-        .long("merge")
+    Arg::new(alloc, name)
+        .long(name)
         .action(ArgAction::SetTrue)
-        .help("Makes certificates of one primary key one")
+        .help(help)
 }
 
 /// The command with this option added, as its last.
@@ -174,7 +174,9 @@ fn new_command<'a>(
     ensures { IfOk result (IsCommand name.entry.now []) }
 {
     let command = Command::new(alloc, name).about(about).after_help(more);
-    with_limits(alloc, with_option(command, mode_option(alloc))?)
+    let command = with_limits(alloc, with_option(command, mode_option(alloc))?)?;
+    let help = "Shows on standard error how much was read";
+    with_option(command, flag_option(alloc, "progress", help))
 }
 
 fn octets_command<'a>(alloc: Global) -> Result<Command<'a>, OutOfMemory>
@@ -215,7 +217,8 @@ fn join_command<'a>(alloc: Global) -> Result<Command<'a>, OutOfMemory>
 {
     let about = "Writes all blocks of the input as one keyring";
     let command = writing_command(alloc, "join", about, JOIN_HELP)?;
-    with_option(command, merge_option(alloc))
+    let help = "Makes certificates of one primary key one";
+    with_option(command, flag_option(alloc, "merge", help))
 }
 
 /// The program without its commands.

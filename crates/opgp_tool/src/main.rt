@@ -5,13 +5,15 @@ mod command;
 mod ending;
 mod help;
 pub mod laws;
+mod progress;
 mod task;
 
 use ending::end_of;
-use opgp_stack::{RunFault, Task, Watched, run_last};
+use opgp_stack::{RunFault, Watched, run_last};
+use progress::Progress;
 use std::process::ExitCode;
 use std::{env, io};
-use task::{Usage, task_of};
+use task::{Request, Usage, task_of};
 
 /// The exit status of an invalid command line.
 const USAGE: u8 = 2;
@@ -37,7 +39,7 @@ fn main(rt: HostRuntime) -> ExitCode {
 /// Runs the task of a command line.
 fn run_words(rt: &HostRuntime, words: &[String]) -> u8 {
     match task_of(rt.alloc(), words) {
-        Ok(task) => run_task(rt, &task),
+        Ok(request) => run_task(rt, &request),
         Err(Usage::Text(text)) => {
             let _ = eprint!(rt; "{text}");
             USAGE
@@ -47,10 +49,17 @@ fn run_words(rt: &HostRuntime, words: &[String]) -> u8 {
 }
 
 /// Runs the task, from standard input to standard output.
-fn run_task(rt: &HostRuntime, task: &Task) -> u8 {
-    let mut reader = Watched::new(rt.stdin());
+fn run_task(rt: &HostRuntime, request: &Request) -> u8 {
+    let shown = if request.progress {
+        Some(rt.stderr())
+    } else {
+        None
+    };
+    let mut reader = Progress::new(rt.alloc(), Watched::new(rt.stdin()), shown);
     let mut writer = Watched::new(rt.stdout());
-    end(rt, &run_last(rt.alloc(), task, &mut reader, &mut writer))
+    let outcome = run_last(rt.alloc(), &request.task, &mut reader, &mut writer);
+    reader.end();
+    end(rt, &outcome)
 }
 
 /// Prints the last line of a run. A standard error that is closed or full changes no status.

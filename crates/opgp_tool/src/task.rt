@@ -7,9 +7,10 @@ ghost use Rattle.clap.specs.declared.error.kind.ErrorKind.TheVariants.{OutOfMemo
 ghost use Rattle.opgp_stack.specs.declared.task.Action.{Action};
 ghost use Rattle.opgp_stack.specs.declared.task.Task.{Task};
 ghost use Rattle.opgp_octets.specs.declared.limits.Limits.{Limits};
-ghost use Rattle.opgp_tool.specs.Words.{mode_of, out_of, top_of, merge_of, HasNumber, HasLimits};
-ghost use Rattle.opgp_tool.specs.Words.{IsAction, IsNth, IsTask};
+ghost use Rattle.opgp_tool.specs.Words.{mode_of, out_of, top_of, is_given, HasNumber, HasLimits};
+ghost use Rattle.opgp_tool.specs.Words.{IsAction, IsNth, IsRequest, IsTask};
 ghost use Rattle.opgp_tool.specs.Program.{IsProgram, SaysNone, SaysTask};
+ghost use Rattle.opgp_tool.specs.declared.task.Request.{Request};
 ghost use Rattle.opgp_tool.specs.declared.task.Usage.TheVariants.{Memory};
 
 use crate::command::program;
@@ -19,6 +20,15 @@ use opgp_octets::Limits;
 use opgp_stack::{Action, Mode, Out, Task, Top};
 use std::alloc::Global;
 use std::convert::AsStr;
+
+/// What a command line asks for.
+#[derive(Drop)]
+pub struct Request {
+    /// The task.
+    pub task: Task,
+    /// Whether standard error shows how much was read.
+    pub progress: bool,
+}
 
 /// Why a command line names no task.
 #[derive(Drop)]
@@ -85,11 +95,11 @@ fn nth_of(matches: &ArgMatches) -> Option<Option<u64>>
     }
 }
 
-/// Whether `--merge` is given.
-fn merge_of(matches: &ArgMatches) -> bool
-    ensures { result ≡ merge_of (first_of (codes "merge") (rows_of (found_of matches.now))) }
+/// Whether a flag is given.
+fn is_given(matches: &ArgMatches, id: &str) -> bool
+    ensures { result ≡ is_given (first_of id.now (rows_of (found_of matches.now))) }
 {
-    match word_of(matches, "merge") {
+    match word_of(matches, id) {
         Some("true") => true,
         _ => false,
     }
@@ -133,7 +143,7 @@ fn action_of(name: &str, matches: &ArgMatches) -> Option<Action>
         }),
         "join" => Some(Action::Join {
             out: out_of(matches),
-            merge: merge_of(matches),
+            merge: is_given(matches, "merge"),
         }),
         _ => None,
     }
@@ -151,6 +161,18 @@ fn task_from(name: &str, matches: &ArgMatches) -> Option<Task>
         mode: mode_of(matches),
         limits,
         action,
+    })
+}
+
+/// What a command of this name with these options asks for.
+fn request_from(name: &str, matches: &ArgMatches) -> Option<Request>
+    ensures some { IfSome result (IsRequest name.now (rows_of (found_of matches.now))) }
+    ensures none { IfNone result ((request : Request)
+        → IsRequest name.now (rows_of (found_of matches.now)) request → ⊥) }
+{
+    Some(Request {
+        task: task_from(name, matches)?,
+        progress: is_given(matches, "progress"),
     })
 }
 
@@ -180,13 +202,13 @@ fn is_about_a_file(text: &str) -> bool {
         && !text.starts_with("error: unexpected argument '-")
 }
 
-/// The task that a command line names, whose first word is the program's own name.
+/// What a command line asks for, whose first word is the program's own name.
 ///
 /// The errors are the text of `clap`, also for help, and running out of memory.
-pub fn task_of<'a, S: AsStr>(alloc: Global, words: &'a [S]) -> Result<Task, Usage>
-    ensures said { IfOk result (λ task. (program : App) × IsProgram program
+pub fn task_of<'a, S: AsStr>(alloc: Global, words: &'a [S]) -> Result<Request, Usage>
+    ensures said { IfOk result (λ request. (program : App) × IsProgram program
         × (fault_of program (map S.text words.entry.now) ≡ [])
-        × SaysTask program (map S.text words.entry.now) task) }
+        × SaysTask program (map S.text words.entry.now) request) }
     ensures refused { IfErr result (λ usage. (usage ≡ Memory)
         ⊎ ((program : App) × IsProgram program
         × SaysNone program (map S.text words.entry.now))) }
@@ -199,12 +221,12 @@ pub fn task_of<'a, S: AsStr>(alloc: Global, words: &'a [S]) -> Result<Task, Usag
         Ok(matches) => matches,
         Err(error) => return Err(usage_of(alloc, &error)),
     };
-    let task = match matches.subcommand() {
-        Some((name, options)) => task_from(name, options),
+    let request = match matches.subcommand() {
+        Some((name, options)) => request_from(name, options),
         None => None,
     };
-    match task {
-        Some(task) => Ok(task),
+    match request {
+        Some(request) => Ok(request),
         // `clap` accepts no command line without a task; there is no default for one.
         None => match String::from_str(alloc, "opgp: usage\n") {
             Ok(text) => Err(Usage::Text(text)),

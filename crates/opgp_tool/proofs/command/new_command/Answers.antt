@@ -9,8 +9,9 @@ returns c =
     let mode = c.mode_option.ensures.rule in
     let start : app_of c.after_help-command.result ≡ new_app c.args.name.now = search rules in
     let one = c.in_ok-with_option.ensures ∙ ap₂ with_rule start mode.2 in
-    IfOk-weaker c.with_limits.result _ _ (λ r last. record {
+    let limited = c.in_ok-command.ensures ∙ ap with_limits one in
+    IfOk-weaker c.with_option-2.result _ _ (λ r last. record {
       modes = mode.0;
       are_modes = mode.1;
-      app = last ∙ ap with_limits one;
-    }) c.with_limits.ensures
+      app = last ∙ ap₂ with_rule limited c.flag_option.ensures.rule;
+    }) c.with_option-2.ensures

@@ -6,8 +6,8 @@ use Rattle.opgp_tool.proofs.Reading.{where_none}
 use Rattle.opgp_tool.proofs.task.task_of.Goals as goal
 use Rattle.opgp_tool.proofs.task.task_of.Goals.{in-Some, in-None}
 
-pub returns-in-Some-task-clause-said : goal.returns-in-Some-task-clause-said
-returns-in-Some-task-clause-said g c =
+pub returns-in-Some-request-clause-said : goal.returns-in-Some-request-clause-said
+returns-in-Some-request-clause-said g c =
     let made = c.in-Ok.ensures in
     let parsed = c.in-Ok-try_get_matches_from.ensures.matches (simple _ made) in
     elim c.match-subcommand.branch [
@@ -15,8 +15,8 @@ returns-in-Some-task-clause-said g c =
           let entered : subcommand_rows_of c.in-Ok-try_get_matches_from.matches
           ≡ Some (w.in-Some.name.now, rows_of (found_of w.in-Some.options.now)) =
           both _ _ _ _ _ (sym w.in-Some.ensures.name) (sym w.in-Some.ensures.rows) in
-          let task = given _ w.task_from-task.result c.in-Some-task.task
-          (sym w.task-is ∙ c.in-Some-task.is) w.task_from-task.ensures.some in (
+          let request = given _ w.request_from-request.result c.in-Some-request.request
+          (sym w.request-is ∙ c.in-Some-request.is) w.request_from-request.ensures.some in (
             app_of c.in-Ok.program,
             made,
             c.in-Ok-try_get_matches_from.ensures.kinds (free _ made),
@@ -24,7 +24,7 @@ returns-in-Some-task-clause-said g c =
               w.in-Some.name.now,
               rows_of (found_of w.in-Some.options.now),
               sym parsed.1 ∙ entered,
-              task,
+              request,
             ),
           )
       | in-None w ↦ absurd (search rules)
@@ -49,7 +49,7 @@ returns-in-Ok-from_str-clause-refused g c =
             let entered : subcommand_rows_of c.in-Ok-try_get_matches_from.matches
             ≡ Some (w.in-Some.name.now, rows_of (found_of w.in-Some.options.now)) =
             both _ _ _ _ _ (sym w.in-Some.ensures.name) (sym w.in-Some.ensures.rows) in
-            let none = where_none _ (sym w.task-is ∙ c.in-None-task.is) w.task_from-task.ensures.none in
+            let none = where_none _ (sym w.request-is ∙ c.in-None-request.is) w.request_from-request.ensures.none in
             none_said app words _ _ (sym parsed.1 ∙ entered) none
         | in-None w ↦
             let rows : None ≡ option_map (λ (p : Text × List Row). p.1)

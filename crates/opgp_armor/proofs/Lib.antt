@@ -31,3 +31,4 @@ pub mod Order
 pub mod Wholes
 pub mod JoinedRows
 pub mod Closing
+pub mod Empty

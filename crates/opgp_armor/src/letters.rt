@@ -70,6 +70,10 @@ fn decoded(alloc: Global, groups: &[u8]) -> Result<Vec<u8>, DecodeAllocError>
     ensures exact { IfOk result (λ v. groups.now ≡ base64_of v.items) }
     ensures err { IfErr result (λ e. IsDecodeFailure standard groups.now e) }
 {
+    // So that lines of few letters don't pay for the decoder's tables.
+    if groups.is_empty() {
+        return Ok(Vec::new(alloc));
+    }
     STANDARD.decode(alloc, groups)
 }
 
@@ -98,7 +102,9 @@ fn groups_of_letters(alloc: Global, all: &[u8], content: &[u8]) -> Result<Letter
 fn joined(alloc: Global, front: &[u8], back: &[u8]) -> Result<Vec<u8>, OutOfMemory>
     ensures { IfOk result (λ v. v.items ≡ front.now ++ back.now) }
 {
-    let mut all = front.to_vec(alloc)?;
+    let mut all = Vec::new(alloc);
+    all.reserve_exact(front.len().saturating_add(back.len()))?;
+    all.extend_from_slice(front)?;
     all.extend_from_slice(back)?;
     Ok(all)
 }

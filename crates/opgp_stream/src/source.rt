@@ -32,6 +32,5 @@ pub trait Source {
     fn note(&mut self, _packets: u64)
         ensures left { left self.new ≡ left self.old }
         ensures failed { has_failed self.new ≡ has_failed self.old }
-    {
-    }
+    {}
 }

@@ -3,15 +3,25 @@ use opgp_octets::{
     Reason, SubLen, fault_line, read_len, read_sub_len, shortest, write_hexadecimal, write_len,
     write_sub_len,
 };
-use std::test::Fail;
+use std::alloc::Global;
+use std::fmt::Display;
 
 // The end of the key of RFC 9580, A.1: an integer of 263 bits.
 const POINT: &[u8] =
     b"\x01\x07\x40\x3F\x09\x89\x94\xBD\xD9\x16\xED\x40\x53\x19\x79\x34\xE4\xA8\x7C\x80\x73\x3A\x12\x80\xD6\x2F\x80\x10\x99\x2E\x43\xEE\x3B\x24\x06";
 
+/// Whether the octets are read as the length, and it is written as them.
+fn is_packet_len(alloc: Global, octets: &[u8], len: PacketLen) -> bool {
+    let mut out = Vec::new(alloc);
+    read_len(octets) == Some((len, octets.len()))
+        && len.fits()
+        && write_len(&len, &mut out).is_ok()
+        && out.as_slice() == octets
+}
+
 // The lengths of RFC 9580, 4.2.1.4, and the edges of its forms.
 #[test]
-fn packet_lengths_of_the_standard(rt: HostRuntime) -> Result<(), Fail> {
+fn packet_lengths_of_the_standard(rt: HostRuntime) {
     for (octets, len) in [
         (b"\x64".as_slice(), PacketLen::One(100)),
         (b"\xC5\xFB".as_slice(), PacketLen::Two(1723)),
@@ -21,14 +31,9 @@ fn packet_lengths_of_the_standard(rt: HostRuntime) -> Result<(), Fail> {
         (b"\xC0\x00".as_slice(), PacketLen::Two(192)),
         (b"\xDF\xFF".as_slice(), PacketLen::Two(8383)),
     ] {
-        assert_eq!(rt; read_len(octets), Some((len, octets.len())));
-        assert!(rt; len.fits());
-        let mut out = Vec::new(rt.alloc());
-        write_len(&len, &mut out)?;
-        assert_eq!(rt; out.as_slice(), octets);
+        assert!(rt; is_packet_len(rt.alloc(), octets, len), "{octets:?}");
     }
-    assert_eq!(rt; read_len(b"\xFF\x00\x00\x00"), None);
-    Ok(())
+    assert!(rt; read_len(b"\xFF\x00\x00\x00").is_none());
 }
 
 #[test]
@@ -39,31 +44,41 @@ fn shortest_lengths_at_each_edge(rt: HostRuntime) {
         (8383, PacketLen::Two(8383)),
         (8384, PacketLen::Five(8384)),
     ] {
-        assert_eq!(rt; shortest(n), len);
+        assert!(rt; shortest(n) == len, "{n}");
     }
+}
+
+/// Whether the octets are read as the subpacket's length, and it is written as them.
+fn is_sub_len(alloc: Global, octets: &[u8], len: SubLen) -> bool {
+    let mut out = Vec::new(alloc);
+    read_sub_len(octets) == Some((len, octets.len()))
+        && len.fits()
+        && write_sub_len(&len, &mut out).is_ok()
+        && out.as_slice() == octets
 }
 
 // RFC 9580, 5.2.3.7: a first octet below 255 makes a length of two octets.
 #[test]
-fn subpacket_lengths_of_the_standard(rt: HostRuntime) -> Result<(), Fail> {
+fn subpacket_lengths_of_the_standard(rt: HostRuntime) {
     for (octets, len) in [
         (b"\xBF".as_slice(), SubLen::One(191)),
         (b"\xC0\x00".as_slice(), SubLen::Two(192)),
         (b"\xFE\xFF".as_slice(), SubLen::Two(16319)),
         (b"\xFF\x00\x00\x00\x05".as_slice(), SubLen::Five(5)),
     ] {
-        assert_eq!(rt; read_sub_len(octets), Some((len, octets.len())));
-        assert!(rt; len.fits());
-        let mut out = Vec::new(rt.alloc());
-        write_sub_len(&len, &mut out)?;
-        assert_eq!(rt; out.as_slice(), octets);
+        assert!(rt; is_sub_len(rt.alloc(), octets, len), "{octets:?}");
     }
-    assert_eq!(rt; SubLen::Two(300).amount(), 300);
-    Ok(())
+    assert!(rt; SubLen::Two(300).amount() == 300);
+}
+
+/// An integer's bits and how many octets it takes, or why there is none.
+fn integer_of(octets: &[u8], strict: bool) -> Result<(u16, usize), Reason> {
+    let (integer, count) = MpiView::read(octets, strict)?;
+    Ok((integer.bits(), count))
 }
 
 #[test]
-fn integers_of_the_standard(rt: HostRuntime) -> Result<(), Fail> {
+fn integers_of_the_standard(rt: HostRuntime) {
     for (octets, strict, want) in [
         (b"\x00\x01\x01".as_slice(), true, Ok((1, 3))),
         (b"\x00\x09\x01\xFF".as_slice(), true, Ok((9, 4))),
@@ -72,21 +87,25 @@ fn integers_of_the_standard(rt: HostRuntime) -> Result<(), Fail> {
         (b"\x00\x00\x07".as_slice(), true, Ok((0, 2))),
         (b"\x00\x09\x01".as_slice(), true, Err(Reason::Short)),
     ] {
-        let got = MpiView::read(octets, strict).map(|x| (x.0.bits(), x.1));
-        assert_eq!(rt; got, want);
+        assert!(rt; integer_of(octets, strict) == want, "{octets:?}");
     }
-    Ok(())
+}
+
+/// Whether a copy of the standard's point has its octets; None if there is no memory for it.
+fn is_copied(alloc: Global, point: &Mpi) -> Option<bool> {
+    let copy = point.copy(alloc).ok()?;
+    Some(copy.octets() == &POINT[2..] && point.octets() == copy.octets())
+}
+
+/// The bits and octets of the standard's point, and whether it is copied.
+fn point_of(alloc: Global) -> Result<(u16, usize, Option<bool>), MpiFault> {
+    let (point, count) = Mpi::read(alloc, POINT, true)?;
+    Ok((point.bits(), count, is_copied(alloc, &point)))
 }
 
 #[test]
-fn point_of_the_standard(rt: HostRuntime) -> Result<(), Fail> {
-    let Ok((point, count)) = Mpi::read(rt.alloc(), POINT, true) else {
-        return Err("the point".into());
-    };
-    assert_eq!(rt; (point.bits(), count), (263, 35));
-    let copy = point.copy(rt.alloc())?;
-    assert_eq!(rt; copy.octets(), &POINT[2..]);
-    Ok(())
+fn point_of_the_standard(rt: HostRuntime) {
+    assert!(rt; point_of(rt.alloc()) == Ok((263, 35, Some(true))));
 }
 
 #[test]
@@ -105,13 +124,16 @@ fn limits_at_each_edge(rt: HostRuntime) {
         (128, 512, 512, 0, 16_777_217, false),
     ] {
         let limits = Limits::new(line, body, cert, input, pieces);
-        assert_eq!(rt; limits.is_some(), allowed);
+        assert!(rt;
+            limits.is_some() == allowed,
+            "{line} {body} {cert} {input} {pieces}"
+        );
     }
-    assert_eq!(rt; Limits::usual().line(), 8192);
+    assert!(rt; Limits::usual().line() == 8192);
 }
 
 // The table of docs/FORMAT.md, "Faults".
-const REASONS: [(u8, Reason, &str); 38] = [
+const REASONS: &[(u8, Reason, &str)] = &[
     (1, Reason::Spent, "Spent"),
     (2, Reason::Short, "Short"),
     (3, Reason::MpiBits, "MpiBits"),
@@ -155,13 +177,21 @@ const REASONS: [(u8, Reason, &str); 38] = [
 #[test]
 fn numbers_and_names_of_reasons(rt: HostRuntime) {
     for (number, reason, name) in REASONS {
-        assert_eq!(rt; reason.number(), number);
-        assert_eq!(rt; reason.name(), name);
+        assert!(rt;
+            reason.number() == *number && reason.name() == *name,
+            "{number}"
+        );
     }
 }
 
+/// Whether the fault's line is this one; None if there is no memory for it.
+fn is_line(alloc: Global, fault: &Fault, wanted: &str) -> Option<bool> {
+    let line = fault_line(alloc, fault).ok()?;
+    Some(line.as_str() == wanted)
+}
+
 #[test]
-fn line_of_a_fault(rt: HostRuntime) -> Result<(), Fail> {
+fn line_of_a_fault(rt: HostRuntime) {
     let fault = Fault {
         layer: Layer::Framing,
         reason: Reason::Truncated,
@@ -169,79 +199,77 @@ fn line_of_a_fault(rt: HostRuntime) -> Result<(), Fail> {
         pos: 100_006,
         inner: 98_312,
     };
-    let line = fault_line(rt.alloc(), &fault)?;
-    assert_eq!(rt;
-        line.as_str(),
-        "framing: Truncated block 1 at 100006 inner 98312"
-    );
-    Ok(())
+    let line = "framing: Truncated block 1 at 100006 inner 98312";
+    assert!(rt; is_line(rt.alloc(), &fault, line) == Some(true));
+}
+
+/// Whether the value's text is this one.
+fn says<T: Display>(alloc: Global, value: &T, wanted: &str) -> bool {
+    match value.to_string(alloc) {
+        Ok(text) => text.as_str() == wanted,
+        Err(_) => false,
+    }
+}
+
+/// Whether a layer and a reason are padded.
+fn are_padded(alloc: Global) -> bool {
+    match format!(in alloc; "{:>8}|{:<6}|", Layer::Armor, Reason::Short) {
+        Ok(names) => names.as_str() == "   armor|Short |",
+        Err(_) => false,
+    }
 }
 
 #[test]
-fn texts_of_refusals(rt: HostRuntime) -> Result<(), Fail> {
+fn texts_of_refusals(rt: HostRuntime) {
     let alloc = rt.alloc();
     let body = BodyFault {
         reason: Reason::Count,
         inner: 6,
     };
     let place = body.placed(1, 20);
-    assert_eq!(rt;
-        place.to_string(alloc)?.as_str(),
-        "body: Count block 1 at 20 inner 6"
-    );
-    assert_eq!(rt; body.to_string(alloc)?.as_str(), "Count inner 6");
-    assert_eq!(rt;
-        ParseFault::Body(body).to_string(alloc)?.as_str(),
-        "Count inner 6"
-    );
-    assert_eq!(rt;
-        ParseFault::Memory.to_string(alloc)?.as_str(),
-        "out of memory"
-    );
-    assert_eq!(rt; MpiFault::MpiBits.to_string(alloc)?.as_str(), "MpiBits");
-    assert_eq!(rt;
-        MpiFault::Memory.to_string(alloc)?.as_str(),
-        "out of memory"
-    );
-    assert_eq!(rt; PushFault::Spent.to_string(alloc)?.as_str(), "Spent");
-    assert_eq!(rt;
-        PushFault::Memory.to_string(alloc)?.as_str(),
-        "out of memory"
-    );
-    let names = format!(in alloc; "{:>8}|{:<6}|", Layer::Armor, Reason::Short)?;
-    assert_eq!(rt; names.as_str(), "   armor|Short |");
-    Ok(())
+    assert!(rt; says(alloc, &place, "body: Count block 1 at 20 inner 6"));
+    assert!(rt; says(alloc, &body, "Count inner 6"));
+    assert!(rt; says(alloc, &ParseFault::Body(body), "Count inner 6"));
+    assert!(rt; says(alloc, &ParseFault::Memory, "out of memory"));
+    assert!(rt; says(alloc, &MpiFault::MpiBits, "MpiBits"));
+    assert!(rt; says(alloc, &MpiFault::Memory, "out of memory"));
+    assert!(rt; says(alloc, &PushFault::Spent, "Spent"));
+    assert!(rt; says(alloc, &PushFault::Memory, "out of memory"));
+    assert!(rt; are_padded(alloc));
 }
 
 #[test]
 fn digits_of_octets(rt: HostRuntime) {
     let mut digits = [0; 6];
-    assert_eq!(rt;
-        write_hexadecimal(&[0x00, 0x9f, 0xff], &mut digits),
-        "009FFF"
-    );
-    assert_eq!(rt; write_hexadecimal(&[], &mut digits[..0]), "");
+    assert!(rt; write_hexadecimal(&[0x00, 0x9f, 0xff], &mut digits) == "009FFF");
+    assert!(rt; write_hexadecimal(&[], &mut digits[..0]) == "");
+}
+
+/// Whether a length is written as five octets, or none if there is no memory for them.
+fn packet_len_grows(alloc: Global) -> bool {
+    let mut out = Vec::new(alloc);
+    let wrote = write_len(&PacketLen::Five(100), &mut out);
+    out.len() == if wrote.is_ok() { 5 } else { 0 }
+}
+
+/// Whether a subpacket's length is written as two octets, or none if there is no memory for them.
+fn sub_len_grows(alloc: Global) -> bool {
+    let mut out = Vec::new(alloc);
+    let wrote = write_sub_len(&SubLen::Two(300), &mut out);
+    out.len() == if wrote.is_ok() { 2 } else { 0 }
 }
 
 #[test]
 fn lengths_refused_growth(rt: HostRuntime) {
-    let mut out = Vec::new(rt.alloc());
-    let wrote = write_len(&PacketLen::Five(100), &mut out);
-    assert_eq!(rt; out.len(), if wrote.is_ok() { 5 } else { 0 });
-    let mut out = Vec::new(rt.alloc());
-    let wrote = write_sub_len(&SubLen::Two(300), &mut out);
-    assert_eq!(rt; out.len(), if wrote.is_ok() { 2 } else { 0 });
+    assert!(rt; packet_len_grows(rt.alloc()) && sub_len_grows(rt.alloc()));
 }
 
 #[test]
 fn refused_growth(rt: HostRuntime) {
-    match Mpi::read(rt.alloc(), POINT, true) {
-        Ok((point, _)) => {
-            if let Ok(copy) = point.copy(rt.alloc()) {
-                assert_eq!(rt; copy.octets(), point.octets());
-            }
-        }
-        Err(fault) => assert_eq!(rt; fault, MpiFault::Memory),
+    let alloc = rt.alloc();
+    match point_of(alloc) {
+        Ok((_, _, copied)) => assert!(rt; copied != Some(false)),
+        Err(fault) => assert!(rt; fault == MpiFault::Memory),
     }
     let fault = Fault {
         layer: Layer::Input,
@@ -250,7 +278,6 @@ fn refused_growth(rt: HostRuntime) {
         pos: 52,
         inner: 0,
     };
-    if let Ok(line) = fault_line(rt.alloc(), &fault) {
-        assert_eq!(rt; line.as_str(), "input: InputTooLong block 0 at 52 inner 0");
-    }
+    let line = "input: InputTooLong block 0 at 52 inner 0";
+    assert!(rt; is_line(alloc, &fault, line) != Some(false));
 }

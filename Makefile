@@ -1,20 +1,78 @@
-# make install puts the proved program, its manual and its completions below PREFIX, in DESTDIR.
+# make installs what is proved below PREFIX, in DESTDIR: the program, its manual and completions; and the library for C with its
+# header, whose layer on top is compiled by CC. opgp-verify is built where the headers of libcrypto are.
 PREFIX = /usr/local
 DESTDIR =
+CFLAGS = -O2
+LDFLAGS =
 bin = $(DESTDIR)$(PREFIX)/bin
 share = $(DESTDIR)$(PREFIX)/share
+lib = $(DESTDIR)$(PREFIX)/lib
+include = $(DESTDIR)$(PREFIX)/include
+# Where the libraries are made; the proved one, and the crates that it is made of.
+made = out
+proved = crates/opgp_c/out/libopgp_c.a
+below = opgp_c $(shell sed -n 's/^opgp_c staticlib: //p' crates.txt)
+strict = -std=c11 -Wall -Wextra -Wconversion -pedantic -fPIC -fvisibility=hidden -Ic
+version = $(shell sed -n '/OPGP_VERSION/s/.*"\(.*\)"/\1/p' c/opgp.h)
 
-all:
+all: program
+
+program:
 	./opgp list < examples/rfc9580-a1.asc
 
-install: all
+library: $(made)/libopgp.a $(made)/libopgp.so.0 verifier
+
+$(proved): $(wildcard $(foreach it,$(below),crates/$(it)/src/*.rt crates/$(it)/specs/*.antt))
+	build/static
+	touch $@
+
+$(made)/%.o: c/%.c c/opgp.h
+	mkdir -p $(made)
+	$(CC) $(strict) $(CFLAGS) -c $< -o $@
+
+$(made)/libopgp.a: $(proved) $(made)/opgp.o $(made)/heap.o
+	cp $(proved) $@
+	$(AR) rs $@ $(made)/opgp.o $(made)/heap.o
+
+$(made)/libopgp.so.0: $(made)/libopgp.a c/opgp.map
+	$(CC) -shared $(LDFLAGS) -Wl,-soname,libopgp.so.0 -Wl,--version-script=c/opgp.map -Wl,-z,defs -o $@ \
+		-Wl,--whole-archive $(made)/libopgp.a -Wl,--no-whole-archive
+
+$(made)/opgp-verify: c/opgp-verify.c c/examples/open.h c/opgp.h $(made)/libopgp.a
+	$(CC) $(strict) $(CFLAGS) $(LDFLAGS) c/opgp-verify.c $(made)/libopgp.a -lcrypto -o $@
+
+verifier: $(made)/libopgp.a
+	@if $(CC) $(CFLAGS) -E -include openssl/core_names.h -x c /dev/null > /dev/null 2>&1; then \
+		$(MAKE) --no-print-directory $(made)/opgp-verify; \
+	else \
+		echo 'opgp-verify is left out: the headers of libcrypto (OpenSSL 3) are wanted'; \
+	fi
+
+install: install-program install-library
+
+install-program: program
 	install -D -m 755 crates/opgp_tool/out/opgp_tool $(bin)/opgp
 	install -D -m 644 man/opgp.1 $(share)/man/man1/opgp.1
 	install -D -m 644 completions/opgp.bash $(share)/bash-completion/completions/opgp
 	install -D -m 644 completions/opgp.zsh $(share)/zsh/site-functions/_opgp
 	install -D -m 644 completions/opgp.fish $(share)/fish/vendor_completions.d/opgp.fish
 
+install-library: library
+	install -D -m 644 $(made)/libopgp.a $(lib)/libopgp.a
+	install -D -m 755 $(made)/libopgp.so.0 $(lib)/libopgp.so.0
+	ln -sf libopgp.so.0 $(lib)/libopgp.so
+	install -D -m 644 c/opgp.h $(include)/opgp.h
+	install -d $(lib)/pkgconfig
+	printf '%s\n' 'prefix=$(PREFIX)' 'Name: opgp' 'Description: OpenPGP certificates and keyrings (RFC 9580), proved' \
+		'Version: $(version)' 'Cflags: -I$${prefix}/include' 'Libs: -L$${prefix}/lib -lopgp' > $(lib)/pkgconfig/opgp.pc
+	if [ -e $(made)/opgp-verify ]; then install -D -m 755 $(made)/opgp-verify $(bin)/opgp-verify; fi
+
+uninstall:
+	rm -f $(bin)/opgp $(bin)/opgp-verify $(share)/man/man1/opgp.1 $(share)/bash-completion/completions/opgp \
+		$(share)/zsh/site-functions/_opgp $(share)/fish/vendor_completions.d/opgp.fish $(lib)/libopgp.a $(lib)/libopgp.so.0 \
+		$(lib)/libopgp.so $(include)/opgp.h $(lib)/pkgconfig/opgp.pc
+
 check:
 	.ci/run
 
-.PHONY: all install check
+.PHONY: all program library verifier install install-program install-library uninstall check

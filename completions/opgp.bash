@@ -1,7 +1,7 @@
 # Completion of opgp for bash.
 _opgp() {
     local word=${COMP_WORDS[COMP_CWORD]} before=${COMP_WORDS[COMP_CWORD - 1]} words
-    local limits="--mode --line --body --cert --input --pieces --progress --help"
+    local limits="--mode --line --body --cert --input --pieces --progress --spool --help"
     # Bash takes --out=binary for three words.
     if [ "$word" = = ]; then
         word=
@@ -19,9 +19,14 @@ _opgp() {
                 compopt +o default # a number, and no file
                 return
                 ;;
+            --spool)
+                compopt -o dirnames
+                return
+                ;;
             *)
                 case ${COMP_WORDS[1]} in
-                    show | list | check) words=$limits ;;
+                    show) words="--values $limits" ;;
+                    list | check) words=$limits ;;
                     octets) words="--row --of $limits" ;;
                     write | normalise) words="--out $limits" ;;
                     split) words="--out --nth $limits" ;;

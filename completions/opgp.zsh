@@ -21,6 +21,7 @@ _opgp() {
         '--input=[the most octets of the input]:number:'
         '--pieces=[the most partial lengths of a packet]:number:'
         '--progress[shows on standard error how much was read]'
+        '--spool=[holds the output in a file in this directory]:directory:_files -/'
         '--help[prints the help]'
     )
     out=('--out=[how keyrings are written]:form:(armor binary)')
@@ -29,7 +30,8 @@ _opgp() {
         return
     fi
     case $words[2] in
-        show | list | check) shift words; ((CURRENT--)); _arguments $limits ;;
+        show) shift words; ((CURRENT--)); _arguments $limits '--values[shows the fields of each packet, and what each subpacket means]' ;;
+        list | check) shift words; ((CURRENT--)); _arguments $limits ;;
         octets) shift words; ((CURRENT--)); _arguments $limits '--row=[the number of the row]:number:' '--of=[what the input is read as]:top:(ring literal)' ;;
         write | normalise) shift words; ((CURRENT--)); _arguments $limits $out ;;
         split) shift words; ((CURRENT--)); _arguments $limits $out '--nth=[the number of the certificate]:number:' ;;

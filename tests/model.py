@@ -344,11 +344,12 @@ class Signature:
 
 
 def literal_fields(body):
+    """The format, the name, the date and the content."""
     it = Fields(body)
-    it.take(1)
+    octet = it.take(1)
     begin = it.at
-    it.take(it.take(1)[0], begin)
-    it.take(4)
+    name = it.take(it.take(1)[0], begin)
+    return octet, name, it.take(4), body[it.at:]
 
 
 CHECKS = {
@@ -410,6 +411,60 @@ def meaning(kind, octets):
     return "typed" if FORMS[KINDS[kind]](octets) else "unfit"
 
 
+def quoted(octets):
+    return '"' + "".join(chr(it) if 32 <= it < 127 and it not in b'"\\' else f"\\x{it:02X}" for it in octets) + '"'
+
+
+def digits(octets):
+    return octets.hex().upper() or "-"
+
+
+def flags(octets, names):
+    return " ".join([digits(octets)] + [name for bit, name in names.items() if bit & (octets or b"\0")[0]])
+
+
+def numbers(octets):
+    return "".join(f" {it}" for it in octets)
+
+
+KEY_FLAGS = {1: "certify", 2: "sign", 4: "encrypt-communications", 8: "encrypt-storage", 16: "split", 32: "authenticate",
+             128: "group"}  # fmt: skip
+# What a subpacket says, by its kind, as docs/OUTPUT.md has it.
+VALUES = {
+    2: lambda it: f"created {number(it)}",
+    3: lambda it: f"expires {number(it)}",
+    4: lambda it: f"exportable {it[0]}",
+    5: lambda it: f"trust level {it[0]} amount {it[1]}",
+    6: lambda it: f"regex {quoted(it[:-1])}",
+    7: lambda it: f"revocable {it[0]}",
+    9: lambda it: f"key-expires {number(it)}",
+    11: lambda it: f"symmetric{numbers(it)}",
+    12: lambda it: f"revocation-key class {it[0]} alg {it[1]} {digits(it[2:])}",
+    16: lambda it: f"issuer {digits(it)}",
+    20: lambda it: f"notation {number(it[:4])} {quoted(it[8:8 + number(it[4:6])])} {quoted(it[8 + number(it[4:6]):])}",
+    21: lambda it: f"hash{numbers(it)}",
+    22: lambda it: f"compression{numbers(it)}",
+    23: lambda it: f"server-flags {flags(it, {128: 'no-modify'})}",
+    24: lambda it: f"key-server {quoted(it)}",
+    25: lambda it: f"primary-user-id {it[0]}",
+    26: lambda it: f"policy {quoted(it)}",
+    27: lambda it: f"key-flags {flags(it, KEY_FLAGS)}",
+    28: lambda it: f"signers-user-id {quoted(it)}",
+    29: lambda it: f"reason {it[0]} {quoted(it[1:])}",
+    30: lambda it: f"features {flags(it, {1: 'seipd1', 8: 'seipd2'})}",
+    31: lambda it: f"target alg {it[0]} hash {it[1]} {digits(it[2:])}",
+    32: lambda it: listed(2, it),
+    33: lambda it: f"issuer-fingerprint v{it[0]} {digits(it[1:])}",
+    35: lambda it: f"recipient v{it[0]} {digits(it[1:])}",
+    39: lambda it: f"aead{numbers(it)}",
+}
+
+
+def said(kind, octets):
+    """What a subpacket says, or its octets where they say nothing."""
+    return VALUES[kind](octets) if meaning(kind, octets) == "typed" else digits(octets)
+
+
 # Keyrings.
 
 
@@ -458,8 +513,7 @@ def listed(kind, body):
         names = f"{fingerprint(body).hex().upper()} {key_id(body).hex().upper()}"
         return f"{'pub' if kind == 6 else 'sub'} v{body[0]} alg {body[5]} created {number(body[1:5])} {names}"
     if kind == 13:
-        text = "".join(chr(it) if 32 <= it < 127 and it not in b'"\\' else f"\\x{it:02X}" for it in body)
-        return f'uid "{text}"'
+        return f"uid {quoted(body)}"
     if kind == 17:
         return f"uat {len(subpackets_of(body, 0, False))}"
     if kind == 2:
@@ -468,14 +522,20 @@ def listed(kind, body):
     return f"pkt {kind} {len(body)}"
 
 
-def shown(packets):
+def shown(packets, values):
     for block, at, kind, form, body, _ in packets:
         yield f"block {block} at {at} type {kind} form {form} length {len(body)}"
+        if values and kind in (2, 6, 13, 14, 17):
+            yield f"  {listed(kind, body)}"
+        if values and kind == 11:
+            octet, name, date, content = literal_fields(body)
+            yield f"  lit format {quoted(octet)} name {quoted(name)} date {number(date)} length {len(content)}"
         if kind == 2:
             it = Signature(body)
             for area, subpackets in (("hashed", it.hashed), ("unhashed", it.unhashed)):
                 for octet, n, octets in subpackets:
-                    yield f"  {area} kind {octet & 127} critical {octet >> 7} length {n} {meaning(octet & 127, octets)}"
+                    line = f"  {area} kind {octet & 127} critical {octet >> 7} length {n} {meaning(octet & 127, octets)}"
+                    yield f"{line} {said(octet & 127, octets)}" if values else line
 
 
 # What is written.
@@ -668,8 +728,8 @@ def hashed_of_a_literal(literal, signatures):
 
 
 def answer(command, octets, row=0, limits=USUAL, bare=False):
-    """The status, the standard output and the standard error. The commands are list, show, check, octets, literal (octets
-    --of literal), and those of written()."""
+    """The status, the standard output and the standard error. The commands are list, show, values (show --values), check, octets,
+    literal (octets --of literal), and those of written()."""
     wanted = b"MESSAGE" if command == "literal" else b"PUBLIC KEY BLOCK"
     try:
         binary = not octets or octets[0] >= 128
@@ -678,13 +738,13 @@ def answer(command, octets, row=0, limits=USUAL, bare=False):
         check_bodies(packets)
         if command == "literal":
             return hashed(list(hashed_of_a_literal(*signed(blocks, packets))), row)
-        lead, certificates = compose(blocks, packets, limits) if command != "show" else ([], [])
+        lead, certificates = compose(blocks, packets, limits) if command not in ("show", "values") else ([], [])
     except Refused as refused:
         return 1, b"", refused.args[0]
-    if command not in ("list", "show", "check", "octets"):
+    if command not in ("list", "show", "values", "check", "octets"):
         return written(command, blocks, packets, lead, certificates, row, bare)
-    if command == "show":
-        lines = shown(packets)
+    if command in ("show", "values"):
+        lines = shown(packets, command == "values")
     elif command == "list":
         lines = (listed(*it[2:5:2]) for it in packets)
     else:

@@ -1,10 +1,10 @@
 -- The definitions of `opgp_report`, and its types as they are declared.
 pub use Rattle.opgp_report.specs.declared
 pub use Rattle.opgp_report.specs.Asked
-pub use Rattle.opgp_report.specs.Asker
+pub use Rattle.opgp_report.specs.Reporter
 pub use Rattle.opgp_report.specs.First
 pub use Rattle.opgp_report.specs.Left
-pub use Rattle.opgp_report.specs.Names
+pub use Rattle.opgp_report.specs.KeyIndex
 pub use Rattle.opgp_report.specs.Report
 pub use Rattle.opgp_report.specs.Row
 pub use Rattle.opgp_report.specs.RowValue

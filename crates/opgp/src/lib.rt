@@ -14,9 +14,10 @@ pub mod armor {
 /// Keyrings read from a reader and written to a writer.
 pub mod engine {
     pub use opgp_engine::{
-        Answer, Draft, EngineError, Mode, Out, PacketBlocks, PacketsText, Pipeline, ReadError,
-        Receiver, Sink, Source, Text, Watched, laws, read_keyring, read_packets, read_signed,
-        read_with, write, write_certificate, write_certificates, write_keyring,
+        Answer, Draft, DraftError, EngineError, Mode, NoSpool, Out, PacketBlocks, PacketsText,
+        Pipeline, ReadError, Receiver, Sink, Source, Spool, Text, Watched, laws, read_keyring,
+        read_packets, read_signed, read_with, write, write_certificate, write_certificates,
+        write_keyring,
     };
 }
 
@@ -66,8 +67,8 @@ pub mod packet {
 /// What can be said of each signature of a keyring.
 pub mod report {
     pub use opgp_report::{
-        Finding, Job, LeftOctets, Names, Place, Report, Row, Verdict, Verifier, check, laws,
-        question_at, signer,
+        Finding, Job, KeyIndex, LeftOctets, Place, Report, Row, Verdict, Verifier, Visitor, check,
+        index_keys, laws, question_at, signer, visit,
     };
 }
 
@@ -84,7 +85,8 @@ pub mod ring {
 /// What the program does: its lines, its tasks, and a run of one.
 pub mod stack {
     pub use opgp_stack::{
-        Action, RunFault, Task, Top, laws, run, run_last, write_listing, write_report, write_shown,
+        Action, RunFault, Task, Top, laws, run, run_last, run_spooled, write_listing, write_report,
+        write_shown,
     };
 }
 

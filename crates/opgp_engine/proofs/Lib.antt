@@ -11,5 +11,6 @@ mod Passing
 pub mod Pulling
 mod Put
 mod SomeAnswer
+mod Spooling
 mod Texts
 mod Ways

@@ -99,7 +99,7 @@ held_bare held has_failed a b None false xs none sound same h left =
     let e : state_of held has_failed b ≡ old = left refl in
     record { same = same; sound = ap (λ (s : State). s.failed) e ∙ sound; added = λ block start given k. bare_adds block start old _ given [] (subst (λ (s : State). Adds old s []) (sym e) (adds_nothing old sound)) k }
 
-bare_held : (s b : State) (m : Option Armoring) (xs : List ℕ) → Holds None s b m xs → Adds s b xs
+pub bare_held : (s b : State) (m : Option Armoring) (xs : List ℕ) → Holds None s b m xs → Adds s b xs
 bare_held s b None xs h = h
 bare_held s b (Some x) xs h = absurd h
 

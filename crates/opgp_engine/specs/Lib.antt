@@ -1,3 +1,4 @@
+pub mod Draft
 pub mod Errors
 pub mod Framed
 pub mod Keyrings
@@ -7,6 +8,7 @@ pub mod Pipeline
 pub mod Pulled
 pub mod Reading
 pub mod Signed
+pub mod Spool
 pub mod Through
 pub mod Via
 pub mod Writing

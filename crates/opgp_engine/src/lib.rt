@@ -4,6 +4,7 @@
 
 mod answer;
 mod draft;
+mod draft_error;
 mod engine_error;
 mod feeding;
 mod framer;
@@ -20,6 +21,8 @@ mod reading_packets;
 mod reading_signed;
 mod receiver;
 mod signed;
+mod spool;
+mod spooled;
 mod unarmoring;
 mod via;
 mod writing;
@@ -27,6 +30,7 @@ mod writing_keyring;
 
 pub use answer::Answer;
 pub use draft::Draft;
+pub use draft_error::DraftError;
 pub use engine_error::EngineError;
 pub use mode::Mode;
 pub use opgp_stream::{Sink, Source, Watched};
@@ -39,5 +43,6 @@ pub use reading_keyring::read_keyring;
 pub use reading_packets::read_packets;
 pub use reading_signed::read_signed;
 pub use receiver::Receiver;
+pub use spool::{NoSpool, Spool};
 pub use writing::{Text, write};
 pub use writing_keyring::{PacketsText, write_certificate, write_certificates, write_keyring};

@@ -14,7 +14,7 @@ use opgp_stream::{Armoring, Held, Output, Sink};
 use std::io;
 
 /// Adds octets, as rows of armor if a block is open.
-fn add<W: Sink>(
+pub(crate) fn add<W: Sink>(
     output: &mut Output<'_, W>,
     armoring: &mut Option<Armoring>,
     octets: &[u8],

@@ -49,7 +49,7 @@ pub enum SubpacketKind {
     Expires,
     /// 4: whether it is exportable (5.2.3.19).
     Exportable,
-    /// 5: A trust signature (5.2.3.21).
+    /// 5: a trust signature (5.2.3.21).
     Trust,
     /// 6: limits the scope of a trust signature (5.2.3.22).
     RegularExpression,
@@ -63,7 +63,7 @@ pub enum SubpacketKind {
     RevocationKey,
     /// 16: the issuer's key ID (5.2.3.12).
     Issuer,
-    /// 20: A notation (5.2.3.24).
+    /// 20: a notation (5.2.3.24).
     Notation,
     /// 21: hash algorithms (5.2.3.16).
     PreferredHash,
@@ -71,7 +71,7 @@ pub enum SubpacketKind {
     PreferredCompression,
     /// 23: flags for key servers (5.2.3.25).
     KeyServerPreferences,
-    /// 25: whether it is the primary user ID (5.2.3.27).
+    /// 24: where updates of the key are (5.2.3.26).
     PreferredKeyServer,
     /// 25: whether the user ID is the main one (5.2.3.27).
     PrimaryUserId,

@@ -10,7 +10,7 @@ use Rattle.opgp_report.specs.First.{print_of}
 use Rattle.opgp_report.specs.Report.{signer_in}
 use Rattle.opgp_report.specs.Signer.{signer_of}
 
-twice : (keys : List Signer) → map print_of (map (λ k. body_octets k.key) keys) ≡ map (λ k. print_of (body_octets k.key)) keys
+pub twice : (keys : List Signer) → map print_of (map (λ k. body_octets k.key) keys) ≡ map (λ k. print_of (body_octets k.key)) keys
 twice [] = refl
 twice (k ∷ keys) = ap (λ (l : List Fingerprint). print_of (body_octets k.key) ∷ l) (twice keys)
 

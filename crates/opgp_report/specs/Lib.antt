@@ -1,8 +1,8 @@
 pub mod Asked
-pub mod Asker
+pub mod Reporter
 pub mod First
 pub mod Left
-pub mod Names
+pub mod KeyIndex
 pub mod Report
 pub mod Row
 pub mod RowValue

@@ -4,8 +4,8 @@ ghost use Rattle.std.specs.Prelude.{◌≡◌, IfOk};
 ghost use Rattle.opgp_report.specs.Report.{report_of};
 ghost use Rattle.opgp_report.specs.Row.{report_rows};
 
-use crate::asker::Asker;
 use crate::report::Report;
+use crate::reporter::Reporter;
 use crate::signers::Signers;
 use crate::verifier::Verifier;
 use crate::walk::visit;
@@ -37,7 +37,9 @@ pub fn check<V: Verifier>(
         report_rows r ≡ report_of (V.says verifier.now) keyring.now) }
 {
     let signers = Signers::of(alloc, keyring)?;
-    let mut asker = Asker::new(alloc, signers, verifier);
-    visit(&mut asker, keyring)?;
-    Ok(Report { rows: asker.rows })
+    let mut reporter = Reporter::new(alloc, signers, verifier);
+    visit(&mut reporter, keyring)?;
+    Ok(Report {
+        rows: reporter.rows,
+    })
 }

@@ -2,14 +2,14 @@
 //! hashes, and the verdict of a verifier.
 #![tactic(auto)]
 
-mod asker;
 mod checking;
 mod finding;
+mod key_index;
 pub mod laws;
 mod left_octets;
-mod names;
 mod place;
 mod report;
+mod reporter;
 mod row;
 mod signers;
 mod signing;
@@ -18,10 +18,12 @@ mod walk;
 
 pub use checking::check;
 pub use finding::{question_at, rows_left};
+pub use key_index::KeyIndex;
 pub use left_octets::LeftOctets;
-pub use names::Names;
 pub use place::Place;
 pub use report::Report;
 pub use row::{Finding, Row};
+pub use signers::index_keys;
 pub use signing::signer;
 pub use verifier::{Job, Verdict, Verifier};
+pub use walk::{Visitor, visit};

@@ -7,10 +7,10 @@ ghost use Rattle.opgp_hash.specs.KeyId.{id_of};
 ghost use Rattle.opgp_packet.specs.Parsed.{body_octets};
 ghost use Rattle.opgp_packet.specs.SigView.{sig_view_value};
 ghost use Rattle.opgp_report.specs.First.{print_of};
-ghost use Rattle.opgp_report.specs.Names.{prints_shown};
+ghost use Rattle.opgp_report.specs.KeyIndex.{prints_shown};
 ghost use Rattle.opgp_report.specs.Report.{certificate_keys, keys_in, signer_in, subkey_bodies};
 
-use crate::names::Names;
+use crate::key_index::KeyIndex;
 use crate::signing::signer;
 use opgp_hash::{Fingerprint, KeyId, fingerprint_of_view};
 use opgp_octets::OutOfMemory;
@@ -30,7 +30,7 @@ pub(crate) struct Signer<'a> {
 #[derive(Drop)]
 pub(crate) struct Signers<'a> {
     keys: Vec<Signer<'a>>,
-    names: Names,
+    names: KeyIndex,
     ghost named: { prints_shown names ≡ map (λ s. print_of (body_octets s.key)) keys.items },
 }
 
@@ -43,7 +43,7 @@ impl<'a> Signers<'a> {
     {
         Signers {
             keys: Vec::new(alloc),
-            names: Names::new(alloc),
+            names: KeyIndex::new(alloc),
         }
     }
 
@@ -114,6 +114,16 @@ impl<'a> Signers<'a> {
             None => None,
         }
     }
+}
+
+/// The index of a keyring's keys, each certificate's primary key before its subkeys. Each key is
+/// hashed once. Fails only when out of memory.
+pub fn index_keys(alloc: Global, keyring: &Keyring) -> Result<KeyIndex, OutOfMemory>
+    ensures { IfOk result (λ n. prints_shown n ≡ map print_of (keys_in keyring.now)) }
+{
+    let Signers { keys, names } = Signers::of(alloc, keyring)?;
+    drop(keys);
+    Ok(names)
 }
 
 /// The fingerprint of a key.

@@ -5,15 +5,15 @@ ghost use Rattle.std.specs.Option.{option_map};
 ghost use Rattle.opgp_packet.specs.SigView.{sig_view_value};
 ghost use Rattle.opgp_packet.specs.Subs.{subs_to_come};
 ghost use Rattle.opgp_packet.specs.SubView.{issuer_in, issuer_fingerprint_in};
-ghost use Rattle.opgp_report.specs.Names.{prints_shown};
+ghost use Rattle.opgp_report.specs.KeyIndex.{prints_shown};
 ghost use Rattle.opgp_report.specs.Signer.{first_some, signer_by, signer_of};
 
-use crate::names::Names;
+use crate::key_index::KeyIndex;
 use opgp_packet::{SigView, Subs};
 
 /// The place of the issuer's key: the first key with the fingerprint that the signature's hashed
 /// area names, or else with the key ID that one of its areas names (RFC 9580, 5.2.3.12, 5.2.3.35).
-pub fn signer(names: &Names, signature: SigView<'_>) -> Option<usize>
+pub fn signer(names: &KeyIndex, signature: SigView<'_>) -> Option<usize>
     ensures { result ≡ signer_of (prints_shown names.now) (sig_view_value signature.entry) }
 {
     match signature {
@@ -23,7 +23,7 @@ pub fn signer(names: &Names, signature: SigView<'_>) -> Option<usize>
     }
 }
 
-fn signer_by(names: &Names, hashed: Subs<'_>, unhashed: Subs<'_>) -> Option<usize>
+fn signer_by(names: &KeyIndex, hashed: Subs<'_>, unhashed: Subs<'_>) -> Option<usize>
     ensures { result ≡ signer_by (prints_shown names.now) (subs_to_come hashed.entry)
         (subs_to_come unhashed.entry) }
 {

@@ -23,7 +23,7 @@ use opgp_packet::{KeyView, SigView, Subs};
 use opgp_ring::{Certificate, Component, Content, Head, Keyring, Member};
 
 /// A visitor of the signatures of a keyring, one after the other.
-pub(crate) trait Visitor<'a> {
+pub trait Visitor<'a> {
     /// Why the walk stops early.
     type Stop;
 
@@ -224,11 +224,12 @@ pub(crate) fn visit_certificate<'a, V: Visitor<'a>>(
     )
 }
 
-/// Visits the signatures of a keyring.
-pub(crate) fn visit<'a, V: Visitor<'a>>(
-    visitor: &mut V,
-    keyring: &'a Keyring,
-) -> Result<(), V::Stop>
+/// Visits the signatures of a keyring, in the order of its report: each signature packet of a
+/// certificate, and after a subkey binding each signature that is embedded in it (RFC 9580, 5.2.4,
+/// 5.2.3.34). Allocates nothing itself, and hashes nothing that the visitor doesn't ask for.
+///
+/// The error is what stops the visitor.
+pub fn visit<'a, V: Visitor<'a>>(visitor: &mut V, keyring: &'a Keyring) -> Result<(), V::Stop>
     ensures { Shown V.becomes visitor.old (standing_in keyring.now) result visitor.new }
 {
     let mut number = 0usize;

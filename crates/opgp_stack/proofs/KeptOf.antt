@@ -1,5 +1,6 @@
 -- What is made of a keyring's parts is made of it.
-use Rattle.std.proofs.Common.{◌≡◌, ℕ, Bool, List, Option, Ok, Err, refl, true, false}
+use Rattle.std.proofs.Common.{◌≡◌, ℕ, Bool, List, Option, Ok, Err, refl, subst, true, false}
+use Rattle.std.specs.List.{flat_map}
 use Rattle.opgp_octets.specs.declared.fault.Fault.{Fault}
 use Rattle.opgp_ring.specs.Composed.{PartValue, parts_of}
 use Rattle.opgp_ring.specs.Keyring.{KeyringValue}
@@ -11,8 +12,8 @@ use Rattle.opgp_engine.proofs.Pulling.{of_all}
 use Rattle.opgp_stack.specs.declared.run_fault.RunFault.{RunFault}
 use Rattle.opgp_stack.specs.declared.run_fault.RunFault.TheVariants as run
 use Rattle.opgp_stack.specs.declared.task.Task.{Task}
-use Rattle.opgp_stack.specs.Parts.{OfKeyring}
-use Rattle.opgp_stack.specs.Running.{Made, OfRing, ReadsFor, Refused}
+use Rattle.opgp_stack.specs.Parts.{HasText, OfKeyring}
+use Rattle.opgp_stack.specs.Running.{Made, OfRing, ReadsFor, Refused, Text}
 
 -- what is so of the keyring that the input is
 abbrev pub KeyringOf : {A : Type 0} → (KeyringValue → A → Type 0) → Task → List ℕ → Outcome A → Type 0
@@ -38,6 +39,7 @@ module _ {K A : Type 0} (kept : K → List PartValue → Type 0) (Holds : Keyrin
     kept_unread run.Read h = h
     kept_unread run.Memory h = h
     kept_unread run.Write h = h
+    kept_unread run.Spool h = h
     kept_unread run.NoSuchRow h = h
     kept_unread run.NoSuchCertificate h = h
 
@@ -47,6 +49,13 @@ pub made_of : {A : Type 0} (Holds : KeyringValue → A → Type 0) (made : A →
 made_of Holds made make by task input value h =
     let k = value_by key_label (OfKeyring Holds task.limits) (ComposesTo task.limits) (λ a r. Holds r a) task.mode task.limits input value (λ blocks items framed t. t) h in
     (Ok k.0, k.1, by k.0 value k.2)
+
+-- the text that it makes, which was held
+pub text_made : {A : Type 0} (has : A → List ℕ → Type 0) (text : PartValue → List ℕ) (make : KeyringValue → List ℕ) (out : List ℕ → List ℕ) → ((r : KeyringValue) → out (flat_map text (parts_of r)) ≡ make r) → (Ends : Made → Type 0) (value : A)
+    → ((octets : List ℕ) → has value octets → Ends (Text (out octets))) → (task : Task) (input : List ℕ) → KeyringOf (HasText has text) task input (Ok value) → (made : Made) × OfRing (λ r. Text (make r)) task input made × Ends made
+text_made has text make out by Ends value ends task input h =
+    let k = value_by key_label (OfKeyring (HasText has text) task.limits) (ComposesTo task.limits) (λ a r. HasText has text r a) task.mode task.limits input value (λ blocks items framed t. t) h in
+    (Text (make k.0), (Ok k.0, k.1, refl), subst (λ (o : List ℕ). Ends (Text o)) (by k.0) (ends (flat_map text (parts_of k.0)) k.2))
 
 pub refused_of : {A : Type 0} (Holds : KeyringValue → A → Type 0) (make : KeyringValue → Made) (task : Task) (input : List ℕ) (fault : Fault) → KeyringOf Holds task input (Err fault) → OfRing make task input (Refused fault)
 refused_of Holds make task input fault h = (Err fault, fault_by key_label (OfKeyring Holds task.limits) (ComposesTo task.limits) task.mode task.limits input fault (λ items t. t) h, refl)

@@ -5,3 +5,5 @@ mod MadeOnce
 mod PartTexts
 mod Runs
 mod ShownTexts
+mod SoundLines
+mod NumberTexts

@@ -42,6 +42,7 @@ one_of Answers make one a b (x, h, e) (y, k, d) = e ∙ ap make (one x y h k) �
 -- what is so whatever is made of packets, of a keyring or of a signed literal, is so of each action
 by_top : (P : (Task → List ℕ → Made → Type 0) → Type 0) → ((make : List BlockValue → Made) → P (OfPackets make)) → ((make : KeyringValue → Made) → P (OfRing make)) → ((make : List PacketValue → Made) → P (OfLiteral make)) → (a : Action) → P (MakesBy a)
 by_top P packets ring literal action.Show = packets _
+by_top P packets ring literal action.ShowValues = packets _
 by_top P packets ring literal action.List = ring _
 by_top P packets ring literal action.Check = ring _
 by_top P packets ring literal (action.Octets row top.Ring) = ring _

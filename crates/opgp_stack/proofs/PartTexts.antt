@@ -14,9 +14,8 @@ use Rattle.opgp_stack.specs.Listing.{listing, packet_line}
 use Rattle.opgp_stack.specs.Parts.{certificate_text, normal_octets, part_lines, part_octets}
 
 -- a part more
-pub text_push : (text : PartValue → List ℕ) (parts : List PartValue) (part : PartValue) (old new : List ℕ) → old ≡ flat_map text parts → new ≡ old ++ text part → new ≡ flat_map text (parts ++ part ∷ [])
-text_push text parts part old new h e =
-    e ∙ ap (λ (o : List ℕ). o ++ text part) h ∙ ap (λ (o : List ℕ). flat_map text parts ++ o) (sym (append-nil (text part))) ∙ sym (flat_map-append text parts (part ∷ []))
+pub text_push : (text : PartValue → List ℕ) (parts : List PartValue) (part : PartValue) → flat_map text parts ++ text part ≡ flat_map text (parts ++ part ∷ [])
+text_push text parts part = ap (λ (o : List ℕ). flat_map text parts ++ o) (sym (append-nil (text part))) ∙ sym (flat_map-append text parts (part ∷ []))
 
 -- what is made of each packet
 lead_text : (f : PacketValue → List ℕ) (ps : List PacketValue) → flat_map (λ part. flat_map f (part_packets part)) (lead_parts ps) ≡ flat_map f ps

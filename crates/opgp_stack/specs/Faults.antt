@@ -10,6 +10,7 @@ run_number (run.Refused fault) = reason_number fault.reason
 run_number run.Read = 60
 run_number run.Write = 61
 run_number run.Memory = 62
+run_number run.Spool = 63
 run_number run.NoSuchRow = 70
 run_number run.NoSuchCertificate = 71
 
@@ -19,5 +20,6 @@ run_text (run.Refused fault) = fault_text fault
 run_text run.Read = codes "read failed"
 run_text run.Write = codes "write failed"
 run_text run.Memory = codes "out of memory"
+run_text run.Spool = codes "spool failed"
 run_text run.NoSuchRow = codes "no such row"
 run_text run.NoSuchCertificate = codes "no such certificate"

@@ -8,3 +8,4 @@ pub mod Role
 pub mod Running
 pub mod Showing
 pub mod Shown
+pub mod Values

@@ -1,5 +1,5 @@
 -- What is written of each part of a keyring, and of all of them.
-use Rattle.std.specs.Prelude.{◌≡◌, ℕ, List, [], MatchResult}
+use Rattle.std.specs.Prelude.{ℕ, List, [], MatchResult}
 use Rattle.std.specs.List.{flat_map}
 use Rattle.opgp_octets.specs.declared.limits.Limits.{Limits}
 use Rattle.opgp_frame.specs.Packet.{packets_octets}
@@ -35,6 +35,7 @@ OfKeyring Holds limits items answer = MatchResult answer
     (λ value. (r : KeyringValue) × IsKeyringOf limits items r × Holds r value)
     (IsFault limits items)
 
--- the text made of its parts
-abbrev pub HasText : (PartValue → List ℕ) → KeyringValue → List ℕ → Type 0
-HasText text r octets = octets ≡ flat_map text (parts_of r)
+-- what has a text has the one made of its parts
+abbrev pub HasText : {A : Type 0} → (A → List ℕ → Type 0) → (PartValue → List ℕ) → KeyringValue → A
+    → Type 0
+HasText has text r value = has value (flat_map text (parts_of r))

@@ -1,5 +1,5 @@
 -- What a run of the program makes of an input.
-use Rattle.std.specs.Prelude.{◌≡◌, ℕ, Bool, true, false, List, Option, Some, None, Result, Ok, Err}
+use Rattle.std.specs.Prelude.{◌≡◌, ◌⊎◌, ℕ, Bool, true, false, List, Option, Some, None, Result, Ok, Err}
 use Rattle.std.specs.Prelude.{slice_get}
 use Rattle.opgp_octets.specs.declared.fault.Fault.{Fault}
 use Rattle.opgp_octets.specs.declared.limits.Limits.{Limits}
@@ -13,6 +13,8 @@ use Rattle.opgp_ring.specs.Composition.{Item}
 use Rattle.opgp_ring.specs.Keyring.{KeyringValue, CertificateValue, certificate_packets, flat}
 use Rattle.opgp_ring.specs.Normal.{normal_of}
 use Rattle.opgp_merge.specs.Merged.{merged_of}
+use Rattle.opgp_engine.specs.declared.draft_error.DraftError.{DraftError}
+use Rattle.opgp_engine.specs.declared.draft_error.DraftError.TheVariants as draft
 use Rattle.opgp_engine.specs.declared.engine_error.EngineError.{EngineError}
 use Rattle.opgp_engine.specs.declared.engine_error.EngineError.TheVariants as engine
 use Rattle.opgp_stack.specs.declared.run_fault.RunFault.{RunFault}
@@ -23,6 +25,7 @@ use Rattle.opgp_engine.specs.declared.out.Out.{Out}
 use Rattle.opgp_stack.specs.declared.task.Top.TheVariants as top
 use Rattle.opgp_stack.specs.declared.task.Task.{Task}
 use Rattle.opgp_stack.specs.Hashing.{message_asked}
+use Rattle.opgp_engine.specs.Draft.{IsDrafted}
 use Rattle.opgp_engine.specs.Keyrings.{ComposesTo, key_label}
 use Rattle.opgp_stack.specs.Listing.{listing}
 use Rattle.opgp_engine.specs.Packets.{ArePackets, BlockValue, any_label}
@@ -30,6 +33,7 @@ use Rattle.opgp_engine.specs.Pulled.{OfAll}
 use Rattle.opgp_engine.specs.Reading.{AnswerOf, Outcome, Wanted}
 use Rattle.opgp_stack.specs.Report.{report_lines}
 use Rattle.opgp_stack.specs.Showing.{shown_blocks}
+use Rattle.opgp_stack.specs.Values.{valued_blocks}
 use Rattle.opgp_engine.specs.Signed.{AreSigned, message_label}
 use Rattle.opgp_engine.specs.Writing.{certificates_text, packets_text}
 use Rattle.opgp_engine.specs.Written.{IsWritten}
@@ -77,6 +81,7 @@ OfLiteral = Asks message_label (λ _. AreSigned)
 -- what each action makes of octets
 abbrev pub MakesBy : Action → Task → List ℕ → Made → Type 0
 MakesBy action.Show = OfPackets (λ blocks. Text (shown_blocks blocks))
+MakesBy action.ShowValues = OfPackets (λ blocks. Text (valued_blocks blocks))
 MakesBy action.List = OfRing (λ r. Text (listing (flat r)))
 MakesBy action.Check = OfRing (λ r. Text (report_lines 0 (report_of says_left r)))
 MakesBy (action.Octets row top.Ring) =
@@ -111,18 +116,43 @@ IsMade held failed old new result NoSuchRow = (result ≡ Err run.NoSuchRow) × 
 IsMade held failed old new result NoSuchCertificate =
     (result ≡ Err run.NoSuchCertificate) × (new ≡ old)
 
--- A run makes what its task says of all that the source gives; or the source fails, or memory runs
--- out while it is read, and nothing is written.
-pub data RunsAs {R W : Type 0} (left : R → Option (List ℕ)) (has_failed : R → Bool)
-    (held : W → Option (List ℕ)) (failed : W → Bool) (task : Task) (reader reader' : R)
+-- A run makes what its task says of all that the source gives, and this is so of the sink; or the
+-- source fails, or memory runs out while it is read, and nothing is written.
+pub data RunsBy {R W : Type 0} (left : R → Option (List ℕ)) (has_failed : R → Bool)
+    (Ends : W → W → Result Unit RunFault → Made → Type 0) (task : Task) (reader reader' : R)
     (writer writer' : W) (result : Result Unit RunFault) : Type 0 where
   makes : OfAll left has_failed reader reader' task.limits (λ octets. (made : Made)
-      × Makes task octets made × IsMade held failed writer writer' result made)
-      → RunsAs left has_failed held failed task reader reader' writer writer' result
+      × Makes task octets made × Ends writer writer' result made)
+      → RunsBy left has_failed Ends task reader reader' writer writer' result
   fails : result ≡ Err run.Read → has_failed reader' ≡ true → writer' ≡ writer
-      → RunsAs left has_failed held failed task reader reader' writer writer' result
+      → RunsBy left has_failed Ends task reader reader' writer writer' result
   lacks : result ≡ Err run.Memory → has_failed reader' ≡ false → writer' ≡ writer
-      → RunsAs left has_failed held failed task reader reader' writer writer' result
+      → RunsBy left has_failed Ends task reader reader' writer writer' result
+
+-- It is made.
+abbrev pub RunsAs : {R W : Type 0} → (R → Option (List ℕ)) → (R → Bool) → (W → Option (List ℕ))
+    → (W → Bool) → Task → R → R → W → W → Result Unit RunFault → Type 0
+RunsAs left has_failed held failed = RunsBy left has_failed (IsMade held failed)
+
+-- ---- with a spool
+abbrev pub spool_ended : Result Unit DraftError → Result Unit RunFault
+spool_ended (Ok done) = Ok done
+spool_ended (Err draft.Write) = Err run.Write
+spool_ended (Err draft.Spool) = Err run.Spool
+
+-- The text is written, as drafts are.
+abbrev pub IsSpooled : {W : Type 0} → Bool → Bool → (W → Option (List ℕ)) → (W → Bool) → W → W
+    → Result Unit RunFault → Made → Type 0
+IsSpooled serves tells held failed old new result (Text text) = (written : Result Unit DraftError)
+    × (result ≡ spool_ended written) × IsDrafted serves tells held failed old new written text
+IsSpooled serves tells held failed old new result made = ⊥
+
+-- It is made, or a text is written from a spool.
+abbrev pub RunsSpooled : {R W : Type 0} → Bool → Bool → (R → Option (List ℕ)) → (R → Bool)
+    → (W → Option (List ℕ)) → (W → Bool) → Task → R → R → W → W → Result Unit RunFault → Type 0
+RunsSpooled serves tells left has_failed held failed = RunsBy left has_failed
+    (λ old new result made. IsMade held failed old new result made
+    ⊎ IsSpooled serves tells held failed old new result made)
 
 -- What is read for a run: the result, or the source has failed, or memory ran out.
 abbrev pub ReadsFor : {A : Type 0} → (Outcome A → Type 0) → (failed sound : Type 0)

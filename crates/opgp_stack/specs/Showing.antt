@@ -65,11 +65,14 @@ header_line p = place_text p.block p.pos
 
 -- `  <area> kind <n> critical <0 or 1> length <n> <typed, unfit or unknown>`, where the length
 -- includes the type octet, as in the subpacket
-abbrev pub subpacket_line : Area → Sub → List ℕ
-subpacket_line area s = codes "  " ++ area_name area ++ codes " kind " ++ decimal (kind_shown s.kind)
+abbrev pub subpacket_start : Area → Sub → List ℕ
+subpacket_start area s = codes "  " ++ area_name area ++ codes " kind " ++ decimal (kind_shown s.kind)
     ++ codes " critical " ++ bit_name (is_critical s.kind)
     ++ codes " length " ++ decimal (sub_len_amount s.len) ++ codes " "
-    ++ meaning_name (meaning_of (subpacket_kind_of (kind_shown s.kind)) s.octets) ++ codes "\n"
+    ++ meaning_name (meaning_of (subpacket_kind_of (kind_shown s.kind)) s.octets)
+
+abbrev pub subpacket_line : Area → Sub → List ℕ
+subpacket_line area s = subpacket_start area s ++ codes "\n"
 
 abbrev pub area_lines : Area → List Sub → List ℕ
 area_lines area subs = flat_map (subpacket_line area) subs
@@ -93,5 +96,8 @@ abbrev pub shown : List Placed → List ℕ
 shown packets = flat_map packet_lines packets
 
 -- of blocks, in order
+abbrev pub lines_of : (Placed → List ℕ) → List BlockValue → List ℕ
+lines_of lines blocks = flat_map (λ b. flat_map lines b.packets) blocks
+
 abbrev pub shown_blocks : List BlockValue → List ℕ
-shown_blocks blocks = flat_map (λ b. shown b.packets) blocks
+shown_blocks = lines_of packet_lines

@@ -1,18 +1,19 @@
 -- What is shown of an input's packets, one after the other.
-use Rattle.std.specs.Prelude.{◌≡◌, ℕ, List, All, Option, Some, None, MatchResult}
+use Rattle.std.specs.Prelude.{ℕ, List, All, Option, Some, None, MatchResult}
+use Rattle.std.specs.List.{flat_map}
 use Rattle.opgp_octets.specs.declared.fault.Fault.{Fault}
 use Rattle.opgp_frame.specs.declared.packet.Placed.{Placed}
 use Rattle.opgp_ring.specs.Bodies.{IsSound, IsFirstBodyFault}
 use Rattle.opgp_engine.specs.Reading.{Outcome}
-use Rattle.opgp_stack.specs.Showing.{shown}
 
--- no body has a fault, and these are the lines of the packets; or this is the fault of the first
--- body that has one
-abbrev pub ShowsSoFar : Option Fault → List ℕ → List Placed → Type 0
-ShowsSoFar None text packets = All IsSound packets × (text ≡ shown packets)
-ShowsSoFar (Some fault) text packets = IsFirstBodyFault packets fault
+-- no body has a fault, and what has a text has the lines of the packets; or this is the fault of the
+-- first body that has one
+abbrev pub ShowsSoFar : (Placed → List ℕ) → Option Fault → (List ℕ → Type 0) → List Placed → Type 0
+ShowsSoFar lines None has packets = All IsSound packets × has (flat_map lines packets)
+ShowsSoFar lines (Some fault) has packets = IsFirstBodyFault packets fault
 
 -- the same of an answer
-abbrev pub IsShown : List Placed → Outcome (List ℕ) → Type 0
-IsShown packets answer = MatchResult answer
-    (λ text. All IsSound packets × (text ≡ shown packets)) (IsFirstBodyFault packets)
+abbrev pub IsShown : {A : Type 0} → (Placed → List ℕ) → (A → List ℕ → Type 0) → List Placed
+    → Outcome A → Type 0
+IsShown lines has packets answer = MatchResult answer
+    (λ value. All IsSound packets × has value (flat_map lines packets)) (IsFirstBodyFault packets)

@@ -13,17 +13,19 @@ mod running;
 mod showing;
 mod shown_text;
 mod task;
+mod valued;
+mod values;
 mod writing_listing;
 mod writing_report;
 mod writing_shown;
 
 pub use opgp_engine::{
-    Answer, Draft, EngineError, Mode, Out, PacketBlocks, PacketsText, Pipeline, ReadError,
-    Receiver, Sink, Source, Text, Watched, read_keyring, read_packets, read_signed, read_with,
-    write, write_certificate, write_certificates, write_keyring,
+    Answer, Draft, DraftError, EngineError, Mode, NoSpool, Out, PacketBlocks, PacketsText,
+    Pipeline, ReadError, Receiver, Sink, Source, Spool, Text, Watched, read_keyring, read_packets,
+    read_signed, read_with, write, write_certificate, write_certificates, write_keyring,
 };
 pub use run_fault::RunFault;
-pub use running::{run, run_last};
+pub use running::{run, run_last, run_spooled};
 pub use task::{Action, Task, Top};
 pub use writing_listing::write_listing;
 pub use writing_report::write_report;

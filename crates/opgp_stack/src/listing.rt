@@ -1,25 +1,27 @@
 //! The lines of a keyring's listing, without an allocation.
 
-ghost use Rattle.std.specs.Prelude.{◌≡◌, ◌++◌, false, codes, length};
+ghost use Rattle.std.specs.Prelude.{◌≡◌, ◌++◌, Ok, false, codes, length};
 ghost use Rattle.hex.specs.Hex.{encode_upper};
 ghost use Rattle.opgp_packet.specs.Parsed.{body_octets};
 ghost use Rattle.opgp_ring.specs.Packets.{IsLent, packets_left, part_packet};
 ghost use Rattle.opgp_packet.specs.Signature.{signature_octets};
+ghost use Rattle.opgp_packet.specs.SigView.{sig_view_value};
 ghost use Rattle.opgp_stack.specs.Listing.{attribute_line, filler_line, key_line, listing};
-ghost use Rattle.opgp_stack.specs.Listing.{opaque_text, packet_line, signature_line, typed_text};
+ghost use Rattle.opgp_stack.specs.Listing.{opaque_text, packet_line, signature_line};
+ghost use Rattle.opgp_stack.specs.Listing.{signature_text, typed_text};
 ghost use Rattle.opgp_stack.specs.Listing.{key_names, key_numbers, user_id_line};
 ghost use Rattle.opgp_stack.specs.Role.{role_name};
 ghost use Rattle.opgp_stream.specs.Output.{Extends, sink_of};
 
-use opgp_hash::{KeyId, fingerprint};
-use opgp_packet::{Attribute, Key, Signature};
+use opgp_hash::{KeyId, fingerprint_of_view};
+use opgp_packet::{AttributeView, KeyView, SigView, Signature};
 use opgp_ring::{Content, Packets, Part};
 use opgp_stream::{Output, Sink, Word};
 use std::io;
 
 /// What a key's line begins with.
 #[derive(Clone, Copy)]
-enum Role {
+pub(crate) enum Role {
     Primary,
     Subkey,
 }
@@ -77,13 +79,17 @@ fn add_id<W: Sink>(output: &mut Output<'_, W>, id: &[u8]) -> io::Result<()>
 }
 
 /// Adds the line of a key.
-fn add_key<W: Sink>(output: &mut Output<'_, W>, role: Role, key: &Key) -> io::Result<()>
+pub(crate) fn add_key<W: Sink>(
+    output: &mut Output<'_, W>,
+    role: Role,
+    key: KeyView<'_>,
+) -> io::Result<()>
     requires { W.has_failed (sink_of output.old) ≡ false }
     ensures { Extends W.held W.has_failed output.old output.new result
-        (key_line (role_name role) (body_octets key.now)) }
+        (key_line (role_name role) (body_octets key.entry)) }
 {
-    opgp_packet::key_laws::written(key);
-    let print = fingerprint(key);
+    opgp_packet::key_laws::written(&key);
+    let print = fingerprint_of_view(key);
     let KeyId(id) = print.key_id();
     add_role(output, role)?;
     add_numbers(output, key.version(), key.created(), key.algorithm())?;
@@ -91,7 +97,7 @@ fn add_key<W: Sink>(output: &mut Output<'_, W>, role: Role, key: &Key) -> io::Re
 }
 
 /// Adds the line of a user ID.
-fn add_user_id<W: Sink>(output: &mut Output<'_, W>, octets: &[u8]) -> io::Result<()>
+pub(crate) fn add_user_id<W: Sink>(output: &mut Output<'_, W>, octets: &[u8]) -> io::Result<()>
     requires { W.has_failed (sink_of output.old) ≡ false }
     ensures { Extends W.held W.has_failed output.old output.new result (user_id_line octets.now) }
 {
@@ -103,10 +109,13 @@ fn add_user_id<W: Sink>(output: &mut Output<'_, W>, octets: &[u8]) -> io::Result
 }
 
 /// Adds the line of a user attribute.
-fn add_attribute<W: Sink>(output: &mut Output<'_, W>, attribute: &Attribute) -> io::Result<()>
+pub(crate) fn add_attribute<W: Sink>(
+    output: &mut Output<'_, W>,
+    attribute: AttributeView<'_>,
+) -> io::Result<()>
     requires { W.has_failed (sink_of output.old) ≡ false }
     ensures { Extends W.held W.has_failed output.old output.new result
-        (attribute_line (body_octets attribute.now)) }
+        (attribute_line (body_octets attribute.entry)) }
 {
     let count = attribute.subpackets().count() as u64;
     output.add_words(&[Word::Text(b"uat "), Word::Decimal(count), Word::Text(b"\n")])
@@ -166,27 +175,30 @@ fn add_opaque<W: Sink>(output: &mut Output<'_, W>, body: &[u8]) -> io::Result<()
 }
 
 /// Adds the line of a signature.
-fn add_signature<W: Sink>(output: &mut Output<'_, W>, signature: &Signature) -> io::Result<()>
+pub(crate) fn add_signature<W: Sink>(
+    output: &mut Output<'_, W>,
+    signature: SigView<'_>,
+) -> io::Result<()>
+    requires { W.has_failed (sink_of output.old) ≡ false }
+    ensures { Extends W.held W.has_failed output.old output.new result
+        (signature_text (Ok (sig_view_value signature.entry))) }
+{
+    match signature {
+        SigView::Three(view) => add_typed(output, 3, view.kind(), view.algorithm(), view.hash()),
+        SigView::Four(view) => add_typed(output, 4, view.kind(), view.algorithm(), view.hash()),
+        SigView::Six(view) => add_typed(output, 6, view.kind(), view.algorithm(), view.hash()),
+        SigView::Other(view) => add_opaque(output, view.body()),
+    }
+}
+
+/// Adds the line of a signature of a keyring.
+fn add_parsed<W: Sink>(output: &mut Output<'_, W>, signature: &Signature) -> io::Result<()>
     requires { W.has_failed (sink_of output.old) ≡ false }
     ensures { Extends W.held W.has_failed output.old output.new result
         (signature_line (signature_octets signature.now)) }
 {
     opgp_packet::signature_laws::written_signature();
-    match signature {
-        Signature::Three(three) => {
-            let view = three.view();
-            add_typed(output, 3, view.kind(), view.algorithm(), view.hash())
-        }
-        Signature::Four(four) => {
-            let view = four.view();
-            add_typed(output, 4, view.kind(), view.algorithm(), view.hash())
-        }
-        Signature::Six(six) => {
-            let view = six.view();
-            add_typed(output, 6, view.kind(), view.algorithm(), view.hash())
-        }
-        Signature::Other(other) => add_opaque(output, other.body()),
-    }
+    add_signature(output, signature.view())
 }
 
 /// Adds the line of a packet.
@@ -201,11 +213,11 @@ fn add_line<W: Sink>(output: &mut Output<'_, W>, part: Part<'_>) -> io::Result<(
         Part::Member(member) => member,
     };
     match member.content() {
-        Content::Primary(key) => add_key(output, Role::Primary, key),
-        Content::Subkey(key) => add_key(output, Role::Subkey, key),
+        Content::Primary(key) => add_key(output, Role::Primary, key.view()),
+        Content::Subkey(key) => add_key(output, Role::Subkey, key.view()),
         Content::UserId(id) => add_user_id(output, id.octets()),
-        Content::Attribute(attribute) => add_attribute(output, attribute),
-        Content::Signature(signature) => add_signature(output, signature),
+        Content::Attribute(attribute) => add_attribute(output, attribute.view()),
+        Content::Signature(signature) => add_parsed(output, signature),
         Content::Filler(kind, body) => add_filler(output, *kind, body),
     }
 }

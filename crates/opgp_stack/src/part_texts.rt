@@ -1,7 +1,8 @@
 //! What is written of a keyring, made part by part.
 
-ghost use Rattle.std.specs.Prelude.{◌≡◌, ◌++◌, ◌∷◌, [], ℕ, List, IfOk, OnOk};
+ghost use Rattle.std.specs.Prelude.{◌≡◌, ◌++◌, ◌∷◌, [], ℕ, List, true, IfOk, IfSome, OnOk};
 ghost use Rattle.std.specs.List.{flat_map};
+ghost use Rattle.opgp_engine.specs.Draft.{DraftHas};
 ghost use Rattle.opgp_engine.specs.declared.out.Out.TheVariants as outs;
 ghost use Rattle.opgp_ring.specs.Composed.{PartValue};
 ghost use Rattle.opgp_ring.specs.Parts.{AreParts, part_packets};
@@ -10,7 +11,7 @@ ghost use Rattle.opgp_frame.specs.Packet.{packets_octets};
 ghost use Rattle.opgp_stack.specs.Parts.{certificate_text, normal_octets, part_lines, part_octets};
 
 use crate::writing_listing::ListingText;
-use opgp_engine::{Draft, Out, PacketsText};
+use opgp_engine::{Draft, Out, PacketsText, Spool};
 use opgp_octets::OutOfMemory;
 use opgp_ring::{Keeper, Packets, Ready};
 use std::alloc::Global;
@@ -22,8 +23,10 @@ pub(crate) trait EachPart {
     ghost text: { PartValue → List ℕ };
 
     /// Adds it. Fails only when out of memory.
-    fn add(draft: &mut Draft, part: Ready) -> Result<(), OutOfMemory>
-        ensures { OnOk result (draft.new ≡ draft.old ++ text (part_of part)) };
+    fn add<S: Spool + Drop>(draft: &mut Draft<S>, part: Ready) -> Result<(), OutOfMemory>
+        ensures { OnOk result ((given : List ℕ)
+            → DraftHas S.serves S.tells S.holds S.has_failed draft.old given
+            → DraftHas S.serves S.tells S.holds S.has_failed draft.new (given ++ text (part_of part))) };
 }
 
 /// A line for each packet.
@@ -33,7 +36,7 @@ pub(crate) struct Lines;
 impl EachPart for Lines {
     ghost text = { part_lines };
 
-    fn add(draft: &mut Draft, part: Ready) -> Result<(), OutOfMemory> {
+    fn add<S: Spool + Drop>(draft: &mut Draft<S>, part: Ready) -> Result<(), OutOfMemory> {
         let packets = part.packets();
         draft.add(ListingText { packets })
     }
@@ -46,7 +49,7 @@ pub(crate) struct AsTheyAre;
 impl EachPart for AsTheyAre {
     ghost text = { part_octets };
 
-    fn add(draft: &mut Draft, part: Ready) -> Result<(), OutOfMemory> {
+    fn add<S: Spool + Drop>(draft: &mut Draft<S>, part: Ready) -> Result<(), OutOfMemory> {
         add_packets(draft, &part)
     }
 }
@@ -58,7 +61,7 @@ pub(crate) struct Normalised;
 impl EachPart for Normalised {
     ghost text = { normal_octets };
 
-    fn add(draft: &mut Draft, part: Ready) -> Result<(), OutOfMemory> {
+    fn add<S: Spool + Drop>(draft: &mut Draft<S>, part: Ready) -> Result<(), OutOfMemory> {
         add_packets(draft, &part.normalise())
     }
 }
@@ -70,7 +73,7 @@ pub(crate) struct ArmoredAlone;
 impl EachPart for ArmoredAlone {
     ghost text = { certificate_text outs.Armor };
 
-    fn add(draft: &mut Draft, part: Ready) -> Result<(), OutOfMemory> {
+    fn add<S: Spool + Drop>(draft: &mut Draft<S>, part: Ready) -> Result<(), OutOfMemory> {
         add_certificate(draft, Out::Armor, part)
     }
 }
@@ -82,14 +85,16 @@ pub(crate) struct BareAlone;
 impl EachPart for BareAlone {
     ghost text = { certificate_text outs.Binary };
 
-    fn add(draft: &mut Draft, part: Ready) -> Result<(), OutOfMemory> {
+    fn add<S: Spool + Drop>(draft: &mut Draft<S>, part: Ready) -> Result<(), OutOfMemory> {
         add_certificate(draft, Out::Binary, part)
     }
 }
 
 /// Adds the packets of a part.
-fn add_packets(draft: &mut Draft, part: &Ready) -> Result<(), OutOfMemory>
-    ensures { OnOk result (draft.new ≡ draft.old ++ part_octets (part_of part.now)) }
+fn add_packets<S: Spool + Drop>(draft: &mut Draft<S>, part: &Ready) -> Result<(), OutOfMemory>
+    ensures { OnOk result ((given : List ℕ)
+        → DraftHas S.serves S.tells S.holds S.has_failed draft.old given
+        → DraftHas S.serves S.tells S.holds S.has_failed draft.new (given ++ part_octets (part_of part.now))) }
 {
     let out = Out::Binary;
     let packets = part.packets();
@@ -97,8 +102,15 @@ fn add_packets(draft: &mut Draft, part: &Ready) -> Result<(), OutOfMemory>
 }
 
 /// Adds a certificate on its own, and nothing of the lead.
-fn add_certificate(draft: &mut Draft, out: Out, part: Ready) -> Result<(), OutOfMemory>
-    ensures { OnOk result (draft.new ≡ draft.old ++ certificate_text out (part_of part)) }
+fn add_certificate<S: Spool + Drop>(
+    draft: &mut Draft<S>,
+    out: Out,
+    part: Ready,
+) -> Result<(), OutOfMemory>
+    ensures { OnOk result ((given : List ℕ)
+        → DraftHas S.serves S.tells S.holds S.has_failed draft.old given
+        → DraftHas S.serves S.tells S.holds S.has_failed draft.new
+        (given ++ certificate_text out (part_of part))) }
 {
     match part {
         Ready::Lead(lead) => {
@@ -114,17 +126,19 @@ fn add_certificate(draft: &mut Draft, out: Out, part: Ready) -> Result<(), OutOf
 
 /// What is written of the parts of a keyring that came so far. No part is kept.
 #[derive(Drop)]
-pub(crate) struct PartTexts<E> {
-    draft: Draft,
+pub(crate) struct PartTexts<E, S> {
+    draft: Draft<S>,
     each: PhantomData<E>,
 }
 
-impl<E: EachPart> PartTexts<E> {
-    /// Nothing yet. Fails only when out of memory.
-    pub(crate) fn new(alloc: Global) -> Result<PartTexts<E>, OutOfMemory>
-        ensures { IfOk result (λ k. k.draft ≡ []) }
+impl<E: EachPart, S: Spool + Drop> PartTexts<E, S> {
+    /// Nothing yet, to be held in this spool, which is empty, or in memory. Fails only when out of
+    /// memory.
+    pub(crate) fn new(alloc: Global, spool: Option<S>) -> Result<PartTexts<E, S>, OutOfMemory>
+        requires { IfSome spool (λ s. (S.serves ≡ true) × (S.tells ≡ true → S.holds s ≡ [])) }
+        ensures { IfOk result (λ k. DraftHas S.serves S.tells S.holds S.has_failed k.draft []) }
     {
-        let draft = Draft::new(alloc)?;
+        let draft = Draft::new(alloc, spool)?;
         Ok(PartTexts {
             draft,
             each: PhantomData,
@@ -132,15 +146,16 @@ impl<E: EachPart> PartTexts<E> {
     }
 
     /// What is written.
-    pub(crate) fn into_draft(self) -> Draft
+    pub(crate) fn into_draft(self) -> Draft<S>
         ensures { result ≡ self.draft }
     {
         self.draft
     }
 }
 
-impl<E: EachPart> Keeper for PartTexts<E> {
-    ghost kept = { λ k parts. k.draft ≡ flat_map E.text parts };
+impl<E: EachPart, S: Spool + Drop> Keeper for PartTexts<E, S> {
+    ghost kept = { λ k parts.
+        DraftHas S.serves S.tells S.holds S.has_failed k.draft (flat_map E.text parts) };
 
     fn keep(&mut self, part: Ready) -> Result<(), OutOfMemory> {
         E::add(&mut self.draft, part)?;

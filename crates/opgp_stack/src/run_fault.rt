@@ -7,7 +7,8 @@ use opgp_octets::Fault;
 use std::error::Error;
 use std::fmt;
 
-/// Why a run ends without its output. With any but [`RunFault::Write`] nothing was written.
+/// Why a run ends without its output. With any but [`RunFault::Write`] and [`RunFault::Spool`] nothing was
+/// written.
 #[derive(Clone, Copy, Debug, PartialEq, Eq)]
 pub enum RunFault {
     /// The input is refused: the fault of the lowest layer that does.
@@ -18,6 +19,8 @@ pub enum RunFault {
     Write,
     /// Out of memory.
     Memory,
+    /// The spool failed. If that was while it was read again, a prefix of the output may be written.
+    Spool,
     /// There is no row of that number, or it has no octets.
     NoSuchRow,
     /// There is no certificate of that number.
@@ -34,6 +37,7 @@ impl RunFault {
             RunFault::Read => 60,
             RunFault::Write => 61,
             RunFault::Memory => 62,
+            RunFault::Spool => 63,
             RunFault::NoSuchRow => 70,
             RunFault::NoSuchCertificate => 71,
         }
@@ -50,6 +54,7 @@ impl fmt::Display for RunFault {
             RunFault::Read => f.write_str("read failed"),
             RunFault::Write => f.write_str("write failed"),
             RunFault::Memory => f.write_str("out of memory"),
+            RunFault::Spool => f.write_str("spool failed"),
             RunFault::NoSuchRow => f.write_str("no such row"),
             RunFault::NoSuchCertificate => f.write_str("no such certificate"),
         }

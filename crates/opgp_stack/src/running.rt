@@ -1,21 +1,23 @@
 //! Runs a task.
 
-ghost use Rattle.std.specs.Prelude.{◌≡◌, List, [], true, false};
+ghost use Rattle.std.specs.Prelude.{◌≡◌, ℕ, List, [], true, false, IfSome};
 ghost use Rattle.opgp_octets.specs.declared.limits.Limits.{Limits};
 ghost use Rattle.opgp_ring.specs.Keyring.{flat};
 ghost use Rattle.opgp_ring.specs.Composition.{placed_in};
 ghost use Rattle.opgp_report.specs.Left.{says_left};
 ghost use Rattle.opgp_report.specs.Report.{report_of};
+ghost use Rattle.opgp_engine.specs.Draft.{DraftHas};
 ghost use Rattle.opgp_engine.specs.Keyrings.{ComposesTo, key_label};
 ghost use Rattle.opgp_engine.specs.Packets.{any_label};
 ghost use Rattle.opgp_engine.specs.Pulled.{OfAll};
 ghost use Rattle.opgp_engine.specs.Reading.{AnswerOf};
+ghost use Rattle.opgp_engine.specs.Writing.{octets_text};
 ghost use Rattle.opgp_stack.specs.OnePart.{HasNth, HasRow, found_question};
 ghost use Rattle.opgp_stack.specs.Parts.{HasText, OfKeyring};
 ghost use Rattle.opgp_stack.specs.Report.{report_lines};
 ghost use Rattle.opgp_stack.specs.Shown.{IsShown};
-ghost use Rattle.opgp_stack.specs.Running.{IsMade, Made, ReadsFor, RunsAs, ended, one_text};
-ghost use Rattle.opgp_stack.specs.Running.{question_made};
+ghost use Rattle.opgp_stack.specs.Running.{IsMade, IsSpooled, Made, ReadsFor, RunsAs, RunsSpooled};
+ghost use Rattle.opgp_stack.specs.Running.{ended, one_text, question_made};
 
 use crate::hashing::{question_of, write_question};
 use crate::one_part::{NthCertificate, Number, RowFound};
@@ -23,11 +25,12 @@ use crate::part_texts::{
     ArmoredAlone, AsTheyAre, BareAlone, EachPart, Lines, Normalised, PartTexts,
 };
 use crate::run_fault::RunFault;
-use crate::shown_text::ShownText;
+use crate::shown_text::{EachPacket, Plain, ShownText, Valued};
 use crate::task::{Action, Task, Top};
 use crate::writing_report::write_report;
 use opgp_engine::{
-    Draft, EngineError, Out, ReadError, Receiver, read_with, write_certificate, write_keyring,
+    Draft, DraftError, EngineError, NoSpool, Out, ReadError, Receiver, Spool, read_with,
+    write_certificate, write_keyring,
 };
 use opgp_merge::merge;
 use opgp_report::{LeftOctets, check, question_at};
@@ -53,7 +56,7 @@ pub fn run<R: Source, W: Sink>(
     ensures { RunsAs R.left R.has_failed W.held W.has_failed task.now reader.old reader.new
         writer.old writer.new result }
 {
-    run_and(alloc, task, reader, writer, After::Frees)
+    run_and::<R, W, NoSpool>(alloc, task, None, reader, writer, After::Frees)
 }
 
 /// Runs a task as [`run`] does, but leaves freeing what it read to the end of the
@@ -69,7 +72,30 @@ pub fn run_last<R: Source, W: Sink>(
     ensures { RunsAs R.left R.has_failed W.held W.has_failed task.now reader.old reader.new
         writer.old writer.new result }
 {
-    run_and(alloc, task, reader, writer, After::Leaves)
+    run_and::<R, W, NoSpool>(alloc, task, None, reader, writer, After::Leaves)
+}
+
+/// Runs a task as [`run`] does, but what it writes is held in this spool, which is to be empty, and
+/// not in memory: so memory doesn't limit the output of any task but `Check`, `Octets`, one certificate
+/// of `Split`, and a `Join` that merges, which hold none.
+///
+/// With the error `Spool` the spool has failed. If that was while it was read again, the sink holds a
+/// prefix of the text, else nothing was written. It isn't told before the input has ended without a fault.
+pub fn run_spooled<R: Source, W: Sink, S: Spool + Drop>(
+    alloc: Global,
+    task: &Task,
+    spool: S,
+    reader: &mut R,
+    writer: &mut W,
+) -> Result<(), RunFault>
+    requires reader { R.has_failed reader.old ≡ false }
+    requires writer { W.has_failed writer.old ≡ false }
+    requires serves { S.serves ≡ true }
+    requires empty { S.tells ≡ true → S.holds spool ≡ [] }
+    ensures { RunsSpooled S.serves S.tells R.left R.has_failed W.held W.has_failed task.now reader.old
+        reader.new writer.old writer.new result }
+{
+    run_and(alloc, task, Some(spool), reader, writer, After::Frees)
 }
 
 /// What happens to what was read.
@@ -114,14 +140,20 @@ fn ask<R: Source, T: Receiver + Drop>(
 }
 
 /// Reads packets, and returns what is shown of them. No packet is kept once that is made.
-fn shown_of<R: Source>(alloc: Global, task: &Task, reader: &mut R) -> Result<Draft, RunFault>
-    requires { R.has_failed reader.old ≡ false }
+fn shown_of<R: Source, E: EachPacket, S: Spool + Drop>(
+    alloc: Global,
+    task: &Task,
+    spool: Option<S>,
+    reader: &mut R,
+) -> Result<Draft<S>, RunFault>
+    requires sound { R.has_failed reader.old ≡ false }
+    requires empty { IfSome spool (λ s. (S.serves ≡ true) × (S.tells ≡ true → S.holds s ≡ [])) }
     ensures { ReadsFor (λ answer. OfAll R.left R.has_failed reader.old reader.new task.now.limits
-        (λ octets. AnswerOf any_label (λ items. IsShown (placed_in items)) task.now.mode
-        task.now.limits octets answer)) (R.has_failed reader.new ≡ true)
-        (R.has_failed reader.new ≡ false) result }
+        (λ octets. AnswerOf any_label (λ items. IsShown E.lines (DraftHas S.serves S.tells S.holds
+        S.has_failed) (placed_in items)) task.now.mode task.now.limits octets answer))
+        (R.has_failed reader.new ≡ true) (R.has_failed reader.new ≡ false) result }
 {
-    let text = match ShownText::new(alloc) {
+    let text: ShownText<E, S> = match ShownText::new(alloc, spool) {
         Ok(text) => text,
         Err(_) => return Err(RunFault::Memory),
     };
@@ -140,18 +172,20 @@ fn ring_of<R: Source>(alloc: Global, task: &Task, reader: &mut R) -> Result<Keyr
 }
 
 /// Reads a keyring, and returns what is written of its parts. No part is kept once that is made.
-fn text_of<R: Source, E: EachPart>(
+fn text_of<R: Source, E: EachPart, S: Spool + Drop>(
     alloc: Global,
     task: &Task,
+    spool: Option<S>,
     reader: &mut R,
-) -> Result<Draft, RunFault>
-    requires { R.has_failed reader.old ≡ false }
+) -> Result<Draft<S>, RunFault>
+    requires sound { R.has_failed reader.old ≡ false }
+    requires empty { IfSome spool (λ s. (S.serves ≡ true) × (S.tells ≡ true → S.holds s ≡ [])) }
     ensures { ReadsFor (λ answer. OfAll R.left R.has_failed reader.old reader.new task.now.limits
-        (λ octets. AnswerOf key_label (OfKeyring (HasText E.text) task.now.limits) task.now.mode
-        task.now.limits octets answer)) (R.has_failed reader.new ≡ true)
-        (R.has_failed reader.new ≡ false) result }
+        (λ octets. AnswerOf key_label (OfKeyring (HasText (DraftHas S.serves S.tells S.holds S.has_failed)
+        E.text) task.now.limits) task.now.mode task.now.limits octets answer))
+        (R.has_failed reader.new ≡ true) (R.has_failed reader.new ≡ false) result }
 {
-    let texts: PartTexts<E> = match PartTexts::new(alloc) {
+    let texts: PartTexts<E, S> = match PartTexts::new(alloc, spool) {
         Ok(texts) => texts,
         Err(_) => return Err(RunFault::Memory),
     };
@@ -209,79 +243,108 @@ fn row_of<R: Source, N: Number>(
     }
 }
 
-/// Runs a task, and frees or leaks what it read.
-fn run_and<R: Source, W: Sink>(
+/// Runs a task, with or without a spool, and frees or leaks what it read.
+fn run_and<R: Source, W: Sink, S: Spool + Drop>(
     alloc: Global,
     task: &Task,
+    spool: Option<S>,
     reader: &mut R,
     writer: &mut W,
     after: After,
 ) -> Result<(), RunFault>
     requires reader { R.has_failed reader.old ≡ false }
     requires writer { W.has_failed writer.old ≡ false }
-    ensures { RunsAs R.left R.has_failed W.held W.has_failed task.now reader.old reader.new
-        writer.old writer.new result }
+    requires empty { IfSome spool (λ s. (S.serves ≡ true) × (S.tells ≡ true → S.holds s ≡ [])) }
+    ensures { RunsSpooled S.serves S.tells R.left R.has_failed W.held W.has_failed task.now reader.old
+        reader.new writer.old writer.new result }
 {
     match task.action {
         Action::Show => {
-            let text = shown_of(alloc, task, reader)?;
-            end(text.write(Out::Binary, writer))
+            let text = shown_of::<R, Plain, S>(alloc, task, spool, reader)?;
+            write_draft(text, Out::Binary, writer)
+        }
+        Action::ShowValues => {
+            let text = shown_of::<R, Valued, S>(alloc, task, spool, reader)?;
+            write_draft(text, Out::Binary, writer)
         }
         Action::List => {
-            let text = text_of::<R, Lines>(alloc, task, reader)?;
-            end(text.write(Out::Binary, writer))
+            let text = text_of::<R, Lines, S>(alloc, task, spool, reader)?;
+            write_draft(text, Out::Binary, writer)
         }
         Action::Check => {
+            drop(spool);
             let ring = ring_of(alloc, task, reader)?;
             done(check_all(alloc, &ring, writer), ring, after)
         }
         Action::Octets { row, top } => match top {
             Top::Ring => {
+                drop(spool);
                 let found = row_of::<R, Brand>(alloc, task, reader, row)?;
                 done(write_row(alloc, &found, writer), found, after)
             }
             Top::Literal => {
+                drop(spool);
                 let message = ask(alloc, task, reader, SignedGathering::new(alloc))?;
                 let question = question_of(&message, row);
                 done(write_question(alloc, question, writer), message, after)
             }
         },
         Action::Write { out } => {
-            let text = text_of::<R, AsTheyAre>(alloc, task, reader)?;
-            end(text.write(out, writer))
+            let text = text_of::<R, AsTheyAre, S>(alloc, task, spool, reader)?;
+            write_draft(text, out, writer)
         }
         Action::Normalise { out } => {
-            let text = text_of::<R, Normalised>(alloc, task, reader)?;
-            end(text.write(out, writer))
+            let text = text_of::<R, Normalised, S>(alloc, task, spool, reader)?;
+            write_draft(text, out, writer)
         }
         Action::Split { out, nth } => match nth {
             None => match out {
                 Out::Armor => {
-                    let text = text_of::<R, ArmoredAlone>(alloc, task, reader)?;
-                    end(text.write(Out::Binary, writer))
+                    let text = text_of::<R, ArmoredAlone, S>(alloc, task, spool, reader)?;
+                    write_draft(text, Out::Binary, writer)
                 }
                 Out::Binary => {
-                    let text = text_of::<R, BareAlone>(alloc, task, reader)?;
-                    end(text.write(Out::Binary, writer))
+                    let text = text_of::<R, BareAlone, S>(alloc, task, spool, reader)?;
+                    write_draft(text, Out::Binary, writer)
                 }
             },
             Some(n) => {
+                drop(spool);
                 let found = nth_of::<R, Brand>(alloc, task, reader, n)?;
                 done(write_one(alloc, out, &found, writer), found, after)
             }
         },
         Action::Join { out, merge: merges } => {
             if merges {
+                drop(spool);
                 let ring = ring_of(alloc, task, reader)?;
                 match merge(ring) {
                     Ok(ring) => done(end(write_keyring(alloc, &ring, out, writer)), ring, after),
                     Err(_) => end(Err(EngineError::Memory)),
                 }
             } else {
-                let text = text_of::<R, AsTheyAre>(alloc, task, reader)?;
-                end(text.write(out, writer))
+                let text = text_of::<R, AsTheyAre, S>(alloc, task, spool, reader)?;
+                write_draft(text, out, writer)
             }
         }
+    }
+}
+
+/// Writes a text that was held.
+fn write_draft<W: Sink, S: Spool + Drop>(
+    draft: Draft<S>,
+    out: Out,
+    writer: &mut W,
+) -> Result<(), RunFault>
+    requires { W.has_failed writer.old ≡ false }
+    ensures { (text : List ℕ) → DraftHas S.serves S.tells S.holds S.has_failed draft text
+        → IsSpooled S.serves S.tells W.held W.has_failed writer.old writer.new result
+        (Made.Text (octets_text out text)) }
+{
+    match draft.write(out, writer) {
+        Ok(()) => Ok(()),
+        Err(DraftError::Write) => Err(RunFault::Write),
+        Err(DraftError::Spool) => Err(RunFault::Spool),
     }
 }
 

@@ -2,13 +2,15 @@
 
 ghost use Rattle.std.specs.Prelude.{◌≡◌, ◌++◌, false, codes, map};
 ghost use Rattle.opgp_octets.specs.Octets.{IsBodySized};
+ghost use Rattle.opgp_octets.specs.SubpacketKind.{subpacket_kind_of};
 ghost use Rattle.opgp_packet.specs.Subs.{subs_to_come};
-ghost use Rattle.opgp_packet.specs.SubView.{sub_shown};
+ghost use Rattle.opgp_packet.specs.SubView.{kind_shown, sub_shown};
+ghost use Rattle.opgp_packet.specs.MeaningReading.{meaning_of};
 ghost use Rattle.opgp_packet.specs.SubMeaning.{meaning_shown};
 ghost use Rattle.opgp_engine.specs.Packets.{block_value};
 ghost use Rattle.opgp_stack.specs.Showing.{area_lines, area_name, bit_name, content_lines};
 ghost use Rattle.opgp_stack.specs.Showing.{form_name, header_line, meaning_name, packet_lines};
-ghost use Rattle.opgp_stack.specs.Showing.{shown, shown_blocks, signature_lines, subpacket_line};
+ghost use Rattle.opgp_stack.specs.Showing.{shown, shown_blocks, signature_lines, subpacket_start};
 ghost use Rattle.opgp_stream.specs.Output.{Extends, sink_of};
 
 use opgp_frame::{Form, Placed};
@@ -20,7 +22,7 @@ use std::io;
 
 /// An area of a signature.
 #[derive(Clone, Copy)]
-enum Area {
+pub(crate) enum Area {
     Hashed,
     Unhashed,
 }
@@ -61,19 +63,19 @@ fn critical_text(bit: bool) -> &'static [u8]
     }
 }
 
-/// What is known of a subpacket, and the line's end.
+/// What is known of a subpacket.
 fn meaning_text(meaning: SubMeaning<'_>) -> &'static [u8]
-    ensures { result.now ≡ codes " " ++ meaning_name (meaning_shown meaning.entry) ++ codes "\n" }
+    ensures { result.now ≡ codes " " ++ meaning_name (meaning_shown meaning.entry) }
 {
     match meaning {
-        SubMeaning::Unfit => b" unfit\n",
-        SubMeaning::Unknown => b" unknown\n",
-        _ => b" typed\n",
+        SubMeaning::Unfit => b" unfit",
+        SubMeaning::Unknown => b" unknown",
+        _ => b" typed",
     }
 }
 
 /// Adds the line of a packet.
-fn add_header<W: Sink>(output: &mut Output<'_, W>, placed: &Placed) -> io::Result<()>
+pub(crate) fn add_header<W: Sink>(output: &mut Output<'_, W>, placed: &Placed) -> io::Result<()>
     requires { W.has_failed (sink_of output.old) ≡ false }
     ensures { Extends W.held W.has_failed output.old output.new result (header_line placed.now) }
 {
@@ -94,15 +96,20 @@ fn add_header<W: Sink>(output: &mut Output<'_, W>, placed: &Placed) -> io::Resul
     ])
 }
 
-/// Adds the line of a subpacket.
-fn add_subpacket<W: Sink>(
+/// Adds the line of a subpacket, with this end.
+pub(crate) fn add_subpacket<W: Sink>(
     output: &mut Output<'_, W>,
     area: Area,
     subpacket: SubView<'_>,
+    meaning: SubMeaning<'_>,
+    end: &[u8],
 ) -> io::Result<()>
-    requires { W.has_failed (sink_of output.old) ≡ false }
+    requires sound { W.has_failed (sink_of output.old) ≡ false }
+    requires meaning { meaning_shown meaning
+        ≡ meaning_of (subpacket_kind_of (kind_shown (sub_shown subpacket).kind))
+        (sub_shown subpacket).octets }
     ensures { Extends W.held W.has_failed output.old output.new result
-        (subpacket_line area (sub_shown subpacket.entry)) }
+        (subpacket_start area (sub_shown subpacket.entry) ++ end.now) }
 {
     let kind = subpacket.kind() as u64;
     let amount = subpacket.len().amount() as u64;
@@ -111,7 +118,8 @@ fn add_subpacket<W: Sink>(
         Word::Decimal(kind),
         Word::Text(critical_text(subpacket.critical())),
         Word::Decimal(amount),
-        Word::Text(meaning_text(subpacket.meaning())),
+        Word::Text(meaning_text(meaning)),
+        Word::Text(end),
     ])
 }
 
@@ -126,7 +134,7 @@ fn add_area<W: Sink>(
         (area_lines area (subs_to_come subpackets.entry)) }
 {
     'subpackets: while let Some(subpacket) = subpackets.next() {
-        add_subpacket(output, area, subpacket)?;
+        add_subpacket(output, area, subpacket, subpacket.meaning(), b"\n")?;
     }
     Ok(())
 }

@@ -17,6 +17,8 @@ pub enum Top {
 pub enum Action {
     /// A line for each packet, and one for each subpacket of a signature.
     Show,
+    /// The same, with the fields of each packet, and what each subpacket means.
+    ShowValues,
     /// A line for each packet of the keyring.
     List,
     /// A line for each signature of a certificate, with what can be said of its digest.

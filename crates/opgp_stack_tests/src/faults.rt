@@ -22,6 +22,7 @@ fn what_ends_a_run(rt: HostRuntime) -> Result<(), Fail> {
         (RunFault::Read, 60, "read failed"),
         (RunFault::Write, 61, "write failed"),
         (RunFault::Memory, 62, "out of memory"),
+        (RunFault::Spool, 63, "spool failed"),
         (RunFault::NoSuchRow, 70, "no such row"),
         (RunFault::NoSuchCertificate, 71, "no such certificate"),
     ] {

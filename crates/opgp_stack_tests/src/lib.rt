@@ -1,4 +1,4 @@
-//! Tests of reading and writing keyrings, by what the crate `opgp_stack` makes public.
+//! Tests of reading and writing keyrings and of runs, by what the crate `opgp_stack` makes public, and a spool in memory.
 #![tactic(auto)]
 
 #[cfg(test)]
@@ -7,11 +7,14 @@ mod ends;
 mod faults;
 #[cfg(test)]
 mod growth;
+pub mod heap;
 #[cfg(test)]
 mod keys;
 #[cfg(test)]
 mod reading;
 #[cfg(test)]
 mod running;
+#[cfg(test)]
+mod spooled;
 #[cfg(test)]
 mod writing;

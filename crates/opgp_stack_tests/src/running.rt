@@ -7,8 +7,9 @@ use opgp_stack::{Action, Mode, Out, RunFault, Task, Watched, run};
 use std::alloc::Global;
 use std::test::Fail;
 
-const ACTIONS: [Action; 12] = [
+pub const ACTIONS: [Action; 13] = [
     Action::Show,
+    Action::ShowValues,
     Action::List,
     Action::Write { out: Out::Armor },
     Action::Write { out: Out::Binary },
@@ -40,7 +41,7 @@ const ACTIONS: [Action; 12] = [
     },
 ];
 
-fn task_of(action: Action) -> Task {
+pub fn task_of(action: Action) -> Task {
     Task {
         mode: Mode::Auto,
         limits: Limits::usual(),
@@ -49,7 +50,7 @@ fn task_of(action: Action) -> Task {
 }
 
 /// What a run over both keys writes.
-fn output_of(alloc: Global, action: Action) -> Result<Vec<u8>, Fail> {
+pub fn output_of(alloc: Global, action: Action) -> Result<Vec<u8>, Fail> {
     let mut reader = in_pieces(KEYS, 100, 0);
     let mut sink = Watched::new(Vec::new(alloc));
     match run(alloc, &task_of(action), &mut reader, &mut sink) {

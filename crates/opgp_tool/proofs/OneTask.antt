@@ -11,9 +11,8 @@ use Rattle.opgp_engine.specs.declared.mode.Mode.{Mode}
 use Rattle.opgp_stack.specs.declared.task.Action.{Action}
 use Rattle.opgp_stack.specs.declared.task.Action.TheVariants as action
 use Rattle.opgp_stack.specs.declared.task.Task.{Task}
-use Rattle.opgp_tool.specs.declared.task.Request.{Request}
 use Rattle.opgp_tool.specs.Program.{SaysTask}
-use Rattle.opgp_tool.specs.Words.{HasLimits, HasNumber, IsAction, IsNth, IsRequest, IsTask}
+use Rattle.opgp_tool.specs.Words.{Asked, HasLimits, HasNumber, IsAction, IsNth, IsRequest, IsTask}
 use Rattle.opgp_tool.proofs.Reading.{apart}
 use Rattle.opgp_tool.proofs.SameLimits.{same_limits}
 
@@ -38,6 +37,7 @@ one_nth options (Some m) (Some n) a b = ap {B = Option ℕ} Some (one_number opt
 -- the command of an action
 abbrev name_of : Action → Text
 name_of action.Show = codes "show"
+name_of action.ShowValues = codes "show"
 name_of action.List = codes "list"
 name_of action.Check = codes "check"
 name_of (action.Octets row top) = codes "octets"
@@ -47,7 +47,8 @@ name_of (action.Split out nth) = codes "split"
 name_of (action.Join out merge) = codes "join"
 
 named : (name : Text) (options : List Row) (a : Action) → IsAction name options a → name ≡ name_of a
-named name options action.Show said = said
+named name options action.Show said = said.0
+named name options action.ShowValues said = said.0
 named name options action.List said = said
 named name options action.Check said = said
 named name options (action.Octets row top) said = said.0
@@ -59,6 +60,9 @@ named name options (action.Join out merge) said = said.0
 one_action : (name : Text) (options : List Row) (a b : Action) → IsAction name options a
     → IsAction name options b → a ≡ b
 one_action name options action.Show action.Show a b = refl
+one_action name options action.ShowValues action.ShowValues a b = refl
+one_action name options action.Show action.ShowValues a b = absurd (cc (a.1, b.1))
+one_action name options action.ShowValues action.Show a b = absurd (cc (a.1, b.1))
 one_action name options action.List action.List a b = refl
 one_action name options action.Check action.Check a b = refl
 one_action name options (action.Octets row top) (action.Octets more other) a b =
@@ -87,16 +91,17 @@ one_said name options a b m n =
     ∙ ap (λ (x : Limits). task_with b.mode x a.action) (one_limits options _ _ m.limits n.limits)
     ∙ ap (task_with b.mode b.limits) (one_action name options _ _ m.action n.action)
 
-abbrev request_with : Task → Bool → Request
-request_with task progress = record { task = task; progress = progress }
+abbrev asked_with : Task → Bool → Option Text → Asked
+asked_with task progress spool = record { task = task; progress = progress; spool = spool }
 
-one_request : (name : Text) (options : List Row) (a b : Request) → IsRequest name options a
+one_request : (name : Text) (options : List Row) (a b : Asked) → IsRequest name options a
     → IsRequest name options b → a ≡ b
 one_request name options a b m n =
-    ap (λ (x : Task). request_with x a.progress) (one_said name options _ _ m.task n.task)
-    ∙ ap (request_with b.task) (m.progress ∙ sym n.progress)
+    ap (λ (x : Task). asked_with x a.progress a.spool) (one_said name options _ _ m.task n.task)
+    ∙ ap (λ (x : Bool). asked_with b.task x a.spool) (m.progress ∙ sym n.progress)
+    ∙ ap (asked_with b.task b.progress) (m.spool ∙ sym n.spool)
 
-pub one_task : (program : App) (words : List Text) (a b : Request) → SaysTask program words a
+pub one_task : (program : App) (words : List Text) (a b : Asked) → SaysTask program words a
     → SaysTask program words b → a ≡ b
 one_task program words a b m n =
     let same : (m.0, m.1) ≡ (n.0, n.1) = same_Some _ _ (sym m.2 ∙ n.2) in

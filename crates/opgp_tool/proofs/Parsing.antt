@@ -4,9 +4,8 @@ use Rattle.std.proofs.Common.{Some, None}
 use Rattle.std.specs.Prelude.{IfSome, option_map}
 use Rattle.clap.specs.Words.{App, Row, Text, is_simple, is_simple_and_free, subcommand_of, takes}
 use Rattle.clap.proofs.OnLiterals.{clap_on_literals}
-use Rattle.opgp_tool.specs.declared.task.Request.{Request}
 use Rattle.opgp_tool.specs.Program.{Choice, IsProgram, SaysNone, program_of}
-use Rattle.opgp_tool.specs.Words.{IsRequest}
+use Rattle.opgp_tool.specs.Words.{Asked, IsRequest}
 
 program_is_simple : (show list check octets write normalise split join tops : Choice)
     → (write_outs normalise_outs split_outs join_outs : Choice)
@@ -60,7 +59,7 @@ refused_or app words M made memory = go (takes app words) refl
 -- words say only what their one command says
 pub none_said : (app : App) (words : List Text) (name : Text) (rows : List Row)
     → subcommand_of app words ≡ Some (name, rows)
-    → ((request : Request) → IsRequest name rows request → ⊥) → SaysNone app words
+    → ((asked : Asked) → IsRequest name rows asked → ⊥) → SaysNone app words
 none_said app words name rows entered none taken request said =
     let same : (said.0, said.1) ≡ (name, rows) = cc (said.2, entered) in
     none request (subst (λ (p : Text × List Row). IsRequest p.0 p.1 request) same said.3)

@@ -43,7 +43,8 @@ where_none (Some a) is holds = absurd (cc is)
 pub no_action_without_row : (options : List Row) (name : Text) → name ≡ codes "octets"
     → ((n : ℕ) → HasNumber options (codes "row") n → ⊥)
     → (a : Action) → IsAction name options a → ⊥
-no_action_without_row options name is none action.Show said = absurd (cc (is, said))
+no_action_without_row options name is none action.Show said = absurd (cc (is, said.0))
+no_action_without_row options name is none action.ShowValues said = absurd (cc (is, said.0))
 no_action_without_row options name is none action.List said = absurd (cc (is, said))
 no_action_without_row options name is none action.Check said = absurd (cc (is, said))
 no_action_without_row options name is none (action.Octets row top) said = none row said.1
@@ -68,7 +69,8 @@ is_split name = bytes_eq name (codes "split")
 pub no_action_without_nth : (options : List Row) (name : Text) → name ≡ codes "split"
     → ((nth : Option ℕ) → IsNth options nth → ⊥)
     → (a : Action) → IsAction name options a → ⊥
-no_action_without_nth options name is none action.Show said = absurd (apart (ap is_split (sym is ∙ said)))
+no_action_without_nth options name is none action.Show said = absurd (apart (ap is_split (sym is ∙ said.0)))
+no_action_without_nth options name is none action.ShowValues said = absurd (apart (ap is_split (sym is ∙ said.0)))
 no_action_without_nth options name is none action.List said = absurd (apart (ap is_split (sym is ∙ said)))
 no_action_without_nth options name is none action.Check said = absurd (apart (ap is_split (sym is ∙ said)))
 no_action_without_nth options name is none (action.Octets row top) said = absurd (apart (ap is_split (sym is ∙ said.0)))

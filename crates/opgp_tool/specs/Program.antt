@@ -10,8 +10,7 @@ use Rattle.clap.specs.declared.builder.value_parser.ValueParser.{ValueParser}
 use Rattle.clap.specs.declared.builder.value_parser.ValueParser.TheVariants as parser
 use Rattle.opgp_octets.specs.declared.limits.Range.{Range}
 use Rattle.opgp_octets.specs.Ranges.{line_range, body_range, cert_range, input_range, pieces_range}
-use Rattle.opgp_tool.specs.declared.task.Request.{Request}
-use Rattle.opgp_tool.specs.Words.{IsRequest}
+use Rattle.opgp_tool.specs.Words.{Asked, IsRequest}
 
 -- the values that an option takes
 abbrev pub Choice : Type 0
@@ -80,8 +79,15 @@ flag_rule name = record (new_rule name) { long = Some name; action = Some SetTru
 abbrev pub merge_rule : Rule
 merge_rule = flag_rule (codes "merge")
 
+abbrev pub values_rule : Rule
+values_rule = flag_rule (codes "values")
+
 abbrev pub progress_rule : Rule
 progress_rule = flag_rule (codes "progress")
+
+-- any text but the empty one
+abbrev pub spool_rule : Rule
+spool_rule = valued_rule (codes "spool") parser.NonEmptyString
 
 -- the values of `--mode`, `--out` and `--of`
 abbrev pub AreModes : Choice → Type 0
@@ -98,11 +104,11 @@ abbrev pub with_limits : App → App
 with_limits app = with_rule (with_rule (with_rule (with_rule (with_rule app line_rule) body_rule)
     cert_rule) input_rule) pieces_rule
 
--- the command of this name takes the mode, the limits, `--progress`, and these options
+-- the command of this name takes the mode, the limits, `--progress`, `--spool`, and these options
 abbrev pub command_shape : Text → Choice → List Rule → Shape
 command_shape name modes more = record (new_shape name) {
   rules = mode_rule modes ∷ line_rule ∷ body_rule ∷ cert_rule ∷ input_rule ∷ pieces_rule
-      ∷ progress_rule ∷ more;
+      ∷ progress_rule ∷ spool_rule ∷ more;
 }
 
 pub record IsCommand (name : Text) (more : List Rule) (c : Command) : Type 0 where
@@ -129,7 +135,7 @@ abbrev pub program_of : (show list check octets write normalise split join tops 
 program_of show list check octets write normalise split join tops
     write_outs normalise_outs split_outs join_outs = record {
       top = record (new_shape (codes "opgp")) { subcommand_required = true; is_leaf = false };
-      subs = command_shape (codes "show") show []
+      subs = command_shape (codes "show") show (values_rule ∷ [])
           ∷ command_shape (codes "list") list []
           ∷ command_shape (codes "check") check []
           ∷ command_shape (codes "octets") octets (row_rule ∷ of_rule tops ∷ [])
@@ -161,13 +167,12 @@ pub record IsProgram (program : App) : Type 0 where
   pub is : program ≡ program_of show_modes list_modes check_modes octets_modes write_modes
       normalise_modes split_modes join_modes tops write_outs normalise_outs split_outs join_outs
 
--- the command line names a command of this program, and the request is that of its name and its
--- options
-abbrev pub SaysTask : App → List Text → Request → Type 0
-SaysTask program words request = (name : Text) × (options : List Row)
-    × (subcommand_of program words ≡ Some (name, options)) × IsRequest name options request
+-- the command line names a command of this program, and asks for what its name and its options say
+abbrev pub SaysTask : App → List Text → Asked → Type 0
+SaysTask program words asked = (name : Text) × (options : List Row)
+    × (subcommand_of program words ≡ Some (name, options)) × IsRequest name options asked
 
 -- the program refuses the command line, or it names no task
 abbrev pub SaysNone : App → List Text → Type 0
 SaysNone program words =
-    takes program words ≡ true → (request : Request) → SaysTask program words request → ⊥
+    takes program words ≡ true → (asked : Asked) → SaysTask program words asked → ⊥

@@ -1,6 +1,6 @@
 -- What a command line says: the command's name, and its options, a row each, as `clap` finds them.
-use Rattle.std.specs.Prelude.{◌≡◌, ℕ, ◌<◌, ◌^◌, Bool, List, Option, Some, None, false, codes}
-use Rattle.std.specs.Prelude.{MatchOption, if◌then◌else◌}
+use Rattle.std.specs.Prelude.{◌≡◌, ℕ, ◌<◌, ◌^◌, Bool, List, Option, Some, None, true, false, codes}
+use Rattle.std.specs.Prelude.{MatchOption, if◌then◌else◌, option_map}
 use Rattle.std.specs.Str.{bytes_eq}
 use Rattle.std.specs.Str.Parse.{IsNumeral, digits_value, without_leading_plus}
 use Rattle.clap.specs.Words.{Row, Text, first_of, one_of}
@@ -63,7 +63,10 @@ pub record HasLimits (options : List Row) (limits : Limits) : Type 0 where
 
 -- the action of the command of this name with these options
 abbrev pub IsAction : Text → List Row → Action → Type 0
-IsAction name options action.Show = name ≡ codes "show"
+IsAction name options action.Show = (name ≡ codes "show")
+    × (is_given (first_of (codes "values") options) ≡ false)
+IsAction name options action.ShowValues = (name ≡ codes "show")
+    × (is_given (first_of (codes "values") options) ≡ true)
 IsAction name options action.List = name ≡ codes "list"
 IsAction name options action.Check = name ≡ codes "check"
 IsAction name options (action.Octets row top) = (name ≡ codes "octets")
@@ -84,7 +87,21 @@ pub record IsTask (name : Text) (options : List Row) (task : Task) : Type 0 wher
   pub limits : HasLimits options task.limits
   pub action : IsAction name options task.action
 
--- that task, and whether `--progress` is given
-pub record IsRequest (name : Text) (options : List Row) (request : Request) : Type 0 where
-  pub task : IsTask name options request.task
-  pub progress : request.progress ≡ is_given (first_of (codes "progress") options)
+-- what a command line asks for: a task, whether `--progress` is given, and the directory of `--spool`,
+-- if it is
+pub record Asked : Type 0 where
+  pub task : Task
+  pub progress : Bool
+  pub spool : Option Text
+
+abbrev pub asked_by : Request → Asked
+asked_by request = record {
+  task = request.task;
+  progress = request.progress;
+  spool = option_map (λ word. word.now) request.spool;
+}
+
+pub record IsRequest (name : Text) (options : List Row) (asked : Asked) : Type 0 where
+  pub task : IsTask name options asked.task
+  pub progress : asked.progress ≡ is_given (first_of (codes "progress") options)
+  pub spool : asked.spool ≡ first_of (codes "spool") options

@@ -3,8 +3,8 @@
 ghost use Rattle.std.specs.Prelude.{◌≡◌, true, false, IfOk, IsOkAnd, [], ◌∷◌, codes};
 ghost use Rattle.clap.specs.Words.{rule_of, app_of, shape_of, with_rule, with_subcommand};
 ghost use Rattle.opgp_tool.specs.Program.{Choice, AreModes, AreOuts, AreTops, mode_rule, out_rule};
-ghost use Rattle.opgp_tool.specs.Program.{of_rule, limit_rule, row_rule, nth_rule, flag_rule, merge_rule};
-ghost use Rattle.opgp_tool.specs.Program.{with_limits};
+ghost use Rattle.opgp_tool.specs.Program.{of_rule, limit_rule, row_rule, nth_rule, flag_rule, merge_rule, spool_rule};
+ghost use Rattle.opgp_tool.specs.Program.{values_rule, with_limits};
 ghost use Rattle.opgp_tool.specs.Program.{IsCommand, IsProgram, bare_program};
 
 use crate::help::{
@@ -143,6 +143,19 @@ fn flag_option<'a>(alloc: Global, name: &'a str, help: &'a str) -> Arg<'a>
         .help(help)
 }
 
+/// `--spool`: any text but the empty one.
+fn spool_option<'a>(alloc: Global) -> Arg<'a>
+    ensures rule { rule_of result ≡ spool_rule }
+    ensures own { result.global ≡ false }
+{
+    Arg::new(alloc, "spool")
+        .long("spool")
+        .value_name("DIR")
+        .action(ArgAction::Set)
+        .value_parser(ValueParser::NonEmptyString)
+        .help("Holds the output in a file in this directory")
+}
+
 /// The command with this option added, as its last.
 fn with_option<'a>(command: Command<'a>, option: Arg<'a>) -> Result<Command<'a>, OutOfMemory>
     requires own { option.global ≡ false }
@@ -176,7 +189,17 @@ fn new_command<'a>(
     let command = Command::new(alloc, name).about(about).after_help(more);
     let command = with_limits(alloc, with_option(command, mode_option(alloc))?)?;
     let help = "Shows on standard error how much was read";
-    with_option(command, flag_option(alloc, "progress", help))
+    let command = with_option(command, flag_option(alloc, "progress", help))?;
+    with_option(command, spool_option(alloc))
+}
+
+fn show_command<'a>(alloc: Global) -> Result<Command<'a>, OutOfMemory>
+    ensures { IfOk result (IsCommand (codes "show") (values_rule ∷ [])) }
+{
+    let about = "Lists every packet and every subpacket";
+    let command = new_command(alloc, "show", about, SHOW_HELP)?;
+    let help = "Shows the fields of each packet, and what each subpacket means";
+    with_option(command, flag_option(alloc, "values", help))
 }
 
 fn octets_command<'a>(alloc: Global) -> Result<Command<'a>, OutOfMemory>
@@ -237,8 +260,7 @@ pub fn program<'a>(alloc: Global) -> Result<Command<'a>, OutOfMemory>
     ensures { IfOk result (λ c. IsProgram (app_of c)) }
 {
     let tool = bare_program(alloc)?;
-    let about = "Lists every packet and every subpacket";
-    let tool = with_command(tool, new_command(alloc, "show", about, SHOW_HELP))?;
+    let tool = with_command(tool, show_command(alloc))?;
     let about = "Lists the packets of a keyring";
     let tool = with_command(tool, new_command(alloc, "list", about, LIST_HELP))?;
     let about = "Lists the signatures of a keyring";

@@ -30,6 +30,7 @@ pub fn end_of(alloc: Global, outcome: &Result<(), RunFault>) -> Result<(u8, Stri
         Err(RunFault::Read) => (3, String::from_str(alloc, "opgp: read failed\n")?),
         Err(RunFault::Write) => (3, String::from_str(alloc, "opgp: write failed\n")?),
         Err(RunFault::Memory) => (3, String::from_str(alloc, "opgp: out of memory\n")?),
+        Err(RunFault::Spool) => (3, String::from_str(alloc, "opgp: spool failed\n")?),
     };
     Ok((status, line))
 }

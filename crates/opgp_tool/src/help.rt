@@ -4,15 +4,15 @@
 pub const PROGRAM_HELP: &str = "The input is standard input, and the output standard output: \
 opgp list < KEYRING
 Exit statuses: 0 done; 1 the input is refused, or has no such row or certificate;
-2 wrong words, or this help, which goes to standard error; 3 reading, writing or
-memory failed; 4 the launcher couldn't build the program.";
+2 wrong words, or this help, which goes to standard error; 3 reading, writing, memory or
+the spool failed; 4 the launcher couldn't build the program.";
 
 pub const SHOW_HELP: &str = "The input is any packets, those of a keyring or of a message. \
 A line for each packet
 has its place, type, form and length; a signature's is followed by one for each of its
-subpackets.
+subpackets. With --values the fields of each packet follow, and what each subpacket means.
 
-Example: opgp show < KEYRING";
+Example: opgp show --values < KEYRING | grep key-expires";
 
 pub const LIST_HELP: &str = "A line for each packet: pub and sub with algorithm, creation time, \
 fingerprint and

@@ -3,10 +3,10 @@
 ghost use Rattle.std.specs.Prelude.{◌≡◌, List};
 ghost use Rattle.clap.specs.Words.{App, Text};
 ghost use Rattle.opgp_tool.specs.Program.{SaysTask};
-ghost use Rattle.opgp_tool.specs.declared.task.Request.{Request};
+ghost use Rattle.opgp_tool.specs.Words.{Asked};
 
-/// A command line names one task at most, with progress or without.
+/// A command line names one task at most, with progress or without, and one directory of a spool.
 pub fn words_name_one_task()
-    ensures { (program : App) (words : List Text) (a b : Request) → SaysTask program words a
+    ensures { (program : App) (words : List Text) (a b : Asked) → SaysTask program words a
         → SaysTask program words b → a ≡ b }
 {}

@@ -6,11 +6,13 @@ mod ending;
 mod help;
 pub mod laws;
 mod progress;
+mod spool_file;
 mod task;
 
 use ending::end_of;
-use opgp_stack::{RunFault, Watched, run_last};
+use opgp_stack::{RunFault, Watched, run_last, run_spooled};
 use progress::Progress;
+use spool_file::open_spool;
 use std::process::ExitCode;
 use std::{env, io};
 use task::{Request, Usage, task_of};
@@ -57,7 +59,13 @@ fn run_task(rt: &HostRuntime, request: &Request) -> u8 {
     };
     let mut reader = Progress::new(rt.alloc(), Watched::new(rt.stdin()), shown);
     let mut writer = Watched::new(rt.stdout());
-    let outcome = run_last(rt.alloc(), &request.task, &mut reader, &mut writer);
+    let outcome = match request.spool {
+        None => run_last(rt.alloc(), &request.task, &mut reader, &mut writer),
+        Some(dir) => match open_spool(rt.alloc(), rt, dir) {
+            Ok(spool) => { run_spooled(rt.alloc(), &request.task, spool, &mut reader, &mut writer) }
+            Err(fault) => Err(fault),
+        },
+    };
     reader.end();
     end(rt, &outcome)
 }

@@ -8,9 +8,8 @@ ghost use Rattle.opgp_stack.specs.declared.task.Action.{Action};
 ghost use Rattle.opgp_stack.specs.declared.task.Task.{Task};
 ghost use Rattle.opgp_octets.specs.declared.limits.Limits.{Limits};
 ghost use Rattle.opgp_tool.specs.Words.{mode_of, out_of, top_of, is_given, HasNumber, HasLimits};
-ghost use Rattle.opgp_tool.specs.Words.{IsAction, IsNth, IsRequest, IsTask};
+ghost use Rattle.opgp_tool.specs.Words.{Asked, IsAction, IsNth, IsRequest, IsTask, asked_by};
 ghost use Rattle.opgp_tool.specs.Program.{IsProgram, SaysNone, SaysTask};
-ghost use Rattle.opgp_tool.specs.declared.task.Request.{Request};
 ghost use Rattle.opgp_tool.specs.declared.task.Usage.TheVariants.{Memory};
 
 use crate::command::program;
@@ -23,11 +22,13 @@ use std::convert::AsStr;
 
 /// What a command line asks for.
 #[derive(Drop)]
-pub struct Request {
+pub struct Request<'a> {
     /// The task.
     pub task: Task,
     /// Whether standard error shows how much was read.
     pub progress: bool,
+    /// The directory of the file in which the output is held; None: it is held in memory.
+    pub spool: Option<&'a str>,
 }
 
 /// Why a command line names no task.
@@ -124,7 +125,11 @@ fn action_of(name: &str, matches: &ArgMatches) -> Option<Action>
         → IsAction name.now (rows_of (found_of matches.now)) action → ⊥) }
 {
     match name {
-        "show" => Some(Action::Show),
+        "show" => Some(if is_given(matches, "values") {
+            Action::ShowValues
+        } else {
+            Action::Show
+        }),
         "list" => Some(Action::List),
         "check" => Some(Action::Check),
         "octets" => Some(Action::Octets {
@@ -165,14 +170,16 @@ fn task_from(name: &str, matches: &ArgMatches) -> Option<Task>
 }
 
 /// What a command of this name with these options asks for.
-fn request_from(name: &str, matches: &ArgMatches) -> Option<Request>
-    ensures some { IfSome result (IsRequest name.now (rows_of (found_of matches.now))) }
-    ensures none { IfNone result ((request : Request)
-        → IsRequest name.now (rows_of (found_of matches.now)) request → ⊥) }
+fn request_from<'a>(name: &str, matches: &ArgMatches<'a>) -> Option<Request<'a>>
+    ensures some { IfSome result (λ request.
+        IsRequest name.now (rows_of (found_of matches.now)) (asked_by request)) }
+    ensures none { IfNone result ((asked : Asked)
+        → IsRequest name.now (rows_of (found_of matches.now)) asked → ⊥) }
 {
     Some(Request {
         task: task_from(name, matches)?,
         progress: is_given(matches, "progress"),
+        spool: word_of(matches, "spool"),
     })
 }
 
@@ -205,10 +212,10 @@ fn is_about_a_file(text: &str) -> bool {
 /// What a command line asks for, whose first word is the program's own name.
 ///
 /// The errors are the text of `clap`, also for help, and running out of memory.
-pub fn task_of<'a, S: AsStr>(alloc: Global, words: &'a [S]) -> Result<Request, Usage>
+pub fn task_of<'a, S: AsStr>(alloc: Global, words: &'a [S]) -> Result<Request<'a>, Usage>
     ensures said { IfOk result (λ request. (program : App) × IsProgram program
         × (fault_of program (map S.text words.entry.now) ≡ [])
-        × SaysTask program (map S.text words.entry.now) request) }
+        × SaysTask program (map S.text words.entry.now) (asked_by request)) }
     ensures refused { IfErr result (λ usage. (usage ≡ Memory)
         ⊎ ((program : App) × IsProgram program
         × SaysNone program (map S.text words.entry.now))) }

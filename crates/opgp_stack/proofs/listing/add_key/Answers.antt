@@ -11,14 +11,14 @@ use Rattle.opgp_stack.proofs.listing.add_key.Goals as goal
 
 pub returns-in_err-add_role : goal.returns-in_err-add_role
 returns-in_err-add_role g c =
-    let k = c.args.key.now in
+    let k = c.args.key in
     let numbers : List ℕ = key_numbers (key_value k).version (key_value k).created (key_value k).algorithm in
     let names : List ℕ = key_names (print_octets (fingerprint_of (key_value k).version (body_octets k))) (key_id_of (key_value k).version (body_octets k)) in
     extends_stop (numbers ++ names) (key_line_is (role_name c.args.role) (body_octets k) (key_value k) c.written.ensures) c.from_residual.ensures.0 c.in_err-add_role.ensures
 
 pub returns-in_err-add_numbers : goal.returns-in_err-add_numbers
 returns-in_err-add_numbers g c =
-    let k = c.args.key.now in
+    let k = c.args.key in
     let numbers : List ℕ = key_numbers (key_value k).version (key_value k).created (key_value k).algorithm in
     let names : List ℕ = key_names (print_octets (fingerprint_of (key_value k).version (body_octets k))) (key_id_of (key_value k).version (body_octets k)) in
     extends_then {ys = numbers ++ names} (key_line_is (role_name c.args.role) (body_octets k) (key_value k) c.written.ensures) c.in_ok-add_role.ensures
@@ -26,8 +26,8 @@ returns-in_err-add_numbers g c =
 
 pub returns : goal.returns
 returns g c =
-    let k = c.args.key.now in
+    let k = c.args.key in
     let numbers : List ℕ = key_numbers (key_value k).version (key_value k).created (key_value k).algorithm in
     let names : List ℕ = key_names (print_octets (fingerprint_of (key_value k).version (body_octets k))) (key_id_of (key_value k).version (body_octets k)) in
     extends_then {ys = numbers ++ names} (key_line_is (role_name c.args.role) (body_octets k) (key_value k) c.written.ensures) c.in_ok-add_role.ensures
-    (extends_then {xs = numbers} {ys = names} refl (rw (c.version.ensures.value, c.created.ensures, c.algorithm.ensures) at c.in_ok-add_numbers.ensures) (rw (c.octets.ensures.value, c.key_id.ensures, c.fingerprint-print.ensures) at c.add_names.ensures))
+    (extends_then {xs = numbers} {ys = names} refl (rw (c.version.ensures.value, c.created.ensures, c.algorithm.ensures) at c.in_ok-add_numbers.ensures) (rw (c.octets.ensures.value, c.key_id.ensures, c.fingerprint_of_view-print.ensures) at c.add_names.ensures))

@@ -10,8 +10,9 @@ returns c =
     let start : app_of c.after_help-command.result ≡ new_app c.args.name.now = search rules in
     let one = c.in_ok-with_option.ensures ∙ ap₂ with_rule start mode.2 in
     let limited = c.in_ok-command.ensures ∙ ap with_limits one in
-    IfOk-weaker c.with_option-2.result _ _ (λ r last. record {
+    let shown = c.in_ok-command-2.ensures ∙ ap₂ with_rule limited c.flag_option.ensures.rule in
+    IfOk-weaker c.with_option-3.result _ _ (λ r last. record {
       modes = mode.0;
       are_modes = mode.1;
-      app = last ∙ ap₂ with_rule limited c.flag_option.ensures.rule;
-    }) c.with_option-2.ensures
+      app = last ∙ ap₂ with_rule shown c.spool_option.ensures.rule;
+    }) c.with_option-3.ensures

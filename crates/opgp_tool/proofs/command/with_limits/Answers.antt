@@ -1,7 +1,6 @@
 use Rattle.std.proofs.Common.{ap₂, refl, ◌∙◌}
 use Rattle.std.proofs.lemmas.Result.{IfOk-weaker}
 use Rattle.clap.specs.Words.{with_rule}
-use Rattle.opgp_tool.specs.Program.{with_limits}
 use Rattle.opgp_tool.proofs.command.with_limits.Goals as goal
 
 pub returns : goal.returns

@@ -1,0 +1,348 @@
+/* The layer on top: allocation, loops and callbacks. It reads no octet of any input. */
+#include "opgp.h"
+
+#include <inttypes.h>
+#include <stdio.h>
+#include <stdlib.h>
+
+/* The structs are those that the proved calls fill. */
+#define IS_AT(STRUCT, FIELD, AT) _Static_assert(offsetof(STRUCT, FIELD) == (AT), #STRUCT "." #FIELD)
+
+_Static_assert(sizeof(opgp_limits) == 48, "opgp_limits");
+IS_AT(opgp_limits, line, 0);
+IS_AT(opgp_limits, body, 8);
+IS_AT(opgp_limits, cert, 16);
+IS_AT(opgp_limits, input, 24);
+IS_AT(opgp_limits, pieces, 32);
+IS_AT(opgp_limits, reserved, 40);
+
+_Static_assert(sizeof(opgp_fault) == 32, "opgp_fault");
+IS_AT(opgp_fault, block, 0);
+IS_AT(opgp_fault, pos, 8);
+IS_AT(opgp_fault, inner, 16);
+IS_AT(opgp_fault, layer, 24);
+IS_AT(opgp_fault, reason, 25);
+IS_AT(opgp_fault, reserved, 26);
+
+_Static_assert(sizeof(opgp_sizes) == 16, "opgp_sizes");
+IS_AT(opgp_sizes, rows, 0);
+IS_AT(opgp_sizes, bytes, 8);
+
+_Static_assert(sizeof(opgp_packet) == 48, "opgp_packet");
+IS_AT(opgp_packet, certificate, 0);
+IS_AT(opgp_packet, component, 8);
+IS_AT(opgp_packet, hang, 16);
+IS_AT(opgp_packet, at, 24);
+IS_AT(opgp_packet, size, 32);
+IS_AT(opgp_packet, kind, 40);
+IS_AT(opgp_packet, reserved, 41);
+
+_Static_assert(sizeof(opgp_key) == 112, "opgp_key");
+IS_AT(opgp_key, certificate, 0);
+IS_AT(opgp_key, component, 8);
+IS_AT(opgp_key, at, 16);
+IS_AT(opgp_key, sizes, 24);
+IS_AT(opgp_key, created, 56);
+IS_AT(opgp_key, version, 60);
+IS_AT(opgp_key, algorithm, 61);
+IS_AT(opgp_key, print_size, 62);
+IS_AT(opgp_key, print, 63);
+IS_AT(opgp_key, key_id, 95);
+IS_AT(opgp_key, reserved, 103);
+
+_Static_assert(sizeof(opgp_job) == 144, "opgp_job");
+IS_AT(opgp_job, certificate, 0);
+IS_AT(opgp_job, component, 8);
+IS_AT(opgp_job, hang, 16);
+IS_AT(opgp_job, nested, 24);
+IS_AT(opgp_job, signer, 32);
+IS_AT(opgp_job, at, 40);
+IS_AT(opgp_job, sizes, 48);
+IS_AT(opgp_job, why, 64);
+IS_AT(opgp_job, version, 65);
+IS_AT(opgp_job, kind, 66);
+IS_AT(opgp_job, algorithm, 67);
+IS_AT(opgp_job, hash, 68);
+IS_AT(opgp_job, left, 69);
+IS_AT(opgp_job, is_bad, 71);
+IS_AT(opgp_job, digest_size, 72);
+IS_AT(opgp_job, digest, 73);
+IS_AT(opgp_job, reserved, 137);
+
+_Static_assert(sizeof(opgp_ring) == 2 * sizeof(void *), "opgp_ring");
+IS_AT(opgp_ring, is_open, 0);
+IS_AT(opgp_ring, at, sizeof(void *));
+
+struct opgp_keyring {
+    opgp_ring ring;
+    opgp_packet *packets;
+    opgp_key *keys;
+    opgp_job *jobs;
+    uint8_t *bodies;
+    uint8_t *material;
+    uint8_t *made;
+    opgp_sizes packet_sizes, key_sizes, job_sizes;
+};
+
+/* Room for so many things, at least one; NULL if there is none. */
+static void *room_for(uint64_t count, size_t size)
+{
+    return count > SIZE_MAX / size ? NULL : calloc(count ? (size_t)count : 1, size);
+}
+
+/* Makes one table: asks how much room it wants, by one that has none, and then for all of it. */
+#define FILL(CALL, ROW, ROWS, BYTES, SIZES)                                                                        \
+    static uint32_t fill_##ROWS(opgp_keyring *it)                                                                  \
+    {                                                                                                              \
+        ROW row;                                                                                                   \
+        uint8_t byte;                                                                                              \
+        uint32_t status = CALL(&it->ring, &row, 0, &byte, 0, &it->SIZES);                                          \
+        if (status != OPGP_DONE && status != OPGP_ROOM) {                                                          \
+            return status;                                                                                         \
+        }                                                                                                          \
+        it->ROWS = room_for(it->SIZES.rows, sizeof *it->ROWS);                                                     \
+        it->BYTES = room_for(it->SIZES.bytes, 1);                                                                  \
+        if (!it->ROWS || !it->BYTES) {                                                                             \
+            return OPGP_MEMORY;                                                                                    \
+        }                                                                                                          \
+        return CALL(&it->ring, it->ROWS, (size_t)it->SIZES.rows, it->BYTES, (size_t)it->SIZES.bytes, &it->SIZES);  \
+    }
+
+FILL(opgp_ring_packets, opgp_packet, packets, bodies, packet_sizes)
+FILL(opgp_ring_keys, opgp_key, keys, material, key_sizes)
+FILL(opgp_ring_jobs, opgp_job, jobs, made, job_sizes)
+
+uint32_t opgp_open(const uint8_t *in, size_t n, const opgp_limits *limits, opgp_keyring **keyring, opgp_fault *fault)
+{
+    opgp_limits usual;
+    opgp_fault unwanted;
+    const uint8_t nothing = 0;
+    uint32_t status = OPGP_MEMORY;
+    opgp_keyring *it = calloc(1, sizeof *it);
+
+    if (!limits) {
+        opgp_usual_limits(&usual);
+        limits = &usual;
+    }
+    if (it) {
+        status = opgp_ring_open(in ? in : &nothing, n, limits, &it->ring, fault ? fault : &unwanted);
+    }
+    if (status == OPGP_DONE) {
+        status = fill_packets(it);
+    }
+    if (status == OPGP_DONE) {
+        status = fill_keys(it);
+    }
+    if (status == OPGP_DONE) {
+        status = fill_jobs(it);
+    }
+    if (status != OPGP_DONE) {
+        opgp_close(it);
+        it = NULL;
+    }
+    *keyring = it;
+    return status;
+}
+
+void opgp_close(opgp_keyring *keyring)
+{
+    if (keyring) {
+        opgp_ring_close(keyring->ring);
+        free(keyring->packets);
+        free(keyring->keys);
+        free(keyring->jobs);
+        free(keyring->bodies);
+        free(keyring->material);
+        free(keyring->made);
+        free(keyring);
+    }
+}
+
+size_t opgp_packet_count(const opgp_keyring *keyring)
+{
+    return (size_t)keyring->packet_sizes.rows;
+}
+
+const opgp_packet *opgp_packet_at(const opgp_keyring *keyring, size_t number)
+{
+    return number < keyring->packet_sizes.rows ? &keyring->packets[number] : NULL;
+}
+
+size_t opgp_key_count(const opgp_keyring *keyring)
+{
+    return (size_t)keyring->key_sizes.rows;
+}
+
+const opgp_key *opgp_key_at(const opgp_keyring *keyring, size_t number)
+{
+    return number < keyring->key_sizes.rows ? &keyring->keys[number] : NULL;
+}
+
+size_t opgp_job_count(const opgp_keyring *keyring)
+{
+    return (size_t)keyring->job_sizes.rows;
+}
+
+const opgp_job *opgp_job_at(const opgp_keyring *keyring, size_t number)
+{
+    return number < keyring->job_sizes.rows ? &keyring->jobs[number] : NULL;
+}
+
+opgp_span opgp_body(const opgp_keyring *keyring, const opgp_packet *packet)
+{
+    opgp_span found = {keyring->bodies + packet->at, (size_t)packet->size};
+    return found;
+}
+
+/* The field of this number among those that stand one behind the other from at on. */
+static opgp_span field(const uint8_t *bytes, uint64_t at, const uint64_t *sizes, unsigned count, unsigned number)
+{
+    opgp_span found = {bytes + at, 0};
+    if (number < count) {
+        for (unsigned k = 0; k < number; k++) {
+            found.octets += sizes[k];
+        }
+        found.size = (size_t)sizes[number];
+    }
+    return found;
+}
+
+opgp_span opgp_key_field(const opgp_keyring *keyring, const opgp_key *key, unsigned number)
+{
+    return field(keyring->material, key->at, key->sizes, 4, number);
+}
+
+opgp_span opgp_job_field(const opgp_keyring *keyring, const opgp_job *job, unsigned number)
+{
+    return field(keyring->made, job->at, job->sizes, 2, number);
+}
+
+/* Gives the caller octets of this size if the status is OPGP_DONE, and else frees them. */
+static uint32_t give(uint32_t status, uint8_t *room, uint64_t wanted, uint8_t **octets, size_t *size)
+{
+    if (status != OPGP_DONE) {
+        free(room);
+        room = NULL;
+    }
+    *octets = room;
+    *size = room ? (size_t)wanted : 0;
+    return status;
+}
+
+uint32_t opgp_octets(opgp_keyring *keyring, uint64_t row, uint8_t **octets, size_t *size)
+{
+    uint64_t wanted = 0;
+    uint8_t byte, *room = NULL;
+    uint32_t status = opgp_ring_octets(&keyring->ring, row, &byte, 0, &wanted);
+
+    if (status == OPGP_ROOM || status == OPGP_DONE) {
+        room = room_for(wanted, 1);
+        status = room ? opgp_ring_octets(&keyring->ring, row, room, (size_t)wanted, &wanted) : OPGP_MEMORY;
+    }
+    return give(status, room, wanted, octets, size);
+}
+
+uint32_t opgp_write(opgp_keyring *keyring, bool armor, uint8_t **text, size_t *size)
+{
+    uint64_t wanted = 0;
+    uint8_t byte, *room = NULL;
+    uint32_t status = opgp_ring_write(&keyring->ring, armor, &byte, 0, &wanted);
+
+    if (status == OPGP_ROOM || status == OPGP_DONE) {
+        room = room_for(wanted, 1);
+        status = room ? opgp_ring_write(&keyring->ring, armor, room, (size_t)wanted, &wanted) : OPGP_MEMORY;
+    }
+    return give(status, room, wanted, text, size);
+}
+
+/* What the verifier answers about the signature in a row by this key. */
+static opgp_verdict answer(const opgp_keyring *keyring, size_t row, const opgp_key *signer, opgp_verifier *verify, void *context)
+{
+    opgp_question question = {.row = row, .job = &keyring->jobs[row], .signer = signer};
+    for (unsigned k = 0; k < 2; k++) {
+        question.made[k] = opgp_job_field(keyring, question.job, k);
+    }
+    for (unsigned k = 0; k < 4; k++) {
+        question.key[k] = opgp_key_field(keyring, signer, k);
+    }
+    opgp_verdict verdict = verify(context, &question);
+    return verdict == OPGP_GOOD || verdict == OPGP_BAD ? verdict : OPGP_UNDECIDED;
+}
+
+/* What is found of the signature in a row. */
+static opgp_verdict verdict_of(const opgp_keyring *keyring, size_t row, opgp_verifier *verify, void *context)
+{
+    const opgp_job *job = &keyring->jobs[row];
+    if (job->is_bad) {
+        return OPGP_BAD;
+    }
+    if (!verify || job->why != 0 || job->signer == OPGP_NONE) {
+        return OPGP_UNDECIDED;
+    }
+    const opgp_key *signer = &keyring->keys[job->signer];
+    return signer->version == job->version ? answer(keyring, row, signer, verify, context) : OPGP_UNDECIDED;
+}
+
+int opgp_check(const opgp_keyring *keyring, opgp_verifier *verify, opgp_reporter *report, void *context)
+{
+    int ended = 0;
+    for (size_t row = 0; ended == 0 && row < opgp_job_count(keyring); row++) {
+        ended = report(context, row, &keyring->jobs[row], verdict_of(keyring, row, verify, context));
+    }
+    return ended;
+}
+
+/* The name of a number, if the table has one. */
+static const char *name_in(const char *const *names, size_t count, size_t number)
+{
+    return number < count && names[number] ? names[number] : "unknown";
+}
+
+#define NAME_IN(NAMES, NUMBER) name_in((NAMES), sizeof(NAMES) / sizeof *(NAMES), (NUMBER))
+
+const char *opgp_status_text(uint32_t status)
+{
+    static const char *const texts[] = {
+        [OPGP_DONE] = "done",
+        [OPGP_REFUSED] = "the input is refused",
+        [OPGP_ROOM] = "too little room",
+        [OPGP_MEMORY] = "out of memory",
+        [OPGP_LIMITS] = "a limit is out of its range",
+        [OPGP_CLOSED] = "the handle holds nothing",
+        [OPGP_NO_ROW] = "no such row",
+    };
+    return NAME_IN(texts, status);
+}
+
+const char *opgp_layer_name(uint8_t layer)
+{
+    static const char *const names[] = {"input", "armor", "framing", "body", "composition"};
+    return NAME_IN(names, layer);
+}
+
+const char *opgp_why_name(uint8_t why)
+{
+    static const char *const names[] = {NULL, "opaque", "kind", "misplaced", "version", "hash"};
+    return NAME_IN(names, why);
+}
+
+const char *opgp_reason_name(uint8_t reason)
+{
+    static const char *const names[] = {
+        [1] = "Spent", [2] = "Short", [3] = "MpiBits", [10] = "NoBlock", [11] = "Label", [12] = "Header", [13] = "Letters",
+        [14] = "Padding", [15] = "AfterChecksum", [16] = "EndLabel", [17] = "Unfinished", [18] = "LineTooLong",
+        [19] = "InputTooLong", [20] = "NotAPacket", [21] = "TypeZero", [22] = "Compressed", [23] = "UnknownCritical",
+        [24] = "Indeterminate", [25] = "Truncated", [26] = "PartialKind", [27] = "FirstPartial", [28] = "BodyTooLong",
+        [29] = "TooManyPieces", [30] = "KeyVersion", [31] = "KeyTooLong", [32] = "Count", [33] = "OidSize", [34] = "KdfSize",
+        [35] = "Trailing", [36] = "SubEmpty", [37] = "SubShort", [40] = "AreaShort", [41] = "SaltSize", [50] = "NoPrimary",
+        [51] = "NotInKeyring", [52] = "CertTooLong", [53] = "NotASignedLiteral", [54] = "BlockLabel",
+    };
+    return NAME_IN(names, reason);
+}
+
+char *opgp_fault_text(const opgp_fault *fault, char text[OPGP_FAULT_ROOM])
+{
+    snprintf(text, OPGP_FAULT_ROOM, "%s: %s block %" PRIu64 " at %" PRIu64 " inner %" PRIu64, opgp_layer_name(fault->layer),
+             opgp_reason_name(fault->reason), fault->block, fault->pos, fault->inner);
+    return text;
+}

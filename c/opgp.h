@@ -1,0 +1,286 @@
+/* opgp: OpenPGP certificates and keyrings (RFC 9580), read, asked and written.
+ *
+ * There are two layers. The calls under "Proved calls" are compiled from functions that are proved to meet their
+ * contracts, and what is proved of each is said there under "Proved". Those under "On top" are opgp.c: allocation, loops
+ * and callbacks in C, which read no octet of the input. They aren't proved.
+ *
+ * No call prints, reads a file, starts anything, or keeps anything but what a handle or an opgp_keyring holds. Threads:
+ * calls on different handles and keyrings may be made at once. A handle is for one call at a time; so is an opgp_keyring,
+ * but calls that take a const one may be made at once on the same. No call may be made from a signal handler, or in the
+ * forked child of a process with threads.
+ *
+ * Sizes and places are in octets, and count from 0. What a caller owes: no pointer is NULL unless that is allowed, each
+ * points to as much as the call says, and no two arguments overlap. Sections are those of RFC 9580. */
+#ifndef OPGP_H
+#define OPGP_H
+
+#include <stdbool.h>
+#include <stddef.h>
+#include <stdint.h>
+
+#ifdef __cplusplus
+extern "C" {
+#endif
+
+#if defined(__GNUC__)
+#define OPGP_API __attribute__((visibility("default")))
+#else
+#define OPGP_API
+#endif
+
+/* The version of the structs and calls below: what opgp_abi() of the library must answer. */
+#define OPGP_ABI 1
+
+/* The version of the library, for people. */
+#define OPGP_VERSION "0.1"
+
+/* ---- Statuses: what calls answer. The numbers never change. */
+enum {
+    OPGP_DONE = 0,    /* it is done */
+    OPGP_REFUSED = 1, /* the input is refused: the fault says where and why */
+    OPGP_ROOM = 2,    /* a table has less room than the sizes now say; it is unchanged */
+    OPGP_MEMORY = 3,  /* out of memory, or there is more than a size_t counts */
+    OPGP_LIMITS = 4,  /* a limit is out of its range, or the reserved number isn't 0 */
+    OPGP_CLOSED = 5,  /* the handle holds nothing */
+    OPGP_NO_ROW = 6   /* there is no such row, or its signature isn't hashed */
+};
+
+/* The number that says that there is none. */
+#define OPGP_NONE UINT64_MAX
+
+/* ---- Structs. Each is what the proved calls fill, field by field; reserved octets are zeros. */
+
+/* The most of everything. opgp_usual_limits gives the usual ones. */
+typedef struct opgp_limits {
+    uint64_t line;     /* octets of an armored line, without its line feed: 128 to 2^20 */
+    uint64_t body;     /* octets of a packet's body: 512 to 2^32 - 1 */
+    uint64_t cert;     /* octets of a certificate's packets, headers included: 512 to 2^40 */
+    uint64_t input;    /* octets of the input: 0 to 2^62 */
+    uint64_t pieces;   /* partial lengths of one packet (4.2.1.4): 1 to 2^24 */
+    uint64_t reserved; /* 0 */
+} opgp_limits;
+
+/* Why an input is refused. docs/FAULTS.md says what each reason means. */
+typedef struct opgp_fault {
+    uint64_t block;      /* the armored block, from 0; 0 for binary input */
+    uint64_t pos;        /* where the line begins in the text, or the packet in its block's octets */
+    uint64_t inner;      /* where the header or field at fault begins within the packet, or within its body */
+    uint8_t layer;       /* 0 input, 1 armor, 2 framing, 3 body, 4 composition */
+    uint8_t reason;      /* the number of the reason */
+    uint8_t reserved[6];
+} opgp_fault;
+
+/* How many rows and octets a call has to give. */
+typedef struct opgp_sizes {
+    uint64_t rows;
+    uint64_t bytes;
+} opgp_sizes;
+
+/* A packet. Its body is bytes[at .. at + size). */
+typedef struct opgp_packet {
+    uint64_t certificate; /* the number of its certificate; OPGP_NONE for a filler before the first */
+    uint64_t component;   /* the number of the component that it begins or is on; OPGP_NONE for the primary key */
+    uint64_t hang;        /* its number among the packets that follow that; OPGP_NONE for what begins it */
+    uint64_t at;
+    uint64_t size;
+    uint8_t kind;         /* its type (5): 2 signature, 6 public key, 13 user ID, 14 public subkey, 17 user attribute */
+    uint8_t reserved[7];
+} opgp_packet;
+
+/* A key. The fields of its material (5.5.5) are in bytes, from at on, one after the other: integers big-endian, without
+ * the count of their bits. RSA n, e; Elgamal p, g, y; DSA p, q, g, y; ECDH curve, point, parameters; ECDSA and EdDSALegacy
+ * curve, point; of X25519, X448, Ed25519, Ed448 and any other one field. A curve is an object identifier (9.2) without its
+ * length. */
+typedef struct opgp_key {
+    uint64_t certificate;
+    uint64_t component; /* the number of the component that it is; OPGP_NONE for a primary key */
+    uint64_t at;
+    uint64_t sizes[4];  /* of each field; 0 for one that it doesn't have */
+    uint32_t created;   /* seconds since 1970 */
+    uint8_t version;    /* 4 or 6 */
+    uint8_t algorithm;  /* 9.1 */
+    uint8_t print_size; /* of its fingerprint: 20 or 32 */
+    uint8_t print[32];  /* the fingerprint (5.5.4), and zeros after it */
+    uint8_t key_id[8];  /* the key ID (5.5.4) */
+    uint8_t reserved[9];
+} opgp_key;
+
+/* A signature, and what a verifier is asked about it. What its algorithm made (5.2.3) is in bytes, from at on: of RSA one
+ * integer; of DSA, ECDSA and EdDSALegacy r, s; of Ed25519, Ed448 and any other one field. */
+typedef struct opgp_job {
+    uint64_t certificate;
+    uint64_t component;  /* the component that it is on; OPGP_NONE for the primary key */
+    uint64_t hang;       /* its number among the packets that follow that, fillers included */
+    uint64_t nested;     /* its number among the signatures embedded in that packet; OPGP_NONE: the packet's own */
+    uint64_t signer;     /* the row of the key that it names as its issuer's; OPGP_NONE: not in this keyring */
+    uint64_t at;
+    uint64_t sizes[2];
+    uint8_t why;         /* 0: it is hashed; else why not: 1 opaque, 2 kind, 3 misplaced, 4 version, 5 hash */
+    uint8_t version;     /* 3, 4 or 6; 0: not parsed */
+    uint8_t kind;        /* its type (5.2.1) */
+    uint8_t algorithm;   /* 9.1 */
+    uint8_t hash;        /* 9.5 */
+    uint8_t left[2];     /* the left 16 bits of the signed hash value, as it states them (5.2.3) */
+    uint8_t is_bad;      /* 1: it is hashed, and its digest doesn't begin with them */
+    uint8_t digest_size; /* 0: it isn't hashed */
+    uint8_t digest[64];  /* the digest of what it hashes (5.2.4), and zeros after it */
+    uint8_t reserved[7];
+} opgp_job;
+
+/* A handle of a keyring, all zeros at first. Only the proved calls may change it. */
+typedef struct opgp_ring {
+    bool is_open;
+    void *at;
+} opgp_ring;
+
+/* ---- Proved calls. Also proved of each: it returns, and nothing that it does is undefined, if the caller keeps what it
+ * owes. What a handle points to, and a call's work, is allocated by rattle_alloc of heap.c, which is malloc. */
+
+/* The version of the structs and calls of the library. A program that was compiled for another one can't use it.
+ *
+ * Proved: it is 1. */
+OPGP_API uint32_t opgp_abi(void);
+
+/* Gives the usual limits: 8,192 octets of a line, 2^24 of a body, 2^26 of a certificate, 2^40 of the input, 2^20 pieces.
+ *
+ * Proved: these are they. */
+OPGP_API void opgp_usual_limits(opgp_limits *limits);
+
+/* Reads the keyring of the octets in[0 .. n), armored or binary, and keeps it in the handle; what that held before is let
+ * go. in isn't needed after the call. Give the handle to opgp_ring_close.
+ *
+ * OPGP_DONE, OPGP_REFUSED with *fault, OPGP_LIMITS, OPGP_MEMORY. With any but OPGP_DONE the handle is unchanged, and with
+ * any but OPGP_REFUSED *fault is.
+ *
+ * Proved: with OPGP_DONE it holds the one keyring that the octets encode; with OPGP_REFUSED they encode none, and *fault is
+ * the one fault of the lowest layer that refuses them; OPGP_LIMITS is answered if and only if a limit is out of its range or
+ * the reserved number isn't 0. */
+OPGP_API uint32_t opgp_ring_open(const uint8_t *in, size_t n, const opgp_limits *limits, opgp_ring *ring, opgp_fault *fault);
+
+/* Lets go what a handle holds, if it holds something. The handle, and each copy of it, can't be used again. */
+OPGP_API void opgp_ring_close(opgp_ring ring);
+
+/* Fill tables of the caller, rows[0 .. row_room) and bytes[0 .. byte_room), and *sizes with how much they want:
+ *
+ * - packets: all packets of the keyring in order, and their bodies;
+ * - keys: all keys in order, a primary key before its subkeys, and their material;
+ * - jobs: all signatures in the order of `opgp check`, those embedded in bindings included, and what their algorithms made.
+ *
+ * OPGP_DONE; OPGP_ROOM where one of the tables is too short; OPGP_MEMORY; OPGP_CLOSED. With the last two *sizes says
+ * nothing. To learn the sizes, call with room for nothing.
+ *
+ * Proved: with OPGP_DONE each table begins with these rows and octets of the keyring held, which crates/opgp_flat/specs
+ * defines, and is otherwise as it was; with any other status both are unchanged; with OPGP_ROOM one of them has less room
+ * than *sizes says, and *sizes is how much they are; OPGP_CLOSED is answered if and only if the handle holds nothing; and
+ * the handle holds what it held. */
+OPGP_API uint32_t opgp_ring_packets(opgp_ring *ring, opgp_packet *rows, size_t row_room, uint8_t *bytes, size_t byte_room,
+                                    opgp_sizes *sizes);
+OPGP_API uint32_t opgp_ring_keys(opgp_ring *ring, opgp_key *rows, size_t row_room, uint8_t *bytes, size_t byte_room,
+                                 opgp_sizes *sizes);
+OPGP_API uint32_t opgp_ring_jobs(opgp_ring *ring, opgp_job *rows, size_t row_room, uint8_t *bytes, size_t byte_room,
+                                 opgp_sizes *sizes);
+
+/* Puts what the signature of a row hashes (5.2.4) into octets[0 .. room), by the row's number in the table of jobs; *size is
+ * how much that is.
+ *
+ * OPGP_DONE, OPGP_ROOM, OPGP_NO_ROW, OPGP_MEMORY, OPGP_CLOSED. With the last three *size says nothing.
+ *
+ * Proved: with OPGP_DONE the table begins with the octets that the standard says, and is otherwise as it was; with any other
+ * status it is unchanged; OPGP_NO_ROW is answered only for a row that isn't there or whose signature isn't hashed; and the
+ * handle holds what it held. */
+OPGP_API uint32_t opgp_ring_octets(opgp_ring *ring, uint64_t row, uint8_t *octets, size_t room, uint64_t *size);
+
+/* Puts the keyring's packets into text[0 .. room): bare if armor is 0, else as one block of armor; *size is how much that is.
+ *
+ * OPGP_DONE, OPGP_ROOM, OPGP_MEMORY, OPGP_CLOSED. With the last two *size says nothing.
+ *
+ * Proved: with OPGP_DONE the table begins with the packets, octet for octet as they were read, and is otherwise as it was;
+ * with any other status it is unchanged; and the handle holds what it held. */
+OPGP_API uint32_t opgp_ring_write(opgp_ring *ring, uint32_t armor, uint8_t *text, size_t room, uint64_t *size);
+
+/* ---- On top. Not proved. */
+
+/* A keyring with its tables. */
+typedef struct opgp_keyring opgp_keyring;
+
+/* Octets that something else keeps. */
+typedef struct opgp_span {
+    const uint8_t *octets;
+    size_t size;
+} opgp_span;
+
+/* Reads the keyring of in[0 .. n), as opgp_ring_open does, and makes its tables. in may be NULL if n is 0, limits for the
+ * usual ones, and fault if it isn't wanted. Give *keyring to opgp_close.
+ *
+ * OPGP_DONE, OPGP_REFUSED with *fault, OPGP_LIMITS, OPGP_MEMORY. *keyring is NULL with any but OPGP_DONE, and *fault
+ * unchanged with any but OPGP_REFUSED. */
+OPGP_API uint32_t opgp_open(const uint8_t *in, size_t n, const opgp_limits *limits, opgp_keyring **keyring, opgp_fault *fault);
+
+/* Frees a keyring and all that points into it; NULL is allowed. */
+OPGP_API void opgp_close(opgp_keyring *keyring);
+
+/* How many rows each table has, and each row by its number; NULL past the last. Rows live as long as the keyring. */
+OPGP_API size_t opgp_packet_count(const opgp_keyring *keyring);
+OPGP_API const opgp_packet *opgp_packet_at(const opgp_keyring *keyring, size_t number);
+OPGP_API size_t opgp_key_count(const opgp_keyring *keyring);
+OPGP_API const opgp_key *opgp_key_at(const opgp_keyring *keyring, size_t number);
+OPGP_API size_t opgp_job_count(const opgp_keyring *keyring);
+OPGP_API const opgp_job *opgp_job_at(const opgp_keyring *keyring, size_t number);
+
+/* What a row of this keyring points to: a packet's body; the field of a key's material (0 to 3), or of what a signature's
+ * algorithm made (0, 1), empty if there is none of that number. It lives as long as the keyring. */
+OPGP_API opgp_span opgp_body(const opgp_keyring *keyring, const opgp_packet *packet);
+OPGP_API opgp_span opgp_key_field(const opgp_keyring *keyring, const opgp_key *key, unsigned number);
+OPGP_API opgp_span opgp_job_field(const opgp_keyring *keyring, const opgp_job *job, unsigned number);
+
+/* What opgp_ring_octets and opgp_ring_write put, in memory that the caller frees by free().
+ *
+ * OPGP_DONE, OPGP_MEMORY; of a row also OPGP_NO_ROW. With any but OPGP_DONE the octets are NULL, and *size is 0. */
+OPGP_API uint32_t opgp_octets(opgp_keyring *keyring, uint64_t row, uint8_t **octets, size_t *size);
+OPGP_API uint32_t opgp_write(opgp_keyring *keyring, bool armor, uint8_t **text, size_t *size);
+
+/* What is found of a signature. */
+typedef enum opgp_verdict { OPGP_UNDECIDED = 0, OPGP_GOOD = 1, OPGP_BAD = 2 } opgp_verdict;
+
+/* What a verifier is asked: whether what this signature's algorithm made fits this digest and this key. */
+typedef struct opgp_question {
+    size_t row;             /* the number of the job */
+    const opgp_job *job;
+    opgp_span made[2];      /* what the signature's algorithm made */
+    const opgp_key *signer; /* the issuer's key, whose version is the signature's */
+    opgp_span key[4];       /* its material */
+} opgp_question;
+
+/* Answers OPGP_GOOD or OPGP_BAD; or, as any other number, OPGP_UNDECIDED, for each algorithm, curve, key or hash that it
+ * doesn't know or trust. It has to compare the algorithms of the signature and the key itself. */
+typedef opgp_verdict opgp_verifier(void *context, const opgp_question *question);
+
+/* Is told of the signature in a row; a number other than 0 ends the call that tells it. */
+typedef int opgp_reporter(void *context, size_t row, const opgp_job *job, opgp_verdict verdict);
+
+/* Tells the reporter of each signature, in order: OPGP_BAD where its digest doesn't begin with the 16 bits that it states;
+ * else, where it is hashed and its issuer's key is in the keyring and has its version, what the verifier answers, who is asked
+ * once; else OPGP_UNDECIDED. verify NULL: none is asked. Both get the context, and may not close the keyring.
+ *
+ * It answers the reporter's number that ended it, or 0. OPGP_GOOD is arithmetic and no more: expiries, revocations, key flags
+ * and critical subpackets aren't looked at, so whether a signature may be relied on is for the caller. */
+OPGP_API int opgp_check(const opgp_keyring *keyring, opgp_verifier *verify, opgp_reporter *report, void *context);
+
+/* What a status means, in a few words; the names of a layer and of a reason, as the program's error lines have them, and of why
+ * a signature isn't hashed, as its rows have it. "unknown" for any other number. They live for ever. */
+OPGP_API const char *opgp_status_text(uint32_t status);
+OPGP_API const char *opgp_layer_name(uint8_t layer);
+OPGP_API const char *opgp_reason_name(uint8_t reason);
+OPGP_API const char *opgp_why_name(uint8_t why);
+
+/* As much room as each fault's line needs, with its NUL. */
+#define OPGP_FAULT_ROOM 128
+
+/* Writes a fault as the program does, such as "armor: EndLabel block 0 at 112 inner 0", with a NUL and without a line feed,
+ * and answers text. */
+OPGP_API char *opgp_fault_text(const opgp_fault *fault, char text[OPGP_FAULT_ROOM]);
+
+#ifdef __cplusplus
+}
+#endif
+#endif

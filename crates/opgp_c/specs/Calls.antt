@@ -1,0 +1,48 @@
+-- What the calls of the library say.
+use Rattle.std.specs.Prelude.{◌≡◌, ◌<◌, ◌⊎◌, ◌++◌, ◌==◌, if◌then◌else◌, ℕ, List, length, drop}
+use Rattle.std.specs.Prelude.{true, Err}
+use Rattle.opgp_octets.specs.declared.fault.Fault.{Fault}
+use Rattle.opgp_octets.specs.declared.limits.Limits.{Limits}
+use Rattle.opgp_ring.specs.Keyring.{KeyringValue}
+use Rattle.opgp_engine.specs.Keyrings.{ComposesTo, key_label}
+use Rattle.opgp_engine.specs.Reading.{AnswerOf, Outcome}
+use Rattle.opgp_engine.specs.declared.mode.Mode.TheVariants.{Auto}
+use Rattle.opgp_engine.specs.declared.out.Out.{Out}
+use Rattle.opgp_engine.specs.declared.out.Out.TheVariants.{Armor, Binary}
+use Rattle.opgp_flat.specs.declared.fault_row.FaultRow.{FaultRow}
+use Rattle.opgp_flat.specs.declared.given_limits.GivenLimits.{GivenLimits}
+use Rattle.opgp_flat.specs.FaultRow.{fault_row}
+use Rattle.opgp_flat.specs.GivenLimits.{AreThese}
+use Rattle.opgp_c.specs.declared.ring.Ring.{Ring}
+use Rattle.opgp_c.specs.declared.sizes.Sizes.{Sizes}
+
+-- this is the answer to an input, armored or binary, within the given limits
+abbrev pub Answers : GivenLimits → List ℕ → Outcome KeyringValue → Type 0
+Answers given input answer =
+    (l : Limits) × AreThese l given × AnswerOf key_label (ComposesTo l) Auto l input answer
+
+-- the input is refused for the fault of this row
+abbrev pub Refuses : GivenLimits → List ℕ → FaultRow → Type 0
+Refuses given input row = (f : Fault) × Answers given input (Err f) × (row ≡ fault_row f)
+
+-- a table that begins with these items, and else is as it was
+abbrev pub IsFilled : {A : Type 0} → List A → List A → List A → Type 0
+IsFilled items before after = after ≡ items ++ drop (length items) before
+
+-- one of two tables has less room than its items want
+abbrev pub IsShort : {A : Type 0} → List A → List ℕ → List A → List ℕ → Type 0
+IsShort rows bytes row_room byte_room =
+    (length row_room < length rows) ⊎ (length byte_room < length bytes)
+
+-- how many these are
+abbrev pub AreSized : {A : Type 0} → List A → List ℕ → Sizes → Type 0
+AreSized rows bytes sizes = (sizes.rows ≡ length rows) × (sizes.bytes ≡ length bytes)
+
+-- the handle holds what it held
+abbrev pub HoldsTheSame : Ring → Ring → Type 0
+HoldsTheSame before after = (after.is_open ≡ before.is_open)
+    × (before.is_open ≡ true → after.slot.held ≡ before.slot.held)
+
+-- any number but 0 asks for armor
+abbrev pub out_of : ℕ → Out
+out_of armor = if armor == 0 then Binary else Armor

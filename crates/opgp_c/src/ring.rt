@@ -1,0 +1,82 @@
+//! A handle of a keyring.
+
+ghost use Rattle.std.specs.Prelude.{◌≡◌, ◌↔◌, ◌⊎◌, true, false, IfOk, IfErr, IfSome, IsSome};
+
+use crate::parts::Parts;
+use crate::slot::{Held, Slot};
+use crate::status::{CLOSED, MEMORY};
+use opgp_ring::Keyring;
+use std::alloc::{AllocError, Global};
+use std::mem;
+
+/// A handle of a keyring: for C a flag and a pointer, all zeros at first.
+#[repr(C)]
+pub struct Ring {
+    is_open: bool,
+    slot: Slot,
+    ghost same: { slot.full ≡ is_open },
+}
+
+impl Ring {
+    /// A handle of a value. Fails only when out of memory.
+    pub(crate) fn of(alloc: Global, held: Held) -> Result<Ring, AllocError>
+        ensures { IfOk result (λ r. (r.is_open ≡ true) × (r.slot.held ≡ held)) }
+    {
+        Ok(Ring::of_box(Box::new(alloc, held)?))
+    }
+
+    /// A handle of a box.
+    fn of_box(boxed: Box<Held>) -> Ring
+        ensures { (result.is_open ≡ true) × (result.slot.held ≡ boxed.value) }
+    {
+        Ring {
+            is_open: true,
+            slot: Slot::of_parts(Parts::of(boxed)),
+        }
+    }
+
+    /// What it holds, if it holds something.
+    pub(crate) fn into_box(self) -> Option<Box<Held>>
+        ensures open { self.is_open ≡ true → IfSome result (λ b. b.value ≡ self.slot.held) }
+        ensures some { IsSome result ↔ self.is_open ≡ true }
+    {
+        let Ring { is_open, slot } = self;
+        if is_open {
+            Some(slot.into_parts().into_box())
+        } else {
+            None
+        }
+    }
+
+    /// Takes out what it holds, and holds an empty keyring meanwhile. The error is the status: the
+    /// handle holds nothing, or out of memory; it is then unchanged.
+    pub(crate) fn take(&mut self, alloc: Global) -> Result<Box<Held>, u32>
+        ensures taken { IfOk result
+            (λ b. (self.old.is_open ≡ true) × (b.value ≡ self.old.slot.held)) }
+        ensures kept { IfErr result (λ status. self.new ≡ self.old) }
+        ensures status { IfErr result (λ status.
+            ((status ≡ 5) × (self.old.is_open ≡ false))
+            ⊎ ((status ≡ 3) × (self.old.is_open ≡ true))) }
+    {
+        if !self.is_open {
+            return Err(CLOSED);
+        }
+        let blank = Held {
+            keyring: Keyring::empty(alloc),
+        };
+        let Ok(other) = Ring::of(alloc, blank) else {
+            return Err(MEMORY);
+        };
+        match mem::replace(self, other).into_box() {
+            Some(held) => Ok(held),
+            None => unreachable!(),
+        }
+    }
+
+    /// Holds this; what it held before is let go.
+    pub(crate) fn give(&mut self, held: Box<Held>)
+        ensures { (self.new.is_open ≡ true) × (self.new.slot.held ≡ held.value) }
+    {
+        drop(mem::replace(self, Ring::of_box(held)).into_box());
+    }
+}

@@ -1,0 +1,10 @@
+use Rattle.std.proofs.Common.{◌≡◌, false}
+use Rattle.opgp_engine.proofs.Spooling.{Took}
+use Rattle.opgp_engine.proofs.spooled.add_spooled.Given as goal
+
+-- all is added but what the spool still holds
+abbrev pub invariant-pieces : goal.invariant-pieces
+invariant-pieces g l = record {
+  took : Took g.S.Spool.tells g.W.Sink.held g.W.Sink.has_failed l.fn.output l.fn.armoring l.output l.armoring (g.S.Spool.holds l.spool) (g.S.Spool.holds l.fn.spool);
+  sound : g.S.Spool.has_failed l.spool ≡ false;
+}

@@ -1,0 +1,5 @@
+mod Cutting
+mod Joining
+mod Naming
+mod Pointing
+mod Working

@@ -1,0 +1,197 @@
+-- The table of a keyring's jobs: a row for each row of its report, in order, and the octets that
+-- they point into.
+use Rattle.std.specs.Prelude.{◌≡◌, ℕ, ◌+◌, ⊤, List, [], ◌∷◌, ◌++◌, length, map, drop, replicate}
+use Rattle.std.specs.Prelude.{Option, Some, None, Result, Ok, Err}
+use Rattle.std.specs.List.{flat_map}
+use Rattle.opgp_octets.specs.declared.fault.BodyFault.{BodyFault}
+use Rattle.opgp_packet.specs.Fields.{Field}
+use Rattle.opgp_packet.specs.SignatureBody.{SignatureValue, of_three, of_four, of_six, of_other}
+use Rattle.opgp_packet.specs.SignatureBody.{signature_at}
+use Rattle.opgp_hash.specs.Digest.{digest_of, digest_octets, digest_size}
+use Rattle.opgp_hash.specs.declared.fingerprints.Fingerprint.{Fingerprint}
+use Rattle.opgp_hash.specs.declared.why.Why.{Why}
+use Rattle.opgp_hash.specs.declared.why.Why.TheVariants.{Opaque, Kind, Misplaced, Version, Hash}
+use Rattle.opgp_report.specs.declared.place.Place.{Place}
+use Rattle.opgp_report.specs.declared.verifier.Verdict.{Verdict}
+use Rattle.opgp_report.specs.declared.verifier.Verdict.TheVariants.{Good, Bad, Undecided}
+use Rattle.opgp_report.specs.Asked.{Asked, asked_by}
+use Rattle.opgp_report.specs.First.{print_of}
+use Rattle.opgp_report.specs.Left.{left_in, left_verdict}
+use Rattle.opgp_report.specs.KeyIndex.{prints_shown}
+use Rattle.opgp_report.specs.Report.{keys_in}
+use Rattle.opgp_report.specs.Signer.{signer_of}
+use Rattle.opgp_report.specs.Standing.{Standing, standing_in}
+use Rattle.opgp_ring.specs.Keyring.{KeyringValue}
+use Rattle.opgp_flat.specs.declared.job_row.Answered.{Answered}
+use Rattle.opgp_flat.specs.declared.job_row.JobRow.{JobRow}
+use Rattle.opgp_flat.specs.declared.job_table.JobTable.{JobTable}
+use Rattle.opgp_flat.specs.Parts.{number_at, two, values_of}
+use Rattle.opgp_flat.specs.Room.{none, padded}
+
+abbrev pub or_none : Option ℕ → ℕ
+or_none (Some n) = n
+or_none None = none
+
+-- ---- what a signature says (RFC 9580, 5.2.2, 5.2.3)
+abbrev pub version_in : SignatureValue → ℕ
+version_in (of_three fields) = 3
+version_in (of_four fields) = 4
+version_in (of_six fields) = 6
+version_in (of_other octets) = 0
+
+abbrev pub kind_in : SignatureValue → ℕ
+kind_in (of_three fields) = number_at fields 2
+kind_in (of_four fields) = number_at fields 1
+kind_in (of_six fields) = number_at fields 1
+kind_in (of_other octets) = 0
+
+abbrev pub algorithm_in : SignatureValue → ℕ
+algorithm_in (of_three fields) = number_at fields 5
+algorithm_in (of_four fields) = number_at fields 2
+algorithm_in (of_six fields) = number_at fields 2
+algorithm_in (of_other octets) = 0
+
+abbrev pub hash_in : SignatureValue → ℕ
+hash_in (of_three fields) = number_at fields 6
+hash_in (of_four fields) = number_at fields 3
+hash_in (of_six fields) = number_at fields 3
+hash_in (of_other octets) = 0
+
+abbrev pub octets_or_zeros : Option (List ℕ) → List ℕ
+octets_or_zeros (Some octets) = octets
+octets_or_zeros None = 0 ∷ 0 ∷ []
+
+-- what its algorithm made: the fields after the left octets, and in version 6 after the salt
+abbrev pub made_in : SignatureValue → List Field
+made_in (of_three fields) = drop 8 fields
+made_in (of_four fields) = drop 7 fields
+made_in (of_six fields) = drop 8 fields
+made_in (of_other octets) = []
+
+abbrev pub signature_parts : SignatureValue → List (List ℕ)
+signature_parts v = two (values_of (made_in v))
+
+-- ---- what is said of its question
+abbrev pub why_number : Why → ℕ
+why_number Opaque = 1
+why_number Kind = 2
+why_number Misplaced = 3
+why_number Version = 4
+why_number Hash = 5
+
+abbrev pub bad_number : Verdict → ℕ
+bad_number Good = 0
+bad_number Bad = 1
+bad_number Undecided = 0
+
+-- the digest, and whether it differs from the left octets; or why it isn't hashed
+abbrev pub answer_to : SignatureValue → Asked → Answered
+answer_to v (Ok q) = record {
+  why = 0;
+  digest_size = digest_size (digest_of q);
+  is_bad = bad_number (left_verdict (left_in v) (digest_octets (digest_of q)));
+  digest = padded 64 (digest_octets (digest_of q));
+}
+answer_to v (Err why) = record {
+  why = why_number why;
+  digest_size = 0;
+  is_bad = 0;
+  digest = replicate 64 0;
+}
+
+-- what a row says of that
+abbrev pub job_shown : JobRow → ℕ × List ℕ
+job_shown row = (row.why, row.digest)
+
+-- the same of a question
+abbrev pub asked_shown : Asked → ℕ × List ℕ
+asked_shown (Ok q) = (0, padded 64 (digest_octets (digest_of q)))
+asked_shown (Err why) = (why_number why, replicate 64 0)
+
+-- ---- rows
+-- of embedded octets that aren't a signature
+abbrev pub opaque_row : Place → ℕ → JobRow
+opaque_row place at = record {
+  certificate = place.certificate;
+  component = or_none place.component;
+  hang = place.hang;
+  nested = or_none place.nested;
+  signer = none;
+  at = at;
+  sizes = 0 ∷ 0 ∷ [];
+  why = why_number Opaque;
+  version = 0;
+  kind = 0;
+  algorithm = 0;
+  hash = 0;
+  left = 0 ∷ 0 ∷ [];
+  is_bad = 0;
+  digest_size = 0;
+  digest = replicate 64 0;
+  reserved = replicate 7 0;
+}
+
+module _ (prints : List Fingerprint) where
+  -- of a signature
+  abbrev pub signature_row : Place → ℕ → SignatureValue → Answered → JobRow
+  signature_row place at v answer = record {
+    certificate = place.certificate;
+    component = or_none place.component;
+    hang = place.hang;
+    nested = or_none place.nested;
+    signer = or_none (signer_of prints v);
+    at = at;
+    sizes = map length (signature_parts v);
+    why = answer.why;
+    version = version_in v;
+    kind = kind_in v;
+    algorithm = algorithm_in v;
+    hash = hash_in v;
+    left = octets_or_zeros (left_in v);
+    is_bad = answer.is_bad;
+    digest_size = answer.digest_size;
+    digest = answer.digest;
+    reserved = replicate 7 0;
+  }
+
+  abbrev pub row_read : Place → ℕ → Result SignatureValue BodyFault → Asked → JobRow
+  row_read place at (Ok v) asked = signature_row place at v (answer_to v asked)
+  row_read place at (Err fault) asked = opaque_row place at
+
+  abbrev pub job_row : ℕ → Standing → JobRow
+  job_row at s = row_read s.place at (signature_at s.body) (asked_by s)
+
+-- what its algorithm made; nothing if it isn't a signature
+abbrev pub parts_read : Result SignatureValue BodyFault → List (List ℕ)
+parts_read (Ok v) = signature_parts v
+parts_read (Err fault) = [] ∷ [] ∷ []
+
+abbrev pub job_parts : Standing → List (List ℕ)
+job_parts s = parts_read (signature_at s.body)
+
+abbrev pub job_octets : Standing → List ℕ
+job_octets s = flat_map (λ o. o) (job_parts s)
+
+-- ---- the table
+-- the rows of signatures, whose octets stand here
+abbrev pub jobs_from : List Fingerprint → ℕ → List Standing → List JobRow
+jobs_from prints at [] = []
+jobs_from prints at (s ∷ ss) =
+    job_row prints at s ∷ jobs_from prints (at + length (job_octets s)) ss
+
+abbrev pub prints_in : KeyringValue → List Fingerprint
+prints_in r = map print_of (keys_in r)
+
+abbrev pub job_rows : KeyringValue → List JobRow
+job_rows r = jobs_from (prints_in r) 0 (standing_in r)
+
+abbrev pub job_bytes : KeyringValue → List ℕ
+job_bytes r = flat_map job_octets (standing_in r)
+
+-- a row is added for each signature that the maker of the table visits, unless memory runs out
+abbrev pub AddsJobs : {E : Type 0} → JobTable → List Standing → Result JobTable E → Type 0
+AddsJobs t list (Ok u) =
+    (u.rows.items ≡ t.rows.items
+    ++ jobs_from (prints_shown t.names) (length t.bytes.items) list)
+    × (u.bytes.items ≡ t.bytes.items ++ flat_map job_octets list)
+AddsJobs t list (Err refusal) = ⊤

@@ -1,0 +1,277 @@
+//! The table of a keyring's jobs.
+
+ghost use Rattle.std.specs.Prelude.{◌≡◌, ◌++◌, ◌∷◌, [], Result, length, map, OnOk, IfOk};
+ghost use Rattle.std.specs.List.{flat_map};
+ghost use Rattle.std.specs.Result.{ForOk};
+ghost use Rattle.opgp_octets.specs.Reading.{Reads};
+ghost use Rattle.opgp_packet.specs.SigView.{sig_view_value};
+ghost use Rattle.opgp_hash.specs.CertificateHasher.{hasher_subject};
+ghost use Rattle.opgp_hash.specs.Question.{question_value};
+ghost use Rattle.opgp_hash.specs.QuestionValue.{QuestionValue};
+ghost use Rattle.opgp_hash.specs.declared.why.Why.{Why};
+ghost use Rattle.opgp_report.specs.Left.{left_in};
+ghost use Rattle.opgp_report.specs.KeyIndex.{prints_shown};
+ghost use Rattle.opgp_flat.specs.Jobs.{AddsJobs, algorithm_in, answer_to, bad_number, hash_in};
+ghost use Rattle.opgp_flat.specs.Jobs.{job_bytes, job_rows, kind_in, octets_or_zeros, opaque_row};
+ghost use Rattle.opgp_flat.specs.Jobs.{or_none, signature_parts, signature_row, version_in};
+ghost use Rattle.opgp_flat.specs.Jobs.{why_number};
+
+use crate::job_row::{Answered, JobRow, digest_padded};
+use crate::key_row::NONE;
+use crate::parts::signature_parts;
+use opgp_hash::{CertificateHasher, Question, Site, Why, ask_at};
+use opgp_octets::{BodyFault, OutOfMemory};
+use opgp_packet::SigView;
+use opgp_report::{
+    Job, KeyIndex, LeftOctets, Place, Verdict, Verifier, Visitor, index_keys, signer, visit,
+};
+use opgp_ring::Keyring;
+use std::alloc::Global;
+
+fn why_number(why: Why) -> u8
+    ensures { result ≡ why_number why }
+{
+    match why {
+        Why::Opaque => 1,
+        Why::Kind => 2,
+        Why::Misplaced => 3,
+        Why::Version => 4,
+        Why::Hash => 5,
+    }
+}
+
+fn bad_number(verdict: Verdict) -> u8
+    ensures { result ≡ bad_number verdict }
+{
+    match verdict {
+        Verdict::Good => 0,
+        Verdict::Bad => 1,
+        Verdict::Undecided => 0,
+    }
+}
+
+fn or_none(number: Option<usize>) -> u64
+    ensures { result ≡ or_none number }
+{
+    match number {
+        Some(number) => number as u64,
+        None => NONE,
+    }
+}
+
+/// What a signature's algorithm made.
+fn parts_of<'a>(view: SigView<'a>) -> [&'a [u8]; 2]
+    ensures { map (λ o. o.now) result ≡ signature_parts (sig_view_value view.entry) }
+{
+    match view {
+        SigView::Three(three) => signature_parts(three.material()),
+        SigView::Four(four) => signature_parts(four.material()),
+        SigView::Six(six) => signature_parts(six.material()),
+        SigView::Other(_) => [&[], &[]],
+    }
+}
+
+/// The numbers that a signature states.
+#[derive(Clone, Copy)]
+struct Stated {
+    version: u8,
+    kind: u8,
+    algorithm: u8,
+    hash: u8,
+    left: [u8; 2],
+}
+
+/// The numbers that a signature states.
+fn stated_in(view: SigView<'_>) -> Stated
+    ensures version { result.version ≡ version_in (sig_view_value view.entry) }
+    ensures kind { result.kind ≡ kind_in (sig_view_value view.entry) }
+    ensures algorithm { result.algorithm ≡ algorithm_in (sig_view_value view.entry) }
+    ensures hash { result.hash ≡ hash_in (sig_view_value view.entry) }
+    ensures left { result.left ≡ octets_or_zeros (left_in (sig_view_value view.entry)) }
+{
+    match view {
+        SigView::Three(three) => Stated {
+            version: 3,
+            kind: three.kind(),
+            algorithm: three.algorithm(),
+            hash: three.hash(),
+            left: three.left(),
+        },
+        SigView::Four(four) => Stated {
+            version: 4,
+            kind: four.kind(),
+            algorithm: four.algorithm(),
+            hash: four.hash(),
+            left: four.left(),
+        },
+        SigView::Six(six) => Stated {
+            version: 6,
+            kind: six.kind(),
+            algorithm: six.algorithm(),
+            hash: six.hash(),
+            left: six.left(),
+        },
+        SigView::Other(_) => Stated {
+            version: 0,
+            kind: 0,
+            algorithm: 0,
+            hash: 0,
+            left: [0; 2],
+        },
+    }
+}
+
+/// The row of embedded octets that aren't a signature.
+fn opaque_row(place: Place, at: u64) -> JobRow
+    ensures { result ≡ opaque_row place at }
+{
+    JobRow {
+        certificate: place.certificate as u64,
+        component: or_none(place.component),
+        hang: place.hang as u64,
+        nested: or_none(place.nested),
+        signer: NONE,
+        at,
+        sizes: [0; 2],
+        why: 1,
+        version: 0,
+        kind: 0,
+        algorithm: 0,
+        hash: 0,
+        left: [0; 2],
+        is_bad: 0,
+        digest_size: 0,
+        digest: [0; 64],
+        reserved: [0; 7],
+    }
+}
+
+/// The digest of a signature's question, and whether it differs from the left octets; or why it
+/// isn't hashed.
+fn answer_to(
+    hasher: &mut CertificateHasher<'_>,
+    signature: SigView<'_>,
+    asked: Result<Question<'_>, Why>,
+) -> Answered
+    requires { ForOk asked (λ q. (question_value q).subject ≡ hasher_subject hasher.old) }
+    ensures subject { hasher_subject hasher.new ≡ hasher_subject hasher.old }
+    ensures value { (read : Result QuestionValue Why) → Reads question_value asked.entry read
+        → result ≡ answer_to (sig_view_value signature.entry) read }
+{
+    let question = match asked {
+        Ok(question) => question,
+        Err(why) => {
+            return Answered {
+                why: why_number(why),
+                is_bad: 0,
+                digest_size: 0,
+                digest: [0; 64],
+            };
+        }
+    };
+    let digest = hasher.digest(&question);
+    let job = Job {
+        signature,
+        digest,
+        signer: None,
+    };
+    Answered {
+        why: 0,
+        is_bad: bad_number(LeftOctets.verify(&job)),
+        digest_size: digest.octets().len() as u8,
+        digest: digest_padded(digest),
+    }
+}
+
+/// A table of jobs that grows, and the index of the keyring's keys.
+#[derive(Drop)]
+struct JobTable {
+    names: KeyIndex,
+    rows: Vec<JobRow>,
+    bytes: Vec<u8>,
+}
+
+impl JobTable {
+    /// Adds the row of a signature. Fails only when out of memory.
+    #[tactic(auto, using(crate::proofs::Joining::joined_two))]
+    fn add(&mut self, place: Place, view: SigView<'_>, answer: Answered) -> Result<(), OutOfMemory>
+        ensures rows { OnOk result (self.new.rows.items ≡ self.old.rows.items
+            ++ signature_row (prints_shown self.old.names) place (length self.old.bytes.items)
+            (sig_view_value view.entry) answer ∷ []) }
+        ensures bytes { OnOk result (self.new.bytes.items ≡ self.old.bytes.items
+            ++ flat_map (λ o. o) (signature_parts (sig_view_value view.entry))) }
+        ensures names { self.new.names ≡ self.old.names }
+    {
+        let at = self.bytes.len() as u64;
+        let [first, second] = parts_of(view);
+        self.bytes.extend_from_slice(first)?;
+        self.bytes.extend_from_slice(second)?;
+        let sizes = [first.len() as u64, second.len() as u64];
+        let stated = stated_in(view);
+        let left = stated.left;
+        let digest = answer.digest;
+        self.rows.push(JobRow {
+            certificate: place.certificate as u64,
+            component: or_none(place.component),
+            hang: place.hang as u64,
+            nested: or_none(place.nested),
+            signer: or_none(signer(&self.names, view)),
+            at,
+            sizes,
+            why: answer.why,
+            version: stated.version,
+            kind: stated.kind,
+            algorithm: stated.algorithm,
+            hash: stated.hash,
+            left,
+            is_bad: answer.is_bad,
+            digest_size: answer.digest_size,
+            digest,
+            reserved: [0; 7],
+        })?;
+        Ok(())
+    }
+}
+
+impl<'a> Visitor<'a> for JobTable {
+    type Stop = OutOfMemory;
+
+    ghost becomes = { AddsJobs };
+
+    fn meet(
+        &mut self,
+        hasher: &mut CertificateHasher<'a>,
+        site: Site,
+        place: Place,
+        signature: &Result<SigView<'a>, BodyFault>,
+    ) -> Result<(), OutOfMemory> {
+        match signature {
+            Ok(signature) => {
+                let asked = ask_at(site, *signature, hasher.subject());
+                let answer = answer_to(hasher, *signature, asked);
+                self.add(place, *signature, answer)
+            }
+            Err(_) => {
+                self.rows.push(opaque_row(place, self.bytes.len() as u64))?;
+                Ok(())
+            }
+        }
+    }
+}
+
+/// The jobs of a keyring's signatures, in the order of its report, and the octets that they point
+/// into. Fails only when out of memory.
+pub fn jobs(alloc: Global, keyring: &Keyring) -> Result<(Vec<JobRow>, Vec<u8>), OutOfMemory>
+    ensures { IfOk result (λ x. (x.0.items ≡ job_rows keyring.now)
+        × (x.1.items ≡ job_bytes keyring.now)) }
+{
+    let mut table = JobTable {
+        names: index_keys(alloc, keyring)?,
+        rows: Vec::new(alloc),
+        bytes: Vec::new(alloc),
+    };
+    visit(&mut table, keyring)?;
+    let JobTable { names, rows, bytes } = table;
+    drop(names);
+    Ok((rows, bytes))
+}

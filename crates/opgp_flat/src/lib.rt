@@ -1,0 +1,27 @@
+//! Keyrings as flat tables: rows of numbers, and octets that the rows point into. A caller in
+//! another language can be handed them.
+#![tactic(auto)]
+
+mod copying;
+mod fault_row;
+mod given_limits;
+mod hashed_octets;
+mod job_row;
+mod job_table;
+mod key_row;
+mod key_table;
+pub mod laws;
+mod packet_row;
+mod packet_table;
+mod parts;
+
+pub use copying::fill;
+pub use fault_row::FaultRow;
+pub use given_limits::GivenLimits;
+pub use hashed_octets::row_octets;
+pub use job_row::JobRow;
+pub use job_table::jobs;
+pub use key_row::{KeyRow, NONE};
+pub use key_table::keys;
+pub use packet_row::PacketRow;
+pub use packet_table::packets;

@@ -1,0 +1,12 @@
+use Rattle.std.proofs.Common.{refl}
+use Rattle.opgp_stream.proofs.Extended.{extends_stop, extends_then}
+use Rattle.opgp_stack.specs.Values.{fields_line}
+use Rattle.opgp_stack.proofs.valued.add_valued.Goals as goal
+
+pub returns-in_err-add_header : goal.returns-in_err-add_header
+returns-in_err-add_header g c =
+    let packet = c.args.placed.now.packet in
+    extends_stop (fields_line packet.kind packet.body) refl c.from_residual.ensures.0 c.in_err-add_header.ensures
+
+pub returns : goal.returns
+returns g c = extends_then refl c.in_ok-add_header.ensures (rw (c.kind.ensures.value, c.body.ensures.value) at c.add_fields.ensures)

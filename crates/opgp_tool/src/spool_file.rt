@@ -1,0 +1,150 @@
+//! A file without a name, in which a text is held.
+
+ghost use Rattle.std.specs.Prelude.{◌≡◌, ◌≤◌, [], ◌∷◌, length, true, false, IfOk};
+ghost use Rattle.opgp_tool.specs.SpoolFile.{spool_failed};
+
+use opgp_stack::{RunFault, Spool};
+use std::alloc::Global;
+use std::fs::{Files, OpenOptions, remove_file};
+use std::io;
+use std::io::{Read, Seek, SeekFrom, Write};
+use std::os::unix::fs::OpenOptionsExt;
+
+/// How many octets wait in memory to be written at once.
+const WAITING: usize = 65_536;
+
+/// How many names are tried for the file.
+const NAMES: u32 = 1_000;
+
+/// A file that is filled, and then read again from its first octet.
+#[derive(Drop)]
+pub struct SpoolFile<F> {
+    file: F,
+    waiting: Vec<u8>,
+    is_read: bool,
+    has_failed: bool,
+}
+
+/// Makes a new file in a directory, which only its owner may read, and takes its name away: so
+/// nothing is left of it once the process ends, however that is.
+///
+/// The errors are `Spool`, if no file could be made there, and `Memory`.
+pub fn open_spool<R: Files>(
+    alloc: Global,
+    files: &R,
+    dir: &str,
+) -> Result<SpoolFile<R::File>, RunFault> {
+    let waiting = match Vec::with_capacity(alloc, WAITING) {
+        Ok(waiting) => waiting,
+        Err(_) => return Err(RunFault::Memory),
+    };
+    match new_file(alloc, files, dir) {
+        Ok(file) => Ok(SpoolFile {
+            file,
+            waiting,
+            is_read: false,
+            has_failed: false,
+        }),
+        Err(error) if error.kind() == io::ErrorKind::OutOfMemory => Err(RunFault::Memory),
+        Err(_) => Err(RunFault::Spool),
+    }
+}
+
+/// A new file without a name.
+fn new_file<R: Files>(alloc: Global, files: &R, dir: &str) -> io::Result<R::File> {
+    for number in 0..NAMES {
+        let path = match format!(in alloc; "{dir}/opgp-spool-{number}") {
+            Ok(path) => path,
+            Err(_) => return Err(io::Error::from(io::ErrorKind::OutOfMemory)),
+        };
+        let mut options = OpenOptions::new();
+        options.read(true).write(true).create_new(true).mode(0o600);
+        match options.open(files, path.as_str()) {
+            Ok(file) => {
+                remove_file(files, path.as_str())?;
+                return Ok(file);
+            }
+            Err(error) if error.kind() == io::ErrorKind::AlreadyExists => {}
+            Err(error) => return Err(error),
+        }
+    }
+    Err(io::Error::from(io::ErrorKind::AlreadyExists))
+}
+
+impl<F: Read + Write + Seek> SpoolFile<F> {
+    /// Writes what waits.
+    fn flush(&mut self) -> io::Result<()>
+        ensures { spool_failed self.new ≡ spool_failed self.old }
+    {
+        self.file.write_all(self.waiting.as_slice())?;
+        self.waiting.clear();
+        Ok(())
+    }
+
+    /// Writes the first of the octets, or lets them wait.
+    fn write(&mut self, octets: &[u8]) -> io::Result<usize>
+        ensures bound { IfOk result (λ n. n ≤ length octets.now) }
+        ensures same { spool_failed self.new ≡ spool_failed self.old }
+    {
+        if octets.len() > WAITING.saturating_sub(self.waiting.len()) {
+            self.flush()?;
+        }
+        if octets.len() > WAITING {
+            return self.file.write(octets);
+        }
+        match self.waiting.extend_from_slice(octets) {
+            Ok(()) => Ok(octets.len()),
+            Err(_) => Err(io::Error::from(io::ErrorKind::OutOfMemory)),
+        }
+    }
+
+    /// Reads into the front of the buffer, from the first octet of the file on.
+    fn read(&mut self, buf: &mut [u8]) -> io::Result<usize>
+        ensures bound { IfOk result (λ n. n ≤ length buf.new) }
+        ensures same { spool_failed self.new ≡ spool_failed self.old }
+    {
+        if !self.is_read {
+            self.flush()?;
+            self.file.seek(SeekFrom::Start(0))?;
+            self.is_read = true;
+        }
+        self.file.read(buf)
+    }
+}
+
+impl<F: Read + Write + Seek> Spool for SpoolFile<F> {
+    ghost serves = { true };
+
+    ghost tells = { false };
+
+    ghost holds = { λ _. [] };
+
+    ghost has_failed = { spool_failed };
+
+    fn put(&mut self, octets: &[u8]) -> io::Result<usize> {
+        match self.write(octets) {
+            Ok(n) => {
+                if n == 0 && !octets.is_empty() {
+                    self.has_failed = true;
+                }
+                Ok(n)
+            }
+            Err(error) => {
+                self.has_failed = true;
+                Err(error)
+            }
+        }
+    }
+
+    fn get(&mut self, buf: &mut [u8]) -> io::Result<usize> {
+        let result = self.read(buf);
+        if result.is_err() {
+            self.has_failed = true;
+        }
+        result
+    }
+
+    fn failed(&self) -> bool {
+        self.has_failed
+    }
+}

@@ -1,0 +1,544 @@
+/* The library for C, called in each way that its header allows, over the keyring on standard input. Words:
+ *
+ *     --line=N --body=N --cert=N --input=N --pieces=N   the limits of `told`
+ *     told      prints the tables, or the fault
+ *     rooms     each room that is too small; each status
+ *     memory    each allocation failed in turn
+ *     threads   keyrings in several threads, and one keyring in several
+ *
+ * All but `told` print what is wrong, and the program ends with 'N passed, M failed'. */
+#include <opgp.h>
+
+#include <inttypes.h>
+#include <pthread.h>
+#include <stdio.h>
+#include <stdlib.h>
+#include <string.h>
+
+enum { MOST = 1 << 22, THREADS = 4, TURNS = 50 };
+
+static unsigned long passed, failed;
+static uint8_t in[MOST];
+static size_t size;
+
+static void holds(bool it, const char *what)
+{
+    passed += it;
+    failed += !it;
+    if (!it) {
+        fprintf(stderr, "tests/capi: %s: FAILED\n", what);
+    }
+}
+
+/* ---- An allocator that fails at the call of a number, and counts what is held. */
+void *__real_malloc(size_t n);
+void *__real_calloc(size_t count, size_t n);
+void *__real_realloc(void *block, size_t n);
+void __real_free(void *block);
+void *__wrap_malloc(size_t n);
+void *__wrap_calloc(size_t count, size_t n);
+void *__wrap_realloc(void *block, size_t n);
+void __wrap_free(void *block);
+
+static _Thread_local unsigned long calls, fails_at;
+static _Thread_local long held;
+
+static bool fails(void)
+{
+    return ++calls == fails_at;
+}
+
+static void *kept(void *block)
+{
+    held += block != NULL;
+    return block;
+}
+
+void *__wrap_malloc(size_t n)
+{
+    return fails() ? NULL : kept(__real_malloc(n));
+}
+
+void *__wrap_calloc(size_t count, size_t n)
+{
+    return fails() ? NULL : kept(__real_calloc(count, n));
+}
+
+void *__wrap_realloc(void *block, size_t n)
+{
+    void *grown = fails() ? NULL : __real_realloc(block, n);
+    held += !block && grown;
+    return grown;
+}
+
+void __wrap_free(void *block)
+{
+    held -= block != NULL;
+    __real_free(block);
+}
+
+/* A block of just this size, so that an octet past it is seen where there is a sanitizer. */
+static void *block_of(size_t n)
+{
+    void *block = malloc(n ? n : 1);
+    if (!block) {
+        fprintf(stderr, "tests/capi: out of memory\n");
+        exit(1);
+    }
+    memset(block, 0xA5, n);
+    return block;
+}
+
+static bool is_blank(const void *block, size_t from, size_t to)
+{
+    const uint8_t *octets = block;
+    for (size_t at = from; at < to; at++) {
+        if (octets[at] != 0xA5) {
+            return false;
+        }
+    }
+    return true;
+}
+
+/* ---- Tables */
+
+static void print_digits(const uint8_t *octets, size_t n)
+{
+    for (size_t i = 0; i < n; i++) {
+        printf("%02X", octets[i]);
+    }
+}
+
+static void print_span(opgp_span span)
+{
+    putchar(' ');
+    print_digits(span.octets, span.size);
+    printf(span.size ? "" : "-");
+}
+
+static void print_number(uint64_t number)
+{
+    if (number == OPGP_NONE) {
+        printf(" -");
+    } else {
+        printf(" %" PRIu64, number);
+    }
+}
+
+static bool is_zero(const uint8_t *octets, size_t n)
+{
+    for (size_t i = 0; i < n; i++) {
+        if (octets[i] != 0) {
+            return false;
+        }
+    }
+    return true;
+}
+
+static int print_row(void *context, size_t row, const opgp_job *job, opgp_verdict verdict)
+{
+    const opgp_keyring *keyring = context;
+    printf("job %zu", row);
+    print_number(job->certificate);
+    print_number(job->component);
+    print_number(job->hang);
+    print_number(job->nested);
+    print_number(job->signer);
+    printf(" why %s v%u type %02X alg %u hash %u left ", job->why ? opgp_why_name(job->why) : "-", job->version, job->kind,
+           job->algorithm, job->hash);
+    print_digits(job->left, 2);
+    printf(" bad %u verdict %d digest ", job->is_bad, (int)verdict);
+    print_span((opgp_span){job->digest, job->digest_size});
+    print_span(opgp_job_field(keyring, job, 0));
+    print_span(opgp_job_field(keyring, job, 1));
+    bool is_padded = is_zero(job->digest + job->digest_size, sizeof job->digest - job->digest_size);
+    printf(" zeros %d\n", is_padded && is_zero(job->reserved, sizeof job->reserved) && !opgp_job_field(keyring, job, 2).size);
+    return 0;
+}
+
+static void print_tables(const opgp_keyring *keyring)
+{
+    for (size_t i = 0; i < opgp_packet_count(keyring); i++) {
+        const opgp_packet *packet = opgp_packet_at(keyring, i);
+        printf("packet");
+        print_number(packet->certificate);
+        print_number(packet->component);
+        print_number(packet->hang);
+        printf(" %u", packet->kind);
+        print_span(opgp_body(keyring, packet));
+        printf(" zeros %d\n", is_zero(packet->reserved, sizeof packet->reserved));
+    }
+    for (size_t i = 0; i < opgp_key_count(keyring); i++) {
+        const opgp_key *key = opgp_key_at(keyring, i);
+        printf("key");
+        print_number(key->certificate);
+        print_number(key->component);
+        printf(" v%u alg %u created %" PRIu32 " ", key->version, key->algorithm, key->created);
+        print_digits(key->print, key->print_size);
+        putchar(' ');
+        print_digits(key->key_id, sizeof key->key_id);
+        for (unsigned k = 0; k < 4; k++) {
+            print_span(opgp_key_field(keyring, key, k));
+        }
+        bool is_padded = is_zero(key->print + key->print_size, sizeof key->print - key->print_size);
+        printf(" zeros %d\n", is_padded && is_zero(key->reserved, sizeof key->reserved) && !opgp_key_field(keyring, key, 4).size);
+    }
+    opgp_check(keyring, NULL, print_row, (void *)(uintptr_t)keyring);
+}
+
+static int told(const opgp_limits *limits)
+{
+    opgp_keyring *keyring;
+    opgp_fault fault;
+    char text[OPGP_FAULT_ROOM];
+    uint32_t status = opgp_open(in, size, limits, &keyring, &fault);
+    if (status != OPGP_DONE) {
+        fprintf(stderr, "%s\n", status == OPGP_REFUSED ? opgp_fault_text(&fault, text) : opgp_status_text(status));
+        return 1;
+    }
+    print_tables(keyring);
+    opgp_close(keyring);
+    return 0;
+}
+
+/* ---- Rooms */
+
+/* Each room for rows and octets, up to one more than is wanted: it is said, and nothing past what there is was written. */
+#define TRY_ROOMS(CALL, ROW)                                                                                         \
+    do {                                                                                                             \
+        opgp_sizes wanted = {0, 0}, sizes;                                                                           \
+        ROW row;                                                                                                     \
+        uint8_t byte;                                                                                                \
+        uint32_t status = CALL(&ring, &row, 0, &byte, 0, &wanted);                                                   \
+        holds(status == (wanted.rows || wanted.bytes ? OPGP_ROOM : OPGP_DONE), #CALL " without room");               \
+        for (size_t r = 0; r <= wanted.rows + 1; r++) {                                                              \
+            for (size_t b = 0; b <= wanted.bytes + 1; b++) {                                                         \
+                ROW *rows = block_of(r * sizeof *rows);                                                              \
+                uint8_t *bytes = block_of(b);                                                                        \
+                status = CALL(&ring, rows, r, bytes, b, &sizes);                                                     \
+                bool fits = r >= wanted.rows && b >= wanted.bytes;                                                   \
+                size_t filled = fits ? (size_t)wanted.rows * sizeof *rows : 0, put = fits ? (size_t)wanted.bytes : 0; \
+                holds(status == (fits ? OPGP_DONE : OPGP_ROOM) && sizes.rows == wanted.rows                          \
+                          && sizes.bytes == wanted.bytes && is_blank(rows, filled, r * sizeof *rows)                 \
+                          && is_blank(bytes, put, b),                                                                \
+                      #CALL " with some room");                                                                      \
+                free(rows);                                                                                          \
+                free(bytes);                                                                                         \
+            }                                                                                                        \
+        }                                                                                                            \
+    } while (0)
+
+/* The same for octets alone; CALLED has `octets` and `b` for them, and `again` for their number. */
+#define TRY_OCTETS(CALLED, WHAT)                                                                                     \
+    do {                                                                                                             \
+        uint64_t wanted = 0, again = 0;                                                                              \
+        uint8_t byte, *octets = &byte;                                                                               \
+        size_t b = 0;                                                                                                \
+        uint32_t status = CALLED;                                                                                    \
+        wanted = again;                                                                                              \
+        holds(status == (wanted ? OPGP_ROOM : OPGP_DONE), WHAT " without room");                                     \
+        for (b = 0; b <= wanted + 1; b++) {                                                                          \
+            octets = block_of(b);                                                                                    \
+            status = CALLED;                                                                                         \
+            holds(status == (b >= wanted ? OPGP_DONE : OPGP_ROOM) && again == wanted                                 \
+                      && is_blank(octets, b >= wanted ? (size_t)wanted : 0, b),                                      \
+                  WHAT " with some room");                                                                           \
+            free(octets);                                                                                            \
+        }                                                                                                            \
+    } while (0)
+
+/* A limit out of its range: the least and the most of each, and what is beyond. */
+static void try_limit(opgp_ring *ring, size_t at, uint64_t least, uint64_t most)
+{
+    const uint64_t values[] = {least - 1, least, most, most + 1, UINT64_MAX};
+    opgp_ring before = *ring;
+    for (size_t i = 0; i < sizeof values / sizeof *values; i++) {
+        opgp_limits limits;
+        opgp_fault fault;
+        bool is_allowed = values[i] >= least && values[i] <= most;
+        opgp_usual_limits(&limits);
+        memcpy((uint8_t *)&limits + at, &values[i], sizeof values[i]);
+        memset(&fault, 0xA5, sizeof fault);
+        uint32_t status = opgp_ring_open((const uint8_t *)"x", 1, &limits, ring, &fault);
+        bool is_as_it_was = ring->at == before.at && ring->is_open == before.is_open;
+        holds(is_as_it_was && (is_allowed ? status == OPGP_REFUSED : status == OPGP_LIMITS && is_blank(&fault, 0, sizeof fault)),
+              "a limit");
+    }
+}
+
+static void closed(void)
+{
+    opgp_ring ring = {false, NULL};
+    opgp_packet packet;
+    opgp_key key;
+    opgp_job job;
+    opgp_sizes sizes;
+    uint64_t wanted;
+    uint8_t byte;
+    holds(opgp_ring_packets(&ring, &packet, 1, &byte, 1, &sizes) == OPGP_CLOSED, "packets of a closed handle");
+    holds(opgp_ring_keys(&ring, &key, 1, &byte, 1, &sizes) == OPGP_CLOSED, "keys of a closed handle");
+    holds(opgp_ring_jobs(&ring, &job, 1, &byte, 1, &sizes) == OPGP_CLOSED, "jobs of a closed handle");
+    holds(opgp_ring_octets(&ring, 0, &byte, 1, &wanted) == OPGP_CLOSED, "octets of a closed handle");
+    holds(opgp_ring_write(&ring, 0, &byte, 1, &wanted) == OPGP_CLOSED, "writing a closed handle");
+    holds(!ring.is_open, "a closed handle stays closed");
+    opgp_ring_close(ring);
+}
+
+static void rooms(void)
+{
+    opgp_limits limits;
+    opgp_ring ring = {false, NULL};
+    opgp_fault fault;
+    opgp_sizes sizes;
+    uint64_t wanted;
+    uint8_t byte;
+
+    holds(opgp_abi() == OPGP_ABI, "the version");
+    closed();
+    opgp_usual_limits(&limits);
+    memset(&fault, 0xA5, sizeof fault);
+    holds(opgp_ring_open(in, size, &limits, &ring, &fault) == OPGP_DONE && is_blank(&fault, 0, sizeof fault), "open");
+    TRY_ROOMS(opgp_ring_packets, opgp_packet);
+    TRY_ROOMS(opgp_ring_keys, opgp_key);
+    TRY_ROOMS(opgp_ring_jobs, opgp_job);
+    TRY_OCTETS(opgp_ring_write(&ring, 0, octets, b, &again), "packets");
+    TRY_OCTETS(opgp_ring_write(&ring, 1, octets, b, &again), "armor");
+    TRY_OCTETS(opgp_ring_write(&ring, UINT32_MAX, octets, b, &again), "armor by another number");
+    opgp_job row;
+    sizes = (opgp_sizes){0, 0};
+    opgp_ring_jobs(&ring, &row, 0, &byte, 0, &sizes);
+    for (uint64_t number = 0; number < sizes.rows; number++) {
+        if (opgp_ring_octets(&ring, number, &byte, 0, &wanted) != OPGP_NO_ROW) {
+            TRY_OCTETS(opgp_ring_octets(&ring, number, octets, b, &again), "octets");
+        }
+    }
+    holds(opgp_ring_octets(&ring, sizes.rows, &byte, 0, &wanted) == OPGP_NO_ROW, "octets past the last row");
+    holds(opgp_ring_octets(&ring, UINT64_MAX, &byte, 0, &wanted) == OPGP_NO_ROW, "octets of no row");
+    try_limit(&ring, offsetof(opgp_limits, line), 128, UINT64_C(1) << 20);
+    try_limit(&ring, offsetof(opgp_limits, body), 512, UINT32_MAX);
+    try_limit(&ring, offsetof(opgp_limits, cert), 512, UINT64_C(1) << 40);
+    try_limit(&ring, offsetof(opgp_limits, pieces), 1, UINT64_C(1) << 24);
+    limits.input = (UINT64_C(1) << 62) + 1;
+    holds(opgp_ring_open(in, size, &limits, &ring, &fault) == OPGP_LIMITS, "a limit of the input out of its range");
+    limits.input = 0;
+    holds(opgp_ring_open(in, size, &limits, &ring, &fault) == OPGP_REFUSED && fault.layer == 0 && fault.reason == 19 && fault.pos == 0
+              && is_zero(fault.reserved, sizeof fault.reserved),
+          "an input of more than no octets");
+    limits.input = UINT64_C(1) << 62;
+    limits.reserved = 1;
+    holds(opgp_ring_open(in, size, &limits, &ring, &fault) == OPGP_LIMITS, "a reserved number");
+    limits.reserved = 0;
+    holds(opgp_ring_open(in, size, &limits, &ring, &fault) == OPGP_DONE, "a keyring in place of another");
+    holds(opgp_ring_open(&byte, 0, &limits, &ring, &fault) == OPGP_DONE, "nothing in place of a keyring");
+    opgp_packet packet;
+    holds(opgp_ring_packets(&ring, &packet, 0, &byte, 0, &sizes) == OPGP_DONE && sizes.rows == 0 && sizes.bytes == 0,
+          "packets of an empty keyring");
+    opgp_ring_close(ring);
+    holds(held == 0, "what was held is let go");
+}
+
+/* ---- On top */
+
+struct count {
+    size_t asked, told, ends_at;
+    int answer;
+};
+
+static opgp_verdict count_question(void *context, const opgp_question *question)
+{
+    struct count *count = context;
+    count->asked++;
+    holds(question->job->why == 0 && !question->job->is_bad && question->signer->version == question->job->version
+              && question->made[0].size == question->job->sizes[0] && question->key[3].size == question->signer->sizes[3],
+          "a question");
+    return (opgp_verdict)count->answer;
+}
+
+static int count_row(void *context, size_t row, const opgp_job *job, opgp_verdict verdict)
+{
+    struct count *count = context;
+    (void)job;
+    holds(row == count->told, "rows are told in order");
+    holds(verdict == OPGP_UNDECIDED || verdict == OPGP_GOOD || verdict == OPGP_BAD, "a verdict");
+    count->told++;
+    return count->told == count->ends_at ? 7 : 0;
+}
+
+static void on_top(void)
+{
+    opgp_keyring *keyring = NULL;
+    uint8_t *octets;
+    size_t n, rows;
+    opgp_limits limits = {0, 0, 0, 0, 0, 0};
+    char text[OPGP_FAULT_ROOM];
+    const opgp_fault longest = {UINT64_MAX, UINT64_MAX, UINT64_MAX, 4, 53, {0}}, unknown = {1, 2, 3, 5, 255, {0}};
+
+    holds(opgp_open(NULL, 0, NULL, &keyring, NULL) == OPGP_DONE && opgp_packet_count(keyring) == 0 && opgp_key_count(keyring) == 0
+              && opgp_job_count(keyring) == 0 && !opgp_packet_at(keyring, 0) && !opgp_key_at(keyring, 0) && !opgp_job_at(keyring, 0),
+          "an empty keyring");
+    holds(opgp_write(keyring, false, &octets, &n) == OPGP_DONE && octets && n == 0, "an empty keyring written");
+    free(octets);
+    opgp_close(keyring);
+    opgp_close(NULL);
+    holds(opgp_open(in, size, &limits, &keyring, NULL) == OPGP_LIMITS && !keyring, "limits that aren't any");
+    holds(opgp_open((const uint8_t *)"x", 1, NULL, &keyring, NULL) == OPGP_REFUSED && !keyring, "an input that is refused");
+    holds(opgp_open(in, size, NULL, &keyring, NULL) == OPGP_DONE, "a keyring");
+    rows = opgp_job_count(keyring);
+    holds(opgp_octets(keyring, rows, &octets, &n) == OPGP_NO_ROW && !octets && n == 0, "octets past the last row");
+    for (int answer = -1; answer < 4; answer++) {
+        struct count count = {0, 0, 0, answer};
+        holds(opgp_check(keyring, count_question, count_row, &count) == 0 && count.told == rows && count.asked <= rows, "a check");
+    }
+    for (size_t end = 1; end <= rows; end++) {
+        struct count count = {0, 0, end, OPGP_GOOD};
+        holds(opgp_check(keyring, count_question, count_row, &count) == 7 && count.told == end, "a check that is ended");
+    }
+    opgp_close(keyring);
+    holds(strcmp(opgp_fault_text(&longest, text), "composition: NotASignedLiteral block 18446744073709551615 at 18446744073709551615 "
+                                                  "inner 18446744073709551615") == 0,
+          "the longest line of a fault");
+    holds(strcmp(opgp_fault_text(&unknown, text), "unknown: unknown block 1 at 2 inner 3") == 0, "a fault that there isn't");
+    holds(strcmp(opgp_status_text(7), "unknown") == 0 && strcmp(opgp_why_name(0), "unknown") == 0
+              && strcmp(opgp_why_name(6), "unknown") == 0 && strcmp(opgp_reason_name(0), "unknown") == 0,
+          "names of what there isn't");
+    holds(held == 0, "what was held is let go");
+}
+
+/* ---- Memory */
+
+/* Everything once; whether it went well. */
+static bool everything(void)
+{
+    opgp_keyring *keyring;
+    opgp_fault fault;
+    uint8_t *octets;
+    size_t n;
+    bool is_well = true;
+    memset(&fault, 0xA5, sizeof fault);
+    uint32_t status = opgp_open(in, size, NULL, &keyring, &fault);
+    if (status != OPGP_DONE) {
+        holds(status == OPGP_MEMORY && !keyring && is_blank(&fault, 0, sizeof fault), "a status where memory runs out");
+        return false;
+    }
+    for (int armor = 0; armor < 2; armor++) {
+        status = opgp_write(keyring, armor, &octets, &n);
+        holds(status == OPGP_DONE ? n > 0 : status == OPGP_MEMORY && !octets && n == 0, "writing where memory runs out");
+        is_well = is_well && status == OPGP_DONE;
+        free(octets);
+    }
+    for (size_t row = 0; row <= opgp_job_count(keyring); row++) {
+        status = opgp_octets(keyring, row, &octets, &n);
+        holds(status == OPGP_DONE ? n > 0 : (status == OPGP_NO_ROW || status == OPGP_MEMORY) && !octets && n == 0,
+              "octets where memory runs out");
+        is_well = is_well && status != OPGP_MEMORY;
+        free(octets);
+    }
+    opgp_close(keyring);
+    return is_well;
+}
+
+static void memory(void)
+{
+    bool is_well = false;
+    for (unsigned long n = 1; !is_well && n < 100000; n++) {
+        calls = 0;
+        fails_at = n;
+        is_well = everything() && calls < n;
+        holds(held == 0, "what was held is let go where memory ran out");
+    }
+    fails_at = 0;
+    holds(is_well, "with enough memory it goes well");
+}
+
+/* ---- Threads */
+
+struct shared {
+    const opgp_keyring *keyring; /* of all threads */
+    bool is_wrong;
+};
+
+static int count_good(void *context, size_t row, const opgp_job *job, opgp_verdict verdict)
+{
+    (void)row;
+    (void)job;
+    *(size_t *)context += verdict == OPGP_GOOD;
+    return 0;
+}
+
+static void *reader(void *argument)
+{
+    struct shared *shared = argument;
+    for (int turn = 0; turn < TURNS; turn++) {
+        opgp_keyring *keyring;
+        uint8_t *octets = NULL;
+        size_t n, good = 0;
+        bool is_open = opgp_open(in, size, NULL, &keyring, NULL) == OPGP_DONE;
+        if (!is_open || opgp_key_count(keyring) != opgp_key_count(shared->keyring)
+            || opgp_write(keyring, turn % 2 == 0, &octets, &n) != OPGP_DONE
+            || opgp_check(shared->keyring, NULL, count_good, &good) != 0 || good != 0) {
+            shared->is_wrong = true;
+        }
+        free(octets);
+        opgp_close(keyring);
+    }
+    return NULL;
+}
+
+static void threads(void)
+{
+    pthread_t each[THREADS];
+    struct shared shared[THREADS];
+    opgp_keyring *keyring;
+    holds(opgp_open(in, size, NULL, &keyring, NULL) == OPGP_DONE, "a keyring for threads");
+    for (int i = 0; i < THREADS; i++) {
+        shared[i] = (struct shared){keyring, false};
+        holds(pthread_create(&each[i], NULL, reader, &shared[i]) == 0, "a thread");
+    }
+    for (int i = 0; i < THREADS; i++) {
+        holds(pthread_join(each[i], NULL) == 0 && !shared[i].is_wrong, "keyrings in threads");
+    }
+    opgp_close(keyring);
+}
+
+int main(int argc, char **argv)
+{
+    static const struct {
+        const char *word;
+        void (*run)(void);
+    } runs[] = {{"rooms", rooms}, {"on_top", on_top}, {"memory", memory}, {"threads", threads}};
+    opgp_limits limits;
+    const struct {
+        const char *word;
+        uint64_t *number;
+    } options[] = {{"--line=", &limits.line}, {"--body=", &limits.body}, {"--cert=", &limits.cert}, {"--input=", &limits.input},
+                   {"--pieces=", &limits.pieces}};
+    bool is_told = false;
+    opgp_usual_limits(&limits);
+    size = fread(in, 1, sizeof in, stdin);
+    for (int i = 1; i < argc; i++) {
+        bool is_known = strcmp(argv[i], "told") == 0;
+        is_told = is_told || is_known;
+        for (size_t k = 0; k < sizeof options / sizeof *options; k++) {
+            size_t length = strlen(options[k].word);
+            if (strncmp(argv[i], options[k].word, length) == 0) {
+                *options[k].number = strtoull(argv[i] + length, NULL, 10);
+                is_known = true;
+            }
+        }
+        for (size_t k = 0; k < sizeof runs / sizeof *runs; k++) {
+            if (strcmp(argv[i], runs[k].word) == 0) {
+                runs[k].run();
+                is_known = true;
+            }
+        }
+        if (!is_known) {
+            fprintf(stderr, "tests/capi.c: unknown word '%s'\n", argv[i]);
+            return 2;
+        }
+    }
+    if (is_told) {
+        return told(&limits);
+    }
+    printf("%lu passed, %lu failed\n", passed, failed);
+    return failed > 0;
+}

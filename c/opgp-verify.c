@@ -2,7 +2,7 @@
  * bad or undecided, and after undecided why. Section numbers are those of RFC 9580.
  *
  * `good` says that the issuer's key made the signature over what `opgp octets` writes, and nothing of whether the signature,
- * the key or what it certifies is valid: expiries, revocations, key flags and critical subpackets aren't looked at. */
+ * the key or what it certifies is valid: expiries, revocations and key flags aren't looked at. */
 #include <opgp.h>
 
 #include "examples/open.h"
@@ -24,6 +24,9 @@
 /* The algorithms whose signatures are verified (9.1), and the hash that isn't relied on (9.5). */
 enum { RSA_BOTH = 1, RSA_SIGN = 3, DSA_KEY = 17, ECDSA_KEY = 19, EDDSA_LEGACY = 22, ED25519_KEY = 27, ED448_KEY = 28 };
 enum { HASH_SHA1 = 2 };
+
+/* The kind of subpacket of a notation (5.2.3.24). */
+enum { NOTATION = 20 };
 
 /* The octets of a point, and of each half of a signature, on an Edwards curve. */
 enum { SIZE_25519 = 32, SIZE_448 = 57 };
@@ -321,6 +324,20 @@ static bool is_rsa_number(uint8_t algorithm)
     return algorithm == RSA_BOTH || algorithm == RSA_SIGN;
 }
 
+/* Whether the signature has a critical subpacket (5.2.3.7) of an unknown kind or form, or a critical notation (5.2.3.24), of which
+ * none is known here. */
+static bool has_unknown_critical(const opgp_keyring *keyring, size_t row)
+{
+    size_t count;
+    const opgp_subpacket *subpackets = opgp_subpackets_of(keyring, row, &count);
+    for (size_t i = 0; i < count; i++) {
+        if (subpackets[i].is_critical && (subpackets[i].meaning != 0 || subpackets[i].kind == NOTATION)) {
+            return true;
+        }
+    }
+    return false;
+}
+
 /* What the key says of the signature. */
 static opgp_verdict verify(void *context, const opgp_question *question)
 {
@@ -330,6 +347,9 @@ static opgp_verdict verify(void *context, const opgp_question *question)
     uint8_t algorithm = question->job->algorithm, key = question->signer->algorithm;
     if (algorithm != key && !(is_rsa_number(algorithm) && is_rsa_number(key))) {
         return undecided(run, "algorithm");
+    }
+    if (has_unknown_critical(run->keyring, question->row)) {
+        return undecided(run, "critical");
     }
     if (run->is_usual && question->job->hash == HASH_SHA1) {
         return undecided(run, "weak-hash");

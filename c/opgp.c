@@ -69,6 +69,19 @@ IS_AT(opgp_job, digest_size, 72);
 IS_AT(opgp_job, digest, 73);
 IS_AT(opgp_job, reserved, 137);
 
+_Static_assert(sizeof(opgp_subpacket) == 56, "opgp_subpacket");
+IS_AT(opgp_subpacket, certificate, 0);
+IS_AT(opgp_subpacket, component, 8);
+IS_AT(opgp_subpacket, hang, 16);
+IS_AT(opgp_subpacket, nested, 24);
+IS_AT(opgp_subpacket, at, 32);
+IS_AT(opgp_subpacket, size, 40);
+IS_AT(opgp_subpacket, kind, 48);
+IS_AT(opgp_subpacket, is_critical, 49);
+IS_AT(opgp_subpacket, is_hashed, 50);
+IS_AT(opgp_subpacket, meaning, 51);
+IS_AT(opgp_subpacket, reserved, 52);
+
 _Static_assert(sizeof(opgp_ring) == 2 * sizeof(void *), "opgp_ring");
 IS_AT(opgp_ring, is_open, 0);
 IS_AT(opgp_ring, at, sizeof(void *));
@@ -78,10 +91,13 @@ struct opgp_keyring {
     opgp_packet *packets;
     opgp_key *keys;
     opgp_job *jobs;
+    opgp_subpacket *subpackets;
+    size_t *firsts; /* of each job the number of its first subpacket, and behind the last how many there are */
     uint8_t *bodies;
     uint8_t *material;
     uint8_t *made;
-    opgp_sizes packet_sizes, key_sizes, job_sizes;
+    uint8_t *data;
+    opgp_sizes packet_sizes, key_sizes, job_sizes, subpacket_sizes;
 };
 
 /* Room for so many things, at least one; NULL if there is none. */
@@ -111,30 +127,39 @@ static void *room_for(uint64_t count, size_t size)
 FILL(opgp_ring_packets, opgp_packet, packets, bodies, packet_sizes)
 FILL(opgp_ring_keys, opgp_key, keys, material, key_sizes)
 FILL(opgp_ring_jobs, opgp_job, jobs, made, job_sizes)
+FILL(opgp_ring_subpackets, opgp_subpacket, subpackets, data, subpacket_sizes)
 
-uint32_t opgp_open(const uint8_t *in, size_t n, const opgp_limits *limits, opgp_keyring **keyring, opgp_fault *fault)
+/* Whether a subpacket is of the signature of this job. */
+static bool is_of(const opgp_subpacket *subpacket, const opgp_job *job)
 {
-    opgp_limits usual;
-    opgp_fault unwanted;
-    const uint8_t nothing = 0;
-    uint32_t status = OPGP_MEMORY;
-    opgp_keyring *it = calloc(1, sizeof *it);
+    return subpacket->certificate == job->certificate && subpacket->component == job->component
+        && subpacket->hang == job->hang && subpacket->nested == job->nested;
+}
 
-    if (!limits) {
-        opgp_usual_limits(&usual);
-        limits = &usual;
+/* Finds the subpackets of each job, which stand in the order of the jobs. */
+static uint32_t find_firsts(opgp_keyring *it)
+{
+    size_t at = 0, jobs = (size_t)it->job_sizes.rows, count = (size_t)it->subpacket_sizes.rows;
+    it->firsts = room_for(it->job_sizes.rows + 1, sizeof *it->firsts);
+    if (!it->firsts) {
+        return OPGP_MEMORY;
     }
-    if (it) {
-        status = opgp_ring_open(in ? in : &nothing, n, limits, &it->ring, fault ? fault : &unwanted);
+    for (size_t row = 0; row < jobs; row++) {
+        it->firsts[row] = at;
+        while (at < count && is_of(&it->subpackets[at], &it->jobs[row])) {
+            at++;
+        }
     }
-    if (status == OPGP_DONE) {
-        status = fill_packets(it);
-    }
-    if (status == OPGP_DONE) {
-        status = fill_keys(it);
-    }
-    if (status == OPGP_DONE) {
-        status = fill_jobs(it);
+    it->firsts[jobs] = at;
+    return OPGP_DONE;
+}
+
+/* Gives the caller a keyring that is read or made: with its tables if the status so far is OPGP_DONE, or NULL. */
+static uint32_t give_keyring(uint32_t status, opgp_keyring *it, opgp_keyring **keyring)
+{
+    static uint32_t (*const steps[])(opgp_keyring *) = {fill_packets, fill_keys, fill_jobs, fill_subpackets, find_firsts};
+    for (size_t k = 0; status == OPGP_DONE && k < sizeof steps / sizeof *steps; k++) {
+        status = steps[k](it);
     }
     if (status != OPGP_DONE) {
         opgp_close(it);
@@ -144,6 +169,48 @@ uint32_t opgp_open(const uint8_t *in, size_t n, const opgp_limits *limits, opgp_
     return status;
 }
 
+uint32_t opgp_open(const uint8_t *in, size_t n, const opgp_limits *limits, opgp_keyring **keyring, opgp_fault *fault)
+{
+    opgp_limits usual;
+    opgp_fault unwanted;
+    const uint8_t nothing = 0;
+    opgp_keyring *it = calloc(1, sizeof *it);
+    uint32_t status = OPGP_MEMORY;
+
+    if (!limits) {
+        opgp_usual_limits(&usual);
+        limits = &usual;
+    }
+    if (it) {
+        status = opgp_ring_open(in ? in : &nothing, n, limits, &it->ring, fault ? fault : &unwanted);
+    }
+    return give_keyring(status, it, keyring);
+}
+
+uint32_t opgp_normalise(opgp_keyring *keyring, opgp_keyring **made)
+{
+    opgp_keyring *it = calloc(1, sizeof *it);
+    return give_keyring(it ? opgp_ring_normalise(&keyring->ring, &it->ring) : OPGP_MEMORY, it, made);
+}
+
+uint32_t opgp_merge(opgp_keyring *keyring, opgp_keyring **made)
+{
+    opgp_keyring *it = calloc(1, sizeof *it);
+    return give_keyring(it ? opgp_ring_merge(&keyring->ring, &it->ring) : OPGP_MEMORY, it, made);
+}
+
+uint32_t opgp_certificate(opgp_keyring *keyring, uint64_t number, opgp_keyring **made)
+{
+    opgp_keyring *it = calloc(1, sizeof *it);
+    return give_keyring(it ? opgp_ring_certificate(&keyring->ring, number, &it->ring) : OPGP_MEMORY, it, made);
+}
+
+uint32_t opgp_join(opgp_keyring *keyring, opgp_keyring *other, opgp_keyring **made)
+{
+    opgp_keyring *it = calloc(1, sizeof *it);
+    return give_keyring(it ? opgp_ring_join(&keyring->ring, &other->ring, &it->ring) : OPGP_MEMORY, it, made);
+}
+
 void opgp_close(opgp_keyring *keyring)
 {
     if (keyring) {
@@ -151,9 +218,12 @@ void opgp_close(opgp_keyring *keyring)
         free(keyring->packets);
         free(keyring->keys);
         free(keyring->jobs);
+        free(keyring->subpackets);
+        free(keyring->firsts);
         free(keyring->bodies);
         free(keyring->material);
         free(keyring->made);
+        free(keyring->data);
         free(keyring);
     }
 }
@@ -188,6 +258,12 @@ const opgp_job *opgp_job_at(const opgp_keyring *keyring, size_t number)
     return number < keyring->job_sizes.rows ? &keyring->jobs[number] : NULL;
 }
 
+const opgp_subpacket *opgp_subpackets_of(const opgp_keyring *keyring, size_t row, size_t *count)
+{
+    *count = row < keyring->job_sizes.rows ? keyring->firsts[row + 1] - keyring->firsts[row] : 0;
+    return *count ? &keyring->subpackets[keyring->firsts[row]] : NULL;
+}
+
 opgp_span opgp_body(const opgp_keyring *keyring, const opgp_packet *packet)
 {
     opgp_span found = {keyring->bodies + packet->at, (size_t)packet->size};
@@ -215,6 +291,12 @@ opgp_span opgp_key_field(const opgp_keyring *keyring, const opgp_key *key, unsig
 opgp_span opgp_job_field(const opgp_keyring *keyring, const opgp_job *job, unsigned number)
 {
     return field(keyring->made, job->at, job->sizes, 2, number);
+}
+
+opgp_span opgp_data(const opgp_keyring *keyring, const opgp_subpacket *subpacket)
+{
+    opgp_span found = {keyring->data + subpacket->at, (size_t)subpacket->size};
+    return found;
 }
 
 /* Gives the caller octets of this size if the status is OPGP_DONE, and else frees them. */

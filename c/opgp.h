@@ -42,7 +42,7 @@ enum {
     OPGP_MEMORY = 3,  /* out of memory, or there is more than a size_t counts */
     OPGP_LIMITS = 4,  /* a limit is out of its range, or the reserved number isn't 0 */
     OPGP_CLOSED = 5,  /* the handle holds nothing */
-    OPGP_NO_ROW = 6   /* there is no such row, or its signature isn't hashed */
+    OPGP_NO_ROW = 6   /* there is no such row, or its signature isn't hashed; or no such certificate */
 };
 
 /* The number that says that there is none. */
@@ -127,6 +127,21 @@ typedef struct opgp_job {
     uint8_t reserved[7];
 } opgp_job;
 
+/* A subpacket of a signature (5.2.3.7). Its data, what is behind its type octet, is bytes[at .. at + size). */
+typedef struct opgp_subpacket {
+    uint64_t certificate; /* where its signature is: the same four numbers as in the signature's opgp_job */
+    uint64_t component;
+    uint64_t hang;
+    uint64_t nested;
+    uint64_t at;
+    uint64_t size;
+    uint8_t kind;        /* its type without the critical bit, 0 to 127 */
+    uint8_t is_critical; /* 1: it is critical */
+    uint8_t is_hashed;   /* 1: it is in the hashed area; 0: in the other, which isn't signed */
+    uint8_t meaning;     /* of its data: 0, it has the form of its kind; 1, it hasn't; 2, its kind is unknown */
+    uint8_t reserved[4];
+} opgp_subpacket;
+
 /* A handle of a keyring, all zeros at first. Only the proved calls may change it. */
 typedef struct opgp_ring {
     bool is_open;
@@ -164,7 +179,8 @@ OPGP_API void opgp_ring_close(opgp_ring ring);
  *
  * - packets: all packets of the keyring in order, and their bodies;
  * - keys: all keys in order, a primary key before its subkeys, and their material;
- * - jobs: all signatures in the order of `opgp check`, those embedded in bindings included, and what their algorithms made.
+ * - jobs: all signatures in the order of `opgp check`, those embedded in bindings included, and what their algorithms made;
+ * - subpackets: those of each signature in the order of the jobs, its hashed area first, and their data.
  *
  * OPGP_DONE; OPGP_ROOM where one of the tables is too short; OPGP_MEMORY; OPGP_CLOSED. With the last two *sizes says
  * nothing. To learn the sizes, call with room for nothing.
@@ -179,6 +195,8 @@ OPGP_API uint32_t opgp_ring_keys(opgp_ring *ring, opgp_key *rows, size_t row_roo
                                  opgp_sizes *sizes);
 OPGP_API uint32_t opgp_ring_jobs(opgp_ring *ring, opgp_job *rows, size_t row_room, uint8_t *bytes, size_t byte_room,
                                  opgp_sizes *sizes);
+OPGP_API uint32_t opgp_ring_subpackets(opgp_ring *ring, opgp_subpacket *rows, size_t row_room, uint8_t *bytes,
+                                       size_t byte_room, opgp_sizes *sizes);
 
 /* Puts what the signature of a row hashes (5.2.4) into octets[0 .. room), by the row's number in the table of jobs; *size is
  * how much that is.
@@ -197,6 +215,23 @@ OPGP_API uint32_t opgp_ring_octets(opgp_ring *ring, uint64_t row, uint8_t *octet
  * Proved: with OPGP_DONE the table begins with the packets, octet for octet as they were read, and is otherwise as it was;
  * with any other status it is unchanged; and the handle holds what it held. */
 OPGP_API uint32_t opgp_ring_write(opgp_ring *ring, uint32_t armor, uint8_t *text, size_t room, uint64_t *size);
+
+/* Make another keyring, which *into holds; what that held before is let go. Give it to opgp_ring_close. ring, other and into are
+ * different handles.
+ *
+ * - normalise: the packets, each in the current format and its shortest length (4.2.1);
+ * - merge: certificates of the same primary key become one, and equal packets of a place appear once (10.1);
+ * - certificate: the certificate of this number, from 0, alone;
+ * - join: the packets of ring, and behind them those of other.
+ *
+ * OPGP_DONE, OPGP_MEMORY, OPGP_CLOSED; of a certificate also OPGP_NO_ROW. With any but OPGP_DONE *into is unchanged.
+ *
+ * Proved: with OPGP_DONE *into holds that keyring; OPGP_NO_ROW is answered only where there is no certificate of that number;
+ * and the other handles hold what they held. */
+OPGP_API uint32_t opgp_ring_normalise(opgp_ring *ring, opgp_ring *into);
+OPGP_API uint32_t opgp_ring_merge(opgp_ring *ring, opgp_ring *into);
+OPGP_API uint32_t opgp_ring_certificate(opgp_ring *ring, uint64_t number, opgp_ring *into);
+OPGP_API uint32_t opgp_ring_join(opgp_ring *ring, opgp_ring *other, opgp_ring *into);
 
 /* ---- On top. Not proved. */
 
@@ -227,17 +262,31 @@ OPGP_API const opgp_key *opgp_key_at(const opgp_keyring *keyring, size_t number)
 OPGP_API size_t opgp_job_count(const opgp_keyring *keyring);
 OPGP_API const opgp_job *opgp_job_at(const opgp_keyring *keyring, size_t number);
 
+/* The subpackets of the signature in a row of the jobs, rows[0 .. *count) of the answer, its hashed area first; NULL, and 0, if it
+ * has none, or there is no such row. They live as long as the keyring. */
+OPGP_API const opgp_subpacket *opgp_subpackets_of(const opgp_keyring *keyring, size_t row, size_t *count);
+
 /* What a row of this keyring points to: a packet's body; the field of a key's material (0 to 3), or of what a signature's
- * algorithm made (0, 1), empty if there is none of that number. It lives as long as the keyring. */
+ * algorithm made (0, 1), empty if there is none of that number; a subpacket's data. It lives as long as the keyring. */
 OPGP_API opgp_span opgp_body(const opgp_keyring *keyring, const opgp_packet *packet);
 OPGP_API opgp_span opgp_key_field(const opgp_keyring *keyring, const opgp_key *key, unsigned number);
 OPGP_API opgp_span opgp_job_field(const opgp_keyring *keyring, const opgp_job *job, unsigned number);
+OPGP_API opgp_span opgp_data(const opgp_keyring *keyring, const opgp_subpacket *subpacket);
 
 /* What opgp_ring_octets and opgp_ring_write put, in memory that the caller frees by free().
  *
  * OPGP_DONE, OPGP_MEMORY; of a row also OPGP_NO_ROW. With any but OPGP_DONE the octets are NULL, and *size is 0. */
 OPGP_API uint32_t opgp_octets(opgp_keyring *keyring, uint64_t row, uint8_t **octets, size_t *size);
 OPGP_API uint32_t opgp_write(opgp_keyring *keyring, bool armor, uint8_t **text, size_t *size);
+
+/* What opgp_ring_normalise, opgp_ring_merge, opgp_ring_certificate and opgp_ring_join make, with its tables; keyring and
+ * other are different. Give *made to opgp_close.
+ *
+ * OPGP_DONE, OPGP_MEMORY; of a certificate also OPGP_NO_ROW. *made is NULL with any but OPGP_DONE. */
+OPGP_API uint32_t opgp_normalise(opgp_keyring *keyring, opgp_keyring **made);
+OPGP_API uint32_t opgp_merge(opgp_keyring *keyring, opgp_keyring **made);
+OPGP_API uint32_t opgp_certificate(opgp_keyring *keyring, uint64_t number, opgp_keyring **made);
+OPGP_API uint32_t opgp_join(opgp_keyring *keyring, opgp_keyring *other, opgp_keyring **made);
 
 /* What is found of a signature. */
 typedef enum opgp_verdict { OPGP_UNDECIDED = 0, OPGP_GOOD = 1, OPGP_BAD = 2 } opgp_verdict;

@@ -2,6 +2,7 @@
  *
  *     --line=N --body=N --cert=N --input=N --pieces=N   the limits of `told`
  *     told      prints the tables, or the fault
+ *     normalise, merge, join, nth=N   write the packets of the keyring that is made; joined with itself
  *     rooms     each room that is too small; each status
  *     memory    each allocation failed in turn
  *     threads   keyrings in several threads, and one keyring in several
@@ -184,6 +185,16 @@ static void print_tables(const opgp_keyring *keyring)
         printf(" zeros %d\n", is_padded && is_zero(key->reserved, sizeof key->reserved) && !opgp_key_field(keyring, key, 4).size);
     }
     opgp_check(keyring, NULL, print_row, (void *)(uintptr_t)keyring);
+    for (size_t row = 0; row < opgp_job_count(keyring); row++) {
+        size_t count;
+        const opgp_subpacket *subpackets = opgp_subpackets_of(keyring, row, &count);
+        for (size_t i = 0; i < count; i++) {
+            const opgp_subpacket *it = &subpackets[i];
+            printf("sub %zu hashed %u kind %u critical %u meaning %u", row, it->is_hashed, it->kind, it->is_critical, it->meaning);
+            print_span(opgp_data(keyring, it));
+            printf(" zeros %d\n", is_zero(it->reserved, sizeof it->reserved));
+        }
+    }
 }
 
 static int told(const opgp_limits *limits)
@@ -198,6 +209,34 @@ static int told(const opgp_limits *limits)
     }
     print_tables(keyring);
     opgp_close(keyring);
+    return 0;
+}
+
+/* Writes the packets of the keyring that this word makes. */
+static int made(const char *word)
+{
+    opgp_keyring *keyring, *again, *it;
+    uint8_t *octets;
+    size_t n;
+    if (opgp_open(in, size, NULL, &keyring, NULL) != OPGP_DONE || opgp_open(in, size, NULL, &again, NULL) != OPGP_DONE) {
+        return 3;
+    }
+    uint32_t status = strcmp(word, "normalise") == 0 ? opgp_normalise(keyring, &it)
+                      : strcmp(word, "merge") == 0   ? opgp_merge(keyring, &it)
+                      : strcmp(word, "join") == 0    ? opgp_join(keyring, again, &it)
+                                                     : opgp_certificate(keyring, strtoull(word + 4, NULL, 10), &it);
+    opgp_close(keyring);
+    opgp_close(again);
+    if (status == OPGP_NO_ROW) {
+        fprintf(stderr, "opgp: no such certificate\n");
+        return 1;
+    }
+    if (status != OPGP_DONE || opgp_write(it, false, &octets, &n) != OPGP_DONE) {
+        return 3;
+    }
+    fwrite(octets, 1, n, stdout);
+    free(octets);
+    opgp_close(it);
     return 0;
 }
 
@@ -272,14 +311,21 @@ static void closed(void)
     opgp_packet packet;
     opgp_key key;
     opgp_job job;
+    opgp_subpacket subpacket;
     opgp_sizes sizes;
     uint64_t wanted;
     uint8_t byte;
+    holds(opgp_ring_subpackets(&ring, &subpacket, 1, &byte, 1, &sizes) == OPGP_CLOSED, "subpackets of a closed handle");
     holds(opgp_ring_packets(&ring, &packet, 1, &byte, 1, &sizes) == OPGP_CLOSED, "packets of a closed handle");
     holds(opgp_ring_keys(&ring, &key, 1, &byte, 1, &sizes) == OPGP_CLOSED, "keys of a closed handle");
     holds(opgp_ring_jobs(&ring, &job, 1, &byte, 1, &sizes) == OPGP_CLOSED, "jobs of a closed handle");
     holds(opgp_ring_octets(&ring, 0, &byte, 1, &wanted) == OPGP_CLOSED, "octets of a closed handle");
     holds(opgp_ring_write(&ring, 0, &byte, 1, &wanted) == OPGP_CLOSED, "writing a closed handle");
+    opgp_ring into = {false, NULL}, other = {false, NULL};
+    holds(opgp_ring_normalise(&ring, &into) == OPGP_CLOSED && opgp_ring_merge(&ring, &into) == OPGP_CLOSED
+              && opgp_ring_certificate(&ring, 0, &into) == OPGP_CLOSED && opgp_ring_join(&ring, &other, &into) == OPGP_CLOSED
+              && !into.is_open && !other.is_open,
+          "keyrings made of a closed handle");
     holds(!ring.is_open, "a closed handle stays closed");
     opgp_ring_close(ring);
 }
@@ -301,6 +347,7 @@ static void rooms(void)
     TRY_ROOMS(opgp_ring_packets, opgp_packet);
     TRY_ROOMS(opgp_ring_keys, opgp_key);
     TRY_ROOMS(opgp_ring_jobs, opgp_job);
+    TRY_ROOMS(opgp_ring_subpackets, opgp_subpacket);
     TRY_OCTETS(opgp_ring_write(&ring, 0, octets, b, &again), "packets");
     TRY_OCTETS(opgp_ring_write(&ring, 1, octets, b, &again), "armor");
     TRY_OCTETS(opgp_ring_write(&ring, UINT32_MAX, octets, b, &again), "armor by another number");
@@ -333,6 +380,20 @@ static void rooms(void)
     opgp_packet packet;
     holds(opgp_ring_packets(&ring, &packet, 0, &byte, 0, &sizes) == OPGP_DONE && sizes.rows == 0 && sizes.bytes == 0,
           "packets of an empty keyring");
+    opgp_ring other = {false, NULL}, into = {false, NULL};
+    holds(opgp_ring_join(&ring, &other, &into) == OPGP_CLOSED && ring.is_open && !other.is_open && !into.is_open,
+          "a keyring joined with a closed handle");
+    holds(opgp_ring_open(in, size, &limits, &other, &fault) == OPGP_DONE, "another keyring");
+    holds(opgp_ring_join(&ring, &other, &into) == OPGP_DONE && ring.is_open && other.is_open && into.is_open
+              && opgp_ring_packets(&into, &packet, 0, &byte, 0, &sizes) == OPGP_ROOM,
+          "a keyring in place of none");
+    holds(opgp_ring_certificate(&ring, 0, &into) == OPGP_NO_ROW && opgp_ring_packets(&into, &packet, 0, &byte, 0, &sizes) == OPGP_ROOM,
+          "no certificate of an empty keyring");
+    holds(opgp_ring_merge(&ring, &into) == OPGP_DONE && opgp_ring_packets(&into, &packet, 0, &byte, 0, &sizes) == OPGP_DONE,
+          "an empty keyring merged, in place of another");
+    holds(opgp_ring_certificate(&other, UINT64_MAX, &into) == OPGP_NO_ROW, "no certificate of the last number");
+    opgp_ring_close(other);
+    opgp_ring_close(into);
     opgp_ring_close(ring);
     holds(held == 0, "what was held is let go");
 }
@@ -368,7 +429,7 @@ static void on_top(void)
 {
     opgp_keyring *keyring = NULL;
     uint8_t *octets;
-    size_t n, rows;
+    size_t n, rows, count = 1;
     opgp_limits limits = {0, 0, 0, 0, 0, 0};
     char text[OPGP_FAULT_ROOM];
     const opgp_fault longest = {UINT64_MAX, UINT64_MAX, UINT64_MAX, 4, 53, {0}}, unknown = {1, 2, 3, 5, 255, {0}};
@@ -376,6 +437,7 @@ static void on_top(void)
     holds(opgp_open(NULL, 0, NULL, &keyring, NULL) == OPGP_DONE && opgp_packet_count(keyring) == 0 && opgp_key_count(keyring) == 0
               && opgp_job_count(keyring) == 0 && !opgp_packet_at(keyring, 0) && !opgp_key_at(keyring, 0) && !opgp_job_at(keyring, 0),
           "an empty keyring");
+    holds(!opgp_subpackets_of(keyring, 0, &count) && count == 0, "subpackets of a row that isn't there");
     holds(opgp_write(keyring, false, &octets, &n) == OPGP_DONE && octets && n == 0, "an empty keyring written");
     free(octets);
     opgp_close(keyring);
@@ -384,6 +446,12 @@ static void on_top(void)
     holds(opgp_open((const uint8_t *)"x", 1, NULL, &keyring, NULL) == OPGP_REFUSED && !keyring, "an input that is refused");
     holds(opgp_open(in, size, NULL, &keyring, NULL) == OPGP_DONE, "a keyring");
     rows = opgp_job_count(keyring);
+    for (size_t row = 0; row <= rows + 1; row++) {
+        const opgp_subpacket *found = opgp_subpackets_of(keyring, row, &count);
+        holds(row < rows ? !found == !count : !found && count == 0, "subpackets of a row");
+    }
+    count = 1;
+    holds(!opgp_subpackets_of(keyring, SIZE_MAX, &count) && count == 0, "subpackets past the last row");
     holds(opgp_octets(keyring, rows, &octets, &n) == OPGP_NO_ROW && !octets && n == 0, "octets past the last row");
     for (int answer = -1; answer < 4; answer++) {
         struct count count = {0, 0, 0, answer};
@@ -433,6 +501,21 @@ static bool everything(void)
         is_well = is_well && status != OPGP_MEMORY;
         free(octets);
     }
+    opgp_keyring *other, *made;
+    status = opgp_normalise(keyring, &other);
+    for (int way = 0; way < 4 && status == OPGP_DONE; way++) {
+        status = way == 0   ? opgp_merge(keyring, &made)
+                 : way == 1 ? opgp_join(keyring, other, &made)
+                 : way == 2 ? opgp_certificate(keyring, 0, &made)
+                            : opgp_certificate(keyring, UINT64_MAX, &made);
+        holds(status == OPGP_DONE ? way < 3 : !made && (status == OPGP_MEMORY || (way == 3 && status == OPGP_NO_ROW)),
+              "a keyring made where memory runs out");
+        opgp_close(made);
+        status = status == OPGP_NO_ROW ? OPGP_DONE : status;
+    }
+    holds(status == OPGP_DONE || status == OPGP_MEMORY, "what making keyrings answers where memory runs out");
+    is_well = is_well && status == OPGP_DONE;
+    opgp_close(other);
     opgp_close(keyring);
     return is_well;
 }
@@ -513,11 +596,17 @@ int main(int argc, char **argv)
     } options[] = {{"--line=", &limits.line}, {"--body=", &limits.body}, {"--cert=", &limits.cert}, {"--input=", &limits.input},
                    {"--pieces=", &limits.pieces}};
     bool is_told = false;
+    const char *making = NULL;
     opgp_usual_limits(&limits);
     size = fread(in, 1, sizeof in, stdin);
     for (int i = 1; i < argc; i++) {
         bool is_known = strcmp(argv[i], "told") == 0;
         is_told = is_told || is_known;
+        if (strcmp(argv[i], "normalise") == 0 || strcmp(argv[i], "merge") == 0 || strcmp(argv[i], "join") == 0
+            || strncmp(argv[i], "nth=", 4) == 0) {
+            making = argv[i];
+            is_known = true;
+        }
         for (size_t k = 0; k < sizeof options / sizeof *options; k++) {
             size_t length = strlen(options[k].word);
             if (strncmp(argv[i], options[k].word, length) == 0) {
@@ -535,6 +624,9 @@ int main(int argc, char **argv)
             fprintf(stderr, "tests/capi.c: unknown word '%s'\n", argv[i]);
             return 2;
         }
+    }
+    if (making) {
+        return made(making);
     }
     if (is_told) {
         return told(&limits);

@@ -5,6 +5,7 @@ ghost use Rattle.std.specs.List.{slice_get};
 ghost use Rattle.opgp_flat.specs.Jobs.{job_bytes, job_rows};
 ghost use Rattle.opgp_flat.specs.Keys.{key_bytes, key_rows};
 ghost use Rattle.opgp_flat.specs.Packets.{packet_bytes, packet_rows};
+ghost use Rattle.opgp_flat.specs.Subpackets.{subpacket_bytes, subpacket_rows};
 ghost use Rattle.opgp_hash.specs.Hashed.{hashed};
 ghost use Rattle.opgp_hash.specs.QuestionValue.{QuestionValue};
 ghost use Rattle.opgp_report.specs.Asked.{asked_of, question_in};
@@ -13,7 +14,9 @@ ghost use Rattle.opgp_c.specs.Calls.{AreSized, IsFilled, IsShort};
 use crate::calls::{put_both, put_octets};
 use crate::sizes::Sizes;
 use crate::status::{MEMORY, NO_ROW};
-use opgp_flat::{JobRow, KeyRow, PacketRow, jobs, keys, packets, row_octets};
+use opgp_flat::{
+    JobRow, KeyRow, PacketRow, SubpacketRow, jobs, keys, packets, row_octets, subpackets,
+};
 use opgp_ring::Keyring;
 use std::alloc::Global;
 
@@ -81,6 +84,29 @@ pub(crate) fn put_jobs(
     ensures status { (result ≡ 0) ⊎ ((result ≡ 2) ⊎ (result ≡ 3)) }
 {
     match jobs(alloc, keyring) {
+        Ok((found, octets)) => put_both(&found, &octets, rows, bytes, sizes),
+        Err(_) => MEMORY,
+    }
+}
+
+/// Puts the subpackets of a keyring's signatures.
+pub(crate) fn put_subpackets(
+    alloc: Global,
+    keyring: &Keyring,
+    rows: &mut [SubpacketRow],
+    bytes: &mut [u8],
+    sizes: &mut Sizes,
+) -> u32
+    ensures done { result ≡ 0 → IsFilled (subpacket_rows keyring.now) rows.old rows.new
+        × IsFilled (subpacket_bytes keyring.now) bytes.old bytes.new }
+    ensures room { result ≡ 2
+        → IsShort (subpacket_rows keyring.now) (subpacket_bytes keyring.now) rows.old bytes.old }
+    ensures kept { result ≢ 0 → (rows.new ≡ rows.old) × (bytes.new ≡ bytes.old) }
+    ensures sizes { result ≢ 3
+        → AreSized (subpacket_rows keyring.now) (subpacket_bytes keyring.now) sizes.new }
+    ensures status { (result ≡ 0) ⊎ ((result ≡ 2) ⊎ (result ≡ 3)) }
+{
+    match subpackets(alloc, keyring) {
         Ok((found, octets)) => put_both(&found, &octets, rows, bytes, sizes),
         Err(_) => MEMORY,
     }

@@ -5,3 +5,4 @@ pub mod Keys
 pub mod Packets
 pub mod Parts
 pub mod Room
+pub mod Subpackets

@@ -50,7 +50,7 @@ fn bad_number(verdict: Verdict) -> u8
     }
 }
 
-fn or_none(number: Option<usize>) -> u64
+pub(crate) fn or_none(number: Option<usize>) -> u64
     ensures { result ≡ or_none number }
 {
     match number {

@@ -14,6 +14,8 @@ pub mod laws;
 mod packet_row;
 mod packet_table;
 mod parts;
+mod subpacket_row;
+mod subpacket_table;
 
 pub use copying::fill;
 pub use fault_row::FaultRow;
@@ -25,3 +27,5 @@ pub use key_row::{KeyRow, NONE};
 pub use key_table::keys;
 pub use packet_row::PacketRow;
 pub use packet_table::packets;
+pub use subpacket_row::SubpacketRow;
+pub use subpacket_table::subpackets;

@@ -1,0 +1,39 @@
+#!/usr/bin/env python3
+"""Prints the keys that the Autocrypt headers (autocrypt.org) of a mail on standard input bring: each with the address that the
+header is for, its fingerprint, and its user IDs.
+
+    python3 autocrypt.py < mail"""
+
+import base64
+import email
+import sys
+
+import opgp
+
+
+def attributes(header: str) -> dict[str, str]:
+    """The attributes of a header, `name=value; name=value`, whose value may be broken into lines."""
+    pairs = (it.partition("=") for it in header.split(";"))
+    return {name.strip(): "".join(value.split()) for name, _, value in pairs}
+
+
+def main() -> int:
+    """Ends with 1 where one of the headers has no certificate."""
+    status = 0
+    for header in email.message_from_binary_file(sys.stdin.buffer).get_all("Autocrypt", []):
+        found = attributes(header)
+        try:
+            with opgp.read(base64.b64decode(found.get("keydata", ""), validate=True)) as keyring:
+                certificates = keyring.certificates()
+            if not certificates:
+                raise ValueError("no certificate")
+            for it in certificates:
+                print(found.get("addr"), it.primary.fingerprint.hex().upper(), *map(repr, it.user_ids))
+        except ValueError as why:  # of base64, a fault, or none
+            print(f"{found.get('addr')}: {why}", file=sys.stderr)
+            status = 1
+    return status
+
+
+if __name__ == "__main__":
+    sys.exit(main())

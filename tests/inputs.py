@@ -53,9 +53,10 @@ def material(rng, algorithm, fields, octets, strict):
     return b"".join(integer(rng, strict) if it == "i" else sized(rng) for it in fields[algorithm])
 
 
-def key(rng, version=None):
+def key(rng, version=None, algorithm=None):
     version = version or rng.choice((4, 4, 4, 6, 6, 6, rng.choice((4, 6, 2, 3, 5, rng.randrange(256)))))
-    algorithm = rng.choice((1, 2, 3, 16, 17, 18, 19, 22, 25, 26, 27, 28, 27, 22, rng.randrange(256)))
+    if algorithm is None:
+        algorithm = rng.choice((1, 2, 3, 16, 17, 18, 19, 22, 25, 26, 27, 28, 27, 22, rng.randrange(256)))
     body = material(rng, algorithm, KEY_MATERIAL, KEY_OCTETS, version == 6)
     count = number(4, len(body)) if version == 6 else b""
     return bytes([version]) + rng.randbytes(4) + bytes([algorithm]) + count + body
@@ -80,8 +81,9 @@ def subpacket_length(rng, n):
     return rng.choice(forms)
 
 
-def subpacket(rng, keys, depth):
-    kind = rng.choice((2, 3, 4, 5, 6, 7, 9, 11, 12, 16, 16, 20, 21, 27, 29, 30, 31, 32, 32, 33, 33, 35, 39, rng.randrange(128)))
+def subpacket(rng, keys, depth, kind=None):
+    if kind is None:
+        kind = rng.choice((2, 3, 4, 5, 6, 7, 9, 11, 12, 16, 16, 20, 21, 27, 29, 30, 31, 32, 32, 33, 33, 35, 39, rng.randrange(128)))
     sizes = {2: 4, 3: 4, 4: 1, 5: 2, 7: 1, 9: 4, 12: 22, 16: 8, 25: 1}
     octets = rng.randbytes(sizes[kind]) if kind in sizes else some(rng, 12)
     named = rng.choice(keys) if keys and rng.random() < 0.8 else bytes([rng.choice((4, 6))])
@@ -98,6 +100,8 @@ def subpacket(rng, keys, depth):
         octets = rng.choice((named[:1], named[:1], named[:1], b"\4", b"\6", b"\5")) + fingerprint(named)
     elif kind == 39:
         octets += octets
+    elif kind == 23 and len(octets) != 1:
+        octets = b"\x80" + octets  # no-modify, which random flags seldom have
     if rng.random() < 0.1:
         octets = rng.choice((octets[:-1], octets + b"\0", b"", some(rng, 300)))
     if rng.random() < 0.005:
@@ -110,14 +114,18 @@ def area(rng, keys, depth, most=4):
     return b"".join(subpacket(rng, keys, depth) for _ in range(rng.randrange(most))) + empty
 
 
-def signature(rng, keys=(), depth=0, kind=None):
-    version = rng.choice((4, 4, 4, 6, 6, 6, 3, rng.choice((2, 5, 0, rng.randrange(256)))))
-    if keys and rng.random() < 0.7:
-        version = keys[0][0]
+def signature(rng, keys=(), depth=0, kind=None, version=None, algorithm=None, hashed=None, first=b""):
+    """A signature; its hashed area begins with these subpackets."""
+    if version is None:
+        version = rng.choice((4, 4, 4, 6, 6, 6, 3, rng.choice((2, 5, 0, rng.randrange(256)))))
+        if keys and rng.random() < 0.7:
+            version = keys[0][0]
     if kind is None:
         kind = rng.choice((0x00, 0x10, 0x13, 0x18, 0x18, 0x19, 0x1F, 0x20, 0x28, 0x30, rng.randrange(256)))
-    algorithm = rng.choice((1, 3, 17, 19, 22, 27, 28, 22, 27, rng.randrange(256)))
-    hashed = rng.choice((2, 8, 8, 9, 10, 11, 12, 14, 1, rng.randrange(256)))
+    if algorithm is None:
+        algorithm = rng.choice((1, 3, 17, 19, 22, 27, 28, 22, 27, rng.randrange(256)))
+    if hashed is None:
+        hashed = rng.choice((2, 8, 8, 9, 10, 11, 12, 14, 1, rng.randrange(256)))
     body = material(rng, algorithm, SIGNATURE_MATERIAL, SIGNATURE_OCTETS, version == 6)
     if version == 3:
         algorithm = rng.choice((1, 3, 17))
@@ -128,7 +136,7 @@ def signature(rng, keys=(), depth=0, kind=None):
     if version not in (4, 6):
         return rng.choice((b"", bytes([version]) + some(rng, 60)))
     width = 2 if version == 4 else 4
-    one, two = area(rng, keys, depth), area(rng, keys, depth, 3)
+    one, two = first + area(rng, keys, depth), area(rng, keys, depth, 3)
     fields = bytes([version, kind, algorithm, hashed]) + number(width, len(one)) + one + number(width, len(two)) + two
     salt = b""
     if version == 6:
@@ -273,6 +281,78 @@ def keyring(rng):
     return parts
 
 
+def sound(make):
+    """What is made, again and again until it has no fault below composition."""
+    while model.answer("show", octets := make())[0]:
+        pass
+    return octets
+
+
+def whole_range(rng):
+    """A keyring with each algorithm, and with each type, hash, kind and want of a signature, in some order: what is seldom drawn."""
+    version = rng.choice((4, 6))
+    algorithms = rng.sample([*KEY_MATERIAL, *KEY_OCTETS], k=len(KEY_MATERIAL) + len(KEY_OCTETS))
+    types = {6: (0x1F, 0x20), 13: (0x10, 0x11, 0x12, 0x13, 0x30), 17: (0x10, 0x13), 14: (0x18, 0x28)}
+    fields = {"kind": sum(types.values(), ()), "hashed": tuple(model.HASHES), "algorithm": (*SIGNATURE_MATERIAL, *SIGNATURE_OCTETS)}
+    kinds, parts = rng.sample([*model.KINDS], k=len(model.KINDS)), []
+    # What a signature is that a question is asked of, or not: by these fields.
+    wants = [{}, {"version": 3}, {"version": 5}, {"version": 10 - version}, {"kind": 0x40}, {"kind": 0x00}, {"kind": 0x19}, {"hashed": 1}]
+
+    def signed(subject, place, keys):
+        """Signatures on what is there, of which the first say rightly how their digest begins."""
+        for n, want in enumerate([*({"kind": it} for it in types[place]), rng.choice(wants)]):
+            drawn = {name: rng.choice(values) for name, values in fields.items()} | {"version": version} | want
+            some = b"".join(subpacket(rng, keys, 1, kinds[(len(parts) + n + k) % len(kinds)]) for k in range(3))
+            if place == 14 and want.get("kind") == 0x18:
+                for it in wants:
+                    inside = signature(rng, keys, 3, **({"kind": 0x19, "version": version, "hashed": 8} | it))
+                    some += subpacket_length(rng, len(inside) + 1) + b"\x20" + inside
+
+            def made():
+                body = signature(rng, keys, 2, first=some, **drawn)
+                try:
+                    return packet(rng, 2, with_its_digest(body, subject) if n < 2 else body)
+                except model.Unfit:
+                    return packet(rng, 2, body)
+
+            parts.append(sound(made))
+
+    def placed(kind, body):
+        parts.append(sound(lambda: packet(rng, kind, body)))
+
+    def new_key(algorithm):
+        return model.packet_of(sound(lambda: b"\xc6\xff" + sized_by_four(key(rng, version, algorithm))), 0, 0, model.USUAL)[2]
+
+    for primary, other in zip(algorithms, algorithms[1:] + algorithms[:1]):
+        keys = [new_key(primary), new_key(other)]
+        subject = model.key_octets(keys[0])
+        placed(6, keys[0])
+        signed(subject, 6, keys)
+        for kind in rng.sample((13, 17), k=1):
+            body = sound_body(rng, kind)
+            placed(kind, body)
+            signed(subject + (b"\xb4" if kind == 13 else b"\xd1") + number(4, len(body)) + body, kind, keys)
+        placed(14, keys[1])
+        signed(subject + model.key_octets(keys[1]), 14, keys)
+        placed(rng.choice((10, 12, 21)), b"PGP")
+    return parts
+
+
+def sized_by_four(octets):
+    return number(4, len(octets)) + octets
+
+
+def sound_body(rng, kind):
+    """The body of a user ID or an attribute that has no fault."""
+    return sound(lambda: bytes([0xC0 | kind, 255]) + sized_by_four(BODIES[kind](rng)))[6:]
+
+
+def each_packet(rng):
+    """A packet of each type that is neither critical and unknown nor compressed, in some order."""
+    kinds = rng.sample((*range(1, 8), *range(9, 15), 17, 18, 21, 40, 63), k=18)
+    return [sound(lambda: packet(rng, kind, BODIES[kind](rng) if kind in BODIES else some(rng, 600))) for kind in kinds]
+
+
 def message(rng):
     k = rng.choice((1, 1, 2, 3))
     signatures = [packet(rng, 2, signature(rng, (), 0, rng.choice((0, 0, 0, 1)))) for _ in range(k)]
@@ -294,6 +374,10 @@ def large(rng):
 
 def packets(rng):
     made = rng.random()
+    if made < 0.04:
+        return whole_range(rng)
+    if made < 0.06:
+        return each_packet(rng)
     if made < 0.62:
         return keyring(rng)
     if made < 0.74:

@@ -386,6 +386,7 @@ pub extern "C" fn opgp_ring_join(
     ensures open { result ≡ 0 → (ring.old.is_open ≡ true) × (other.old.is_open ≡ true) }
     ensures kept { result ≢ 0 → into.new ≡ into.old }
     ensures closed { result ≡ 5 → (ring.old.is_open ≡ false) ⊎ (other.old.is_open ≡ false) }
+    ensures first { ring.old.is_open ≡ false → result ≡ 5 }
     ensures ring { HoldsTheSame ring.old ring.new }
     ensures other { HoldsTheSame other.old other.new }
     ensures status { (result ≡ 0) ⊎ ((result ≡ 3) ⊎ (result ≡ 5)) }

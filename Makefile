@@ -1,18 +1,22 @@
 # make installs what is proved below PREFIX, in DESTDIR: the program, its manual and completions; and the library for C with its
-# header, whose layer on top is compiled by CC. opgp-verify is built where the headers of libcrypto are.
+# header, whose layer on top is compiled by CC. opgp-verify is built where the headers of libcrypto are. make dist packs the same.
+# bin/opgp is build/installed, which runs lib/opgp/opgp and answers --version.
 PREFIX = /usr/local
 DESTDIR =
 CFLAGS = -O2
 LDFLAGS =
-bin = $(DESTDIR)$(PREFIX)/bin
-share = $(DESTDIR)$(PREFIX)/share
-lib = $(DESTDIR)$(PREFIX)/lib
-include = $(DESTDIR)$(PREFIX)/include
+bin = "$(DESTDIR)$(PREFIX)/bin"
+share = "$(DESTDIR)$(PREFIX)/share"
+lib = "$(DESTDIR)$(PREFIX)/lib"
+include = "$(DESTDIR)$(PREFIX)/include"
+# The folder of include and lib, as the file for pkg-config names it.
+root = $(PREFIX)
 # Where the libraries are made; the proved one, and the crates that it is made of.
 made = out
 proved = crates/opgp_c/out/libopgp_c.a
 below = opgp_c $(shell sed -n 's/^opgp_c staticlib: //p' crates.txt)
-strict = -std=c11 -Wall -Wextra -Wconversion -pedantic -fPIC -fvisibility=hidden -Ic
+# No octet of what is compiled depends on the folder, with -g either.
+strict = -std=c11 -Wall -Wextra -Wconversion -pedantic -fPIC -fvisibility=hidden -Ic '-ffile-prefix-map=$(CURDIR)=.'
 version = $(shell sed -n '/OPGP_VERSION/s/.*"\(.*\)"/\1/p' c/opgp.h)
 
 all: program
@@ -32,7 +36,7 @@ $(made)/%.o: c/%.c c/opgp.h
 
 $(made)/libopgp.a: $(proved) $(made)/opgp.o $(made)/heap.o
 	cp $(proved) $@
-	$(AR) rs $@ $(made)/opgp.o $(made)/heap.o
+	$(AR) rsD $@ $(made)/opgp.o $(made)/heap.o
 
 $(made)/libopgp.so.0: $(made)/libopgp.a c/opgp.map
 	$(CC) -shared $(LDFLAGS) -Wl,-soname,libopgp.so.0 -Wl,--version-script=c/opgp.map -Wl,-z,defs -o $@ \
@@ -51,11 +55,15 @@ verifier: $(made)/libopgp.a
 install: install-program install-library
 
 install-program: program
-	install -D -m 755 crates/opgp_tool/out/opgp_tool $(bin)/opgp
+	install -D -m 755 crates/opgp_tool/out/opgp_tool $(lib)/opgp/opgp
+	install -D -m 755 build/installed $(bin)/opgp
 	install -D -m 644 man/opgp.1 $(share)/man/man1/opgp.1
 	install -D -m 644 completions/opgp.bash $(share)/bash-completion/completions/opgp
 	install -D -m 644 completions/opgp.zsh $(share)/zsh/site-functions/_opgp
 	install -D -m 644 completions/opgp.fish $(share)/fish/vendor_completions.d/opgp.fish
+	install -d $(share)/doc/opgp
+	build/version > $(share)/doc/opgp/VERSION
+	chmod 644 $(share)/doc/opgp/VERSION
 
 install-library: library
 	install -D -m 644 $(made)/libopgp.a $(lib)/libopgp.a
@@ -63,16 +71,21 @@ install-library: library
 	ln -sf libopgp.so.0 $(lib)/libopgp.so
 	install -D -m 644 c/opgp.h $(include)/opgp.h
 	install -d $(lib)/pkgconfig
-	printf '%s\n' 'prefix=$(PREFIX)' 'Name: opgp' 'Description: OpenPGP certificates and keyrings (RFC 9580), proved' \
+	printf '%s\n' 'prefix=$(root)' 'Name: opgp' 'Description: OpenPGP certificates and keyrings (RFC 9580), proved' \
 		'Version: $(version)' 'Cflags: -I$${prefix}/include' 'Libs: -L$${prefix}/lib -lopgp' > $(lib)/pkgconfig/opgp.pc
+	chmod 644 $(lib)/pkgconfig/opgp.pc
 	if [ -e $(made)/opgp-verify ]; then install -D -m 755 $(made)/opgp-verify $(bin)/opgp-verify; fi
 
 uninstall:
-	rm -f $(bin)/opgp $(bin)/opgp-verify $(share)/man/man1/opgp.1 $(share)/bash-completion/completions/opgp \
+	rm -f $(bin)/opgp $(lib)/opgp/opgp $(bin)/opgp-verify $(share)/man/man1/opgp.1 $(share)/bash-completion/completions/opgp \
 		$(share)/zsh/site-functions/_opgp $(share)/fish/vendor_completions.d/opgp.fish $(lib)/libopgp.a $(lib)/libopgp.so.0 \
-		$(lib)/libopgp.so $(include)/opgp.h $(lib)/pkgconfig/opgp.pc
+		$(lib)/libopgp.so $(include)/opgp.h $(lib)/pkgconfig/opgp.pc $(share)/doc/opgp/VERSION
+	for it in $(share)/doc/opgp $(lib)/opgp; do if [ -d "$$it" ]; then rmdir --ignore-fail-on-non-empty "$$it"; fi; done
+
+dist:
+	made='$(made)' CC='$(CC)' CFLAGS='$(CFLAGS)' build/dist $(MAKE)
 
 check:
 	.ci/run
 
-.PHONY: all program library verifier install install-program install-library uninstall check
+.PHONY: all program library verifier install install-program install-library uninstall dist check

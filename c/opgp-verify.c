@@ -400,12 +400,13 @@ static void print_row(const opgp_keyring *keyring, size_t row, const struct find
 {
     static const char *const words[] = {"undecided", "good", "bad"};
     const opgp_job *job = opgp_job_at(keyring, row);
+    char why[OPGP_NAME_ROOM];
     printf("row %zu cert %" PRIu64, row, job->certificate);
     print_number("part", job->component);
     print_number("hang", job->hang);
     print_number("nested", job->nested);
     if (job->why != 0) {
-        printf(" : none %s\n", opgp_why_name(job->why));
+        printf(" : none %s\n", opgp_name_text(OPGP_WHYS, job->why, why));
         return;
     }
     printf(" : asked type %02X hash %u signer ", job->kind, job->hash);

@@ -1,9 +1,8 @@
 /* The layer on top: allocation, loops and callbacks. It reads no octet of any input. */
 #include "opgp.h"
 
-#include <inttypes.h>
-#include <stdio.h>
 #include <stdlib.h>
+#include <string.h>
 
 /* The structs are those that the proved calls fill. */
 #define IS_AT(STRUCT, FIELD, AT) _Static_assert(offsetof(STRUCT, FIELD) == (AT), #STRUCT "." #FIELD)
@@ -69,22 +68,30 @@ IS_AT(opgp_job, digest_size, 72);
 IS_AT(opgp_job, digest, 73);
 IS_AT(opgp_job, reserved, 137);
 
-_Static_assert(sizeof(opgp_subpacket) == 56, "opgp_subpacket");
+_Static_assert(sizeof(opgp_subpacket) == 88, "opgp_subpacket");
 IS_AT(opgp_subpacket, certificate, 0);
 IS_AT(opgp_subpacket, component, 8);
 IS_AT(opgp_subpacket, hang, 16);
 IS_AT(opgp_subpacket, nested, 24);
 IS_AT(opgp_subpacket, at, 32);
 IS_AT(opgp_subpacket, size, 40);
-IS_AT(opgp_subpacket, kind, 48);
-IS_AT(opgp_subpacket, is_critical, 49);
-IS_AT(opgp_subpacket, is_hashed, 50);
-IS_AT(opgp_subpacket, meaning, 51);
-IS_AT(opgp_subpacket, reserved, 52);
+IS_AT(opgp_subpacket, fields_at, 48);
+IS_AT(opgp_subpacket, field_sizes, 56);
+IS_AT(opgp_subpacket, numbers, 72);
+IS_AT(opgp_subpacket, kind, 80);
+IS_AT(opgp_subpacket, is_critical, 81);
+IS_AT(opgp_subpacket, is_hashed, 82);
+IS_AT(opgp_subpacket, meaning, 83);
+IS_AT(opgp_subpacket, form, 84);
+IS_AT(opgp_subpacket, reserved, 85);
 
 _Static_assert(sizeof(opgp_ring) == 2 * sizeof(void *), "opgp_ring");
 IS_AT(opgp_ring, is_open, 0);
 IS_AT(opgp_ring, at, sizeof(void *));
+
+_Static_assert(sizeof(opgp_reader) == 2 * sizeof(void *), "opgp_reader");
+IS_AT(opgp_reader, is_open, 0);
+IS_AT(opgp_reader, at, sizeof(void *));
 
 struct opgp_keyring {
     opgp_ring ring;
@@ -106,28 +113,52 @@ static void *room_for(uint64_t count, size_t size)
     return count > SIZE_MAX / size ? NULL : calloc(count ? (size_t)count : 1, size);
 }
 
-/* Makes one table: asks how much room it wants, by one that has none, and then for all of it. */
-#define FILL(CALL, ROW, ROWS, BYTES, SIZES)                                                                        \
-    static uint32_t fill_##ROWS(opgp_keyring *it)                                                                  \
+/* Makes one table, in this room at first, and where that is too little in as much as it then wants. */
+#define FILL(CALL, ROWS, BYTES, SIZES)                                                                             \
+    static uint32_t fill_##ROWS(opgp_keyring *it, opgp_sizes room)                                                 \
     {                                                                                                              \
-        ROW row;                                                                                                   \
-        uint8_t byte;                                                                                              \
-        uint32_t status = CALL(&it->ring, &row, 0, &byte, 0, &it->SIZES);                                          \
-        if (status != OPGP_DONE && status != OPGP_ROOM) {                                                          \
-            return status;                                                                                         \
+        for (;;) {                                                                                                 \
+            it->ROWS = room_for(room.rows, sizeof *it->ROWS);                                                      \
+            it->BYTES = room_for(room.bytes, 1);                                                                   \
+            if (!it->ROWS || !it->BYTES) {                                                                         \
+                return OPGP_MEMORY;                                                                                \
+            }                                                                                                      \
+            uint32_t status = CALL(&it->ring, it->ROWS, (size_t)room.rows, it->BYTES, (size_t)room.bytes, &it->SIZES); \
+            if (status != OPGP_ROOM) {                                                                             \
+                return status;                                                                                     \
+            }                                                                                                      \
+            free(it->ROWS);                                                                                        \
+            free(it->BYTES);                                                                                       \
+            it->ROWS = NULL;                                                                                       \
+            it->BYTES = NULL;                                                                                      \
+            room = it->SIZES;                                                                                      \
         }                                                                                                          \
-        it->ROWS = room_for(it->SIZES.rows, sizeof *it->ROWS);                                                     \
-        it->BYTES = room_for(it->SIZES.bytes, 1);                                                                  \
-        if (!it->ROWS || !it->BYTES) {                                                                             \
-            return OPGP_MEMORY;                                                                                    \
-        }                                                                                                          \
-        return CALL(&it->ring, it->ROWS, (size_t)it->SIZES.rows, it->BYTES, (size_t)it->SIZES.bytes, &it->SIZES);  \
     }
 
-FILL(opgp_ring_packets, opgp_packet, packets, bodies, packet_sizes)
-FILL(opgp_ring_keys, opgp_key, keys, material, key_sizes)
-FILL(opgp_ring_jobs, opgp_job, jobs, made, job_sizes)
-FILL(opgp_ring_subpackets, opgp_subpacket, subpackets, data, subpacket_sizes)
+FILL(opgp_ring_packets, packets, bodies, packet_sizes)
+FILL(opgp_ring_keys, keys, material, key_sizes)
+FILL(opgp_ring_jobs, jobs, made, job_sizes)
+FILL(opgp_ring_subpackets, subpackets, data, subpacket_sizes)
+
+/* Makes all tables. The packets say how many keys and signatures there are, but for those that are embedded: a subkey's binding
+ * embeds one or none mostly; so each digest is made once. */
+static uint32_t fill_tables(opgp_keyring *it)
+{
+    const opgp_sizes nothing = {0, 0};
+    opgp_sizes keys = nothing, jobs = nothing;
+    uint32_t status = fill_packets(it, nothing);
+    for (uint64_t i = 0; status == OPGP_DONE && i < it->packet_sizes.rows; i++) {
+        const opgp_packet *packet = &it->packets[i];
+        bool is_subkey = packet->kind == 14, is_key = is_subkey || packet->kind == 6, is_signature = packet->kind == 2;
+        keys.rows += is_key;
+        keys.bytes += is_key ? packet->size : 0;
+        jobs.rows += is_signature || is_subkey;
+        jobs.bytes += is_signature ? packet->size : 0;
+    }
+    status = status == OPGP_DONE ? fill_keys(it, keys) : status;
+    status = status == OPGP_DONE ? fill_jobs(it, jobs) : status;
+    return status == OPGP_DONE ? fill_subpackets(it, nothing) : status;
+}
 
 /* Whether a subpacket is of the signature of this job. */
 static bool is_of(const opgp_subpacket *subpacket, const opgp_job *job)
@@ -157,10 +188,8 @@ static uint32_t find_firsts(opgp_keyring *it)
 /* Gives the caller a keyring that is read or made: with its tables if the status so far is OPGP_DONE, or NULL. */
 static uint32_t give_keyring(uint32_t status, opgp_keyring *it, opgp_keyring **keyring)
 {
-    static uint32_t (*const steps[])(opgp_keyring *) = {fill_packets, fill_keys, fill_jobs, fill_subpackets, find_firsts};
-    for (size_t k = 0; status == OPGP_DONE && k < sizeof steps / sizeof *steps; k++) {
-        status = steps[k](it);
-    }
+    status = status == OPGP_DONE ? fill_tables(it) : status;
+    status = status == OPGP_DONE ? find_firsts(it) : status;
     if (status != OPGP_DONE) {
         opgp_close(it);
         it = NULL;
@@ -185,6 +214,12 @@ uint32_t opgp_open(const uint8_t *in, size_t n, const opgp_limits *limits, opgp_
         status = opgp_ring_open(in ? in : &nothing, n, limits, &it->ring, fault ? fault : &unwanted);
     }
     return give_keyring(status, it, keyring);
+}
+
+uint32_t opgp_take(opgp_reader *reader, opgp_keyring **keyring)
+{
+    opgp_keyring *it = calloc(1, sizeof *it);
+    return give_keyring(it ? opgp_reader_take(reader, &it->ring) : OPGP_MEMORY, it, keyring);
 }
 
 uint32_t opgp_normalise(opgp_keyring *keyring, opgp_keyring **made)
@@ -299,6 +334,11 @@ opgp_span opgp_data(const opgp_keyring *keyring, const opgp_subpacket *subpacket
     return found;
 }
 
+opgp_span opgp_subpacket_field(const opgp_keyring *keyring, const opgp_subpacket *subpacket, unsigned number)
+{
+    return field(keyring->data, subpacket->fields_at, subpacket->field_sizes, 2, number);
+}
+
 /* Gives the caller octets of this size if the status is OPGP_DONE, and else frees them. */
 static uint32_t give(uint32_t status, uint8_t *room, uint64_t wanted, uint8_t **octets, size_t *size)
 {
@@ -374,14 +414,6 @@ int opgp_check(const opgp_keyring *keyring, opgp_verifier *verify, opgp_reporter
     return ended;
 }
 
-/* The name of a number, if the table has one. */
-static const char *name_in(const char *const *names, size_t count, size_t number)
-{
-    return number < count && names[number] ? names[number] : "unknown";
-}
-
-#define NAME_IN(NAMES, NUMBER) name_in((NAMES), sizeof(NAMES) / sizeof *(NAMES), (NUMBER))
-
 const char *opgp_status_text(uint32_t status)
 {
     static const char *const texts[] = {
@@ -392,39 +424,31 @@ const char *opgp_status_text(uint32_t status)
         [OPGP_LIMITS] = "a limit is out of its range",
         [OPGP_CLOSED] = "the handle holds nothing",
         [OPGP_NO_ROW] = "no such row",
+        [OPGP_ENDED] = "the input has ended",
     };
-    return NAME_IN(texts, status);
+    return status < sizeof texts / sizeof *texts ? texts[status] : "unknown";
 }
 
-const char *opgp_layer_name(uint8_t layer)
+/* Ends a text of this size if the status is OPGP_DONE; else there is none. */
+static char *ended(uint32_t status, char *text, uint64_t size)
 {
-    static const char *const names[] = {"input", "armor", "framing", "body", "composition"};
-    return NAME_IN(names, layer);
+    if (status != OPGP_DONE) {
+        return strcpy(text, "unknown");
+    }
+    text[size] = '\0';
+    return text;
 }
 
-const char *opgp_why_name(uint8_t why)
+char *opgp_name_text(uint32_t table, uint8_t number, char text[OPGP_NAME_ROOM])
 {
-    static const char *const names[] = {NULL, "opaque", "kind", "misplaced", "version", "hash"};
-    return NAME_IN(names, why);
-}
-
-const char *opgp_reason_name(uint8_t reason)
-{
-    static const char *const names[] = {
-        [1] = "Spent", [2] = "Short", [3] = "MpiBits", [10] = "NoBlock", [11] = "Label", [12] = "Header", [13] = "Letters",
-        [14] = "Padding", [15] = "AfterChecksum", [16] = "EndLabel", [17] = "Unfinished", [18] = "LineTooLong",
-        [19] = "InputTooLong", [20] = "NotAPacket", [21] = "TypeZero", [22] = "Compressed", [23] = "UnknownCritical",
-        [24] = "Indeterminate", [25] = "Truncated", [26] = "PartialKind", [27] = "FirstPartial", [28] = "BodyTooLong",
-        [29] = "TooManyPieces", [30] = "KeyVersion", [31] = "KeyTooLong", [32] = "Count", [33] = "OidSize", [34] = "KdfSize",
-        [35] = "Trailing", [36] = "SubEmpty", [37] = "SubShort", [40] = "AreaShort", [41] = "SaltSize", [50] = "NoPrimary",
-        [51] = "NotInKeyring", [52] = "CertTooLong", [53] = "NotASignedLiteral", [54] = "BlockLabel",
-    };
-    return NAME_IN(names, reason);
+    uint64_t size = 0;
+    uint32_t status = opgp_name(table, number, (uint8_t *)text, OPGP_NAME_ROOM - 1, &size);
+    return ended(status, text, size);
 }
 
 char *opgp_fault_text(const opgp_fault *fault, char text[OPGP_FAULT_ROOM])
 {
-    snprintf(text, OPGP_FAULT_ROOM, "%s: %s block %" PRIu64 " at %" PRIu64 " inner %" PRIu64, opgp_layer_name(fault->layer),
-             opgp_reason_name(fault->reason), fault->block, fault->pos, fault->inner);
-    return text;
+    uint64_t size = 0;
+    uint32_t status = opgp_fault_line(fault, (uint8_t *)text, OPGP_FAULT_ROOM - 1, &size);
+    return ended(status, text, size);
 }

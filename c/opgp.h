@@ -29,7 +29,7 @@ extern "C" {
 #endif
 
 /* The version of the structs and calls below: what opgp_abi() of the library must answer. */
-#define OPGP_ABI 1
+#define OPGP_ABI 2
 
 /* The version of the library, for people. */
 #define OPGP_VERSION "0.1"
@@ -42,11 +42,42 @@ enum {
     OPGP_MEMORY = 3,  /* out of memory, or there is more than a size_t counts */
     OPGP_LIMITS = 4,  /* a limit is out of its range, or the reserved number isn't 0 */
     OPGP_CLOSED = 5,  /* the handle holds nothing */
-    OPGP_NO_ROW = 6   /* there is no such row, or its signature isn't hashed; or no such certificate */
+    OPGP_NO_ROW = 6,  /* there is no such row, or its signature isn't hashed; no such certificate, name or fault; no part waits */
+    OPGP_ENDED = 7    /* the input of the reader has ended */
 };
 
 /* The number that says that there is none. */
 #define OPGP_NONE UINT64_MAX
+
+/* ---- Tables of numbers that have names, for opgp_name. The numbers never change. */
+enum {
+    OPGP_PACKET_TYPES = 0,    /* of packets (5) */
+    OPGP_KEY_ALGORITHMS = 1,  /* public-key algorithms (9.1) */
+    OPGP_HASH_ALGORITHMS = 2, /* 9.5 */
+    OPGP_SIGNATURE_TYPES = 3, /* 5.2.1 */
+    OPGP_SUBPACKET_KINDS = 4, /* 5.2.3.7 */
+    OPGP_LAYERS = 5,          /* of a fault */
+    OPGP_REASONS = 6,         /* of a fault */
+    OPGP_WHYS = 7             /* why a signature isn't hashed */
+};
+
+/* ---- Forms of a subpacket's data: which numbers it says, and which fields of octets. The numbers of the forms never change. */
+enum {
+    OPGP_FORM_NONE = 0,          /* no numbers and no fields: it hasn't the form of its kind, or its kind is unknown */
+    OPGP_FORM_NUMBER = 1,        /* numbers: seconds (5.2.3.11, 5.2.3.13, 5.2.3.18) */
+    OPGP_FORM_OCTET = 2,         /* numbers: 0 for no, any other for yes (5.2.3.19, 5.2.3.20, 5.2.3.27) */
+    OPGP_FORM_TWO_OCTETS = 3,    /* numbers: depth, amount (5.2.3.21) */
+    OPGP_FORM_ENDED_TEXT = 4,    /* fields: a regular expression, without the octet 0 at its end (5.2.3.22) */
+    OPGP_FORM_OCTETS = 5,        /* fields: all octets: algorithms (5.2.3.14), flags (5.2.3.29) or a text (5.2.3.30) */
+    OPGP_FORM_REVOKER = 6,       /* numbers: class, algorithm; fields: fingerprint (5.2.3.23) */
+    OPGP_FORM_KEY_ID = 7,        /* fields: key ID (5.2.3.12) */
+    OPGP_FORM_NOTATION = 8,      /* numbers: flags, bit 31 for a value that people can read; fields: name, value (5.2.3.24) */
+    OPGP_FORM_CODE_AND_TEXT = 9, /* numbers: code; fields: text (5.2.3.31) */
+    OPGP_FORM_TARGET = 10,       /* numbers: public-key algorithm, hash algorithm; fields: digest (5.2.3.33) */
+    OPGP_FORM_SIGNATURE = 11,    /* fields: the body of a signature (5.2.3.34) */
+    OPGP_FORM_FINGERPRINT = 12,  /* numbers: version; fields: fingerprint (5.2.3.35, 5.2.3.36) */
+    OPGP_FORM_PAIRS = 13         /* fields: pairs of a symmetric and an AEAD algorithm (5.2.3.15) */
+};
 
 /* ---- Structs. Each is what the proved calls fill, field by field; reserved octets are zeros. */
 
@@ -127,19 +158,25 @@ typedef struct opgp_job {
     uint8_t reserved[7];
 } opgp_job;
 
-/* A subpacket of a signature (5.2.3.7). Its data, what is behind its type octet, is bytes[at .. at + size). */
+/* A subpacket of a signature (5.2.3.7). Its data, what is behind its type octet, is bytes[at .. at + size). Where that has
+ * the form of its kind, it says at most two numbers, and at most two fields of octets, which are in bytes, from fields_at on, one
+ * after the other. */
 typedef struct opgp_subpacket {
-    uint64_t certificate; /* where its signature is: the same four numbers as in the signature's opgp_job */
+    uint64_t certificate;    /* where its signature is: the same four numbers as in the signature's opgp_job */
     uint64_t component;
     uint64_t hang;
     uint64_t nested;
     uint64_t at;
     uint64_t size;
-    uint8_t kind;        /* its type without the critical bit, 0 to 127 */
-    uint8_t is_critical; /* 1: it is critical */
-    uint8_t is_hashed;   /* 1: it is in the hashed area; 0: in the other, which isn't signed */
-    uint8_t meaning;     /* of its data: 0, it has the form of its kind; 1, it hasn't; 2, its kind is unknown */
-    uint8_t reserved[4];
+    uint64_t fields_at;
+    uint64_t field_sizes[2]; /* 0 for one that the form doesn't have */
+    uint32_t numbers[2];     /* 0 for one that the form doesn't have */
+    uint8_t kind;            /* its type without the critical bit, 0 to 127 */
+    uint8_t is_critical;     /* 1: it is critical */
+    uint8_t is_hashed;       /* 1: it is in the hashed area; 0: in the other, which isn't signed */
+    uint8_t meaning;         /* of its data: 0, it has the form of its kind; 1, it hasn't; 2, its kind is unknown */
+    uint8_t form;            /* OPGP_FORM_NUMBER and so on */
+    uint8_t reserved[3];
 } opgp_subpacket;
 
 /* A handle of a keyring, all zeros at first. Only the proved calls may change it. */
@@ -148,18 +185,44 @@ typedef struct opgp_ring {
     void *at;
 } opgp_ring;
 
+/* A handle of a keyring that is read in pieces, all zeros at first. Only the proved calls may change it. */
+typedef struct opgp_reader {
+    bool is_open;
+    void *at;
+} opgp_reader;
+
 /* ---- Proved calls. Also proved of each: it returns, and nothing that it does is undefined, if the caller keeps what it
  * owes. What a handle points to, and a call's work, is allocated by rattle_alloc of heap.c, which is malloc. */
 
 /* The version of the structs and calls of the library. A program that was compiled for another one can't use it.
  *
- * Proved: it is 1. */
+ * Proved: it is 2. */
 OPGP_API uint32_t opgp_abi(void);
 
 /* Gives the usual limits: 8,192 octets of a line, 2^24 of a body, 2^26 of a certificate, 2^40 of the input, 2^20 pieces.
  *
  * Proved: these are they. */
 OPGP_API void opgp_usual_limits(opgp_limits *limits);
+
+/* Puts the name that a table (OPGP_PACKET_TYPES and so on) has for a number into text[0 .. room), in ASCII, without a NUL; *size
+ * is how much that is, 52 octets at most. The names are those of the standard, as docs/NUMBERS.md has them; of layers, reasons
+ * (docs/FORMAT.md) and of why a signature isn't hashed, those that the program prints.
+ *
+ * OPGP_DONE, OPGP_ROOM; OPGP_NO_ROW where there is no such table, or it has no name for the number; *size is unchanged then.
+ *
+ * Proved: with OPGP_DONE the text begins with that name, and is otherwise as it was; with any other status it is unchanged; with
+ * OPGP_ROOM it has less room than the name wants; OPGP_NO_ROW is answered if and only if there is none. */
+OPGP_API uint32_t opgp_name(uint32_t table, uint8_t number, uint8_t *text, size_t room, uint64_t *size);
+
+/* Puts a fault's line, as the program writes it, such as "armor: EndLabel block 0 at 112 inner 0", into text[0 .. room), in ASCII,
+ * without a line feed or a NUL; *size is how much that is, 108 octets at most.
+ *
+ * OPGP_DONE, OPGP_ROOM; OPGP_NO_ROW where there is no such layer, or no such reason; *size is unchanged then.
+ *
+ * Proved: with OPGP_DONE the text begins with that line, and is otherwise as it was; with any other status it is unchanged; with
+ * OPGP_ROOM it has less room than the line wants, and fewer than 108 octets; OPGP_NO_ROW is answered if and only if the layer or
+ * the reason has no such number. */
+OPGP_API uint32_t opgp_fault_line(const opgp_fault *fault, uint8_t *text, size_t room, uint64_t *size);
 
 /* Reads the keyring of the octets in[0 .. n), armored or binary, and keeps it in the handle; what that held before is let
  * go. in isn't needed after the call. Give the handle to opgp_ring_close.
@@ -233,6 +296,43 @@ OPGP_API uint32_t opgp_ring_merge(opgp_ring *ring, opgp_ring *into);
 OPGP_API uint32_t opgp_ring_certificate(opgp_ring *ring, uint64_t number, opgp_ring *into);
 OPGP_API uint32_t opgp_ring_join(opgp_ring *ring, opgp_ring *other, opgp_ring *into);
 
+/* Read a keyring whose octets, armored or binary, come in pieces of any size, and hand out its parts as they come: the packets
+ * before the first certificate, if there are any, and each certificate. A reader keeps what is unfinished, within its limits,
+ * and the parts that wait to be taken; so an input of any size is read in bounded memory, if the parts are taken after each piece.
+ *
+ *     opgp_reader reader = {0};
+ *     opgp_ring part = {0};
+ *     opgp_reader_open(&limits, &reader);
+ *     while there is a piece: opgp_reader_push(&reader, piece, size);
+ *                             while (opgp_reader_take(&reader, &part) == OPGP_DONE) ..
+ *     opgp_reader_end(&reader, &fault);
+ *     while (opgp_reader_take(&reader, &part) == OPGP_DONE) ..
+ *     opgp_ring_close(part), opgp_reader_close(reader);
+ *
+ * Whether the input is a keyring is known at its end alone: a fault may follow the parts that were handed out.
+ *
+ * - open: begins; what the handle held before is let go. OPGP_DONE, OPGP_LIMITS, OPGP_MEMORY; with any but OPGP_DONE the handle is
+ *   unchanged.
+ * - push: takes the next piece, piece[0 .. n), all of it. OPGP_DONE, OPGP_ENDED, OPGP_MEMORY, OPGP_CLOSED. Fewer than 2^63 octets
+ *   are given in all.
+ * - take: keeps the next part in *into, as a keyring of its own; what that held before is let go. OPGP_DONE; OPGP_NO_ROW where no
+ *   part is complete that wasn't taken; OPGP_MEMORY, OPGP_CLOSED. With any but OPGP_DONE *into is unchanged.
+ * - end: ends the input. OPGP_DONE: it is a keyring; OPGP_REFUSED with *fault: it isn't; OPGP_MEMORY, OPGP_CLOSED. Asked again it
+ *   answers the same. With any but OPGP_REFUSED *fault is unchanged.
+ * - close: lets go what the handle holds. The handle, and each copy of it, can't be used again.
+ *
+ * Out of memory a piece isn't taken. The reading may then be lost: each later call but close answers OPGP_MEMORY.
+ *
+ * Proved: however the octets are cut, with OPGP_DONE of end they encode one keyring, whose parts are those that were taken, in
+ * order, and those that can still be taken; with OPGP_REFUSED they encode none, and *fault is the one fault of the lowest layer
+ * that refuses them, as opgp_ring_open answers for them in one piece; OPGP_NO_ROW is answered only where no part waits;
+ * OPGP_CLOSED if and only if the handle holds nothing. */
+OPGP_API uint32_t opgp_reader_open(const opgp_limits *limits, opgp_reader *reader);
+OPGP_API uint32_t opgp_reader_push(opgp_reader *reader, const uint8_t *piece, size_t n);
+OPGP_API uint32_t opgp_reader_take(opgp_reader *reader, opgp_ring *into);
+OPGP_API uint32_t opgp_reader_end(opgp_reader *reader, opgp_fault *fault);
+OPGP_API void opgp_reader_close(opgp_reader reader);
+
 /* ---- On top. Not proved. */
 
 /* A keyring with its tables. */
@@ -251,6 +351,13 @@ typedef struct opgp_span {
  * unchanged with any but OPGP_REFUSED. */
 OPGP_API uint32_t opgp_open(const uint8_t *in, size_t n, const opgp_limits *limits, opgp_keyring **keyring, opgp_fault *fault);
 
+/* Takes the next part of a keyring that is read in pieces, as opgp_reader_take does, and makes its tables. Give *keyring to
+ * opgp_close.
+ *
+ * OPGP_DONE, OPGP_NO_ROW, OPGP_MEMORY, OPGP_CLOSED. *keyring is NULL with any but OPGP_DONE. A part that was taken, and whose
+ * tables memory was wanting for, is lost. */
+OPGP_API uint32_t opgp_take(opgp_reader *reader, opgp_keyring **keyring);
+
 /* Frees a keyring and all that points into it; NULL is allowed. */
 OPGP_API void opgp_close(opgp_keyring *keyring);
 
@@ -267,11 +374,13 @@ OPGP_API const opgp_job *opgp_job_at(const opgp_keyring *keyring, size_t number)
 OPGP_API const opgp_subpacket *opgp_subpackets_of(const opgp_keyring *keyring, size_t row, size_t *count);
 
 /* What a row of this keyring points to: a packet's body; the field of a key's material (0 to 3), or of what a signature's
- * algorithm made (0, 1), empty if there is none of that number; a subpacket's data. It lives as long as the keyring. */
+ * algorithm made (0, 1), empty if there is none of that number; a subpacket's data, and its field of octets (0, 1). It lives as
+ * long as the keyring. */
 OPGP_API opgp_span opgp_body(const opgp_keyring *keyring, const opgp_packet *packet);
 OPGP_API opgp_span opgp_key_field(const opgp_keyring *keyring, const opgp_key *key, unsigned number);
 OPGP_API opgp_span opgp_job_field(const opgp_keyring *keyring, const opgp_job *job, unsigned number);
 OPGP_API opgp_span opgp_data(const opgp_keyring *keyring, const opgp_subpacket *subpacket);
+OPGP_API opgp_span opgp_subpacket_field(const opgp_keyring *keyring, const opgp_subpacket *subpacket, unsigned number);
 
 /* What opgp_ring_octets and opgp_ring_write put, in memory that the caller frees by free().
  *
@@ -315,18 +424,19 @@ typedef int opgp_reporter(void *context, size_t row, const opgp_job *job, opgp_v
  * and critical subpackets aren't looked at, so whether a signature may be relied on is for the caller. */
 OPGP_API int opgp_check(const opgp_keyring *keyring, opgp_verifier *verify, opgp_reporter *report, void *context);
 
-/* What a status means, in a few words; the names of a layer and of a reason, as the program's error lines have them, and of why
- * a signature isn't hashed, as its rows have it. "unknown" for any other number. They live for ever. */
+/* What a status means, in a few words; "unknown" for any other number. It lives for ever. */
 OPGP_API const char *opgp_status_text(uint32_t status);
-OPGP_API const char *opgp_layer_name(uint8_t layer);
-OPGP_API const char *opgp_reason_name(uint8_t reason);
-OPGP_API const char *opgp_why_name(uint8_t why);
+
+/* As much room as each name needs, with its NUL. */
+#define OPGP_NAME_ROOM 64
+
+/* Writes the name that opgp_name puts, with a NUL, or "unknown" where there is none, and answers text. */
+OPGP_API char *opgp_name_text(uint32_t table, uint8_t number, char text[OPGP_NAME_ROOM]);
 
 /* As much room as each fault's line needs, with its NUL. */
 #define OPGP_FAULT_ROOM 128
 
-/* Writes a fault as the program does, such as "armor: EndLabel block 0 at 112 inner 0", with a NUL and without a line feed,
- * and answers text. */
+/* Writes the line that opgp_fault_line puts, with a NUL, or "unknown" where there is no such fault, and answers text. */
 OPGP_API char *opgp_fault_text(const opgp_fault *fault, char text[OPGP_FAULT_ROOM]);
 
 #ifdef __cplusplus

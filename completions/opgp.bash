@@ -15,8 +15,8 @@ _opgp() {
             --mode) words="auto armor binary" ;;
             --out) words="armor binary" ;;
             --of) words="ring literal" ;;
-            --row | --nth | --line | --body | --cert | --input | --pieces)
-                compopt +o default # a number, and no file
+            --row | --nth | --key | --line | --body | --cert | --input | --pieces)
+                compopt +o default # a number or a key, and no file
                 return
                 ;;
             --spool)
@@ -29,7 +29,7 @@ _opgp() {
                     list | check) words=$limits ;;
                     octets) words="--row --of $limits" ;;
                     write | normalise) words="--out $limits" ;;
-                    split) words="--out --nth $limits" ;;
+                    split) words="--out --nth --key $limits" ;;
                     join) words="--out --merge $limits" ;;
                     help) words="show list check octets write normalise split join help" ;;
                     *) return ;;

@@ -9,7 +9,7 @@ _opgp() {
         'octets:writes the octets that one signature hashes'
         'write:writes a keyring, its framing kept'
         'normalise:writes a keyring in the current format'
-        'split:writes each certificate apart, or one of them'
+        'split:writes each certificate apart, or some of them'
         'join:writes all blocks of the input as one keyring'
         'help:prints the help of the program or of a command'
     )
@@ -34,7 +34,7 @@ _opgp() {
         list | check) shift words; ((CURRENT--)); _arguments $limits ;;
         octets) shift words; ((CURRENT--)); _arguments $limits '--row=[the number of the row]:number:' '--of=[what the input is read as]:top:(ring literal)' ;;
         write | normalise) shift words; ((CURRENT--)); _arguments $limits $out ;;
-        split) shift words; ((CURRENT--)); _arguments $limits $out '--nth=[the number of the certificate]:number:' ;;
+        split) shift words; ((CURRENT--)); _arguments $limits $out '--nth=[the number of the certificate]:number:' '--key=[the fingerprint or key ID of a key]:key:' ;;
         join) shift words; ((CURRENT--)); _arguments $limits $out '--merge[makes certificates of one primary key one]' ;;
         help) _describe command commands ;;
     esac

@@ -20,15 +20,20 @@ from __future__ import annotations
 import ctypes
 import dataclasses
 import enum
+import functools
 import os
 from types import TracebackType
-from typing import Any, Callable, NamedTuple, Optional, Type, Union
+from typing import Any, BinaryIO, Callable, Iterator, NamedTuple, Optional, Type, Union
 
-__all__ = ["Certificate", "Fault", "Key", "KeyFlags", "Keyring", "Limits", "Packet", "Question", "Signature", "Subpacket", "Verdict", "read"]
+__all__ = ["Certificate", "Fault", "Key", "KeyFlags", "Keyring", "Limits", "Packet", "Question", "Reader", "Signature", "Subpacket"]
+__all__ += ["Verdict", "parts", "read"]
 
-_ABI = 1
+_ABI = 2
 _NONE = 2**64 - 1
-_DONE, _REFUSED, _ROOM, _MEMORY, _LIMITS, _CLOSED, _NO_ROW = range(7)
+_DONE, _REFUSED, _ROOM, _MEMORY, _LIMITS, _CLOSED, _NO_ROW, _ENDED = range(8)
+
+# The library's tables of names.
+_PACKET_TYPES, _KEY_ALGORITHMS, _HASH_ALGORITHMS, _SIGNATURE_TYPES, _SUBPACKET_KINDS, _LAYERS, _REASONS, _WHYS = range(8)
 
 Octets = Union[bytes, bytearray, memoryview]
 
@@ -92,12 +97,15 @@ class _Job(ctypes.Structure):
 
 
 class _Subpacket(ctypes.Structure):
-    _fields_ = [(name, ctypes.c_uint64) for name in ("certificate", "component", "hang", "nested", "at", "size")] + [
+    _fields_ = [(name, ctypes.c_uint64) for name in ("certificate", "component", "hang", "nested", "at", "size", "fields_at")] + [
+        ("field_sizes", ctypes.c_uint64 * 2),
+        ("numbers", ctypes.c_uint32 * 2),
         ("kind", ctypes.c_uint8),
         ("is_critical", ctypes.c_uint8),
         ("is_hashed", ctypes.c_uint8),
         ("meaning", ctypes.c_uint8),
-        ("reserved", ctypes.c_uint8 * 4),
+        ("form", ctypes.c_uint8),
+        ("reserved", ctypes.c_uint8 * 3),
     ]
 
 
@@ -111,6 +119,10 @@ class _Question(ctypes.Structure):
     ]
 
 
+class _Reader(ctypes.Structure):
+    _fields_ = [("is_open", ctypes.c_bool), ("at", ctypes.c_void_p)]
+
+
 _Verifier = ctypes.CFUNCTYPE(ctypes.c_int, ctypes.c_void_p, ctypes.POINTER(_Question))
 _Reporter = ctypes.CFUNCTYPE(ctypes.c_int, ctypes.c_void_p, ctypes.c_size_t, ctypes.POINTER(_Job), ctypes.c_int)
 
@@ -121,7 +133,7 @@ def _load() -> ctypes.CDLL:
     if library.opgp_abi() != _ABI:
         raise ImportError(f"libopgp has version {library.opgp_abi()} of its structs, and not {_ABI}")
     keyring, octets = ctypes.c_void_p, ctypes.POINTER(ctypes.c_uint8)
-    size, number = ctypes.c_size_t, ctypes.c_uint8
+    size = ctypes.c_size_t
     for name, gives, *takes in (
         ("usual_limits", None, ctypes.POINTER(_Limits)),
         ("open", ctypes.c_uint32, octets, size, ctypes.POINTER(_Limits), ctypes.POINTER(keyring), ctypes.POINTER(_Fault)),
@@ -134,6 +146,7 @@ def _load() -> ctypes.CDLL:
         ("job_at", ctypes.POINTER(_Job), keyring, size),
         ("subpackets_of", ctypes.POINTER(_Subpacket), keyring, size, ctypes.POINTER(size)),
         ("data", _Span, keyring, ctypes.POINTER(_Subpacket)),
+        ("subpacket_field", _Span, keyring, ctypes.POINTER(_Subpacket), ctypes.c_uint),
         ("body", _Span, keyring, ctypes.POINTER(_Packet)),
         ("key_field", _Span, keyring, ctypes.POINTER(_Key), ctypes.c_uint),
         ("job_field", _Span, keyring, ctypes.POINTER(_Job), ctypes.c_uint),
@@ -143,11 +156,14 @@ def _load() -> ctypes.CDLL:
         ("merge", ctypes.c_uint32, keyring, ctypes.POINTER(keyring)),
         ("certificate", ctypes.c_uint32, keyring, ctypes.c_uint64, ctypes.POINTER(keyring)),
         ("join", ctypes.c_uint32, keyring, keyring, ctypes.POINTER(keyring)),
+        ("reader_open", ctypes.c_uint32, ctypes.POINTER(_Limits), ctypes.POINTER(_Reader)),
+        ("reader_push", ctypes.c_uint32, ctypes.POINTER(_Reader), octets, size),
+        ("reader_end", ctypes.c_uint32, ctypes.POINTER(_Reader), ctypes.POINTER(_Fault)),
+        ("reader_close", None, _Reader),
+        ("take", ctypes.c_uint32, ctypes.POINTER(_Reader), ctypes.POINTER(keyring)),
         ("check", ctypes.c_int, keyring, _Verifier, _Reporter, ctypes.c_void_p),
         ("status_text", ctypes.c_char_p, ctypes.c_uint32),
-        ("layer_name", ctypes.c_char_p, number),
-        ("reason_name", ctypes.c_char_p, number),
-        ("why_name", ctypes.c_char_p, number),
+        ("name", ctypes.c_uint32, ctypes.c_uint32, ctypes.c_uint8, octets, size, ctypes.POINTER(ctypes.c_uint64)),
     ):
         call = getattr(library, f"opgp_{name}")
         call.restype, call.argtypes = gives, takes
@@ -161,6 +177,14 @@ _free.restype, _free.argtypes = None, [ctypes.c_void_p]
 
 def _number(number: int) -> Optional[int]:
     return None if number == _NONE else number
+
+
+@functools.lru_cache(maxsize=None)
+def _name(table: int, number: int) -> Optional[str]:
+    """The name that this table of the library has for a number."""
+    text, size = (ctypes.c_uint8 * 64)(), ctypes.c_uint64()
+    status = _library.opgp_name(table, number, text, len(text), ctypes.byref(size))
+    return bytes(text[: size.value]).decode("ascii") if status == _DONE else None
 
 
 def _octets(span: Any) -> bytes:
@@ -234,6 +258,11 @@ class Packet:
     """Its type (5): 2 signature, 6 public key, 13 user ID, 14 public subkey, 17 user attribute."""
     body: bytes
 
+    @property
+    def kind_name(self) -> Optional[str]:
+        """The standard's name of its type; None: it has none."""
+        return _name(_PACKET_TYPES, self.kind)
+
 
 @dataclasses.dataclass(frozen=True)
 class Key:
@@ -263,6 +292,11 @@ class Key:
     def is_primary(self) -> bool:
         return self.component is None
 
+    @property
+    def algorithm_name(self) -> Optional[str]:
+        """The standard's name of its algorithm; None: it has none."""
+        return _name(_KEY_ALGORITHMS, self.algorithm)
+
 
 class KeyFlags(enum.IntFlag):
     """What a key may be used for (5.2.3.29): the first octet of the flags."""
@@ -289,6 +323,19 @@ class Subpacket:
     """typed: its data has the form of its kind; unfit: it hasn't; unknown: its kind is unknown."""
     data: bytes
     """What is behind its type octet."""
+    form: int
+    """The form of its data, one of opgp.h's, which say what its numbers and fields are: 1 a number, such as a time; 2 an octet; 3 depth
+    and amount; 4 a regular expression; 5 octets, such as algorithms, flags or a text; 6 a revocation key; 7 a key ID; 8 a notation; 9 a
+    code and a text; 10 a target; 11 a signature; 12 a version and a fingerprint; 13 pairs of algorithms; 0: it isn't typed."""
+    numbers: tuple[int, int]
+    """The numbers that its data says; 0 for one that the form doesn't have."""
+    fields: tuple[bytes, bytes]
+    """The octets that its data says, such as a notation's name and value; empty for one that the form doesn't have."""
+
+    @property
+    def name(self) -> Optional[str]:
+        """The standard's name of its kind; None: it has none."""
+        return _name(_SUBPACKET_KINDS, self.kind)
 
 
 @dataclasses.dataclass(frozen=True)
@@ -335,7 +382,22 @@ class Signature:
 
     def _number(self, kind: int) -> Optional[int]:
         found = self.last(kind)
-        return None if found is None else int.from_bytes(found.data, "big")
+        return None if found is None else found.numbers[0]
+
+    @property
+    def kind_name(self) -> Optional[str]:
+        """The standard's name of its type; None: it has none, or the signature isn't parsed."""
+        return _name(_SIGNATURE_TYPES, self.kind) if self.version else None
+
+    @property
+    def algorithm_name(self) -> Optional[str]:
+        """The standard's name of its public-key algorithm; None: it has none."""
+        return _name(_KEY_ALGORITHMS, self.algorithm)
+
+    @property
+    def hash_name(self) -> Optional[str]:
+        """The standard's name of its hash algorithm; None: it has none."""
+        return _name(_HASH_ALGORITHMS, self.hash)
 
     @property
     def created(self) -> Optional[int]:
@@ -423,7 +485,7 @@ def _signature(keyring: int, row: int, job: Any) -> Signature:
         job.hang,
         _number(job.nested),
         _number(job.signer),
-        _library.opgp_why_name(job.why).decode("ascii") if job.why else None,
+        _name(_WHYS, job.why),
         job.version,
         job.kind,
         job.algorithm,
@@ -442,9 +504,20 @@ _MEANINGS = ("typed", "unfit", "unknown")
 def _subpackets(keyring: int, row: int) -> tuple[Subpacket, ...]:
     count = ctypes.c_size_t()
     rows = _library.opgp_subpackets_of(keyring, row, ctypes.byref(count))
-    return tuple(
-        Subpacket(it.kind, bool(it.is_critical), bool(it.is_hashed), _MEANINGS[it.meaning], _octets(_library.opgp_data(keyring, it)))
-        for it in (rows[number] for number in range(count.value))
+    return tuple(_subpacket(keyring, rows[number]) for number in range(count.value))
+
+
+def _subpacket(keyring: int, it: Any) -> Subpacket:
+    first, second = (_octets(_library.opgp_subpacket_field(keyring, it, number)) for number in range(2))
+    return Subpacket(
+        it.kind,
+        bool(it.is_critical),
+        bool(it.is_hashed),
+        _MEANINGS[it.meaning],
+        _octets(_library.opgp_data(keyring, it)),
+        it.form,
+        (it.numbers[0], it.numbers[1]),
+        (first, second),
     )
 
 
@@ -454,20 +527,9 @@ class Keyring:
     def __init__(self, octets: Octets, limits: Optional[Limits] = None) -> None:
         self._at = ctypes.c_void_p()
         self._checks = 0
-        whole = bytes(octets)
-        given = (ctypes.c_uint8 * 0)() if not whole else ctypes.cast(ctypes.c_char_p(whole), ctypes.POINTER(ctypes.c_uint8))
-        fault = _Fault()
-        status = _library.opgp_open(given, len(whole), _limits(limits), ctypes.byref(self._at), ctypes.byref(fault))
-        if status == _REFUSED:
-            raise Fault(
-                _library.opgp_layer_name(fault.layer).decode("ascii"),
-                _library.opgp_reason_name(fault.reason).decode("ascii"),
-                fault.reason,
-                fault.block,
-                fault.pos,
-                fault.inner,
-            )
-        _raise_but_for_done(status)
+        whole, fault = bytes(octets), _Fault()
+        status = _library.opgp_open(_lent(whole), len(whole), _limits(limits), ctypes.byref(self._at), ctypes.byref(fault))
+        _raise_if_refused(status, fault)
 
     @classmethod
     def _made(cls, call: Callable[[Any], int]) -> Keyring:
@@ -612,6 +674,70 @@ class Keyring:
         return found
 
 
+class Reader:
+    """Reads a keyring whose octets, armored or binary, come in pieces of any size, and gives its parts as they come: the packets before
+    the first certificate, if there are any, and each certificate, as keyrings of their own.
+
+    It keeps what is unfinished, and the parts that weren't taken, so an input of any size is read in bounded memory. Whether the input
+    is a keyring is known at its end alone: `end` may raise a fault after parts were given. It is closed by `close`, at the end of its
+    `with`, or when nothing refers to it; and is used by one thread at a time.
+    """
+
+    def __init__(self, limits: Optional[Limits] = None) -> None:
+        self._reader = _Reader()
+        given = _limits(limits)
+        if given is None:
+            usual = _Limits()
+            _library.opgp_usual_limits(ctypes.byref(usual))
+            given = ctypes.byref(usual)
+        _raise_but_for_done(_library.opgp_reader_open(given, ctypes.byref(self._reader)))
+
+    def push(self, piece: Octets) -> None:
+        """Takes the next piece of the input. The input has ended, or the reader is closed: ValueError. MemoryError: the piece isn't
+        taken, and the reading may be lost, which each later call says again."""
+        octets = bytes(piece)
+        _raise_but_for_done(_library.opgp_reader_push(ctypes.byref(self._reader), _lent(octets), len(octets)))
+
+    def take(self) -> Optional[Keyring]:
+        """The next part as a keyring, or None where no part is complete that wasn't taken."""
+        try:
+            return Keyring._made(lambda made: _library.opgp_take(ctypes.byref(self._reader), made))
+        except IndexError:
+            return None
+
+    def taken(self) -> Iterator[Keyring]:
+        """Takes all parts that are complete and weren't taken."""
+        while (part := self.take()) is not None:
+            yield part
+
+    def end(self) -> None:
+        """Ends the input. It isn't a keyring: Fault. The parts that weren't taken can be taken then."""
+        fault = _Fault()
+        _raise_if_refused(_library.opgp_reader_end(ctypes.byref(self._reader), ctypes.byref(fault)), fault)
+
+    def close(self) -> None:
+        """Frees what the reader keeps. It can't be used again."""
+        reader, self._reader = self._reader, _Reader()
+        _library.opgp_reader_close(reader)
+
+    def __enter__(self) -> Reader:
+        return self
+
+    def __exit__(
+        self, kind: Optional[Type[BaseException]], value: Optional[BaseException], trace: Optional[TracebackType]
+    ) -> None:
+        self.close()
+
+    def __del__(self) -> None:
+        if getattr(self, "_reader", None) is not None:
+            self.close()
+
+
+def _lent(octets: bytes) -> Any:
+    """A pointer to these octets, which the caller keeps."""
+    return ctypes.cast(ctypes.c_char_p(octets), ctypes.POINTER(ctypes.c_uint8)) if octets else (ctypes.c_uint8 * 1)()
+
+
 def _limits(limits: Optional[Limits]) -> Any:
     if limits is None:
         return None
@@ -625,7 +751,21 @@ def _raise_but_for_done(status: int) -> None:
     if status == _DONE:
         return
     text = _library.opgp_status_text(status).decode("ascii")
-    raise {_MEMORY: MemoryError, _LIMITS: ValueError, _NO_ROW: IndexError}.get(status, RuntimeError)(text)
+    kinds = {_MEMORY: MemoryError, _LIMITS: ValueError, _CLOSED: ValueError, _NO_ROW: IndexError, _ENDED: ValueError}
+    raise kinds.get(status, RuntimeError)(text)
+
+
+def _raise_if_refused(status: int, fault: Any) -> None:
+    if status == _REFUSED:
+        raise Fault(
+            _name(_LAYERS, fault.layer) or "unknown",
+            _name(_REASONS, fault.reason) or "unknown",
+            fault.reason,
+            fault.block,
+            fault.pos,
+            fault.inner,
+        )
+    _raise_but_for_done(status)
 
 
 def read(octets: Octets, limits: Optional[Limits] = None) -> Keyring:
@@ -634,3 +774,16 @@ def read(octets: Octets, limits: Optional[Limits] = None) -> Keyring:
     Raises Fault where they are refused; ValueError where a limit is out of its range; MemoryError.
     """
     return Keyring(octets, limits)
+
+
+def parts(source: BinaryIO, limits: Optional[Limits] = None, size: int = 1 << 16) -> Iterator[Keyring]:
+    """The parts of the keyring that this file holds, read in pieces of this size, each as soon as it is complete: see `Reader`.
+
+    Raises Fault behind the last part where the input is refused: the parts before it are then those of no keyring.
+    """
+    with Reader(limits) as reader:
+        while piece := source.read(size):
+            reader.push(piece)
+            yield from reader.taken()
+        reader.end()
+        yield from reader.taken()

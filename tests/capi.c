@@ -2,9 +2,12 @@
  *
  *     --line=N --body=N --cert=N --input=N --pieces=N   the limits of `told`
  *     told      prints the tables, or the fault
+ *     named     prints each name of a number
  *     normalise, merge, join, nth=N   write the packets of the keyring that is made; joined with itself
  *     rooms     each room that is too small; each status
  *     memory    each allocation failed in turn
+ *     pieces    the input in pieces of several sizes
+ *     wanting   the input in pieces, with each allocation failed in turn
  *     threads   keyrings in several threads, and one keyring in several
  *
  * All but `told` print what is wrong, and the program ends with 'N passed, M failed'. */
@@ -145,8 +148,9 @@ static int print_row(void *context, size_t row, const opgp_job *job, opgp_verdic
     print_number(job->hang);
     print_number(job->nested);
     print_number(job->signer);
-    printf(" why %s v%u type %02X alg %u hash %u left ", job->why ? opgp_why_name(job->why) : "-", job->version, job->kind,
-           job->algorithm, job->hash);
+    char why[OPGP_NAME_ROOM];
+    printf(" why %s v%u type %02X alg %u hash %u left ", job->why ? opgp_name_text(OPGP_WHYS, job->why, why) : "-", job->version,
+           job->kind, job->algorithm, job->hash);
     print_digits(job->left, 2);
     printf(" bad %u verdict %d digest ", job->is_bad, (int)verdict);
     print_span((opgp_span){job->digest, job->digest_size});
@@ -192,7 +196,10 @@ static void print_tables(const opgp_keyring *keyring)
             const opgp_subpacket *it = &subpackets[i];
             printf("sub %zu hashed %u kind %u critical %u meaning %u", row, it->is_hashed, it->kind, it->is_critical, it->meaning);
             print_span(opgp_data(keyring, it));
-            printf(" zeros %d\n", is_zero(it->reserved, sizeof it->reserved));
+            printf(" form %u %" PRIu32 " %" PRIu32, it->form, it->numbers[0], it->numbers[1]);
+            print_span(opgp_subpacket_field(keyring, it, 0));
+            print_span(opgp_subpacket_field(keyring, it, 1));
+            printf(" zeros %d\n", is_zero(it->reserved, sizeof it->reserved) && !opgp_subpacket_field(keyring, it, 2).size);
         }
     }
 }
@@ -209,6 +216,24 @@ static int told(const opgp_limits *limits)
     }
     print_tables(keyring);
     opgp_close(keyring);
+    return 0;
+}
+
+/* Prints each number that a table has a name for, with the name. */
+static int named(void)
+{
+    for (uint32_t table = 0; table <= OPGP_WHYS; table++) {
+        for (unsigned number = 0; number <= UINT8_MAX; number++) {
+            uint8_t name[OPGP_NAME_ROOM];
+            uint64_t n = 0;
+            uint32_t status = opgp_name(table, (uint8_t)number, name, sizeof name, &n);
+            if (status == OPGP_DONE) {
+                printf("%" PRIu32 " %u %.*s\n", table, number, (int)n, (const char *)name);
+            } else if (status != OPGP_NO_ROW) {
+                return 1;
+            }
+        }
+    }
     return 0;
 }
 
@@ -330,6 +355,47 @@ static void closed(void)
     opgp_ring_close(ring);
 }
 
+/* Names and lines of faults, in each room. */
+static void texts(void)
+{
+    opgp_fault fault = {1, 22, 333, 0, 0, {1}};
+    uint64_t n = 7;
+    uint8_t byte = 0xA5;
+    for (uint32_t table = 0; table <= OPGP_WHYS; table++) {
+        for (unsigned number = 0; number <= UINT8_MAX; number++) {
+            uint32_t first = opgp_name(table, (uint8_t)number, &byte, 0, &n);
+            holds(first == OPGP_ROOM ? n > 0 && n < OPGP_NAME_ROOM : first == OPGP_NO_ROW && n == 7 && byte == 0xA5, "a name");
+            if (first == OPGP_ROOM) {
+                TRY_OCTETS(opgp_name(table, (uint8_t)number, octets, b, &again), "a name");
+            }
+            n = 7;
+        }
+    }
+    const uint32_t others[] = {OPGP_WHYS + 1, 256, 1U << 31, UINT32_MAX};
+    for (size_t i = 0; i < sizeof others / sizeof *others; i++) {
+        holds(opgp_name(others[i], 1, &byte, 1, &n) == OPGP_NO_ROW && n == 7 && byte == 0xA5, "a table that there isn't");
+    }
+    for (unsigned layer = 0; layer <= UINT8_MAX; layer++) {
+        bool fits = true;
+        for (unsigned reason = 0; reason <= UINT8_MAX; reason++) {
+            char name[OPGP_NAME_ROOM], why[OPGP_NAME_ROOM], text[OPGP_FAULT_ROOM], wanted[2 * OPGP_NAME_ROOM + 32];
+            fault.layer = (uint8_t)layer;
+            fault.reason = (uint8_t)reason;
+            bool is_one = opgp_name(OPGP_LAYERS, fault.layer, &byte, 0, &n) == OPGP_ROOM
+                          && opgp_name(OPGP_REASONS, fault.reason, &byte, 0, &n) == OPGP_ROOM;
+            snprintf(wanted, sizeof wanted, "%s: %s block 1 at 22 inner 333", opgp_name_text(OPGP_LAYERS, fault.layer, name),
+                     opgp_name_text(OPGP_REASONS, fault.reason, why));
+            fits = fits && strcmp(opgp_fault_text(&fault, text), is_one ? wanted : "unknown") == 0;
+            n = 7;
+            fits = fits && (is_one || (opgp_fault_line(&fault, &byte, 1, &n) == OPGP_NO_ROW && n == 7 && byte == 0xA5));
+        }
+        holds(fits, "the lines of a layer's faults");
+    }
+    fault = (opgp_fault){UINT64_MAX, UINT64_MAX, UINT64_MAX, 4, 53, {0}};
+    TRY_OCTETS(opgp_fault_line(&fault, octets, b, &again), "the line of a fault");
+    holds(opgp_fault_line(&fault, &byte, 0, &n) == OPGP_ROOM && n == 108, "the longest line of a fault");
+}
+
 static void rooms(void)
 {
     opgp_limits limits;
@@ -341,6 +407,7 @@ static void rooms(void)
 
     holds(opgp_abi() == OPGP_ABI, "the version");
     closed();
+    texts();
     opgp_usual_limits(&limits);
     memset(&fault, 0xA5, sizeof fault);
     holds(opgp_ring_open(in, size, &limits, &ring, &fault) == OPGP_DONE && is_blank(&fault, 0, sizeof fault), "open");
@@ -431,7 +498,7 @@ static void on_top(void)
     uint8_t *octets;
     size_t n, rows, count = 1;
     opgp_limits limits = {0, 0, 0, 0, 0, 0};
-    char text[OPGP_FAULT_ROOM];
+    char text[OPGP_FAULT_ROOM], name[OPGP_NAME_ROOM];
     const opgp_fault longest = {UINT64_MAX, UINT64_MAX, UINT64_MAX, 4, 53, {0}}, unknown = {1, 2, 3, 5, 255, {0}};
 
     holds(opgp_open(NULL, 0, NULL, &keyring, NULL) == OPGP_DONE && opgp_packet_count(keyring) == 0 && opgp_key_count(keyring) == 0
@@ -465,10 +532,17 @@ static void on_top(void)
     holds(strcmp(opgp_fault_text(&longest, text), "composition: NotASignedLiteral block 18446744073709551615 at 18446744073709551615 "
                                                   "inner 18446744073709551615") == 0,
           "the longest line of a fault");
-    holds(strcmp(opgp_fault_text(&unknown, text), "unknown: unknown block 1 at 2 inner 3") == 0, "a fault that there isn't");
-    holds(strcmp(opgp_status_text(7), "unknown") == 0 && strcmp(opgp_why_name(0), "unknown") == 0
-              && strcmp(opgp_why_name(6), "unknown") == 0 && strcmp(opgp_reason_name(0), "unknown") == 0,
-          "names of what there isn't");
+    holds(strcmp(opgp_fault_text(&unknown, text), "unknown") == 0, "a fault that there isn't");
+    holds(strcmp(opgp_name_text(OPGP_WHYS, 0, name), "unknown") == 0 && strcmp(opgp_name_text(OPGP_WHYS + 1, 0, name), "unknown") == 0
+              && strcmp(opgp_name_text(OPGP_LAYERS, 1, name), "armor") == 0,
+          "names of what there is and isn't");
+    static const char *const statuses[] = {"done", "the input is refused", "too little room", "out of memory",
+                                           "a limit is out of its range", "the handle holds nothing", "no such row",
+                                           "the input has ended", "unknown"};
+    for (uint32_t status = 0; status < sizeof statuses / sizeof *statuses; status++) {
+        holds(strcmp(opgp_status_text(status), statuses[status]) == 0, "the text of a status");
+    }
+    holds(OPGP_ENDED == 7 && strcmp(opgp_status_text(UINT32_MAX), "unknown") == 0, "the text of no status");
     holds(held == 0, "what was held is let go");
 }
 
@@ -533,6 +607,148 @@ static void memory(void)
     holds(is_well, "with enough memory it goes well");
 }
 
+/* ---- Reading in pieces */
+
+/* The packets of the parts that were taken, one behind the other, and how many parts these are. */
+static uint8_t taken[MOST];
+static size_t taken_size, taken_parts;
+
+/* Takes all parts that wait, and returns what the last call answers. */
+static uint32_t take_all(opgp_reader *reader, opgp_ring *part)
+{
+    uint32_t status = opgp_reader_take(reader, part);
+    while (status == OPGP_DONE) {
+        uint64_t n = 0;
+        status = opgp_ring_write(part, 0, taken + taken_size, sizeof taken - taken_size, &n);
+        if (status != OPGP_DONE) {
+            return status;
+        }
+        taken_size += (size_t)n;
+        taken_parts++;
+        status = opgp_reader_take(reader, part);
+    }
+    return status;
+}
+
+/* Reads the input in pieces of this size, or of 1 to 97 octets in turn if it is 0, each in a block of its own if `copies`. */
+static uint32_t read_pieces(size_t piece, bool copies, opgp_fault *fault)
+{
+    opgp_limits limits;
+    opgp_reader reader = {false, NULL};
+    opgp_ring part = {false, NULL};
+    opgp_usual_limits(&limits);
+    taken_size = taken_parts = 0;
+    uint32_t status = opgp_reader_open(&limits, &reader);
+    for (size_t at = 0, turn = 0; status == OPGP_DONE && at < size; turn++) {
+        size_t n = piece ? piece : 1 + turn % 97;
+        n = n < size - at ? n : size - at;
+        uint8_t *block = copies ? block_of(n) : NULL;
+        if (block) {
+            memcpy(block, in + at, n);
+        }
+        status = opgp_reader_push(&reader, block ? block : in + at, n);
+        free(block);
+        at += n;
+        if (status == OPGP_DONE) {
+            status = take_all(&reader, &part);
+            status = status == OPGP_NO_ROW ? OPGP_DONE : status;
+        }
+    }
+    status = status == OPGP_DONE ? opgp_reader_end(&reader, fault) : status;
+    if (status == OPGP_DONE) {
+        status = take_all(&reader, &part);
+        status = status == OPGP_NO_ROW ? OPGP_DONE : status;
+    }
+    opgp_ring_close(part);
+    opgp_reader_close(reader);
+    return status;
+}
+
+/* What the calls answer in an order that isn't the usual one. */
+static void reader_statuses(void)
+{
+    opgp_limits limits;
+    opgp_reader reader = {false, NULL};
+    opgp_ring part = {false, NULL};
+    opgp_keyring *keyring = NULL;
+    opgp_fault fault, again;
+    memset(&fault, 0xA5, sizeof fault);
+    memset(&again, 0xA5, sizeof again);
+    holds(opgp_reader_push(&reader, in, 1) == OPGP_CLOSED && opgp_reader_take(&reader, &part) == OPGP_CLOSED
+              && opgp_reader_end(&reader, &fault) == OPGP_CLOSED && opgp_take(&reader, &keyring) == OPGP_CLOSED && !keyring
+              && !reader.is_open && !part.is_open && is_blank(&fault, 0, sizeof fault),
+          "a closed reader");
+    opgp_reader_close(reader);
+    opgp_usual_limits(&limits);
+    limits.body = 511;
+    holds(opgp_reader_open(&limits, &reader) == OPGP_LIMITS && !reader.is_open, "a reader's limits");
+    limits.body = 512;
+    limits.reserved = 1;
+    holds(opgp_reader_open(&limits, &reader) == OPGP_LIMITS && !reader.is_open, "a reader's reserved limit");
+    opgp_usual_limits(&limits);
+    holds(opgp_reader_open(&limits, &reader) == OPGP_DONE && reader.is_open, "a reader");
+    holds(opgp_reader_take(&reader, &part) == OPGP_NO_ROW && opgp_take(&reader, &keyring) == OPGP_NO_ROW && !keyring, "no part yet");
+    holds(opgp_reader_push(&reader, in, 0) == OPGP_DONE && opgp_reader_take(&reader, &part) == OPGP_NO_ROW && !part.is_open, "no octets");
+    holds(opgp_reader_push(&reader, in, size) == OPGP_DONE, "the input in one piece");
+    uint32_t status = opgp_reader_end(&reader, &fault), later = opgp_reader_end(&reader, &again);
+    holds(status == later && memcmp(&fault, &again, sizeof fault) == 0, "an end that is asked for again");
+    holds((status == OPGP_REFUSED) != is_blank(&fault, 0, sizeof fault), "the fault of a refused input alone");
+    holds(opgp_reader_push(&reader, in, 1) == OPGP_ENDED, "a piece behind the end");
+    size_t count = 0;
+    while (opgp_take(&reader, &keyring) == OPGP_DONE) {
+        holds(opgp_packet_count(keyring) > 0, "the packets of a part");
+        opgp_close(keyring);
+        count++;
+    }
+    holds(status == OPGP_DONE ? count > 0 || size == 0 : count == 0, "parts behind the end");
+    holds(opgp_reader_open(&limits, &reader) == OPGP_DONE && opgp_reader_push(&reader, in, size) == OPGP_DONE, "a handle used again");
+    opgp_reader_close(reader);
+    opgp_ring_close(part);
+    holds(held == 0, "what a reader held is let go");
+}
+
+static void pieces(void)
+{
+    static const size_t sizes[] = {1, 2, 7, 64, 4096, MOST, 0};
+    opgp_keyring *whole = NULL;
+    opgp_fault fault, found;
+    uint8_t *octets = NULL;
+    size_t n = 0, parts = 0;
+    memset(&fault, 0xA5, sizeof fault);
+    uint32_t status = opgp_open(in, size, NULL, &whole, &fault);
+    if (status == OPGP_DONE) {
+        size_t count = opgp_packet_count(whole);
+        holds(opgp_write(whole, false, &octets, &n) == OPGP_DONE, "the packets of the whole");
+        for (size_t i = 0; i < count; i++) {
+            uint64_t before = i ? opgp_packet_at(whole, i - 1)->certificate : UINT64_MAX - 1;
+            parts += opgp_packet_at(whole, i)->certificate != before;
+        }
+    }
+    opgp_close(whole);
+    for (size_t i = 0; i < sizeof sizes / sizeof *sizes; i++) {
+        memset(&found, 0xA5, sizeof found);
+        holds(read_pieces(sizes[i], true, &found) == status && memcmp(&found, &fault, sizeof found) == 0, "the end of an input in pieces");
+        holds(status != OPGP_DONE || (taken_size == n && memcmp(taken, octets, n) == 0 && taken_parts == parts), "its parts");
+    }
+    free(octets);
+    reader_statuses();
+}
+
+static void wanting(void)
+{
+    opgp_fault fault;
+    uint32_t status = read_pieces(64, false, &fault), ended = OPGP_MEMORY;
+    for (unsigned long k = 1; ended == OPGP_MEMORY && k < 100000; k++) {
+        calls = 0;
+        fails_at = k;
+        ended = read_pieces(64, false, &fault);
+        holds(ended == OPGP_MEMORY || (ended == status && calls < k), "reading in pieces where memory runs out");
+        holds(held == 0, "what a reader held is let go where memory ran out");
+    }
+    fails_at = 0;
+    holds(ended == status, "with enough memory reading in pieces goes well");
+}
+
 /* ---- Threads */
 
 struct shared {
@@ -588,7 +804,8 @@ int main(int argc, char **argv)
     static const struct {
         const char *word;
         void (*run)(void);
-    } runs[] = {{"rooms", rooms}, {"on_top", on_top}, {"memory", memory}, {"threads", threads}};
+    } runs[] = {{"rooms", rooms}, {"on_top", on_top}, {"memory", memory}, {"pieces", pieces}, {"wanting", wanting},
+                {"threads", threads}};
     opgp_limits limits;
     const struct {
         const char *word;
@@ -602,6 +819,9 @@ int main(int argc, char **argv)
     for (int i = 1; i < argc; i++) {
         bool is_known = strcmp(argv[i], "told") == 0;
         is_told = is_told || is_known;
+        if (strcmp(argv[i], "named") == 0) {
+            return named();
+        }
         if (strcmp(argv[i], "normalise") == 0 || strcmp(argv[i], "merge") == 0 || strcmp(argv[i], "join") == 0
             || strncmp(argv[i], "nth=", 4) == 0) {
             making = argv[i];

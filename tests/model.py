@@ -465,6 +465,41 @@ def said(kind, octets):
     return VALUES[kind](octets) if meaning(kind, octets) == "typed" else digits(octets)
 
 
+# A subpacket's numbers and its fields of octets, by its form, as docs/LIBRARY-C.md has them.
+PLAIN = {
+    "number": lambda it: ([number(it)], []),
+    "octet": lambda it: ([*it], []),
+    "two octets": lambda it: ([*it], []),
+    "ended text": lambda it: ([], [it[:-1]]),
+    "revoker": lambda it: ([*it[:2]], [it[2:]]),
+    "notation": lambda it: ([number(it[:4])], [it[8 : 8 + number(it[4:6])], it[8 + number(it[4:6]) :]]),
+    "code and text": lambda it: ([it[0]], [it[1:]]),
+    "target": lambda it: ([*it[:2]], [it[2:]]),
+    "fingerprint": lambda it: ([it[0]], [it[1:]]),
+}
+
+
+def plain(kind, octets):
+    """The number of a subpacket's form, the two numbers and the two fields of octets that its data says."""
+    if meaning(kind, octets) != "typed":
+        return 0, (0, 0), (b"", b"")
+    form = KINDS[kind]
+    said, fields = PLAIN.get(form, lambda it: ([], [it]))(octets)
+    return [*FORMS].index(form) + 1, (*said, 0, 0)[:2], (*fields, b"", b"")[:2]
+
+
+def names():
+    """Each table's number, a number and its name, by the documents: registered numbers, layers, reasons, why a signature isn't hashed."""
+    docs = f"{os.path.dirname(os.path.dirname(os.path.realpath(__file__)))}/docs"
+    with open(f"{docs}/NUMBERS.md", encoding="utf-8") as it:
+        tables = [re.findall(r"^\| (\d+) \| ([^|]+?) \|", part, re.M) for part in it.read().split("\n## ")[1:]]
+    with open(f"{docs}/FORMAT.md", encoding="utf-8") as it:
+        reasons = re.findall(r"^\| (\d+) \| `(\w+)` \|", it.read(), re.M)
+    tables += [[*enumerate(("input", "armor", "framing", "body", "composition"))], reasons]
+    tables += [[*enumerate(("opaque", "kind", "misplaced", "version", "hash"), 1)]]
+    return [(table, int(number), name) for table, rows in enumerate(tables) for number, name in rows]
+
+
 # Keyrings.
 
 

@@ -34,8 +34,9 @@ static opgp_verdict verify(void *context, const opgp_question *question)
 static int report(void *context, size_t row, const opgp_job *job, opgp_verdict verdict)
 {
     static const char *const words[] = {"undecided", "good", "bad"};
+    char why[OPGP_NAME_ROOM];
     (void)context;
-    printf("row %zu : %s\n", row, job->why ? opgp_why_name(job->why) : words[verdict]);
+    printf("row %zu : %s\n", row, job->why ? opgp_name_text(OPGP_WHYS, job->why, why) : words[verdict]);
     return 0;
 }
 

@@ -2,6 +2,8 @@
 pub use Rattle.opgp_stack.specs.declared
 pub use Rattle.opgp_stack.specs.Faults
 pub use Rattle.opgp_stack.specs.Hashing
+pub use Rattle.opgp_stack.specs.KeyName
+pub use Rattle.opgp_stack.specs.KeyText
 pub use Rattle.opgp_stack.specs.Listing
 pub use Rattle.opgp_stack.specs.Parts
 pub use Rattle.opgp_stack.specs.Report

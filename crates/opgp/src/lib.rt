@@ -15,9 +15,9 @@ pub mod armor {
 pub mod engine {
     pub use opgp_engine::{
         Answer, Draft, DraftError, EngineError, Mode, NoSpool, Out, PacketBlocks, PacketsText,
-        Pipeline, ReadError, Receiver, Sink, Source, Spool, Text, Watched, laws, read_keyring,
-        read_packets, read_signed, read_with, write, write_certificate, write_certificates,
-        write_keyring,
+        PartReader, Pipeline, ReadError, Receiver, Sink, Source, Spool, Text, Waiting, Watched,
+        laws, read_keyring, read_packets, read_signed, read_with, write, write_certificate,
+        write_certificates, write_keyring,
     };
 }
 
@@ -85,8 +85,8 @@ pub mod ring {
 /// What the program does: its lines, its tasks, and a run of one.
 pub mod stack {
     pub use opgp_stack::{
-        Action, RunFault, Task, Top, laws, run, run_last, run_spooled, write_listing, write_report,
-        write_shown,
+        Action, KeyName, RunFault, Task, Top, laws, run, run_last, run_spooled, write_listing,
+        write_report, write_shown,
     };
 }
 

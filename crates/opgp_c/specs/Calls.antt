@@ -1,6 +1,6 @@
 -- What the calls of the library say.
 use Rattle.std.specs.Prelude.{◌≡◌, ◌<◌, ◌⊎◌, ◌++◌, ◌==◌, if◌then◌else◌, ℕ, List, length, drop}
-use Rattle.std.specs.Prelude.{true, Err}
+use Rattle.std.specs.Prelude.{true, Err, Option, Some, None}
 use Rattle.opgp_octets.specs.declared.fault.Fault.{Fault}
 use Rattle.opgp_octets.specs.declared.limits.Limits.{Limits}
 use Rattle.opgp_ring.specs.Keyring.{KeyringValue}
@@ -13,6 +13,8 @@ use Rattle.opgp_flat.specs.declared.fault_row.FaultRow.{FaultRow}
 use Rattle.opgp_flat.specs.declared.given_limits.GivenLimits.{GivenLimits}
 use Rattle.opgp_flat.specs.FaultRow.{fault_row}
 use Rattle.opgp_flat.specs.GivenLimits.{AreThese}
+use Rattle.opgp_flat.specs.Names.{name_in}
+use Rattle.opgp_flat.specs.declared.names.NumberTable.{NumberTable}
 use Rattle.opgp_c.specs.declared.ring.Ring.{Ring}
 use Rattle.opgp_c.specs.declared.sizes.Sizes.{Sizes}
 
@@ -46,3 +48,8 @@ HoldsTheSame before after = (after.is_open ≡ before.is_open)
 -- any number but 0 asks for armor
 abbrev pub out_of : ℕ → Out
 out_of armor = if armor == 0 then Binary else Armor
+
+-- the name that a table, if there is one, has for a number
+abbrev pub name_by : Option NumberTable → ℕ → Option (List ℕ)
+name_by (Some table) number = name_in table number
+name_by None number = None

@@ -5,11 +5,11 @@
 //! any number of threads at once.
 #![tactic(auto)]
 
-ghost use Rattle.std.specs.Prelude.{◌≡◌, ◌≢◌, ◌↔◌, ◌⊎◌, ◌<◌, ◌++◌, length, true, false, Some};
-ghost use Rattle.std.specs.Prelude.{None, Ok};
+ghost use Rattle.std.specs.Prelude.{◌≡◌, ◌≢◌, ◌↔◌, ◌⊎◌, ◌<◌, ◌+◌, ◌^◌, ◌++◌, ◌∷◌, [], length};
+ghost use Rattle.std.specs.Prelude.{true, false, ℕ, List, Some, None, Ok};
 ghost use Rattle.std.specs.List.{slice_get};
 ghost use Rattle.opgp_engine.specs.Writing.{packets_text};
-ghost use Rattle.opgp_flat.specs.GivenLimits.{MayBeGiven, usual_limits};
+ghost use Rattle.opgp_flat.specs.GivenLimits.{AreThese, MayBeGiven, usual_limits};
 ghost use Rattle.opgp_flat.specs.Jobs.{job_bytes, job_rows};
 ghost use Rattle.opgp_flat.specs.Keys.{key_bytes, key_rows};
 ghost use Rattle.opgp_flat.specs.Packets.{packet_bytes, packet_rows};
@@ -22,11 +22,24 @@ ghost use Rattle.opgp_ring.specs.Joining.{nth_of};
 ghost use Rattle.opgp_ring.specs.Keyring.{flat};
 ghost use Rattle.opgp_ring.specs.Normal.{normal_of};
 ghost use Rattle.opgp_c.specs.Calls.{Answers, AreSized, HoldsTheSame, IsFilled, IsShort, Refuses};
-ghost use Rattle.opgp_c.specs.Calls.{out_of};
+ghost use Rattle.opgp_c.specs.Calls.{name_by, out_of};
+ghost use Rattle.opgp_c.specs.Readings.{HasEnded, Holds, HoldsPart, IsEnded, IsGoing, IsRefused};
+ghost use Rattle.opgp_c.specs.Readings.{StaysWhat, begun, waiting_in};
+ghost use Rattle.opgp_engine.specs.PartReader.{Use, given, taking};
+ghost use Rattle.opgp_flat.specs.FaultLine.{fault_of};
+ghost use Rattle.opgp_flat.specs.FaultRow.{fault_row};
+ghost use Rattle.opgp_flat.specs.Names.{table_of};
+ghost use Rattle.opgp_octets.specs.Fault.{fault_text};
+ghost use Rattle.opgp_octets.specs.declared.fault.Fault.{Fault};
+ghost use Rattle.opgp_octets.specs.declared.limits.Limits.{Limits};
+ghost use Rattle.opgp_ring.specs.Composed.{PartValue};
 
 mod calls;
 mod making;
 mod parts;
+mod reader;
+mod reading;
+mod reading_slot;
 mod ring;
 mod sizes;
 mod slot;
@@ -34,21 +47,28 @@ mod status;
 mod tables;
 mod text;
 
-use crate::calls::{put_text, read_ring};
+use crate::calls::{put_octets, put_text, read_ring};
 use crate::making::{keep, keep_joined, keep_merged, keep_normal, keep_nth};
+use crate::reader::Reader;
+use crate::reading::{begin, end, push_piece, take_part, tell_end};
+use crate::reading_slot::Reading;
 use crate::ring::Ring;
 use crate::sizes::Sizes;
+use crate::status::{DONE, LIMITS, MEMORY, NO_ROW};
 use crate::tables::{put_jobs, put_keys, put_packets, put_row_octets, put_subpackets};
-use opgp_flat::{FaultRow, GivenLimits, JobRow, KeyRow, PacketRow, SubpacketRow};
+use opgp_flat::{
+    FaultRow, GivenLimits, JobRow, KeyRow, NumberTable, PacketRow, SubpacketRow, short_line,
+};
 use std::alloc::Global;
+use std::mem;
 
 /// The version of these calls and structs; a program that was compiled for another one can't use
 /// the library.
 #[unsafe(no_mangle)]
 pub extern "C" fn opgp_abi() -> u32
-    ensures { result ≡ 1 }
+    ensures { result ≡ 2 }
 {
-    1
+    2
 }
 
 /// The usual limits.
@@ -57,6 +77,57 @@ pub extern "C" fn opgp_usual_limits(limits: &mut GivenLimits)
     ensures { limits.new ≡ usual_limits }
 {
     *limits = GivenLimits::usual();
+}
+
+/// Puts the name that a table has for a number: those of the standard for packet types, algorithms,
+/// signature types and kinds of subpackets, those of the program for the layers and reasons of
+/// faults, and for why a signature isn't hashed.
+///
+/// The status says whether it is done; else the text is unchanged: it has too little room, or there
+/// is no such table, or it has no name for the number.
+#[unsafe(no_mangle)]
+pub extern "C" fn opgp_name(table: u32, number: u8, text: &mut [u8], size: &mut u64) -> u32
+    ensures done { result ≡ 0 → (name : List ℕ)
+        × (name_by (table_of table) number ≡ Some name)
+        × IsFilled name text.old text.new × (size.new ≡ length name) }
+    ensures room { result ≡ 2 → (name : List ℕ)
+        × (name_by (table_of table) number ≡ Some name)
+        × (length text.old < length name) × (size.new ≡ length name) }
+    ensures none { (result ≡ 6) ↔ (name_by (table_of table) number ≡ None) }
+    ensures kept { result ≢ 0 → text.new ≡ text.old }
+    ensures size { result ≡ 6 → size.new ≡ size.old }
+    ensures status { (result ≡ 0) ⊎ ((result ≡ 2) ⊎ (result ≡ 6)) }
+{
+    let Some(table) = NumberTable::of(table) else {
+        return NO_ROW;
+    };
+    match table.name(number) {
+        Some(name) => put_octets(name.as_bytes(), text, size),
+        None => NO_ROW,
+    }
+}
+
+/// Puts the line of a fault, without a line end: `<layer>: <Reason> block <b> at <pos> inner
+/// <inner>`. It has 108 octets at most.
+///
+/// The status says whether it is done; else the text is unchanged: it has too little room, or the
+/// fault has the number of no layer or of no reason.
+#[unsafe(no_mangle)]
+pub extern "C" fn opgp_fault_line(fault: &FaultRow, text: &mut [u8], size: &mut u64) -> u32
+    ensures done { result ≡ 0 → (f : Fault) × (fault_of fault.now ≡ Some f)
+        × IsFilled (fault_text f) text.old text.new × (size.new ≡ length (fault_text f)) }
+    ensures room { result ≡ 2 → (f : Fault) × (fault_of fault.now ≡ Some f)
+        × (length text.old < length (fault_text f)) × (size.new ≡ length (fault_text f)) }
+    ensures short { result ≡ 2 → length text.old < 108 }
+    ensures none { (result ≡ 6) ↔ (fault_of fault.now ≡ None) }
+    ensures kept { result ≢ 0 → text.new ≡ text.old }
+    ensures size { result ≡ 6 → size.new ≡ size.old }
+    ensures status { (result ≡ 0) ⊎ ((result ≡ 2) ⊎ (result ≡ 6)) }
+{
+    match fault.fault() {
+        Some(fault) => put_octets(short_line(&fault).as_str().as_bytes(), text, size),
+        None => NO_ROW,
+    }
 }
 
 /// Reads the keyring of an input, armored or binary, and keeps it in the handle; what the handle
@@ -406,4 +477,123 @@ pub extern "C" fn opgp_ring_join(
     ring.give(held);
     other.give(more);
     status
+}
+
+/// Begins to read a keyring, armored or binary, that comes in pieces; what the handle held before is
+/// let go.
+///
+/// The status says whether it is done; else the handle is unchanged: a limit is out of its range, or
+/// out of memory.
+#[unsafe(no_mangle)]
+pub extern "C" fn opgp_reader_open(alloc: Global, limits: &GivenLimits, reader: &mut Reader) -> u32
+    ensures done { result ≡ 0 → (l : Limits) × AreThese l limits.now × (reader.new.is_open ≡ true)
+        × IsGoing (begun l) reader.new.slot.held }
+    ensures limits { result ≡ 4 → MayBeGiven limits.now → ⊥ }
+    ensures allowed { result ≢ 4 → MayBeGiven limits.now }
+    ensures kept { result ≢ 0 → reader.new ≡ reader.old }
+    ensures status { (result ≡ 0) ⊎ ((result ≡ 3) ⊎ (result ≡ 4)) }
+{
+    let Some(limits) = limits.limits() else {
+        return LIMITS;
+    };
+    match Reader::of(alloc, begin(alloc, limits)) {
+        Ok(new) => {
+            drop(mem::replace(reader, new).into_box());
+            DONE
+        }
+        Err(_) => MEMORY,
+    }
+}
+
+/// Takes the next piece of the input. The conditions are that the handle was used so, and that fewer
+/// than 2^63 octets are given in all.
+///
+/// The status says whether it is done; else the piece isn't taken: the input has ended, out of
+/// memory, which loses the reading, or the handle holds nothing.
+#[unsafe(no_mangle)]
+pub extern "C" fn opgp_reader_push(alloc: Global, reader: &mut Reader, piece: &[u8]) -> u32
+    ghost so_far: { Use }
+    requires used { Holds so_far reader.old }
+    requires room { length so_far.input + length piece.now < 2 ^ 63 }
+    ensures done { result ≡ 0 → (reader.new.is_open ≡ true)
+        × IsGoing (given so_far piece.now) reader.new.slot.held }
+    ensures ended { result ≡ 7 → HasEnded so_far reader.new.slot.held }
+    ensures kept { result ≢ 0 → Holds so_far reader.new }
+    ensures closed { (result ≡ 5) ↔ (reader.old.is_open ≡ false) }
+    ensures status { (result ≡ 0) ⊎ ((result ≡ 3) ⊎ ((result ≡ 5) ⊎ (result ≡ 7))) }
+{
+    let mut held = match reader.take(alloc) {
+        Ok(held) => held,
+        Err(status) => return status,
+    };
+    let status = push_piece(&mut held, piece);
+    reader.give(held);
+    status
+}
+
+/// Keeps the next part of the keyring in another handle, which lets go what it held: the packets
+/// before the first certificate, or a certificate, as a keyring of its own. A part can be taken as
+/// soon as its last packet is known to be the last. The condition is that the handle was used so.
+///
+/// The status says whether it is done; else the other handle is unchanged: no part is complete that
+/// wasn't taken, out of memory, which loses the reading, or the handle holds nothing.
+#[unsafe(no_mangle)]
+pub extern "C" fn opgp_reader_take(alloc: Global, reader: &mut Reader, into: &mut Ring) -> u32
+    ghost so_far: { Use }
+    requires { Holds so_far reader.old }
+    ensures done { result ≡ 0 → (part : PartValue) × HoldsPart into.new part
+        × (waiting_in reader.old.slot.held ≡ part ∷ waiting_in reader.new.slot.held)
+        × Holds (taking so_far (part ∷ [])) reader.new }
+    ensures stays { (result ≡ 0) ⊎ (result ≡ 6) → (reader.new.is_open ≡ true)
+        × StaysWhat reader.old.slot.held reader.new.slot.held }
+    ensures none { result ≡ 6 → waiting_in reader.old.slot.held ≡ [] }
+    ensures same { result ≢ 0 → Holds so_far reader.new }
+    ensures kept { result ≢ 0 → into.new ≡ into.old }
+    ensures closed { (result ≡ 5) ↔ (reader.old.is_open ≡ false) }
+    ensures status { (result ≡ 0) ⊎ ((result ≡ 3) ⊎ ((result ≡ 5) ⊎ (result ≡ 6))) }
+{
+    let mut held = match reader.take(alloc) {
+        Ok(held) => held,
+        Err(status) => return status,
+    };
+    let status = take_part(alloc, &mut held, into);
+    reader.give(held);
+    status
+}
+
+/// Ends the input. The parts that weren't taken can be taken then. The condition is that the handle
+/// was used so.
+///
+/// The status says whether the input is a keyring, whose parts are those that were taken and those
+/// that wait; or that it is refused, for the fault of the lowest layer that refuses it; out of
+/// memory, which loses the reading; or the handle holds nothing. Of an input that has ended it says
+/// the same again.
+#[unsafe(no_mangle)]
+pub extern "C" fn opgp_reader_end(alloc: Global, reader: &mut Reader, fault: &mut FaultRow) -> u32
+    ghost so_far: { Use }
+    requires { Holds so_far reader.old }
+    ensures done { result ≡ 0 → (reader.new.is_open ≡ true)
+        × IsEnded so_far reader.new.slot.held }
+    ensures refused { result ≡ 1 → (f : Fault) × (reader.new.is_open ≡ true)
+        × IsRefused so_far reader.new.slot.held f × (fault.new ≡ fault_row f) }
+    ensures fault { result ≢ 1 → fault.new ≡ fault.old }
+    ensures kept { Holds so_far reader.new }
+    ensures closed { (result ≡ 5) ↔ (reader.old.is_open ≡ false) }
+    ensures status { (result ≡ 0) ⊎ ((result ≡ 1) ⊎ ((result ≡ 3) ⊎ (result ≡ 5))) }
+{
+    let mut held = match reader.take(alloc) {
+        Ok(held) => held,
+        Err(status) => return status,
+    };
+    let ended = end(mem::replace(&mut *held, Reading::Lost));
+    let status = tell_end(&ended, fault);
+    drop(mem::replace(&mut *held, ended));
+    reader.give(held);
+    status
+}
+
+/// Lets go what a handle holds. The handle, and each copy of it, can't be used again.
+#[unsafe(no_mangle)]
+pub extern "C" fn opgp_reader_close(reader: Reader) {
+    drop(reader.into_box());
 }

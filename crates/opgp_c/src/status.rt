@@ -14,3 +14,5 @@ pub(crate) const LIMITS: u32 = 4;
 pub(crate) const CLOSED: u32 = 5;
 /// There is no such row, or its signature isn't hashed.
 pub(crate) const NO_ROW: u32 = 6;
+/// The input has ended.
+pub(crate) const ENDED: u32 = 7;

@@ -80,7 +80,7 @@ module _ {T : Type 0} (fed : Limits → T → List Item → Type 0) (wanted : Wa
   stands_told : (old new : Framer T) (done : List TextBlock) (octets : List ℕ) (o : Option Fault) → Stays old new → new.deframe ≡ old.deframe → old.begun ≡ false → new.begun ≡ true
       → KeepsFed fed old.top new.top (of_label old.number (wanted old.label) ∷ []) → StandsBy fed wanted limits old o done octets → StandsBy fed wanted limits new o done octets
   stands_told old new done octets None s deframe was now step r = reaches_told old new done octets s deframe was now step r
-  stands_told old new done octets (Some f) s deframe was now step r = r
+  stands_told old new done octets (Some f) s deframe was now step r = (r.0, (r.1.0 ++ of_label old.number (wanted old.label) ∷ [], step limits r.1.0 r.1.1))
 
   pub told : (old new : Framer T) (done : List TextBlock) (label : Option Label) (octets : List ℕ) → Stays old new → new.deframe ≡ old.deframe → old.begun ≡ false → new.begun ≡ true
       → KeepsFed fed old.top new.top (of_label old.number (wanted old.label) ∷ []) → Framed fed wanted limits old done label octets → Framed fed wanted limits new done label octets
@@ -166,7 +166,7 @@ module _ {T : Type 0} (fed : Limits → T → List Item → Type 0) (wanted : Wa
   stands_begun : (old new : Framer T) (done : List TextBlock) (octets : List ℕ) (o : Option Fault) → new.number ≡ old.number → new.top ≡ old.top → old.begun ≡ false → new.begun ≡ false → Fed limits new.number new.deframe [] []
       → StandsBy fed wanted limits old o done octets → StandsBy fed wanted limits new o done []
   stands_begun old new done octets None number top was now fresh s = reaches_begun old new done octets number top was now fresh s
-  stands_begun old new done octets (Some f) number top was now fresh s = s
+  stands_begun old new done octets (Some f) number top was now fresh s = (s.0, (s.1.0, subst (λ (t : T). fed limits t s.1.0) (sym top) s.1.1))
 
   pub begun : (old new : Framer T) (done : List TextBlock) (was_label : Option Label) (label : Option Label) (octets : List ℕ) → new.limits ≡ old.limits → new.label ≡ label → new.number ≡ old.number → new.fault ≡ old.fault → new.top ≡ old.top
       → old.begun ≡ false → new.begun ≡ false → Fed old.limits new.number new.deframe [] [] → open_count new ≡ 0 → Framed fed wanted limits old done was_label octets → Framed fed wanted limits new done label []
@@ -195,9 +195,9 @@ module _ {T : Type 0} (fed : Limits → T → List Item → Type 0) (wanted : Wa
   closes_number : (n m k : ℕ) (done : List TextBlock) (b : TextBlock) → n ≡ m + 1 → m ≡ length done → n ≡ length (done ++ b ∷ [])
   closes_number n m k done b e f = omega (arith, length-append done (b ∷ []))
 
-  stands_stopped : (old new : Framer T) (o : Option Fault) (done more : List TextBlock) (octets others : List ℕ) → is_some o ≡ true → StandsBy fed wanted limits old o done octets → StandsBy fed wanted limits new o (done ++ more) others
-  stands_stopped old new None done more octets others is s = cc
-  stands_stopped old new (Some fault) done more octets others is s = fault_more limits 0 done more fault s
+  stands_stopped : (old new : Framer T) (o : Option Fault) (done more : List TextBlock) (octets others : List ℕ) → new.top ≡ old.top → is_some o ≡ true → StandsBy fed wanted limits old o done octets → StandsBy fed wanted limits new o (done ++ more) others
+  stands_stopped old new None done more octets others top is s = cc
+  stands_stopped old new (Some fault) done more octets others top is s = (fault_more limits 0 done more fault s.0, (s.1.0, subst (λ (t : T). fed limits t s.1.0) (sym top) s.1.1))
 
   -- behind a fault a block's end changes nothing
   pub closed_stopped : (old new : Framer T) (done : List TextBlock) (label : Option Label) (octets : List ℕ) → Closes old new → is_some old.fault ≡ true → new.fault ≡ old.fault → Framed fed wanted limits old done label octets
@@ -208,7 +208,7 @@ module _ {T : Type 0} (fed : Limits → T → List Item → Type 0) (wanted : Wa
     numbered = closes_number new.number old.number 0 done (Block label octets) c.number f.numbered;
     counted = omega (arith, c.count);
     stands = subst (λ (o : Option Fault). StandsBy fed wanted limits new o (done ++ Block label octets ∷ []) []) (sym fault)
-        (stands_stopped old new old.fault done (Block label octets ∷ []) octets [] is f.stands);
+        (stands_stopped old new old.fault done (Block label octets ∷ []) octets [] c.top is f.stands);
   }
 
   open_last : (f : Framer T) (octets : List ℕ) (items : List Item) → f.begun ≡ true → AreOpen limits wanted f.number f.label f.deframe f.begun octets items → AreOpen limits wanted f.number f.label f.deframe true octets items
@@ -257,8 +257,10 @@ module _ {T : Type 0} (fed : Limits → T → List Item → Type 0) (wanted : Wa
         label_kept = c.label_is ∙ f.label_kept;
         numbered = closes_number new.number old.number 0 done (Block label octets) c.number f.numbered;
         counted = omega (arith, c.count);
-        stands = subst (λ (o : Option Fault). StandsBy fed wanted limits new o (done ++ Block label octets ∷ []) []) (sym fault_is)
-            (fault_push limits wanted 0 old.number done r.ended (Block label octets) fault (omega (arith, f.numbered)) r.framed (whole last.0 last.1));
+        stands = subst (λ (o : Option Fault). StandsBy fed wanted limits new o (done ++ Block label octets ∷ []) []) (sym fault_is) (
+          fault_push limits wanted 0 old.number done r.ended (Block label octets) fault (omega (arith, f.numbered)) r.framed (whole last.0 last.1),
+          (r.ended ++ r.going, subst (λ (t : T). fed limits t (r.ended ++ r.going)) (sym c.top) r.top),
+        );
       }
 
   -- ---- the end
@@ -275,7 +277,7 @@ module _ {T : Type 0} (fed : Limits → T → List Item → Type 0) (wanted : Wa
 
   stands_faulty : (f : Framer T) (o : Option Fault) (fault : Fault) (done : List TextBlock) (octets : List ℕ) → o ≡ Some fault → StandsBy fed wanted limits f o done octets → FirstFault limits 0 done fault
   stands_faulty f None fault done octets e r = cc
-  stands_faulty f (Some g) fault done octets e r = let same : g ≡ fault = cc in subst (FirstFault limits 0 done) same r
+  stands_faulty f (Some g) fault done octets e r = let same : g ≡ fault = cc in subst (FirstFault limits 0 done) same r.0
 
   pub end_faulty : (f : Framer T) (done : List TextBlock) (label : Option Label) (octets : List ℕ) (fault : Fault) → f.fault ≡ Some fault → Framed fed wanted limits f done label octets → FirstFault limits 0 done fault
   end_faulty f done label octets fault e r = stands_faulty f f.fault fault done octets e r.stands

@@ -14,3 +14,6 @@ mod SomeAnswer
 mod Spooling
 mod Texts
 mod Ways
+pub mod Exchanging
+pub mod Held
+pub mod PartEnds

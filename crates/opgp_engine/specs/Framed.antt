@@ -44,11 +44,17 @@ pub record Reaches {T : Type 0} (fed : Limits → T → List Item → Type 0) (w
   pub last : AreOpen limits wanted f.number f.label f.deframe f.begun octets going
   pub top : fed limits f.top (ended ++ going)
 
--- the top has the labels and packets of all blocks so far; or one of them has the first fault
+-- the top was given some labels and packets
+abbrev pub WasGiven : {T : Type 0} → (Limits → T → List Item → Type 0) → Limits → T → Type 0
+WasGiven fed limits top = (items : List Item) × fed limits top items
+
+-- The top has the labels and packets of all blocks so far; or one of them has the first fault, and
+-- the top has what it was given before.
 abbrev pub StandsBy : {T : Type 0} → (Limits → T → List Item → Type 0) → Wanted → Limits → Framer T
     → Option Fault → List TextBlock → List ℕ → Type 0
 StandsBy fed wanted limits f None done octets = Reaches fed wanted limits f done octets
-StandsBy fed wanted limits f (Some fault) done octets = FirstFault limits 0 done fault
+StandsBy fed wanted limits f (Some fault) done octets =
+    FirstFault limits 0 done fault × WasGiven fed limits f.top
 
 -- The framer was given these blocks to their ends, and of the open one, which has this label, these
 -- octets.

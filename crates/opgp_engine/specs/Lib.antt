@@ -14,3 +14,7 @@ pub mod Via
 pub mod Writing
 pub mod Written
 pub mod Receiver
+pub mod Exchanged
+pub mod HandingOut
+pub mod PartReader
+pub mod Waiting

@@ -3,6 +3,7 @@
 ghost use Rattle.std.specs.Prelude.{◌≡◌, ◌<◌, ◌+◌, ◌^◌, List, false, length, map, OnOk};
 ghost use Rattle.opgp_frame.specs.declared.packet.Placed.{Placed};
 ghost use Rattle.opgp_frame.specs.Fed.{KeepsFed as KeepsFedPackets, is_ready, count_of};
+ghost use Rattle.opgp_frame.specs.Fed.{limits_of};
 ghost use Rattle.opgp_ring.specs.Composition.{of_packet};
 ghost use Rattle.opgp_engine.specs.Receiver.{KeepsFed};
 
@@ -25,6 +26,7 @@ pub(crate) fn feed<T: Receiver>(
         × KeepsFed T.fed top.old top.new (map of_packet packets)) }
     ensures free { is_ready deframe.new ≡ false }
     ensures count { OnOk result (count_of deframe.new ≡ count_of deframe.old + length piece.now) }
+    ensures limits { limits_of deframe.new ≡ limits_of deframe.old }
 {
     let mut at = 0;
     let mut passed = 0u64;

@@ -3,7 +3,7 @@
 ghost use Rattle.std.specs.Prelude.{◌≡◌, ◌<◌, ◌+◌, ◌^◌, ◌++◌, ◌∷◌, [], ℕ, List, Option, Some, false, true};
 ghost use Rattle.std.specs.Prelude.{length, OnOk, MatchResult};
 ghost use Rattle.opgp_armor.specs.declared.label.Label.{Label};
-ghost use Rattle.opgp_frame.specs.Fed.{is_ready};
+ghost use Rattle.opgp_frame.specs.Fed.{is_ready, limits_of};
 ghost use Rattle.opgp_octets.specs.declared.limits.Limits.{Limits};
 ghost use Rattle.opgp_ring.specs.Composition.{Item};
 ghost use Rattle.opgp_engine.specs.Reading.{TextBlock, AreFramed, FirstFault};
@@ -31,10 +31,12 @@ pub(crate) struct Framer<T> {
     fault: Option<Fault>,
     packets: u64,
     ghost free: { is_ready deframe ≡ false },
+    ghost within: { limits_of deframe ≡ limits },
 }
 
 impl<T: Receiver + Drop> Framer<T> {
     ghost use Rattle.opgp_engine.specs.Framed.{Framed, open_count, number_of, has_begun, packet_count};
+    ghost use Rattle.opgp_engine.specs.Exchanged.{framer_with};
 
     /// A framer that was given nothing, like its top. Its open block has this label.
     pub(crate) fn new(alloc: Global, limits: Limits, label: Option<Label>, top: T) -> Framer<T>
@@ -148,6 +150,21 @@ impl<T: Receiver + Drop> Framer<T> {
             Ok(()) => {}
             Err(fault) => self.fault = Some(fault),
         }
+    }
+
+    /// Takes out the top, and puts another in its place.
+    pub(crate) fn exchange(&mut self, top: T) -> T
+        ensures was { result ≡ self.old.top }
+        ensures now { self.new ≡ framer_with self.old top }
+    {
+        mem::replace(&mut self.top, top)
+    }
+
+    /// The top.
+    pub(crate) fn top(&self) -> &T
+        ensures { result.now ≡ self.now.top }
+    {
+        &self.top
     }
 
     /// The top, which was given the labels and packets of all blocks, or the first fault. The

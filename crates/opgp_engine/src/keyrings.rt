@@ -11,6 +11,16 @@ use opgp_frame::Placed;
 use opgp_octets::{Fault, OutOfMemory};
 use opgp_ring::{Gathering, Keeper};
 
+/// Whether a block with this label holds public keys; a binary block has none.
+pub(crate) fn holds_keys(label: Option<Label>) -> bool
+    ensures { result ≡ key_label label }
+{
+    match label {
+        None | Some(Label::PublicKeyBlock) => true,
+        Some(Label::Message | Label::PrivateKeyBlock | Label::Signature) => false,
+    }
+}
+
 impl<K: Keeper + Drop> Receiver for Gathering<K> {
     type Value = K;
 
@@ -21,10 +31,7 @@ impl<K: Keeper + Drop> Receiver for Gathering<K> {
     ghost says = { KeepsAll K.kept };
 
     fn wants(label: Option<Label>) -> bool {
-        match label {
-            None | Some(Label::PublicKeyBlock) => true,
-            Some(Label::Message | Label::PrivateKeyBlock | Label::Signature) => false,
-        }
+        holds_keys(label)
     }
 
     fn begin_block(&mut self, block: u64, fits: bool) -> Result<(), OutOfMemory> {

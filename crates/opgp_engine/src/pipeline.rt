@@ -41,6 +41,8 @@ pub struct Pipeline<T> {
 }
 
 impl<T: Receiver + Drop> Pipeline<T> {
+    ghost use Rattle.opgp_engine.specs.Exchanged.{pipeline_with, top_of};
+
     /// A pipeline that was given nothing, like its top. Allocates nothing; pushes do, from `alloc`.
     pub fn new(alloc: Global, mode: Mode, limits: Limits, top: T) -> Pipeline<T>
         requires { T.fed limits top [] }
@@ -122,6 +124,21 @@ impl<T: Receiver + Drop> Pipeline<T> {
         pass(&mut self.front, &mut self.framer, piece)?;
         self.given += piece.len() as u64;
         Ok(())
+    }
+
+    /// Takes out the top, and puts another in its place.
+    pub(crate) fn exchange(&mut self, top: T) -> T
+        ensures was { result ≡ top_of self.old }
+        ensures now { self.new ≡ pipeline_with self.old top }
+    {
+        self.framer.exchange(top)
+    }
+
+    /// The top.
+    pub(crate) fn top(&self) -> &T
+        ensures { result.now ≡ top_of self.now }
+    {
+        self.framer.top()
     }
 
     /// How many packets the top was given, at most 2^64 - 1.

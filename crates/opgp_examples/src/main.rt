@@ -4,7 +4,6 @@
 mod certificates;
 mod reopening;
 mod rewriting;
-mod text;
 mod verifying;
 mod walk;
 

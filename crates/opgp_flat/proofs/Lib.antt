@@ -1,5 +1,7 @@
 mod Cutting
 mod Joining
+mod Lines
 mod Naming
 mod Pointing
+mod Valued
 mod Working

@@ -1,8 +1,11 @@
+pub mod FaultLine
 pub mod FaultRow
 pub mod GivenLimits
 pub mod Jobs
 pub mod Keys
+pub mod Names
 pub mod Packets
 pub mod Parts
 pub mod Room
+pub mod SubpacketValues
 pub mod Subpackets

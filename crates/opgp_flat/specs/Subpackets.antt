@@ -16,7 +16,9 @@ use Rattle.opgp_report.specs.Standing.{Standing, standing_in}
 use Rattle.opgp_ring.specs.Keyring.{KeyringValue}
 use Rattle.opgp_flat.specs.declared.subpacket_row.SubpacketRow.{SubpacketRow}
 use Rattle.opgp_flat.specs.declared.subpacket_table.SubpacketTable.{SubpacketTable}
+use Rattle.opgp_flat.specs.declared.subpacket_values.SubpacketValues.{SubpacketValues}
 use Rattle.opgp_flat.specs.Jobs.{or_none}
+use Rattle.opgp_flat.specs.SubpacketValues.{values_of}
 
 -- what is known of a subpacket's data
 abbrev pub meaning_number : Meaning → ℕ
@@ -28,6 +30,13 @@ abbrev pub bit : Bool → ℕ
 bit true = 1
 bit false = 0
 
+-- what its data means, and says by that
+abbrev pub meaning_in : Sub → Meaning
+meaning_in s = meaning_of (subpacket_kind_of (kind_shown s.kind)) s.octets
+
+abbrev pub values_in : Sub → SubpacketValues
+values_in s = values_of (meaning_in s)
+
 -- of a subpacket of the signature at a place, whose data stands here (RFC 9580, 5.2.3.7)
 abbrev pub subpacket_row : Place → ℕ → ℕ → Sub → SubpacketRow
 subpacket_row place is_hashed at s = record {
@@ -37,11 +46,15 @@ subpacket_row place is_hashed at s = record {
   nested = or_none place.nested;
   at = at;
   size = length s.octets;
+  fields_at = at + (values_in s).before;
+  field_sizes = (values_in s).sizes;
+  numbers = (values_in s).numbers;
   kind = kind_shown s.kind;
   is_critical = bit (is_critical s.kind);
   is_hashed = is_hashed;
-  meaning = meaning_number (meaning_of (subpacket_kind_of (kind_shown s.kind)) s.octets);
-  reserved = replicate 4 0;
+  meaning = meaning_number (meaning_in s);
+  form = (values_in s).form;
+  reserved = replicate 3 0;
 }
 
 -- ---- of an area

@@ -1,18 +1,25 @@
 //! What the definitions of the tables imply.
 
-ghost use Rattle.std.specs.Prelude.{◌≡◌, map};
+ghost use Rattle.std.specs.Prelude.{◌≡◌, ℕ, List, Some, length, map};
+ghost use Rattle.opgp_octets.specs.declared.fault.Fault.{Fault};
+ghost use Rattle.opgp_packet.specs.Forms.{Fields, Form, IsOf};
+ghost use Rattle.opgp_hash.specs.declared.why.Why.{Why};
 ghost use Rattle.opgp_hash.specs.Fingerprint.{print_octets};
 ghost use Rattle.opgp_report.specs.Asked.{asked_of};
 ghost use Rattle.opgp_report.specs.First.{print_of};
 ghost use Rattle.opgp_report.specs.Report.{keys_in};
 ghost use Rattle.opgp_report.specs.Standing.{standing_in};
 ghost use Rattle.opgp_ring.specs.Keyring.{KeyringValue, flat};
+ghost use Rattle.opgp_flat.specs.FaultLine.{fault_of};
+ghost use Rattle.opgp_flat.specs.FaultRow.{fault_row};
 ghost use Rattle.opgp_flat.specs.Jobs.{asked_shown, job_bytes, job_parts, job_rows};
-ghost use Rattle.opgp_flat.specs.Jobs.{job_shown};
+ghost use Rattle.opgp_flat.specs.Jobs.{job_shown, why_number};
 ghost use Rattle.opgp_flat.specs.Keys.{key_bytes, key_parts, key_rows};
+ghost use Rattle.opgp_flat.specs.Names.{why_of};
 ghost use Rattle.opgp_flat.specs.Packets.{packet_bytes, packet_rows, packet_shown, row_shown};
 ghost use Rattle.opgp_flat.specs.Parts.{cuts};
 ghost use Rattle.opgp_flat.specs.Room.{padded};
+ghost use Rattle.opgp_flat.specs.SubpacketValues.{before_octets, octets_in};
 
 /// The rows of a keyring's packets belong to its packets, in order: each states its packet's type,
 /// and where its body is in the octets.
@@ -45,4 +52,20 @@ pub fn rows_of_jobs_are_those_of_questions()
     ensures made { (r : KeyringValue)
         → map (λ row. cuts (job_bytes r) row.at row.sizes) (job_rows r)
         ≡ map job_parts (standing_in r) }
+{}
+
+/// The row of a fault stands for that fault; and the number of each reason why a signature isn't
+/// hashed for that reason. So each has a name.
+#[tactic(auto, using(crate::proofs::Lines::fault_listed, crate::proofs::Lines::why_listed))]
+pub fn rows_of_faults_stand_for_them()
+    ensures fault { (f : Fault) → fault_of (fault_row f) ≡ Some f }
+    ensures why { (w : Why) → why_of (why_number w) ≡ Some w }
+{}
+
+/// The fields of octets of a subpacket's data are where its values say: behind so many octets, one
+/// after the other.
+#[tactic(auto, using(crate::proofs::Valued::fields_lie))]
+pub fn fields_of_octets_lie_in_the_data()
+    ensures { (f : Form) → (o : List ℕ) → (x : Fields f) → IsOf f o x
+        → cuts o (before_octets f) (map length (octets_in f x)) ≡ octets_in f x }
 {}

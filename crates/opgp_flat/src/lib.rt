@@ -3,6 +3,7 @@
 #![tactic(auto)]
 
 mod copying;
+mod fault_line;
 mod fault_row;
 mod given_limits;
 mod hashed_octets;
@@ -11,13 +12,16 @@ mod job_table;
 mod key_row;
 mod key_table;
 pub mod laws;
+mod names;
 mod packet_row;
 mod packet_table;
 mod parts;
 mod subpacket_row;
 mod subpacket_table;
+mod subpacket_values;
 
 pub use copying::fill;
+pub use fault_line::{FAULT_LINE, short_line};
 pub use fault_row::FaultRow;
 pub use given_limits::GivenLimits;
 pub use hashed_octets::row_octets;
@@ -25,6 +29,7 @@ pub use job_row::JobRow;
 pub use job_table::jobs;
 pub use key_row::{KeyRow, NONE};
 pub use key_table::keys;
+pub use names::NumberTable;
 pub use packet_row::PacketRow;
 pub use packet_table::packets;
 pub use subpacket_row::SubpacketRow;

@@ -10,6 +10,7 @@ ghost use Rattle.opgp_flat.specs.Subpackets.{subpacket_row, subpacket_rows};
 
 use crate::job_table::or_none;
 use crate::subpacket_row::SubpacketRow;
+use crate::subpacket_values::SubpacketValues;
 use opgp_hash::{CertificateHasher, Site};
 use opgp_octets::{BodyFault, OutOfMemory};
 use opgp_packet::{SigView, SubMeaning, SubView, Subs};
@@ -50,6 +51,13 @@ impl SubpacketTable {
     {
         let at = self.bytes.len() as u64;
         let octets = subpacket.octets();
+        let meaning = subpacket.meaning();
+        let SubpacketValues {
+            form,
+            numbers,
+            before,
+            sizes,
+        } = SubpacketValues::of(meaning);
         self.bytes.extend_from_slice(octets)?;
         self.rows.push(SubpacketRow {
             certificate: place.certificate as u64,
@@ -58,11 +66,15 @@ impl SubpacketTable {
             nested: or_none(place.nested),
             at,
             size: octets.len() as u64,
+            fields_at: at + before,
+            field_sizes: sizes,
+            numbers,
             kind: subpacket.kind(),
             is_critical: subpacket.critical() as u8,
             is_hashed,
-            meaning: meaning_number(subpacket.meaning()),
-            reserved: [0; 4],
+            meaning: meaning_number(meaning),
+            form,
+            reserved: [0; 3],
         })?;
         Ok(())
     }

@@ -1,9 +1,11 @@
 mod KeptOf
 mod KeyLines
+pub mod KeyTexts
 mod Looking
 mod MadeOnce
 mod PartTexts
 mod Runs
 mod ShownTexts
 mod SoundLines
+mod Named
 mod NumberTexts

@@ -51,6 +51,7 @@ by_top P packets ring literal (action.Write out) = ring _
 by_top P packets ring literal (action.Normalise out) = ring _
 by_top P packets ring literal (action.Split out None) = ring _
 by_top P packets ring literal (action.Split out (Some n)) = ring _
+by_top P packets ring literal (action.SplitKey out key) = ring _
 by_top P packets ring literal (action.Join out false) = ring _
 by_top P packets ring literal (action.Join out true) = ring _
 

@@ -1,5 +1,9 @@
+pub mod ByKey
 pub mod Faults
 pub mod Hashing
+pub mod Digits
+pub mod KeyName
+pub mod KeyText
 pub mod Listing
 pub mod OnePart
 pub mod Parts

@@ -1,6 +1,7 @@
 -- What a run of the program makes of an input.
 use Rattle.std.specs.Prelude.{◌≡◌, ◌⊎◌, ℕ, Bool, true, false, List, Option, Some, None, Result, Ok, Err}
 use Rattle.std.specs.Prelude.{slice_get}
+use Rattle.std.specs.List.{list_any}
 use Rattle.opgp_octets.specs.declared.fault.Fault.{Fault}
 use Rattle.opgp_octets.specs.declared.limits.Limits.{Limits}
 use Rattle.opgp_frame.specs.Packet.{PacketValue}
@@ -27,6 +28,7 @@ use Rattle.opgp_stack.specs.declared.task.Task.{Task}
 use Rattle.opgp_stack.specs.Hashing.{message_asked}
 use Rattle.opgp_engine.specs.Draft.{IsDrafted}
 use Rattle.opgp_engine.specs.Keyrings.{ComposesTo, key_label}
+use Rattle.opgp_stack.specs.KeyName.{certificates_with, has_key, name_octets}
 use Rattle.opgp_stack.specs.Listing.{listing}
 use Rattle.opgp_engine.specs.Packets.{ArePackets, BlockValue, any_label}
 use Rattle.opgp_engine.specs.Pulled.{OfAll}
@@ -55,6 +57,16 @@ question_made None = NoSuchRow
 abbrev pub one_text : Out → Option CertificateValue → Made
 one_text out (Some c) = Text (packets_text out (certificate_packets c))
 one_text out None = NoSuchCertificate
+
+-- the text of what was looked for, if any was found
+abbrev pub found_made : Bool → List ℕ → Made
+found_made true text = Text text
+found_made false text = NoSuchCertificate
+
+-- the certificates with a key of a name, each on its own
+abbrev pub named_made : Out → List ℕ → List CertificateValue → Made
+named_made out name cs =
+    found_made (list_any (has_key name) cs) (certificates_text out (certificates_with name cs))
 
 -- what is made of an answer: a refusal stays one
 abbrev pub on_value : {A : Type 0} → (A → Made) → Outcome A → Made
@@ -92,6 +104,7 @@ MakesBy (action.Write out) = OfRing (λ r. Text (packets_text out (flat r)))
 MakesBy (action.Normalise out) = OfRing (λ r. Text (packets_text out (flat (normal_of r))))
 MakesBy (action.Split out None) = OfRing (λ r. Text (certificates_text out r.certificates))
 MakesBy (action.Split out (Some n)) = OfRing (λ r. one_text out (slice_get r.certificates n))
+MakesBy (action.SplitKey out key) = OfRing (λ r. named_made out (name_octets key) r.certificates)
 MakesBy (action.Join out false) = OfRing (λ r. Text (packets_text out (flat r)))
 MakesBy (action.Join out true) = OfRing (λ r. Text (packets_text out (flat (merged_of r))))
 

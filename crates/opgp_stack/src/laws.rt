@@ -2,7 +2,9 @@
 
 ghost use Rattle.std.specs.Prelude.{◌≡◌, ℕ, List};
 ghost use Rattle.opgp_octets.specs.Octets.{IsOctets};
+ghost use Rattle.opgp_stack.specs.KeyText.{IsKeyText};
 ghost use Rattle.opgp_stack.specs.Running.{Made, Makes};
+ghost use Rattle.opgp_stack.specs.declared.key_name.KeyName.{KeyName};
 ghost use Rattle.opgp_stack.specs.declared.task.Task.{Task};
 
 pub use opgp_engine::laws::{
@@ -29,3 +31,8 @@ pub fn something_is_made()
     some_answer();
     some_signed_literal();
 }
+
+/// A text names at most one key.
+pub fn a_text_names_one_key()
+    ensures { (text : List ℕ) (a b : KeyName) → IsKeyText text a → IsKeyText text b → a ≡ b }
+{}

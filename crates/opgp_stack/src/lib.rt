@@ -2,7 +2,10 @@
 //! and writing stand here too.
 #![tactic(auto)]
 
+mod by_key;
 mod hashing;
+mod key_name;
+mod key_text;
 pub mod laws;
 mod listing;
 mod one_part;
@@ -19,6 +22,7 @@ mod writing_listing;
 mod writing_report;
 mod writing_shown;
 
+pub use key_name::KeyName;
 pub use opgp_engine::{
     Answer, Draft, DraftError, EngineError, Mode, NoSpool, Out, PacketBlocks, PacketsText,
     Pipeline, ReadError, Receiver, Sink, Source, Spool, Text, Watched, read_keyring, read_packets,

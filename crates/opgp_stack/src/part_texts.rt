@@ -8,12 +8,14 @@ ghost use Rattle.opgp_ring.specs.Composed.{PartValue};
 ghost use Rattle.opgp_ring.specs.Parts.{AreParts, part_packets};
 ghost use Rattle.opgp_ring.specs.State.{part_of};
 ghost use Rattle.opgp_frame.specs.Packet.{packets_octets};
+ghost use Rattle.opgp_ring.specs.Keyring.{certificate_packets};
+ghost use Rattle.opgp_engine.specs.Writing.{packets_text};
 ghost use Rattle.opgp_stack.specs.Parts.{certificate_text, normal_octets, part_lines, part_octets};
 
 use crate::writing_listing::ListingText;
 use opgp_engine::{Draft, Out, PacketsText, Spool};
 use opgp_octets::OutOfMemory;
-use opgp_ring::{Keeper, Packets, Ready};
+use opgp_ring::{Certificate, Keeper, Packets, Ready};
 use std::alloc::Global;
 use std::marker::PhantomData;
 
@@ -117,11 +119,23 @@ fn add_certificate<S: Spool + Drop>(
             drop(lead);
             Ok(())
         }
-        Ready::Certificate(certificate) => {
-            let packets = Packets::of_certificate(&certificate);
-            draft.add(PacketsText { out, packets })
-        }
+        Ready::Certificate(certificate) => add_alone(draft, out, &certificate),
     }
+}
+
+/// Adds a certificate on its own.
+pub(crate) fn add_alone<S: Spool + Drop>(
+    draft: &mut Draft<S>,
+    out: Out,
+    certificate: &Certificate,
+) -> Result<(), OutOfMemory>
+    ensures { OnOk result ((given : List ℕ)
+        → DraftHas S.serves S.tells S.holds S.has_failed draft.old given
+        → DraftHas S.serves S.tells S.holds S.has_failed draft.new
+        (given ++ packets_text out (certificate_packets certificate.now))) }
+{
+    let packets = Packets::of_certificate(certificate);
+    draft.add(PacketsText { out, packets })
 }
 
 /// What is written of the parts of a keyring that came so far. No part is kept.

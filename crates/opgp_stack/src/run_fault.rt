@@ -23,7 +23,7 @@ pub enum RunFault {
     Spool,
     /// There is no row of that number, or it has no octets.
     NoSuchRow,
-    /// There is no certificate of that number.
+    /// There is no certificate of that number, or none with a key of that name.
     NoSuchCertificate,
 }
 

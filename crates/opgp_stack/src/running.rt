@@ -1,6 +1,6 @@
 //! Runs a task.
 
-ghost use Rattle.std.specs.Prelude.{◌≡◌, ℕ, List, [], true, false, IfSome};
+ghost use Rattle.std.specs.Prelude.{◌≡◌, ◌⊎◌, ℕ, List, [], true, false, IfSome};
 ghost use Rattle.opgp_octets.specs.declared.limits.Limits.{Limits};
 ghost use Rattle.opgp_ring.specs.Keyring.{flat};
 ghost use Rattle.opgp_ring.specs.Composition.{placed_in};
@@ -12,14 +12,18 @@ ghost use Rattle.opgp_engine.specs.Packets.{any_label};
 ghost use Rattle.opgp_engine.specs.Pulled.{OfAll};
 ghost use Rattle.opgp_engine.specs.Reading.{AnswerOf};
 ghost use Rattle.opgp_engine.specs.Writing.{octets_text};
+ghost use Rattle.opgp_stack.specs.ByKey.{NamedIn};
+ghost use Rattle.opgp_stack.specs.KeyName.{name_octets};
 ghost use Rattle.opgp_stack.specs.OnePart.{HasNth, HasRow, found_question};
 ghost use Rattle.opgp_stack.specs.Parts.{HasText, OfKeyring};
 ghost use Rattle.opgp_stack.specs.Report.{report_lines};
 ghost use Rattle.opgp_stack.specs.Shown.{IsShown};
 ghost use Rattle.opgp_stack.specs.Running.{IsMade, IsSpooled, Made, ReadsFor, RunsAs, RunsSpooled};
-ghost use Rattle.opgp_stack.specs.Running.{ended, one_text, question_made};
+ghost use Rattle.opgp_stack.specs.Running.{ended, found_made, one_text, question_made};
 
+use crate::by_key::{NamedCertificates, Sought};
 use crate::hashing::{question_of, write_question};
+use crate::key_name::KeyName;
 use crate::one_part::{NthCertificate, Number, RowFound};
 use crate::part_texts::{
     ArmoredAlone, AsTheyAre, BareAlone, EachPart, Lines, Normalised, PartTexts,
@@ -243,6 +247,35 @@ fn row_of<R: Source, N: Number>(
     }
 }
 
+/// Reads a keyring, and returns what is written of its certificates with a key of this name, and
+/// whether there are any. No certificate is kept.
+fn named_of<R: Source, N: Sought, S: Spool + Drop>(
+    alloc: Global,
+    task: &Task,
+    spool: Option<S>,
+    reader: &mut R,
+    out: Out,
+    key: KeyName,
+) -> Result<(Draft<S>, bool), RunFault>
+    requires sound { R.has_failed reader.old ≡ false }
+    requires empty { IfSome spool (λ s. (S.serves ≡ true) × (S.tells ≡ true → S.holds s ≡ [])) }
+    requires out { out ≡ N.out }
+    requires name { name_octets key ≡ N.name }
+    ensures { ReadsFor (λ answer. OfAll R.left R.has_failed reader.old reader.new task.now.limits
+        (λ octets. AnswerOf key_label (OfKeyring (NamedIn (DraftHas S.serves S.tells S.holds S.has_failed)
+        out (name_octets key)) task.now.limits) task.now.mode task.now.limits octets answer))
+        (R.has_failed reader.new ≡ true) (R.has_failed reader.new ≡ false) result }
+{
+    let top: NamedCertificates<N, S> = match NamedCertificates::new(alloc, spool, out, key) {
+        Ok(top) => top,
+        Err(_) => return Err(RunFault::Memory),
+    };
+    match ask(alloc, task, reader, Gathering::new(alloc, task.limits, top)) {
+        Ok(kept) => Ok(kept.found()),
+        Err(fault) => Err(fault),
+    }
+}
+
 /// Runs a task, with or without a spool, and frees or leaks what it read.
 fn run_and<R: Source, W: Sink, S: Spool + Drop>(
     alloc: Global,
@@ -314,6 +347,10 @@ fn run_and<R: Source, W: Sink, S: Spool + Drop>(
                 done(write_one(alloc, out, &found, writer), found, after)
             }
         },
+        Action::SplitKey { out, key } => {
+            let (text, found) = named_of::<R, Brand, S>(alloc, task, spool, reader, out, key)?;
+            write_found(text, found, writer)
+        }
         Action::Join { out, merge: merges } => {
             if merges {
                 drop(spool);
@@ -345,6 +382,25 @@ fn write_draft<W: Sink, S: Spool + Drop>(
         Ok(()) => Ok(()),
         Err(DraftError::Write) => Err(RunFault::Write),
         Err(DraftError::Spool) => Err(RunFault::Spool),
+    }
+}
+
+/// Writes a text that was held, if what it is made of was found.
+fn write_found<W: Sink, S: Spool + Drop>(
+    draft: Draft<S>,
+    found: bool,
+    writer: &mut W,
+) -> Result<(), RunFault>
+    requires { W.has_failed writer.old ≡ false }
+    ensures { (text : List ℕ) → DraftHas S.serves S.tells S.holds S.has_failed draft text
+        → IsMade W.held W.has_failed writer.old writer.new result (found_made found text)
+        ⊎ IsSpooled S.serves S.tells W.held W.has_failed writer.old writer.new result
+        (found_made found text) }
+{
+    if found {
+        write_draft(draft, Out::Binary, writer)
+    } else {
+        Err(RunFault::NoSuchCertificate)
     }
 }
 

@@ -1,5 +1,6 @@
 //! The tasks of the program.
 
+use crate::key_name::KeyName;
 use opgp_engine::{Mode, Out};
 use opgp_octets::Limits;
 
@@ -46,6 +47,13 @@ pub enum Action {
         out: Out,
         /// The number of the certificate, from 0; None: every one.
         nth: Option<u64>,
+    },
+    /// The certificates that have a key of this name, each as a block of its own.
+    SplitKey {
+        /// How each is written.
+        out: Out,
+        /// The key: a primary key or a subkey.
+        key: KeyName,
     },
     /// All blocks of the input as one keyring.
     Join {

@@ -3,11 +3,11 @@
 use crate::ends::{Trouble, holds, in_drips, in_pieces};
 use crate::keys::KEYS;
 use opgp_octets::Limits;
-use opgp_stack::{Action, Mode, Out, RunFault, Task, Watched, run};
+use opgp_stack::{Action, KeyName, Mode, Out, RunFault, Task, Watched, run};
 use std::alloc::Global;
 use std::test::Fail;
 
-pub const ACTIONS: [Action; 13] = [
+pub const ACTIONS: [Action; 14] = [
     Action::Show,
     Action::ShowValues,
     Action::List,
@@ -30,6 +30,10 @@ pub const ACTIONS: [Action; 13] = [
     Action::Split {
         out: Out::Binary,
         nth: Some(1),
+    },
+    Action::SplitKey {
+        out: Out::Armor,
+        key: KeyName::Id([0x8C, 0xFD, 0xE1, 0x21, 0x97, 0x96, 0x5A, 0x9A]),
     },
     Action::Join {
         out: Out::Armor,

@@ -11,8 +11,11 @@ use Rattle.opgp_engine.specs.declared.mode.Mode.{Mode}
 use Rattle.opgp_stack.specs.declared.task.Action.{Action}
 use Rattle.opgp_stack.specs.declared.task.Action.TheVariants as action
 use Rattle.opgp_stack.specs.declared.task.Task.{Task}
+use Rattle.opgp_stack.specs.KeyText.{IsKeyText}
+use Rattle.opgp_stack.specs.declared.key_name.KeyName.{KeyName}
+use Rattle.opgp_stack.proofs.KeyTexts.{one_name}
 use Rattle.opgp_tool.specs.Program.{SaysTask}
-use Rattle.opgp_tool.specs.Words.{Asked, HasLimits, HasNumber, IsAction, IsNth, IsRequest, IsTask}
+use Rattle.opgp_tool.specs.Words.{Asked, HasKey, HasLimits, HasNumber, IsAction, IsNth, IsRequest, IsTask}
 use Rattle.opgp_tool.proofs.Reading.{apart}
 use Rattle.opgp_tool.proofs.SameLimits.{same_limits}
 
@@ -34,6 +37,10 @@ one_nth options None (Some n) a b = absurd (no_text _ b.0 a b.1)
 one_nth options (Some m) None a b = absurd (no_text _ a.0 b a.1)
 one_nth options (Some m) (Some n) a b = ap {B = Option ℕ} Some (one_number options _ m n a b)
 
+one_key : (options : List Row) (a b : KeyName) → HasKey options a → HasKey options b → a ≡ b
+one_key options a b x y =
+    one_name y.0 a b (subst (λ (t : Text). IsKeyText t a) (same_Some x.0 y.0 (sym x.1 ∙ y.1)) x.2) y.2
+
 -- the command of an action
 abbrev name_of : Action → Text
 name_of action.Show = codes "show"
@@ -44,6 +51,7 @@ name_of (action.Octets row top) = codes "octets"
 name_of (action.Write out) = codes "write"
 name_of (action.Normalise out) = codes "normalise"
 name_of (action.Split out nth) = codes "split"
+name_of (action.SplitKey out key) = codes "split"
 name_of (action.Join out merge) = codes "join"
 
 named : (name : Text) (options : List Row) (a : Action) → IsAction name options a → name ≡ name_of a
@@ -55,6 +63,7 @@ named name options (action.Octets row top) said = said.0
 named name options (action.Write out) said = said.0
 named name options (action.Normalise out) said = said.0
 named name options (action.Split out nth) said = said.0
+named name options (action.SplitKey out key) said = said.0
 named name options (action.Join out merge) said = said.0
 
 one_action : (name : Text) (options : List Row) (a b : Action) → IsAction name options a
@@ -71,6 +80,10 @@ one_action name options (action.Write out) (action.Write other) a b = cc (a.1, b
 one_action name options (action.Normalise out) (action.Normalise other) a b = cc (a.1, b.1)
 one_action name options (action.Split out nth) (action.Split other m) a b =
     let same : nth ≡ m = one_nth options nth m a.2 b.2 in cc (same, a.1, b.1)
+one_action name options (action.SplitKey out key) (action.SplitKey other k) a b =
+    let same : key ≡ k = one_key options key k a.2 b.2 in cc (same, a.1, b.1)
+one_action name options (action.Split out nth) (action.SplitKey other k) a b = absurd (none-some b.2.0 (sym a.3 ∙ b.2.1))
+one_action name options (action.SplitKey out key) (action.Split other m) a b = absurd (none-some a.2.0 (sym b.3 ∙ a.2.1))
 one_action name options (action.Join out merge) (action.Join other m) a b = cc (a.1, a.2, b.1, b.2)
 one_action name options x y a b =
     let same : name_of x ≡ name_of y = sym (named name options x a) ∙ named name options y b in

@@ -1,6 +1,6 @@
 -- What an option's text says as a number, and limits that are said.
-use Rattle.std.proofs.lemmas.Option.{none-some}
-use Rattle.std.proofs.Common.{◌≡◌, ◌∙◌, ap, sym, refl, Bool, true, false, ℕ, List, Option, Some, None, Result}
+use Rattle.std.proofs.lemmas.Option.{none-some, same_Some}
+use Rattle.std.proofs.Common.{◌≡◌, ◌∙◌, ap, subst, sym, refl, Bool, true, false, ℕ, List, Option, Some, None, Result}
 use Rattle.std.specs.Prelude.{IfSome, IfNone, codes}
 use Rattle.std.specs.Str.{bytes_eq}
 use Rattle.std.specs.Str.Parse.{ParsesUnsigned}
@@ -8,7 +8,9 @@ use Rattle.clap.specs.Words.{Row, Text, first_of, one_of}
 use Rattle.clap.specs.Matches.{ReadsOne}
 use Rattle.opgp_stack.specs.declared.task.Action.{Action}
 use Rattle.opgp_stack.specs.declared.task.Action.TheVariants as action
-use Rattle.opgp_tool.specs.Words.{HasNumber, IsAction, IsNth}
+use Rattle.opgp_stack.specs.KeyText.{IsKeyText}
+use Rattle.opgp_stack.specs.declared.key_name.KeyName.{KeyName}
+use Rattle.opgp_tool.specs.Words.{HasKey, HasNumber, IsAction, IsNth}
 
 module _ (E : Type 0) (Gives : List ℕ → Result ℕ E → Type 0)
     (parses : (t : List ℕ) (r : Result ℕ E) → Gives t r → ParsesUnsigned 64 10 t r)
@@ -51,6 +53,7 @@ no_action_without_row options name is none (action.Octets row top) said = none r
 no_action_without_row options name is none (action.Write out) said = absurd (cc (is, said.0))
 no_action_without_row options name is none (action.Normalise out) said = absurd (cc (is, said.0))
 no_action_without_row options name is none (action.Split out nth) said = absurd (cc (is, said.0))
+no_action_without_row options name is none (action.SplitKey out key) said = absurd (cc (is, said.0))
 no_action_without_row options name is none (action.Join out merge) said = absurd (cc (is, said.0))
 
 -- a split whose number isn't one is no action
@@ -66,15 +69,31 @@ apart e = absurd cc
 abbrev is_split : Text → Bool
 is_split name = bytes_eq name (codes "split")
 
-pub no_action_without_nth : (options : List Row) (name : Text) → name ≡ codes "split"
-    → ((nth : Option ℕ) → IsNth options nth → ⊥)
-    → (a : Action) → IsAction name options a → ⊥
-no_action_without_nth options name is none action.Show said = absurd (apart (ap is_split (sym is ∙ said.0)))
-no_action_without_nth options name is none action.ShowValues said = absurd (apart (ap is_split (sym is ∙ said.0)))
-no_action_without_nth options name is none action.List said = absurd (apart (ap is_split (sym is ∙ said)))
-no_action_without_nth options name is none action.Check said = absurd (apart (ap is_split (sym is ∙ said)))
-no_action_without_nth options name is none (action.Octets row top) said = absurd (apart (ap is_split (sym is ∙ said.0)))
-no_action_without_nth options name is none (action.Write out) said = absurd (apart (ap is_split (sym is ∙ said.0)))
-no_action_without_nth options name is none (action.Normalise out) said = absurd (apart (ap is_split (sym is ∙ said.0)))
-no_action_without_nth options name is none (action.Split out nth) said = none nth said.2
-no_action_without_nth options name is none (action.Join out merge) said = absurd (apart (ap is_split (sym is ∙ said.0)))
+-- options of a split that say neither how many nor which certificates are no action
+pub no_split : (options : List Row) → ((nth : Option ℕ) → IsNth options nth → first_of (codes "key") options ≡ None → ⊥)
+    → ((key : KeyName) → HasKey options key → first_of (codes "nth") options ≡ None → ⊥)
+    → (a : Action) → IsAction (codes "split") options a → ⊥
+no_split options whole by_key action.Show said = absurd (apart (ap is_split said.0))
+no_split options whole by_key action.ShowValues said = absurd (apart (ap is_split said.0))
+no_split options whole by_key action.List said = absurd (apart (ap is_split said))
+no_split options whole by_key action.Check said = absurd (apart (ap is_split said))
+no_split options whole by_key (action.Octets row top) said = absurd (apart (ap is_split said.0))
+no_split options whole by_key (action.Write out) said = absurd (apart (ap is_split said.0))
+no_split options whole by_key (action.Normalise out) said = absurd (apart (ap is_split said.0))
+no_split options whole by_key (action.Split out nth) said = whole nth said.2 said.3
+no_split options whole by_key (action.SplitKey out key) said = by_key key said.2 said.3
+no_split options whole by_key (action.Join out merge) said = absurd (apart (ap is_split said.0))
+
+-- where a key is given, and a number too, or its text names none
+pub no_named_split : (options : List Row) (text : Text) → first_of (codes "key") options ≡ Some text
+    → ((key : KeyName) → IsKeyText text key → first_of (codes "nth") options ≡ None → ⊥)
+    → (a : Action) → IsAction (codes "split") options a → ⊥
+no_named_split options text given none = no_split options
+    (λ nth is lacks. none-some text (sym lacks ∙ given))
+    (λ key has lacks. none key (subst (λ (t : Text). IsKeyText t key) (same_Some has.0 text (sym has.1 ∙ given)) has.2) lacks)
+
+-- where no key is given, and no number is one
+pub no_numbered_split : (options : List Row) → first_of (codes "key") options ≡ None
+    → ((nth : Option ℕ) → IsNth options nth → ⊥) → (a : Action) → IsAction (codes "split") options a → ⊥
+no_numbered_split options lacks none = no_split options (λ nth is no_key. none nth is)
+    (λ key has no_nth. none-some has.0 (sym lacks ∙ has.1))

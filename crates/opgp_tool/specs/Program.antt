@@ -86,8 +86,14 @@ abbrev pub progress_rule : Rule
 progress_rule = flag_rule (codes "progress")
 
 -- any text but the empty one
+abbrev pub text_rule : Text → Rule
+text_rule name = valued_rule name parser.NonEmptyString
+
 abbrev pub spool_rule : Rule
-spool_rule = valued_rule (codes "spool") parser.NonEmptyString
+spool_rule = text_rule (codes "spool")
+
+abbrev pub key_rule : Rule
+key_rule = text_rule (codes "key")
 
 -- the values of `--mode`, `--out` and `--of`
 abbrev pub AreModes : Choice → Type 0
@@ -141,7 +147,8 @@ program_of show list check octets write normalise split join tops
           ∷ command_shape (codes "octets") octets (row_rule ∷ of_rule tops ∷ [])
           ∷ command_shape (codes "write") write (out_rule write_outs ∷ [])
           ∷ command_shape (codes "normalise") normalise (out_rule normalise_outs ∷ [])
-          ∷ command_shape (codes "split") split (out_rule split_outs ∷ nth_rule ∷ [])
+          ∷ command_shape (codes "split") split
+          (out_rule split_outs ∷ nth_rule ∷ key_rule ∷ [])
           ∷ command_shape (codes "join") join (out_rule join_outs ∷ merge_rule ∷ [])
           ∷ [];
     }

@@ -10,6 +10,8 @@ use Rattle.opgp_engine.specs.declared.mode.Mode.{Mode}
 use Rattle.opgp_engine.specs.declared.mode.Mode.TheVariants as mode
 use Rattle.opgp_engine.specs.declared.out.Out.{Out}
 use Rattle.opgp_engine.specs.declared.out.Out.TheVariants as out
+use Rattle.opgp_stack.specs.KeyText.{IsKeyText}
+use Rattle.opgp_stack.specs.declared.key_name.KeyName.{KeyName}
 use Rattle.opgp_stack.specs.declared.task.Top.{Top}
 use Rattle.opgp_stack.specs.declared.task.Top.TheVariants as top
 use Rattle.opgp_stack.specs.declared.task.Action.{Action}
@@ -48,6 +50,11 @@ abbrev pub IsNth : List Row → Option ℕ → Type 0
 IsNth options nth = MatchOption nth (first_of (codes "nth") options ≡ None)
     (HasNumber options (codes "nth"))
 
+-- `--key`: the key that its text names
+abbrev pub HasKey : List Row → KeyName → Type 0
+HasKey options key = (text : Text) × (first_of (codes "key") options ≡ Some text)
+    × IsKeyText text key
+
 -- a flag: given, for which `clap` writes the value `true`, or not
 abbrev pub is_given : Option Text → Bool
 is_given None = false
@@ -77,6 +84,10 @@ IsAction name options (action.Normalise out) = (name ≡ codes "normalise")
     × (out ≡ out_of (first_of (codes "out") options))
 IsAction name options (action.Split out nth) = (name ≡ codes "split")
     × (out ≡ out_of (first_of (codes "out") options)) × IsNth options nth
+    × (first_of (codes "key") options ≡ None)
+IsAction name options (action.SplitKey out key) = (name ≡ codes "split")
+    × (out ≡ out_of (first_of (codes "out") options)) × HasKey options key
+    × (first_of (codes "nth") options ≡ None)
 IsAction name options (action.Join out merge) = (name ≡ codes "join")
     × (out ≡ out_of (first_of (codes "out") options))
     × (merge ≡ is_given (first_of (codes "merge") options))

@@ -3,8 +3,8 @@
 ghost use Rattle.std.specs.Prelude.{◌≡◌, true, false, IfOk, IsOkAnd, [], ◌∷◌, codes};
 ghost use Rattle.clap.specs.Words.{rule_of, app_of, shape_of, with_rule, with_subcommand};
 ghost use Rattle.opgp_tool.specs.Program.{Choice, AreModes, AreOuts, AreTops, mode_rule, out_rule};
-ghost use Rattle.opgp_tool.specs.Program.{of_rule, limit_rule, row_rule, nth_rule, flag_rule, merge_rule, spool_rule};
-ghost use Rattle.opgp_tool.specs.Program.{values_rule, with_limits};
+ghost use Rattle.opgp_tool.specs.Program.{of_rule, limit_rule, row_rule, nth_rule, flag_rule, merge_rule, key_rule};
+ghost use Rattle.opgp_tool.specs.Program.{text_rule, values_rule, with_limits};
 ghost use Rattle.opgp_tool.specs.Program.{IsCommand, IsProgram, bare_program};
 
 use crate::help::{
@@ -143,17 +143,17 @@ fn flag_option<'a>(alloc: Global, name: &'a str, help: &'a str) -> Arg<'a>
         .help(help)
 }
 
-/// `--spool`: any text but the empty one.
-fn spool_option<'a>(alloc: Global) -> Arg<'a>
-    ensures rule { rule_of result ≡ spool_rule }
+/// An option whose value is any text but the empty one.
+fn text_option<'a>(alloc: Global, name: &'a str, value: &'a str, help: &'a str) -> Arg<'a>
+    ensures rule { rule_of result ≡ text_rule name.entry.now }
     ensures own { result.global ≡ false }
 {
-    Arg::new(alloc, "spool")
-        .long("spool")
-        .value_name("DIR")
+    Arg::new(alloc, name)
+        .long(name)
+        .value_name(value)
         .action(ArgAction::Set)
         .value_parser(ValueParser::NonEmptyString)
-        .help("Holds the output in a file in this directory")
+        .help(help)
 }
 
 /// The command with this option added, as its last.
@@ -190,7 +190,8 @@ fn new_command<'a>(
     let command = with_limits(alloc, with_option(command, mode_option(alloc))?)?;
     let help = "Shows on standard error how much was read";
     let command = with_option(command, flag_option(alloc, "progress", help))?;
-    with_option(command, spool_option(alloc))
+    let help = "Holds the output in a file in this directory";
+    with_option(command, text_option(alloc, "spool", "DIR", help))
 }
 
 fn show_command<'a>(alloc: Global) -> Result<Command<'a>, OutOfMemory>
@@ -227,11 +228,13 @@ fn writing_command<'a>(
 
 fn split_command<'a>(alloc: Global) -> Result<Command<'a>, OutOfMemory>
     ensures { IfOk result (λ c. (outs : Choice) × AreOuts outs
-        × IsCommand (codes "split") (out_rule outs ∷ nth_rule ∷ []) c) }
+        × IsCommand (codes "split") (out_rule outs ∷ nth_rule ∷ key_rule ∷ []) c) }
 {
-    let about = "Writes each certificate apart, or one of them";
+    let about = "Writes each certificate apart, or some of them";
     let command = writing_command(alloc, "split", about, SPLIT_HELP)?;
-    with_option(command, nth_option(alloc))
+    let command = with_option(command, nth_option(alloc))?;
+    let help = "The fingerprint or key ID of a key of the certificates that are written";
+    with_option(command, text_option(alloc, "key", "KEY", help))
 }
 
 fn join_command<'a>(alloc: Global) -> Result<Command<'a>, OutOfMemory>

@@ -47,6 +47,8 @@ Example: opgp normalise < KEYRING > KEYRING.asc";
 pub const SPLIT_HELP: &str = "Each certificate is a block of its own, or packets one after the \
 other with --out
 binary; packets before the first one are left out. Certificates count from 0.
+The key of --key may be a primary key or a subkey; blanks in it, and 0x in front,
+are passed over.
 
 Example: opgp split --nth 0 < KEYRING > FIRST.asc";
 

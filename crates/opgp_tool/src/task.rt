@@ -15,10 +15,13 @@ ghost use Rattle.opgp_tool.specs.declared.task.Usage.TheVariants.{Memory};
 use crate::command::program;
 use clap::error::ErrorKind;
 use clap::{ArgMatches, Error};
-use opgp_octets::Limits;
-use opgp_stack::{Action, Mode, Out, Task, Top};
+use opgp_octets::{Limits, OutOfMemory};
+use opgp_stack::{Action, KeyName, Mode, Out, Task, Top};
 use std::alloc::Global;
 use std::convert::AsStr;
+
+/// What the name of a key is.
+const NAME: &str = "a fingerprint has 40 or 64 hexadecimal digits, a key ID 16";
 
 /// What a command line asks for.
 #[derive(Drop)]
@@ -119,6 +122,29 @@ fn limits_of(matches: &ArgMatches) -> Option<Limits>
     Limits::new(line, body, cert, input, pieces)
 }
 
+/// What `split` writes: every certificate, that of a number, or those with a key.
+fn split_of(matches: &ArgMatches) -> Option<Action>
+    ensures some { IfSome result (IsAction (codes "split") (rows_of (found_of matches.now))) }
+    ensures none { IfNone result ((action : Action)
+        → IsAction (codes "split") (rows_of (found_of matches.now)) action → ⊥) }
+{
+    let out = out_of(matches);
+    let text = match word_of(matches, "key") {
+        None => {
+            let nth = nth_of(matches)?;
+            return Some(Action::Split { out, nth });
+        }
+        Some(text) => text,
+    };
+    match word_of(matches, "nth") {
+        None => match KeyName::parse(text) {
+            Some(key) => Some(Action::SplitKey { out, key }),
+            None => None,
+        },
+        Some(_) => None,
+    }
+}
+
 fn action_of(name: &str, matches: &ArgMatches) -> Option<Action>
     ensures some { IfSome result (IsAction name.now (rows_of (found_of matches.now))) }
     ensures none { IfNone result ((action : Action)
@@ -142,10 +168,7 @@ fn action_of(name: &str, matches: &ArgMatches) -> Option<Action>
         "normalise" => Some(Action::Normalise {
             out: out_of(matches),
         }),
-        "split" => Some(Action::Split {
-            out: out_of(matches),
-            nth: nth_of(matches)?,
-        }),
+        "split" => split_of(matches),
         "join" => Some(Action::Join {
             out: out_of(matches),
             merge: is_given(matches, "merge"),
@@ -209,6 +232,40 @@ fn is_about_a_file(text: &str) -> bool {
         && !text.starts_with("error: unexpected argument '-")
 }
 
+/// What to print where `clap` accepts words that name no task.
+fn no_task(alloc: Global, matches: &ArgMatches) -> Usage {
+    match matches.subcommand() {
+        Some((_, options)) => no_split(alloc, options),
+        None => no_split(alloc, matches),
+    }
+}
+
+/// What to print where the options of `split` name no task: `clap` judges neither the text of `--key`
+/// nor two options that exclude each other.
+fn no_split(alloc: Global, options: &ArgMatches) -> Usage {
+    let key = match word_of(options, "key") {
+        Some(key) => key,
+        None => return with_advice(String::from_str(alloc, "error: no task is named")),
+    };
+    if word_of(options, "nth").is_some() {
+        let text = "error: the argument '--nth <N>' cannot be used with '--key <KEY>'";
+        return with_advice(String::from_str(alloc, text));
+    }
+    with_advice(format!(in alloc; "error: invalid value '{key}' for '--key <KEY>': {NAME}"))
+}
+
+/// The text, if there was memory for it, and where to read on.
+fn with_advice(text: Result<String, OutOfMemory>) -> Usage {
+    let mut text = match text {
+        Ok(text) => text,
+        Err(_) => return Usage::Memory,
+    };
+    match text.push_str("\n\nFor more information, try '--help'.\n") {
+        Ok(()) => Usage::Text(text),
+        Err(_) => Usage::Memory,
+    }
+}
+
 /// What a command line asks for, whose first word is the program's own name.
 ///
 /// The errors are the text of `clap`, also for help, and running out of memory.
@@ -234,10 +291,6 @@ pub fn task_of<'a, S: AsStr>(alloc: Global, words: &'a [S]) -> Result<Request<'a
     };
     match request {
         Some(request) => Ok(request),
-        // `clap` accepts no command line without a task; there is no default for one.
-        None => match String::from_str(alloc, "opgp: usage\n") {
-            Ok(text) => Err(Usage::Text(text)),
-            Err(_) => Err(Usage::Memory),
-        },
+        None => Err(no_task(alloc, &matches)),
     }
 }

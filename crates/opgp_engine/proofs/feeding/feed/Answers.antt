@@ -1,4 +1,4 @@
-use Rattle.std.proofs.Common.{◌++◌, ◌∷◌, List, [], ℕ, take, drop, arith, sym, subst, append-nil}
+use Rattle.std.proofs.Common.{◌++◌, ◌∷◌, List, [], ℕ, take, drop, arith, sym, subst, append-nil, refl, ◌∙◌}
 use Rattle.std.proofs.Math.Seq.{take-add}
 use Rattle.std.proofs.lemmas.Grind.{common_steps}
 use Rattle.std.proofs.lemmas.List.{take_rest}
@@ -13,6 +13,7 @@ pushes-init g c = record {
   fed = ([], pushed_none c.args.deframe.now, handed_none g.T.Receiver.fed c.args.top.now);
   free = c.requires.free;
   count = omega arith;
+  limits = refl;
 }
 
 pub pushes-preserved-in-Ok-push : goal.pushes-preserved-in-Ok-push
@@ -34,6 +35,7 @@ pushes-preserved-in-Ok-push g c =
       );
       free = c.take.ensures.free;
       count = grind (arith, common_steps);
+      limits = c.take.ensures.limits ∙ c.in-Ok.ensures.limits ∙ c.pushes.invariant.limits;
     }
 
 pub pushes-preserved : goal.pushes-preserved
@@ -55,4 +57,5 @@ pushes-preserved g c =
       );
       free = c.take.ensures.free;
       count = grind (arith, common_steps);
+      limits = c.take.ensures.limits ∙ c.in-Ok.ensures.limits ∙ c.pushes.invariant.limits;
     }

@@ -1,6 +1,6 @@
 use Rattle.std.proofs.Common.{length, take, ◌-◌, ◌+◌, ◌≡◌, ◌≤◌, List, false, map}
 use Rattle.opgp_frame.specs.declared.packet.Placed.{Placed}
-use Rattle.opgp_frame.specs.Fed.{KeepsFed as KeepsFedPackets, is_ready, count_of}
+use Rattle.opgp_frame.specs.Fed.{KeepsFed as KeepsFedPackets, is_ready, count_of, limits_of}
 use Rattle.opgp_ring.specs.Composition.{of_packet}
 use Rattle.opgp_engine.specs.Receiver.{KeepsFed}
 use Rattle.opgp_engine.proofs.feeding.feed.Given as goal
@@ -12,6 +12,7 @@ invariant-pushes g l = record {
   fed : (packets : List Placed) × KeepsFedPackets l.fn.deframe l.deframe (take l.at l.piece) packets × KeepsFed g.T.Receiver.fed l.fn.top l.top (map of_packet packets);
   free : is_ready l.deframe ≡ false;
   count : count_of l.deframe ≡ count_of l.fn.deframe + l.at;
+  limits : limits_of l.deframe ≡ limits_of l.fn.deframe;
 }
 
 abbrev pub decreases-pushes : goal.decreases-pushes

@@ -16,7 +16,9 @@ use Rattle.opgp_engine.specs.Draft.{DraftHas}
 use Rattle.opgp_engine.specs.Signed.{AreSigned, message_label}
 use Rattle.opgp_engine.specs.Writing.{certificates_text, octets_text, packets_text}
 use Rattle.opgp_engine.proofs.Pulling.{answer_shown}
+use Rattle.opgp_stack.specs.ByKey.{NamedIn}
 use Rattle.opgp_stack.specs.Hashing.{message_asked}
+use Rattle.opgp_stack.specs.KeyName.{name_octets}
 use Rattle.opgp_stack.specs.Listing.{listing}
 use Rattle.opgp_stack.specs.OnePart.{HasNth, HasRow, found_question}
 use Rattle.opgp_stack.specs.Report.{report_lines}
@@ -25,6 +27,7 @@ use Rattle.opgp_stack.specs.Showing.{packet_lines}
 use Rattle.opgp_stack.specs.Values.{valued_lines}
 use Rattle.opgp_stack.specs.Parts.{HasText, certificate_text, normal_octets, part_lines, part_octets}
 use Rattle.opgp_stack.proofs.KeptOf.{KeyringOf, made_of, refused_of, text_made}
+use Rattle.opgp_stack.proofs.Named.{named_made_of}
 use Rattle.opgp_stack.proofs.PartTexts.{alone_text, lines_text, normal_text, packets_text_of}
 use Rattle.opgp_stack.proofs.Runs.{LiteralOf, RingOf, ShownOf, ran, stopped}
 use Rattle.opgp_stack.proofs.ShownTexts.{made_of_packets, refused_packets}
@@ -146,3 +149,12 @@ returns-in_ok-found-in-Some g c =
     ran (KeyringOf (HasNth c.in-Some.n) c.args.task.now) _ (c.in-Split.is ∙ ap (λ (n : Option ℕ). action.Split c.in-Split.out n) c.in-Some.is) (λ fault. inl (refl, refl)) _ _ _ c.in_ok-found-in-Some.found
     (λ octets h. (one_text c.in-Split.out c.in_ok-found-in-Some.found, made_of (HasNth c.in-Some.n) (one_text c.in-Split.out) _ (λ r f k. ap (one_text c.in-Split.out) (sym k)) c.args.task.now octets c.in_ok-found-in-Some.found h, inl c.write_one.ensures))
     c.in_ok-found-in-Some.ensures c.done-in-Some.ensures
+
+pub returns-in_err-text-in-SplitKey : goal.returns-in_err-text-in-SplitKey
+returns-in_err-text-in-SplitKey g c = stopped (KeyringOf (NamedIn (DraftHas g.S.Spool.serves g.S.Spool.tells g.S.Spool.holds g.S.Spool.has_failed) c.in-SplitKey.out (name_octets c.in-SplitKey.key)) c.args.task.now) _ c.in-SplitKey.is (λ fault. inl (refl, refl)) _ _ (refused_of (NamedIn (DraftHas g.S.Spool.serves g.S.Spool.tells g.S.Spool.holds g.S.Spool.has_failed) c.in-SplitKey.out (name_octets c.in-SplitKey.key)) _ c.args.task.now) c.in_err-text-in-SplitKey.ensures c.from_residual-in_err-text-in-SplitKey.ensures
+
+pub returns-in_ok-text-in-SplitKey : goal.returns-in_ok-text-in-SplitKey
+returns-in_ok-text-in-SplitKey g c =
+    ran (KeyringOf (NamedIn (DraftHas g.S.Spool.serves g.S.Spool.tells g.S.Spool.holds g.S.Spool.has_failed) c.in-SplitKey.out (name_octets c.in-SplitKey.key)) c.args.task.now) _ c.in-SplitKey.is (λ fault. inl (refl, refl)) _ _ _ (c.in_ok-text-in-SplitKey.text, c.in_ok-text-in-SplitKey.found)
+    (named_made_of (DraftHas g.S.Spool.serves g.S.Spool.tells g.S.Spool.holds g.S.Spool.has_failed) c.in-SplitKey.out (name_octets c.in-SplitKey.key) (λ (made : Made). IsMade g.W.Sink.held g.W.Sink.has_failed c.args.writer.now c.write_found.new.writer c.write_found.result made ⊎ IsSpooled g.S.Spool.serves g.S.Spool.tells g.W.Sink.held g.W.Sink.has_failed c.args.writer.now c.write_found.new.writer c.write_found.result made) (c.in_ok-text-in-SplitKey.text, c.in_ok-text-in-SplitKey.found) (λ text h. c.write_found.ensures text h) c.args.task.now)
+    c.in_ok-text-in-SplitKey.ensures refl

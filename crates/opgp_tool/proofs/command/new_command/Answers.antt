@@ -14,5 +14,5 @@ returns c =
     IfOk-weaker c.with_option-3.result _ _ (λ r last. record {
       modes = mode.0;
       are_modes = mode.1;
-      app = last ∙ ap₂ with_rule shown c.spool_option.ensures.rule;
+      app = last ∙ ap₂ with_rule shown c.text_option.ensures.rule;
     }) c.with_option-3.ensures

@@ -35,8 +35,8 @@ pub returns-in-Err-try_get_matches_from-clause-refused :
 returns-in-Err-try_get_matches_from-clause-refused g c = refused_or _ _ _ c.in-Ok.ensures
     (λ taken. c.usage_of.ensures (c.in-Err-try_get_matches_from.ensures.passes taken))
 
-pub returns-in-Ok-from_str-clause-refused : goal.returns-in-Ok-from_str-clause-refused
-returns-in-Ok-from_str-clause-refused g c =
+pub returns-clause-refused : goal.returns-clause-refused
+returns-clause-refused g c =
     let made = c.in-Ok.ensures in
     let app = app_of c.in-Ok.program in
     let words = map g.S.AsStr.text c.args.words.now in

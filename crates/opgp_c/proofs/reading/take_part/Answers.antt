@@ -1,0 +1,18 @@
+use Rattle.std.proofs.Common.{List, append-nil, inr, refl, subst}
+use Rattle.opgp_ring.specs.Composed.{PartValue}
+use Rattle.opgp_c.specs.Readings.{IsReading}
+use Rattle.opgp_c.proofs.reading.take_part.Goals as goal
+
+-- no part was taken, and none waits
+pub returns-in-None : goal.returns-in-None
+returns-in-None g c = record {
+  done = λ e. absurd cc;
+  stays = λ e. c.in-None.ensures.stays;
+  none = λ e. (
+    c.in-None.ensures.none refl,
+    subst (λ (ps : List PartValue). IsReading (record g.so_far { taken = ps }) c.next.new.reading) (append-nil g.so_far.taken) c.in-None.ensures.used,
+  );
+  lost = λ e. absurd cc;
+  kept = λ e. refl;
+  status = inr (inr refl);
+}

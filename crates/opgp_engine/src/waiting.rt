@@ -1,0 +1,43 @@
+//! Parts of a keyring that wait to be taken.
+
+ghost use Rattle.std.specs.Prelude.{◌≡◌, ◌++◌, ◌∷◌, [], None, OnOk};
+ghost use Rattle.opgp_ring.specs.State.{part_of, ready_parts};
+ghost use Rattle.opgp_engine.specs.Waiting.{parts_in};
+
+use opgp_octets::OutOfMemory;
+use opgp_ring::Ready;
+use std::alloc::Global;
+use std::collections::VecDeque;
+
+/// Parts of a keyring that are complete and weren't taken yet, in order.
+#[derive(Drop)]
+pub struct Waiting {
+    parts: VecDeque<Ready>,
+}
+
+impl Waiting {
+    /// None yet. Allocates nothing; additions do, from `alloc`.
+    pub(crate) fn new(alloc: Global) -> Waiting
+        ensures { parts_in result ≡ [] }
+    {
+        Waiting {
+            parts: VecDeque::new(alloc),
+        }
+    }
+
+    /// Adds a part behind the others. Fails only when out of memory.
+    pub(crate) fn add(&mut self, part: Ready) -> Result<(), OutOfMemory>
+        ensures { OnOk result (parts_in self.new ≡ parts_in self.old ++ part_of part ∷ []) }
+    {
+        self.parts.push_back(part)?;
+        Ok(())
+    }
+
+    /// Takes the first of them.
+    pub fn take(&mut self) -> Option<Ready>
+        ensures parts { parts_in self.old ≡ ready_parts result ++ parts_in self.new }
+        ensures none { result ≡ None → parts_in self.old ≡ [] }
+    {
+        self.parts.pop_front()
+    }
+}

@@ -1,0 +1,180 @@
+//! The names of the numbers that rows have.
+
+ghost use Rattle.std.specs.Prelude.{◌≡◌, MatchOption, Some, None};
+ghost use Rattle.opgp_octets.specs.HashAlgorithm.{hash_algorithm_of};
+ghost use Rattle.opgp_octets.specs.KeyAlgorithm.{key_algorithm_of};
+ghost use Rattle.opgp_octets.specs.PacketType.{packet_type_of};
+ghost use Rattle.opgp_octets.specs.SignatureType.{signature_type_of};
+ghost use Rattle.opgp_octets.specs.SubpacketKind.{subpacket_kind_of};
+ghost use Rattle.opgp_flat.specs.Names.{hash_named, key_named, kind_named, layer_of, name_in};
+ghost use Rattle.opgp_flat.specs.Names.{packet_named, reason_of, signature_named, table_of, why_of};
+
+use opgp_hash::Why;
+use opgp_octets::{
+    HashAlgorithm, KeyAlgorithm, Layer, PacketType, Reason, SignatureType, SubpacketKind,
+};
+
+/// A table of numbers and their names. Each table has a number itself, which never changes.
+#[derive(Clone, Copy)]
+pub enum NumberTable {
+    /// 0: the types of packets (RFC 9580, 5).
+    PacketTypes,
+    /// 1: public-key algorithms (9.1).
+    KeyAlgorithms,
+    /// 2: hash algorithms (9.5).
+    HashAlgorithms,
+    /// 3: the types of signatures (5.2.1).
+    SignatureTypes,
+    /// 4: the kinds of a signature's subpackets (5.2.3.7).
+    SubpacketKinds,
+    /// 5: the layers that refuse an input.
+    Layers,
+    /// 6: the reasons of faults.
+    Reasons,
+    /// 7: why a signature isn't hashed.
+    Whys,
+}
+
+impl NumberTable {
+    /// The table of this number, or None.
+    #[tactic(auto, unfolding(crate::specs::Names::table_of))]
+    pub fn of(number: u32) -> Option<NumberTable>
+        ensures { result ≡ table_of number }
+    {
+        Some(match number {
+            0 => NumberTable::PacketTypes,
+            1 => NumberTable::KeyAlgorithms,
+            2 => NumberTable::HashAlgorithms,
+            3 => NumberTable::SignatureTypes,
+            4 => NumberTable::SubpacketKinds,
+            5 => NumberTable::Layers,
+            6 => NumberTable::Reasons,
+            7 => NumberTable::Whys,
+            _ => return None,
+        })
+    }
+
+    /// The name that the table has for a number, as the standard or the program has it; or None.
+    pub fn name(self, number: u8) -> Option<&'static str>
+        ensures { MatchOption result (name_in self number ≡ None)
+            (λ name. name_in self number ≡ Some name.now) }
+    {
+        match self {
+            NumberTable::PacketTypes => packet_name(PacketType::from(number)),
+            NumberTable::KeyAlgorithms => key_name(KeyAlgorithm::from(number)),
+            NumberTable::HashAlgorithms => hash_name(HashAlgorithm::from(number)),
+            NumberTable::SignatureTypes => signature_name(SignatureType::from(number)),
+            NumberTable::SubpacketKinds => kind_name(SubpacketKind::from(number)),
+            NumberTable::Layers => layer_of(number).map(|layer| layer.name()),
+            NumberTable::Reasons => reason_of(number).map(|reason| reason.name()),
+            NumberTable::Whys => why_of(number).map(|why| why.name()),
+        }
+    }
+}
+
+fn packet_name(number: PacketType) -> Option<&'static str>
+    ensures { MatchOption result (packet_named number ≡ None)
+        (λ name. packet_named number ≡ Some name.now) }
+{
+    match number {
+        PacketType::Other(_) => None,
+        known => Some(known.name()),
+    }
+}
+
+fn key_name(number: KeyAlgorithm) -> Option<&'static str>
+    ensures { MatchOption result (key_named number ≡ None)
+        (λ name. key_named number ≡ Some name.now) }
+{
+    match number {
+        KeyAlgorithm::Other(_) => None,
+        known => Some(known.name()),
+    }
+}
+
+fn hash_name(number: HashAlgorithm) -> Option<&'static str>
+    ensures { MatchOption result (hash_named number ≡ None)
+        (λ name. hash_named number ≡ Some name.now) }
+{
+    match number {
+        HashAlgorithm::Other(_) => None,
+        known => Some(known.name()),
+    }
+}
+
+fn signature_name(number: SignatureType) -> Option<&'static str>
+    ensures { MatchOption result (signature_named number ≡ None)
+        (λ name. signature_named number ≡ Some name.now) }
+{
+    match number {
+        SignatureType::Other(_) => None,
+        known => Some(known.name()),
+    }
+}
+
+fn kind_name(number: SubpacketKind) -> Option<&'static str>
+    ensures { MatchOption result (kind_named number ≡ None)
+        (λ name. kind_named number ≡ Some name.now) }
+{
+    match number {
+        SubpacketKind::Other(_) => None,
+        known => Some(known.name()),
+    }
+}
+
+/// The layer of this number.
+#[tactic(auto, unfolding(crate::specs::Names::layer_of))]
+pub(crate) fn layer_of(number: u8) -> Option<Layer>
+    ensures { result ≡ layer_of number }
+{
+    Some(match number {
+        0 => Layer::Input,
+        1 => Layer::Armor,
+        2 => Layer::Framing,
+        3 => Layer::Body,
+        4 => Layer::Composition,
+        _ => return None,
+    })
+}
+
+/// The reason why a signature isn't hashed, of this number.
+#[tactic(auto, unfolding(crate::specs::Names::why_of))]
+fn why_of(number: u8) -> Option<Why>
+    ensures { result ≡ why_of number }
+{
+    Some(match number {
+        1 => Why::Opaque,
+        2 => Why::Kind,
+        3 => Why::Misplaced,
+        4 => Why::Version,
+        5 => Why::Hash,
+        _ => return None,
+    })
+}
+
+/// Conversion of a number by rows of a number and a variant.
+macro_rules! by_number {
+    ($number:expr, $table:ident; $($n:literal $variant:ident)*) => {
+        match $number {
+            $($n => Some($table::$variant),)*
+            _ => None,
+        }
+    };
+}
+
+/// The reason of this number.
+#[tactic(auto, unfolding(crate::specs::Names::reason_of))]
+pub(crate) fn reason_of(number: u8) -> Option<Reason>
+    ensures { result ≡ reason_of number }
+{
+    by_number! { number, Reason;
+        1 Spent 2 Short 3 MpiBits
+        10 NoBlock 11 Label 12 Header 13 Letters 14 Padding 15 AfterChecksum 16 EndLabel
+        17 Unfinished 18 LineTooLong 19 InputTooLong
+        20 NotAPacket 21 TypeZero 22 Compressed 23 UnknownCritical 24 Indeterminate 25 Truncated
+        26 PartialKind 27 FirstPartial 28 BodyTooLong 29 TooManyPieces
+        30 KeyVersion 31 KeyTooLong 32 Count 33 OidSize 34 KdfSize 35 Trailing 36 SubEmpty
+        37 SubShort 40 AreaShort 41 SaltSize
+        50 NoPrimary 51 NotInKeyring 52 CertTooLong 53 NotASignedLiteral 54 BlockLabel
+    }
+}

@@ -1,0 +1,59 @@
+#!/usr/bin/env python3
+"""Writes the certificates for a mail address that a Web Key Directory answered: those of which a user ID has that address. The answer
+is the bare octets of certificates (draft-koch-openpgp-webkey-service, 3.1), here of a file, a URL or standard input.
+
+    python3 wkd.py alice@example.org [FILE or URL] > alice.gpg
+
+Standard error has the fingerprint and the user IDs of each certificate that is written. No signature is verified."""
+
+import sys
+import urllib.request
+
+import opgp
+
+MOST = 1 << 20  # octets of an answer
+
+
+def address_of(user_id: str) -> str:
+    """The mail address of a user ID, which is behind its name, as in `Alice <alice@example.org>`, or alone; in small letters."""
+    _, begun, rest = user_id.rpartition("<")
+    address = rest[:-1] if begun and rest.endswith(">") else user_id
+    return address.lower() if "@" in address else ""
+
+
+def answer_of(words: list[str]) -> bytes:
+    """The answer that the words name; one that is too long is a ValueError."""
+    if not words:
+        octets = sys.stdin.buffer.read(MOST + 1)
+    else:
+        with urllib.request.urlopen(words[0], timeout=60) if "://" in words[0] else open(words[0], "rb") as source:
+            octets = source.read(MOST + 1)
+    if len(octets) > MOST:
+        raise ValueError(f"the answer has more than {MOST} octets")
+    if octets[:1] < b"\x80":  # each packet begins with an octet of 80 to FF
+        raise ValueError("the answer isn't the octets of a certificate")
+    return octets
+
+
+def main() -> int:
+    """Ends with 1 where no certificate is for the address."""
+    address, found = sys.argv[1].lower(), 0
+    try:
+        if "@" not in address:
+            raise ValueError(f"{address!r} is no mail address")
+        with opgp.read(answer_of(sys.argv[2:])) as keyring:
+            for certificate in keyring.certificates():
+                if address in map(address_of, certificate.user_ids):
+                    found += 1
+                    sys.stdout.buffer.write(keyring.certificate(certificate.number).write())
+                    print(certificate.primary.fingerprint.hex().upper(), *map(repr, certificate.user_ids), file=sys.stderr)
+    except (ValueError, OSError) as why:  # a fault; or there is no such answer
+        print(why, file=sys.stderr)
+        return 1
+    if not found:
+        print(f"no certificate for {address}", file=sys.stderr)
+    return int(not found)
+
+
+if __name__ == "__main__":
+    sys.exit(main())

@@ -1,0 +1,177 @@
+/* Reads inputs through libopgp, each in several ways. On standard input each comes behind its number of octets, as four octets,
+ * big-endian. Words are ways: a number N is pieces of N octets, 0 is one call, and `odd` is pieces of 1, 3, 9 and so on up to 729
+ * octets, again and again. Standard output has for each input and each way, both behind their sizes as those of inputs: the lines
+ * of the keys, or else the line of the fault or status; and the octets of the packets. */
+#define _POSIX_C_SOURCE 200809L
+
+#include <opgp.h>
+
+#include <inttypes.h>
+#include <stdio.h>
+#include <stdlib.h>
+#include <string.h>
+
+enum { LARGEST_ODD = 729 };
+
+static void fail(const char *what)
+{
+    fprintf(stderr, "tests/library.c: %s failed\n", what);
+    exit(3);
+}
+
+static void *some(void *given, const char *what)
+{
+    if (!given) {
+        fail(what);
+    }
+    return given;
+}
+
+/* A text that grows. */
+struct text {
+    FILE *file;
+    char *octets;
+    size_t size;
+};
+
+static void begin(struct text *text)
+{
+    text->file = some(open_memstream(&text->octets, &text->size), "open_memstream");
+}
+
+/* Writes the text behind its size, and frees it. */
+static void end(struct text *text)
+{
+    if (fclose(text->file) != 0) {
+        fail("a text");
+    }
+    uint8_t size[4] = {(uint8_t)(text->size >> 24), (uint8_t)(text->size >> 16), (uint8_t)(text->size >> 8), (uint8_t)text->size};
+    fwrite(size, 1, sizeof size, stdout);
+    fwrite(text->octets, 1, text->size, stdout);
+    free(text->octets);
+}
+
+static void print_key(FILE *file, const opgp_key *key)
+{
+    fprintf(file, "%s v%u alg %u created %" PRIu32 " ", key->component == OPGP_NONE ? "pub" : "sub", key->version, key->algorithm,
+            key->created);
+    for (size_t i = 0; i < key->print_size; i++) {
+        fprintf(file, "%02X", key->print[i]);
+    }
+    fputc(' ', file);
+    for (size_t i = 0; i < sizeof key->key_id; i++) {
+        fprintf(file, "%02X", key->key_id[i]);
+    }
+    fputc('\n', file);
+}
+
+/* What a way finds. */
+struct found {
+    struct text lines, octets;
+};
+
+/* Adds a keyring, which is closed. */
+static void add(struct found *found, opgp_keyring *keyring)
+{
+    uint8_t *octets;
+    size_t size;
+    for (size_t number = 0; number < opgp_key_count(keyring); number++) {
+        print_key(found->lines.file, opgp_key_at(keyring, number));
+    }
+    if (opgp_write(keyring, false, &octets, &size) != OPGP_DONE) {
+        fail("opgp_write");
+    }
+    fwrite(octets, 1, size, found->octets.file);
+    free(octets);
+    opgp_close(keyring);
+}
+
+/* Lets go what was found of an input that isn't a keyring: the line says why. */
+static void refuse(struct found *found, uint32_t status, const opgp_fault *fault)
+{
+    char line[OPGP_FAULT_ROOM];
+    for (struct text *it = &found->lines; it; it = it == &found->lines ? &found->octets : NULL) {
+        fclose(it->file);
+        free(it->octets);
+        begin(it);
+    }
+    fprintf(found->lines.file, "%s\n", status == OPGP_REFUSED ? opgp_fault_text(fault, line) : opgp_status_text(status));
+}
+
+static void in_one_call(struct found *found, const uint8_t *in, size_t n)
+{
+    opgp_keyring *keyring;
+    opgp_fault fault;
+    uint32_t status = opgp_open(in, n, NULL, &keyring, &fault);
+    if (status == OPGP_DONE) {
+        add(found, keyring);
+    } else {
+        refuse(found, status, &fault);
+    }
+}
+
+/* Adds the parts that wait; OPGP_DONE when none does. */
+static uint32_t take_all(struct found *found, opgp_reader *reader)
+{
+    opgp_keyring *part;
+    uint32_t status;
+    while ((status = opgp_take(reader, &part)) == OPGP_DONE) {
+        add(found, part);
+    }
+    return status == OPGP_NO_ROW ? OPGP_DONE : status;
+}
+
+/* In pieces of this size; 0: of odd sizes. */
+static void in_pieces(struct found *found, const uint8_t *in, size_t n, size_t piece)
+{
+    opgp_limits limits;
+    opgp_reader reader = {0};
+    opgp_fault fault;
+    size_t odd = 1;
+    opgp_usual_limits(&limits);
+    uint32_t status = opgp_reader_open(&limits, &reader);
+    for (size_t at = 0; at < n && status == OPGP_DONE; odd = odd == LARGEST_ODD ? 1 : 3 * odd) {
+        size_t size = piece ? piece : odd;
+        size = size < n - at ? size : n - at;
+        status = opgp_reader_push(&reader, in + at, size);
+        at += size;
+        status = status == OPGP_DONE ? take_all(found, &reader) : status;
+    }
+    status = status == OPGP_DONE ? opgp_reader_end(&reader, &fault) : status;
+    status = status == OPGP_DONE ? take_all(found, &reader) : status;
+    opgp_reader_close(reader);
+    if (status != OPGP_DONE) {
+        refuse(found, status, &fault);
+    }
+}
+
+static void read_by(const char *way, const uint8_t *in, size_t n)
+{
+    struct found found;
+    begin(&found.lines);
+    begin(&found.octets);
+    if (strcmp(way, "0") == 0) {
+        in_one_call(&found, in, n);
+    } else {
+        in_pieces(&found, in, n, strcmp(way, "odd") == 0 ? 0 : strtoul(way, NULL, 10));
+    }
+    end(&found.lines);
+    end(&found.octets);
+}
+
+int main(int argc, char **argv)
+{
+    uint8_t size[4];
+    while (fread(size, 1, sizeof size, stdin) == sizeof size) {
+        size_t n = (size_t)size[0] << 24 | (size_t)size[1] << 16 | (size_t)size[2] << 8 | size[3];
+        uint8_t *in = some(malloc(n + 1), "malloc");
+        if (fread(in, 1, n, stdin) != n) {
+            fail("reading");
+        }
+        for (int i = 1; i < argc; i++) {
+            read_by(argv[i], in, n);
+        }
+        free(in);
+    }
+    return fflush(stdout) || ferror(stdout) ? 3 : 0;
+}

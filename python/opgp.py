@@ -463,7 +463,7 @@ class Certificate:
 # ---- Keyrings
 
 
-def _key(keyring: int, row: int, key: Any) -> Key:
+def _key(keyring: ctypes.c_void_p, row: int, key: Any) -> Key:
     return Key(
         row,
         key.certificate,
@@ -477,7 +477,7 @@ def _key(keyring: int, row: int, key: Any) -> Key:
     )
 
 
-def _signature(keyring: int, row: int, job: Any) -> Signature:
+def _signature(keyring: ctypes.c_void_p, row: int, job: Any) -> Signature:
     return Signature(
         row,
         job.certificate,
@@ -501,13 +501,13 @@ def _signature(keyring: int, row: int, job: Any) -> Signature:
 _MEANINGS = ("typed", "unfit", "unknown")
 
 
-def _subpackets(keyring: int, row: int) -> tuple[Subpacket, ...]:
+def _subpackets(keyring: ctypes.c_void_p, row: int) -> tuple[Subpacket, ...]:
     count = ctypes.c_size_t()
     rows = _library.opgp_subpackets_of(keyring, row, ctypes.byref(count))
     return tuple(_subpacket(keyring, rows[number]) for number in range(count.value))
 
 
-def _subpacket(keyring: int, it: Any) -> Subpacket:
+def _subpacket(keyring: ctypes.c_void_p, it: Any) -> Subpacket:
     first, second = (_octets(_library.opgp_subpacket_field(keyring, it, number)) for number in range(2))
     return Subpacket(
         it.kind,
@@ -532,7 +532,7 @@ class Keyring:
         _raise_if_refused(status, fault)
 
     @classmethod
-    def _made(cls, call: Callable[[Any], int]) -> Keyring:
+    def _made(cls, call: Callable[[Any], Any]) -> Keyring:
         """The keyring that this call makes."""
         made = cls.__new__(cls)
         made._at, made._checks = ctypes.c_void_p(), 0
@@ -586,10 +586,11 @@ class Keyring:
     def certificates(self) -> list[Certificate]:
         """The certificates, in order, each with its packets, keys and signatures."""
         parts: dict[int, tuple[list[Packet], list[Key], list[Signature]]] = {}
-        for kind, rows in enumerate((self.packets(), self.keys(), self.signatures())):
+        tables: tuple[list[Any], ...] = (self.packets(), self.keys(), self.signatures())
+        for kind, rows in enumerate(tables):
             for row in rows:
                 if row.certificate is not None:
-                    parts.setdefault(row.certificate, ([], [], []))[kind].append(row)  # type: ignore[arg-type]
+                    parts.setdefault(row.certificate, ([], [], []))[kind].append(row)
         return [Certificate(number, *map(tuple, parts[number])) for number in sorted(parts)]  # type: ignore[arg-type]
 
     def octets(self, row: int) -> bytes:
@@ -625,7 +626,7 @@ class Keyring:
         return self._made(lambda made: _library.opgp_join(self._open(), other._open(), made))
 
     @staticmethod
-    def _given(call: Callable[[Any, Any], int]) -> bytes:
+    def _given(call: Callable[[Any, Any], Any]) -> bytes:
         """The octets that this call makes, which are freed."""
         octets, size = ctypes.POINTER(ctypes.c_uint8)(), ctypes.c_size_t()
         _raise_but_for_done(call(ctypes.byref(octets), ctypes.byref(size)))
@@ -666,7 +667,7 @@ class Keyring:
 
         self._checks += 1
         try:
-            _library.opgp_check(at, _Verifier(answer) if verify else _Verifier(), _Reporter(report), None)
+            _library.opgp_check(at, _Verifier(answer) if verify else _Verifier(0), _Reporter(report), None)
         finally:
             self._checks -= 1
         if raised:

@@ -1,7 +1,8 @@
 /* Reads inputs through libopgp, each in several ways. On standard input each comes behind its number of octets, as four octets,
  * big-endian. Words are ways: a number N is pieces of N octets, 0 is one call, and `odd` is pieces of 1, 3, 9 and so on up to 729
- * octets, again and again. Standard output has for each input and each way, both behind their sizes as those of inputs: the lines
- * of the keys, or else the line of the fault or status; and the octets of the packets. */
+ * octets, again and again; `normalise`, `merge`, `first` (its first certificate) and `twice` (joined with itself) are keyrings that are
+ * made of that of one call; `last` is what the last signature hashes. Standard output has for each input and each way, both behind
+ * their sizes as those of inputs: the lines of the keys, or else the line of the fault or status; and the octets of the packets. */
 #define _POSIX_C_SOURCE 200809L
 
 #include <opgp.h>
@@ -145,6 +146,59 @@ static void in_pieces(struct found *found, const uint8_t *in, size_t n, size_t p
     }
 }
 
+/* Adds a keyring that is made, if it could be. */
+static void add_made(struct found *found, uint32_t status, opgp_keyring *made)
+{
+    if (status == OPGP_DONE) {
+        add(found, made);
+    } else {
+        refuse(found, status, NULL);
+    }
+}
+
+/* Adds what the last signature hashes, if there is one that is hashed. */
+static void add_last(struct found *found, opgp_keyring *keyring)
+{
+    uint8_t *octets;
+    size_t size;
+    uint32_t status = opgp_octets(keyring, opgp_job_count(keyring) - 1, &octets, &size);
+    if (status == OPGP_DONE) {
+        fwrite(octets, 1, size, found->octets.file);
+        free(octets);
+    } else {
+        refuse(found, status, NULL);
+    }
+}
+
+/* What is made of the keyring of one call. */
+static void make(struct found *found, const char *way, const uint8_t *in, size_t n)
+{
+    opgp_keyring *keyring, *other, *made = NULL;
+    opgp_fault fault;
+    uint32_t status = opgp_open(in, n, NULL, &keyring, &fault);
+    if (status != OPGP_DONE) {
+        refuse(found, status, &fault);
+        return;
+    }
+    if (strcmp(way, "last") == 0) {
+        add_last(found, keyring);
+        opgp_close(keyring);
+        return;
+    }
+    if (strcmp(way, "normalise") == 0) {
+        status = opgp_normalise(keyring, &made);
+    } else if (strcmp(way, "merge") == 0) {
+        status = opgp_merge(keyring, &made);
+    } else if (strcmp(way, "first") == 0) {
+        status = opgp_certificate(keyring, 0, &made);
+    } else if ((status = opgp_open(in, n, NULL, &other, &fault)) == OPGP_DONE) {
+        status = opgp_join(keyring, other, &made);
+        opgp_close(other);
+    }
+    add_made(found, status, made);
+    opgp_close(keyring);
+}
+
 static void read_by(const char *way, const uint8_t *in, size_t n)
 {
     struct found found;
@@ -152,6 +206,8 @@ static void read_by(const char *way, const uint8_t *in, size_t n)
     begin(&found.octets);
     if (strcmp(way, "0") == 0) {
         in_one_call(&found, in, n);
+    } else if (strchr("nmftl", way[0])) {
+        make(&found, way, in, n);
     } else {
         in_pieces(&found, in, n, strcmp(way, "odd") == 0 ? 0 : strtoul(way, NULL, 10));
     }

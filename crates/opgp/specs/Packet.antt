@@ -27,6 +27,7 @@ pub use Rattle.opgp_packet.specs.SignatureBody
 pub use Rattle.opgp_packet.specs.SignatureMaterial
 pub use Rattle.opgp_packet.specs.SignatureShape
 pub use Rattle.opgp_packet.specs.Spans
+pub use Rattle.opgp_packet.specs.SubFields
 pub use Rattle.opgp_packet.specs.SubMeaning
 pub use Rattle.opgp_packet.specs.SubView
 pub use Rattle.opgp_packet.specs.Subpacket

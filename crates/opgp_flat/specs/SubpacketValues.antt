@@ -1,9 +1,10 @@
 -- What a subpacket's data says, as two numbers and two fields of octets (RFC 9580, 5.2.3.11 to
 -- 5.2.3.36).
-use Rattle.std.specs.Prelude.{ℕ, List, [], ◌∷◌, length, map}
+use Rattle.std.specs.Prelude.{ℕ, List, [], ◌∷◌, length, map, Option, Some, None}
 use Rattle.opgp_packet.specs.Forms.{Form, Fields}
 use Rattle.opgp_packet.specs.Forms as form
-use Rattle.opgp_packet.specs.Meaning.{Meaning, typed, unfit, unknown}
+use Rattle.opgp_packet.specs.Meaning.{Meaning}
+use Rattle.opgp_packet.specs.SubFields.{Formed, fields_in}
 use Rattle.opgp_flat.specs.declared.subpacket_values.SubpacketValues.{SubpacketValues}
 
 abbrev pub form_number : Form → ℕ
@@ -78,12 +79,14 @@ no_values = record {
   sizes = 0 ∷ 0 ∷ [];
 }
 
-abbrev pub values_of : Meaning → SubpacketValues
-values_of (typed kind f fields) = record {
-  form = form_number f;
-  numbers = numbers_in f fields;
-  before = before_octets f;
-  sizes = map length (octets_in f fields);
+abbrev pub values_by : Option Formed → SubpacketValues
+values_by None = no_values
+values_by (Some x) = record {
+  form = form_number x.0;
+  numbers = numbers_in x.0 x.1;
+  before = before_octets x.0;
+  sizes = map length (octets_in x.0 x.1);
 }
-values_of unfit = no_values
-values_of unknown = no_values
+
+abbrev pub values_of : Meaning → SubpacketValues
+values_of m = values_by (fields_in m)

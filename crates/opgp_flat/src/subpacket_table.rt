@@ -57,7 +57,7 @@ impl SubpacketTable {
             numbers,
             before,
             sizes,
-        } = SubpacketValues::of(meaning);
+        } = SubpacketValues::of(meaning.fields());
         self.bytes.extend_from_slice(octets)?;
         self.rows.push(SubpacketRow {
             certificate: place.certificate as u64,

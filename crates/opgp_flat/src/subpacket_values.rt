@@ -1,10 +1,11 @@
 //! What a subpacket's data says, as plain values.
 
 ghost use Rattle.std.specs.Prelude.{◌≡◌, ◌≤◌, ◌∷◌, []};
-ghost use Rattle.opgp_packet.specs.SubMeaning.{meaning_shown};
-ghost use Rattle.opgp_flat.specs.SubpacketValues.{values_of};
+ghost use Rattle.std.specs.Prelude.{option_map, Some};
+ghost use Rattle.opgp_packet.specs.SubFields.{fields_shown};
+ghost use Rattle.opgp_flat.specs.SubpacketValues.{values_by};
 
-use opgp_packet::SubMeaning;
+use opgp_packet::SubFields;
 
 /// The form of a subpacket's data, and its fields: those that are numbers, and how large those are
 /// that are octets, which stand one after the other.
@@ -21,61 +22,48 @@ pub(crate) struct SubpacketValues {
 }
 
 impl SubpacketValues {
-    /// What data of this meaning says.
-    pub(crate) fn of(meaning: SubMeaning<'_>) -> SubpacketValues
-        ensures said { result ≡ values_of (meaning_shown meaning.entry) }
+    /// What data with these fields says; None is data without a form.
+    pub(crate) fn of(fields: Option<SubFields<'_>>) -> SubpacketValues
+        ensures said { result ≡ values_by (option_map fields_shown fields.entry) }
         ensures before { result.before ≤ 8 }
     {
-        match meaning {
-            SubMeaning::Created(n) | SubMeaning::Expires(n) | SubMeaning::KeyExpires(n) => {
-                values(1, [n, 0], 4, 0)
-            }
-            SubMeaning::Exportable(n) | SubMeaning::Revocable(n) | SubMeaning::PrimaryUserId(n) => {
-                values(2, [n as u32, 0], 1, 0)
-            }
-            SubMeaning::Trust { level, amount } => values(3, [level as u32, amount as u32], 2, 0),
-            SubMeaning::RegularExpression(text) => values(4, [0, 0], 0, text.len()),
-            SubMeaning::PreferredSymmetric(octets)
-            | SubMeaning::PreferredHash(octets)
-            | SubMeaning::PreferredCompression(octets)
-            | SubMeaning::KeyServerPreferences(octets)
-            | SubMeaning::PreferredKeyServer(octets)
-            | SubMeaning::PolicyUri(octets)
-            | SubMeaning::KeyFlags(octets)
-            | SubMeaning::SignersUserId(octets)
-            | SubMeaning::Features(octets) => values(5, [0, 0], 0, octets.len()),
-            SubMeaning::RevocationKey {
-                class,
-                algorithm,
-                fingerprint,
-            } => values(6, [class as u32, algorithm as u32], 2, fingerprint.len()),
-            SubMeaning::Issuer(id) => values(7, [0, 0], 0, id.len()),
-            SubMeaning::Notation { flags, name, value } => SubpacketValues {
-                form: 8,
-                numbers: [flags, 0],
-                before: 8,
-                sizes: [name.len() as u64, value.len() as u64],
-            },
-            SubMeaning::RevocationReason { code, text } => {
-                values(9, [code as u32, 0], 1, text.len())
-            }
-            SubMeaning::SignatureTarget {
-                algorithm,
-                hash,
-                digest,
-            } => values(10, [algorithm as u32, hash as u32], 2, digest.len()),
-            SubMeaning::EmbeddedSignature(body) => values(11, [0, 0], 0, body.len()),
-            SubMeaning::IssuerFingerprint {
-                version,
-                fingerprint,
-            }
-            | SubMeaning::IntendedRecipient {
-                version,
-                fingerprint,
-            } => values(12, [version as u32, 0], 1, fingerprint.len()),
-            SubMeaning::PreferredAead(pairs) => values(13, [0, 0], 0, pairs.len()),
-            SubMeaning::Unfit | SubMeaning::Unknown => values(0, [0, 0], 0, 0),
+        match fields {
+            Some(fields) => formed(fields),
+            None => values(0, [0, 0], 0, 0),
         }
+    }
+}
+
+/// What data with these fields says.
+fn formed(fields: SubFields<'_>) -> SubpacketValues
+    ensures said { result ≡ values_by (Some (fields_shown fields.entry)) }
+    ensures before { result.before ≤ 8 }
+{
+    match fields {
+        SubFields::Number(n) => values(1, [n, 0], 4, 0),
+        SubFields::Octet(n) => values(2, [n as u32, 0], 1, 0),
+        SubFields::TwoOctets(a, b) => values(3, [a as u32, b as u32], 2, 0),
+        SubFields::EndedText(text) => values(4, [0, 0], 0, text.len()),
+        SubFields::Octets(octets) => values(5, [0, 0], 0, octets.len()),
+        SubFields::Revoker(class, algorithm, fingerprint) => {
+            values(6, [class as u32, algorithm as u32], 2, fingerprint.len())
+        }
+        SubFields::KeyId(id) => values(7, [0, 0], 0, id.len()),
+        SubFields::Notation(flags, name, value) => SubpacketValues {
+            form: 8,
+            numbers: [flags, 0],
+            before: 8,
+            sizes: [name.len() as u64, value.len() as u64],
+        },
+        SubFields::CodeAndText(code, text) => values(9, [code as u32, 0], 1, text.len()),
+        SubFields::Target(algorithm, hash, digest) => {
+            values(10, [algorithm as u32, hash as u32], 2, digest.len())
+        }
+        SubFields::Signature(body) => values(11, [0, 0], 0, body.len()),
+        SubFields::Fingerprint(version, fingerprint) => {
+            values(12, [version as u32, 0], 1, fingerprint.len())
+        }
+        SubFields::Pairs(pairs) => values(13, [0, 0], 0, pairs.len()),
     }
 }
 

@@ -25,6 +25,7 @@ pub mod SignatureBody
 pub mod SignatureMaterial
 pub mod SignatureShape
 pub mod Spans
+pub mod SubFields
 pub mod SubMeaning
 pub mod SubView
 pub mod Subpacket

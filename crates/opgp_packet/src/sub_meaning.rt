@@ -1,6 +1,6 @@
 //! The typed data of a signature's subpackets.
 
-ghost use Rattle.std.specs.Prelude.{◌≡◌, MatchOption, length};
+ghost use Rattle.std.specs.Prelude.{◌≡◌, MatchOption, length, option_map};
 ghost use Rattle.opgp_octets.specs.Octets.{IsBodySized};
 ghost use Rattle.opgp_packet.specs.Meaning.{unfit};
 ghost use Rattle.opgp_packet.specs.MeaningReading.{meaning_of};
@@ -11,6 +11,7 @@ use crate::forms::{
     two,
 };
 use crate::sig_view::SigView;
+use crate::sub_fields::SubFields;
 use opgp_octets::SubpacketKind;
 
 /// A key ID, as a signature contains it: 8 octets (RFC 9580, 5.2.2, 5.2.3.12).
@@ -18,7 +19,7 @@ pub type KeyId8 = [u8; 8];
 
 /// The data of a signature's subpacket, by its kind (RFC 9580, 5.2.3.11 to 5.2.3.36). Numbers are
 /// kept as they are: no value is refused.
-#[derive(Clone, Copy, Debug)]
+#[derive(Clone, Copy)]
 pub enum SubMeaning<'a> {
     /// Kind 2: when the signature was made, in seconds since 1970.
     Created(u32),
@@ -120,6 +121,59 @@ pub enum SubMeaning<'a> {
     Unfit,
     /// Any other kind.
     Unknown,
+}
+
+impl<'a> SubMeaning<'a> {
+    ghost use Rattle.opgp_packet.specs.SubFields.{fields_in, fields_shown};
+
+    /// The fields by their form, whatever the kind; None for `Unfit` and `Unknown`.
+    pub fn fields(self) -> Option<SubFields<'a>>
+        ensures { option_map fields_shown result ≡ fields_in (meaning_shown self.entry) }
+    {
+        Some(match self {
+            SubMeaning::Created(n) | SubMeaning::Expires(n) | SubMeaning::KeyExpires(n) => {
+                SubFields::Number(n)
+            }
+            SubMeaning::Exportable(n) | SubMeaning::Revocable(n) | SubMeaning::PrimaryUserId(n) => {
+                SubFields::Octet(n)
+            }
+            SubMeaning::Trust { level, amount } => SubFields::TwoOctets(level, amount),
+            SubMeaning::RegularExpression(text) => SubFields::EndedText(text),
+            SubMeaning::PreferredSymmetric(octets)
+            | SubMeaning::PreferredHash(octets)
+            | SubMeaning::PreferredCompression(octets)
+            | SubMeaning::KeyServerPreferences(octets)
+            | SubMeaning::PreferredKeyServer(octets)
+            | SubMeaning::PolicyUri(octets)
+            | SubMeaning::KeyFlags(octets)
+            | SubMeaning::SignersUserId(octets)
+            | SubMeaning::Features(octets) => SubFields::Octets(octets),
+            SubMeaning::RevocationKey {
+                class,
+                algorithm,
+                fingerprint,
+            } => SubFields::Revoker(class, algorithm, fingerprint),
+            SubMeaning::Issuer(id) => SubFields::KeyId(id),
+            SubMeaning::Notation { flags, name, value } => SubFields::Notation(flags, name, value),
+            SubMeaning::RevocationReason { code, text } => SubFields::CodeAndText(code, text),
+            SubMeaning::SignatureTarget {
+                algorithm,
+                hash,
+                digest,
+            } => SubFields::Target(algorithm, hash, digest),
+            SubMeaning::EmbeddedSignature(body) => SubFields::Signature(body),
+            SubMeaning::IssuerFingerprint {
+                version,
+                fingerprint,
+            }
+            | SubMeaning::IntendedRecipient {
+                version,
+                fingerprint,
+            } => SubFields::Fingerprint(version, fingerprint),
+            SubMeaning::PreferredAead(pairs) => SubFields::Pairs(pairs),
+            SubMeaning::Unfit | SubMeaning::Unknown => return None,
+        })
+    }
 }
 
 /// The meaning of the data; None if it doesn't have the form of the kind.

@@ -9,3 +9,4 @@ mod ShownTexts
 mod SoundLines
 mod Named
 mod NumberTexts
+mod OtherValues

@@ -347,6 +347,6 @@ pub(crate) fn add_value<W: Sink>(
             fingerprint,
         } => add_print(output, b" recipient v", version, fingerprint),
         SubMeaning::PreferredAead(list) => add_numbers(output, b" aead", list),
-        SubMeaning::Unfit | SubMeaning::Unknown => add_digits(output, b" ", octets),
+        _ => add_digits(output, b" ", octets),
     }
 }

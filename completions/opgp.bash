@@ -1,7 +1,7 @@
 # Completion of opgp for bash.
 _opgp() {
     local word=${COMP_WORDS[COMP_CWORD]} before=${COMP_WORDS[COMP_CWORD - 1]} words
-    local limits="--mode --line --body --cert --input --pieces --progress --spool --help"
+    local limits="--mode --outside --line --body --cert --input --pieces --progress --spool --help"
     # Bash takes --out=binary for three words.
     if [ "$word" = = ]; then
         word=
@@ -13,6 +13,7 @@ _opgp() {
     else
         case $before in
             --mode) words="auto armor binary" ;;
+            --outside) words="skip refuse" ;;
             --out) words="armor binary" ;;
             --of) words="ring literal" ;;
             --row | --nth | --key | --line | --body | --cert | --input | --pieces)

@@ -13,6 +13,7 @@ complete -c opgp -n "not __fish_seen_subcommand_from $commands" -a help -d "Prin
 complete -c opgp -n "__fish_seen_subcommand_from help" -a "$commands"
 complete -c opgp -l help -s h -d "Prints the help"
 complete -c opgp -l mode -x -a "auto armor binary" -d "How the input is read"
+complete -c opgp -l outside -x -a "skip refuse" -d "What becomes of lines outside of armored blocks"
 complete -c opgp -l line -x -d "The most octets of an armored line"
 complete -c opgp -l body -x -d "The most octets of a packet's body"
 complete -c opgp -l cert -x -d "The most octets of a certificate"

@@ -15,6 +15,7 @@ _opgp() {
     )
     limits=(
         '--mode=[how the input is read]:mode:(auto armor binary)'
+        '--outside=[what becomes of lines outside of armored blocks]:policy:(skip refuse)'
         '--line=[the most octets of an armored line]:number:'
         '--body=[the most octets of a packet'"'"'s body]:number:'
         '--cert=[the most octets of a certificate]:number:'

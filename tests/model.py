@@ -9,8 +9,8 @@ import re
 
 ALPHABET = b"ABCDEFGHIJKLMNOPQRSTUVWXYZabcdefghijklmnopqrstuvwxyz0123456789+/"
 LABELS = (b"MESSAGE", b"PUBLIC KEY BLOCK", b"PRIVATE KEY BLOCK", b"SIGNATURE")
-Limits = collections.namedtuple("Limits", "line body cert pieces")
-USUAL = Limits(8192, 1 << 24, 1 << 26, 1 << 20)
+Limits = collections.namedtuple("Limits", "line body cert pieces outside")
+USUAL = Limits(8192, 1 << 24, 1 << 26, 1 << 20, "skip")
 
 
 class Refused(Exception):
@@ -99,6 +99,11 @@ def dearmored(text, limits):
             if begins:
                 label, letters, where = begun(content), Letters(), "headers"
                 reason = None if label else "Label"
+            elif limits.outside == "refuse":
+                if line[: limits.line + 1].strip(b" \t\r"):
+                    reason = "Outside"
+                elif len(line) > limits.line:
+                    reason = "LineTooLong"
         elif where == "headers":
             if not content:
                 where = "data"

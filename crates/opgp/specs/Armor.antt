@@ -2,6 +2,7 @@
 pub use Rattle.opgp_armor.specs.declared
 pub use Rattle.opgp_armor.specs.Letters
 pub use Rattle.opgp_armor.specs.Text
+pub use Rattle.opgp_armor.specs.Rules
 pub use Rattle.opgp_armor.specs.Armored
 pub use Rattle.opgp_armor.specs.Events
 pub use Rattle.opgp_armor.specs.Machine

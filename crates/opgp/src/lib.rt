@@ -46,9 +46,9 @@ pub mod merge {
 pub mod octets {
     pub use opgp_octets::{
         BodyFault, Fault, HashAlgorithm, KeyAlgorithm, Layer, Limits, Mpi, MpiFault, MpiView,
-        OutOfMemory, PacketLen, PacketType, ParseFault, PushFault, Range, Reason, SignatureType,
-        SubLen, SubpacketKind, fault_line, laws, read_len, read_sub_len, shortest, u16_at, u32_at,
-        write_digits, write_hexadecimal, write_len, write_sub_len,
+        OutOfMemory, Outside, PacketLen, PacketType, ParseFault, PushFault, Range, Reason,
+        SignatureType, SubLen, SubpacketKind, fault_line, laws, read_len, read_sub_len, shortest,
+        u16_at, u32_at, write_digits, write_hexadecimal, write_len, write_sub_len,
     };
 }
 

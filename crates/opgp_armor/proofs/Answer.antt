@@ -1,5 +1,5 @@
 -- Each text is armored, or has one fault.
-use Rattle.std.proofs.Common.{◌≡◌, ℕ, ◌+◌, ◌<◌, ◌≤◌, ◌%◌, ◌==◌, Bool, true, false, cond, not, ◌&&◌, ◌||◌, nat_lt, nat_eq, List, [], ◌∷◌, ◌++◌, length, refl, sym, ap, ◌∙◌, arith, inl, inr, ◌⊎◌, subst, Option, None, Some, Ok, Err}
+use Rattle.std.proofs.Common.{◌≡◌, ℕ, ◌+◌, ◌<◌, ◌≤◌, ◌%◌, ◌==◌, Bool, true, false, cond, not, ◌&&◌, ◌||◌, nat_lt, nat_eq, List, [], ◌∷◌, ◌++◌, length, take, refl, sym, ap, ◌∙◌, arith, inl, inr, ◌⊎◌, subst, Option, None, Some, Ok, Err}
 use Rattle.std.proofs.lemmas.List.{append_assoc, append-nil, length-append}
 use Rattle.std.proofs.lemmas.Bool.{cases_Bool, cases_lt, eqb-true}
 use Rattle.std.specs.List.{fold, AllByRecursion, starts_with, list_all, list_any}
@@ -7,20 +7,23 @@ use Rattle.std.specs.Str.{bytes_eq}
 use Rattle.std.specs.declared.result.Result.{Result}
 use Rattle.base64.specs.Engines.{standard}
 use Rattle.base64.specs.GeneralPurpose.{decoded_of}
+use Rattle.opgp_armor.specs.Rules.{LineRule}
 use Rattle.opgp_armor.specs.declared.label.Label.{Label}
 use Rattle.opgp_armor.specs.declared.section.Section.{Section}
 use Rattle.opgp_armor.specs.declared.section.Section.TheVariants.{Outside, Headers, Data, AfterChecksum}
 use Rattle.opgp_octets.specs.declared.fault.Reason.{Reason}
 use Rattle.opgp_octets.specs.declared.fault.Reason.TheVariants as reason
+use Rattle.opgp_octets.specs.declared.outside.Outside.{Outside as Policy}
+use Rattle.opgp_octets.specs.declared.outside.Outside.TheVariants as policy
 use Rattle.opgp_armor.specs.Letters.{is_equals, may_stand, is_octet, Pending, data_line, after_groups, groups_of, rest_of}
 use Rattle.opgp_octets.specs.Octets.{IsOctets}
 use Rattle.opgp_armor.proofs.Octets.{AreOctets, all_octets}
 use Rattle.opgp_armor.specs.Text.{Line, lines, content, offset, begin_mark, begin_line, end_line}
-use Rattle.opgp_armor.specs.Armored.{Armored, Opens, label_at, Block, is_dash, Situation, opened_by, after_content, ended_by, after_line, situation, short_reason, reason_of, LineFault, ArmorFault, end_reason}
+use Rattle.opgp_armor.specs.Armored.{Armored, Opens, label_at, Block, is_dash, Situation, opened_by, after_content, ended_by, after_line, situation, short_reason, passes_by, outside_reason, reason_of, LineFault, ArmorFault, end_reason}
 use Rattle.opgp_armor.specs.Events.{Event, End, Built, absorb, built}
-use Rattle.opgp_armor.specs.Machine.{State, Run, Answer, header_of, on_begin, on_header, on_letters, waits, closing, inside, passes_by, step, start, onward, run_from, first, run}
+use Rattle.opgp_armor.specs.Machine.{State, Run, Answer, header_of, on_begin, on_header, on_letters, waits, closing, inside, on_blank, on_outside, step, start, onward, run_from, first, run}
 use Rattle.opgp_armor.proofs.Lists.{fold-both, label_at_some}
-use Rattle.opgp_armor.proofs.Sound.{Upto, Stage, relist, sound, ok_pair, not_true, run_err, run-cons, run-nil, built_more}
+use Rattle.opgp_armor.proofs.Sound.{Upto, Stage, passed, relist, sound, ok_pair, not_true, run_err, run-cons, run-nil, built_more}
 use Rattle.opgp_armor.proofs.Complete.{complete, begins_mark}
 use Rattle.opgp_armor.proofs.Texts.{IsLine, are_lines, recursion_front}
 use Rattle.opgp_armor.proofs.Faults.{extends, stopped}
@@ -106,13 +109,24 @@ inside_reason limit (AfterChecksum k) p b ls (x ∷ c) e stage h = elim (cases_B
   | inr n ↦ rw n (cc (rw n at h))
 ]
 
-step_reason : (limit : ℕ) (s : State) (b : Built) (ls : List Line) (l : Line) (e : Reason) → Stage limit s.section s.pending b ls → step limit s l ≡ Err e → e ≡ reason_of limit s.section l
+outside_is : (o : Policy) (limit : ℕ) (s : State) (l : Line) (e : Reason) → on_outside o limit s l ≡ Err e → e ≡ outside_reason (content (take (limit + 1) l))
+outside_is policy.Skip limit s l e h = cc h
+outside_is policy.Refuse limit s l e h = by_content (content (take (limit + 1) l)) h
+  where
+    by_content : (c : List ℕ) → on_blank c (cond (nat_lt limit (length l)) (Err reason.LineTooLong) (Ok (s, []))) ≡ Err e → e ≡ outside_reason c
+    by_content (x ∷ c) k = cc k
+    by_content [] k = elim (cases_Bool (nat_lt limit (length l))) [
+      | inl y ↦ cc (rw y at k)
+      | inr n ↦ cc (rw n at k)
+    ]
+
+step_reason : (rule : LineRule) (s : State) (b : Built) (ls : List Line) (l : Line) (e : Reason) → Stage rule.most s.section s.pending b ls → step rule s l ≡ Err e → e ≡ reason_of rule s.section l
 unfolding step
-step_reason limit s b ls l e stage h = elim (cases_Bool (passes_by s.section l)) [
-  | inl y ↦ cc (rw y at h)
-  | inr n ↦ elim (cases_Bool (nat_lt limit (length l))) [
-    | inl y ↦ rw y (cc (rw (n, y) at h))
-    | inr n2 ↦ rw n2 (inside_reason limit s.section s.pending b ls (content l) e stage (rw (n, n2) at h))
+step_reason rule s b ls l e stage h = elim (cases_Bool (passes_by s.section l)) [
+  | inl y ↦ rw y (outside_is rule.outside rule.most s l e (rw y at h))
+  | inr n ↦ elim (cases_Bool (nat_lt rule.most (length l))) [
+    | inl y ↦ rw (n, y) (cc (rw (n, y) at h))
+    | inr n2 ↦ rw (n, n2) (inside_reason rule.most s.section s.pending b ls (content l) e stage (rw (n, n2) at h))
   ]
 ]
 
@@ -192,23 +206,23 @@ passing_moves (Headers k) l h = cc h
 passing_moves (Data k) l h = cc h
 passing_moves (AfterChecksum k) l h = cc h
 
-pub step_moves : (limit : ℕ) (s t : State) (b : Built) (l : Line) (more : List Event) → step limit s l ≡ Ok (t, more) → Moves s.section (content l) b t more
+pub step_moves : (rule : LineRule) (s t : State) (b : Built) (l : Line) (more : List Event) → step rule s l ≡ Ok (t, more) → Moves s.section (content l) b t more
 unfolding step
-step_moves limit s t b l more h = elim (cases_Bool (passes_by s.section l)) [
+step_moves rule s t b l more h = elim (cases_Bool (passes_by s.section l)) [
   | inl y ↦
-      let e = ok_state t s more [] (rw y at h) in
+      let e = passed rule.outside rule.most s t l more (rw y at h) in
       let m = passing_moves s.section l y in
       rw (← e.0, ← e.1) (m.0, omega (arith, m.1))
-  | inr n ↦ elim (cases_Bool (nat_lt limit (length l))) [
+  | inr n ↦ elim (cases_Bool (nat_lt rule.most (length l))) [
     | inl y ↦ cc (rw (n, y) at h)
     | inr n2 ↦ inside_moves s.section s.pending (content l) b t more (rw (n, n2) at h)
   ]
 ]
 
-step_tracks : (limit : ℕ) (ls : List Line) (r : Run) (l : Line) (s : State) (more : List Event) → Tracks ls r → step limit r.state l ≡ Ok (s, more)
+step_tracks : (rule : LineRule) (ls : List Line) (r : Run) (l : Line) (s : State) (more : List Event) → Tracks ls r → step rule r.state l ≡ Ok (s, more)
     → Tracks (ls ++ l ∷ []) (record { state = s; events = r.events ++ more })
-step_tracks limit ls r l s more t h =
-    let m = step_moves limit r.state s (built r.events) l more h in
+step_tracks rule ls r l s more t h =
+    let m = step_moves rule r.state s (built r.events) l more h in
     let sit : situation (ls ++ l ∷ []) ≡ after_line (situation ls) l = situation-more ls (l ∷ []) in
     let now : built (r.events ++ more) ≡ fold absorb (built r.events) more = built_more r.events more in
     record {
@@ -218,47 +232,47 @@ step_tracks limit ls r l s more t h =
     }
 
 -- ---- what each step keeps, a run keeps
-run_step : (limit : ℕ) (P : List Line → Run → Type 0)
-    → ((front : List Line) (r : Run) (l : Line) (s : State) (more : List Event) → P front r → step limit r.state l ≡ Ok (s, more) → P (front ++ l ∷ []) (record { state = s; events = r.events ++ more }))
+run_step : (rule : LineRule) (P : List Line → Run → Type 0)
+    → ((front : List Line) (r : Run) (l : Line) (s : State) (more : List Event) → P front r → step rule r.state l ≡ Ok (s, more) → P (front ++ l ∷ []) (record { state = s; events = r.events ++ more }))
     → (front : List Line) (l : Line) (ls : List Line) (r q : Run) → P front r
-    → ((m : Run) → P (front ++ l ∷ []) m → run_from limit (Ok m) ls ≡ Ok q → P ((front ++ l ∷ []) ++ ls) q)
-    → (a : Answer) → step limit r.state l ≡ a → run_from limit (onward r.events a) ls ≡ Ok q → P (front ++ l ∷ ls) q
-run_step limit P keeps front l ls r q p again (Err e) is k = cc (sym (run_err limit e ls) ∙ k)
-run_step limit P keeps front l ls r q p again (Ok (s, more)) is k =
+    → ((m : Run) → P (front ++ l ∷ []) m → run_from rule (Ok m) ls ≡ Ok q → P ((front ++ l ∷ []) ++ ls) q)
+    → (a : Answer) → step rule r.state l ≡ a → run_from rule (onward r.events a) ls ≡ Ok q → P (front ++ l ∷ ls) q
+run_step rule P keeps front l ls r q p again (Err e) is k = cc (sym (run_err rule e ls) ∙ k)
+run_step rule P keeps front l ls r q p again (Ok (s, more)) is k =
     subst (λ (v : List Line). P v q) (append_assoc front (l ∷ []) ls) (again (record { state = s; events = r.events ++ more }) (keeps front r l s more p is) k)
 
-pub run_keeps : (limit : ℕ) (P : List Line → Run → Type 0)
-    → ((front : List Line) (r : Run) (l : Line) (s : State) (more : List Event) → P front r → step limit r.state l ≡ Ok (s, more) → P (front ++ l ∷ []) (record { state = s; events = r.events ++ more }))
-    → (front ls : List Line) (r q : Run) → P front r → run_from limit (Ok r) ls ≡ Ok q → P (front ++ ls) q
-run_keeps limit P keeps front [] r q p h =
-    let e : r ≡ q = cc (sym (run-nil limit (Ok r)) ∙ h) in
+pub run_keeps : (rule : LineRule) (P : List Line → Run → Type 0)
+    → ((front : List Line) (r : Run) (l : Line) (s : State) (more : List Event) → P front r → step rule r.state l ≡ Ok (s, more) → P (front ++ l ∷ []) (record { state = s; events = r.events ++ more }))
+    → (front ls : List Line) (r q : Run) → P front r → run_from rule (Ok r) ls ≡ Ok q → P (front ++ ls) q
+run_keeps rule P keeps front [] r q p h =
+    let e : r ≡ q = cc (sym (run-nil rule (Ok r)) ∙ h) in
     subst (λ (v : List Line). P v q) (sym (append-nil front)) (subst (P front) e p)
-run_keeps limit P keeps front (l ∷ ls) r q p h =
-    run_step limit P keeps front l ls r q p (λ m one k. run_keeps limit P keeps (front ++ l ∷ []) ls m q one k) (step limit r.state l) refl (sym (run-cons limit (Ok r) l ls) ∙ h)
+run_keeps rule P keeps front (l ∷ ls) r q p h =
+    run_step rule P keeps front l ls r q p (λ m one k. run_keeps rule P keeps (front ++ l ∷ []) ls m q one k) (step rule r.state l) refl (sym (run-cons rule (Ok r) l ls) ∙ h)
 
 tracks_first : Tracks [] first
 unfolding situation built
 tracks_first = record { section = refl; finished = refl }
 
-pub tracks : (limit : ℕ) (ls : List Line) (r : Run) → run limit ls ≡ Ok r → Tracks ls r
-tracks limit ls r h = run_keeps limit Tracks (λ front q l s more t k. step_tracks limit front q l s more t k) [] ls first r tracks_first h
+pub tracks : (rule : LineRule) (ls : List Line) (r : Run) → run rule ls ≡ Ok r → Tracks ls r
+tracks rule ls r h = run_keeps rule Tracks (λ front q l s more t k. step_tracks rule front q l s more t k) [] ls first r tracks_first h
 
 -- ---- the first line that stops
-record Stop (limit : ℕ) (r : Run) (ls : List Line) (e : Reason) : Type 0 where
+record Stop (rule : LineRule) (r : Run) (ls : List Line) (e : Reason) : Type 0 where
   before : List Line
   line : Line
   after : List Line
   are : ls ≡ before ++ line ∷ after
   last : Run
-  ran : run_from limit (Ok r) before ≡ Ok last
-  stops : step limit last.state line ≡ Err e
+  ran : run_from rule (Ok r) before ≡ Ok last
+  stops : step rule last.state line ≡ Err e
 
-stop_at : (limit : ℕ) (r : Run) (l : Line) (ls : List Line) (e : Reason) → ((m : Run) → run_from limit (Ok m) ls ≡ Err e → Stop limit m ls e)
-    → (a : Answer) → step limit r.state l ≡ a → run_from limit (onward r.events a) ls ≡ Err e → Stop limit r (l ∷ ls) e
-stop_at limit r l ls e again (Err d) is h =
-    let same : d ≡ e = err_is d e (sym (run_err limit d ls) ∙ h) in
-    record { before = []; line = l; after = ls; are = refl; last = r; ran = run-nil limit (Ok r); stops = is ∙ ap (λ (v : Reason). Err v) same }
-stop_at limit r l ls e again (Ok (s, more)) is h =
+stop_at : (rule : LineRule) (r : Run) (l : Line) (ls : List Line) (e : Reason) → ((m : Run) → run_from rule (Ok m) ls ≡ Err e → Stop rule m ls e)
+    → (a : Answer) → step rule r.state l ≡ a → run_from rule (onward r.events a) ls ≡ Err e → Stop rule r (l ∷ ls) e
+stop_at rule r l ls e again (Err d) is h =
+    let same : d ≡ e = err_is d e (sym (run_err rule d ls) ∙ h) in
+    record { before = []; line = l; after = ls; are = refl; last = r; ran = run-nil rule (Ok r); stops = is ∙ ap (λ (v : Reason). Err v) same }
+stop_at rule r l ls e again (Ok (s, more)) is h =
     let m : Run = record { state = s; events = r.events ++ more } in
     let a = again m h in
     record {
@@ -267,30 +281,30 @@ stop_at limit r l ls e again (Ok (s, more)) is h =
       after = a.after;
       are = ap (λ (v : List Line). l ∷ v) a.are;
       last = a.last;
-      ran = run-cons limit (Ok r) l a.before ∙ ap (λ (v : Answer). run_from limit (onward r.events v) a.before) is ∙ a.ran;
+      ran = run-cons rule (Ok r) l a.before ∙ ap (λ (v : Answer). run_from rule (onward r.events v) a.before) is ∙ a.ran;
       stops = a.stops;
     }
 
-find_stop : (limit : ℕ) (r : Run) (ls : List Line) (e : Reason) → run_from limit (Ok r) ls ≡ Err e → Stop limit r ls e
-find_stop limit r [] e h = cc (sym (run-nil limit (Ok r)) ∙ h)
-find_stop limit r (l ∷ ls) e h = stop_at limit r l ls e (λ m k. find_stop limit m ls e k) (step limit r.state l) refl (sym (run-cons limit (Ok r) l ls) ∙ h)
+find_stop : (rule : LineRule) (r : Run) (ls : List Line) (e : Reason) → run_from rule (Ok r) ls ≡ Err e → Stop rule r ls e
+find_stop rule r [] e h = cc (sym (run-nil rule (Ok r)) ∙ h)
+find_stop rule r (l ∷ ls) e h = stop_at rule r l ls e (λ m k. find_stop rule m ls e k) (step rule r.state l) refl (sym (run-cons rule (Ok r) l ls) ∙ h)
 
 -- A text whose lines stop the machine has this fault.
-pub line_fault : (limit : ℕ) (text : List ℕ) (before : List Line) (l : Line) (after : List Line) (r : Run) (e : Reason) → 128 ≤ limit → AreOctets text
-    → lines text ≡ before ++ l ∷ after → run limit before ≡ Ok r → step limit r.state l ≡ Err e
-    → LineFault limit text e (length (built r.events).blocks) (offset before)
-line_fault limit text before l after r e large octets are ran stops =
+pub line_fault : (rule : LineRule) (text : List ℕ) (before : List Line) (l : Line) (after : List Line) (r : Run) (e : Reason) → 128 ≤ rule.most → AreOctets text
+    → lines text ≡ before ++ l ∷ after → run rule before ≡ Ok r → step rule r.state l ≡ Err e
+    → LineFault rule text e (length (built r.events).blocks) (offset before)
+line_fault rule text before l after r e large octets are ran stops =
     let whole : AllByRecursion IsLine (before ++ l ∷ after) = subst (AllByRecursion IsLine) are (are_lines text octets) in
-    let upto = sound limit before r ran in
-    let t = tracks limit before r ran in
+    let upto = sound rule before r ran in
+    let t = tracks rule before r ran in
     record {
       before = before;
       line = l;
       after = after;
       are = are;
-      opens = extends limit large before r (recursion_front IsLine before (l ∷ after) whole) ran;
-      refused = stopped limit before l r e ran stops;
-      why_is = step_reason limit r.state (built r.events) upto.open_ l e upto.stage stops ∙ ap (λ (v : Section). reason_of limit v l) t.section;
+      opens = extends rule large before r (recursion_front IsLine before (l ∷ after) whole) ran;
+      refused = stopped rule before l r e ran stops;
+      why_is = step_reason rule r.state (built r.events) upto.open_ l e upto.stage stops ∙ ap (λ (v : Section). reason_of rule v l) t.section;
       block_is = t.finished;
       pos_is = refl;
     }
@@ -316,107 +330,107 @@ same_section (w ∷ a) (z ∷ b) x y us vs e h =
 same_section [] (z ∷ b) x y us vs e h = absurd (omega arith)
 same_section (w ∷ a) [] x y us vs e h = absurd (omega arith)
 
-opens_front : (limit : ℕ) (a b : List Line) → Opens limit (a ++ b) → Opens limit a
-opens_front limit a b o = record { text = o.text; blocks = o.blocks; more = b ++ o.more; octets = o.octets; armored = o.armored; begins = o.begins ∙ append_assoc a b o.more }
+opens_front : (rule : LineRule) (a b : List Line) → Opens rule (a ++ b) → Opens rule a
+opens_front rule a b o = record { text = o.text; blocks = o.blocks; more = b ++ o.more; octets = o.octets; armored = o.armored; begins = o.begins ∙ append_assoc a b o.more }
 
-no_later : (limit : ℕ) (a b : List Line) (x y : Line) (us vs : List Line) → a ++ x ∷ us ≡ b ++ y ∷ vs → length a < length b → Opens limit b → (Opens limit (a ++ x ∷ []) → ⊥) → ⊥
-no_later limit a b x y us vs e h opens refused =
+no_later : (rule : LineRule) (a b : List Line) (x y : Line) (us vs : List Line) → a ++ x ∷ us ≡ b ++ y ∷ vs → length a < length b → Opens rule b → (Opens rule (a ++ x ∷ []) → ⊥) → ⊥
+no_later rule a b x y us vs e h opens refused =
     let s = shorter a b x y us vs e h in
     let is : b ≡ (a ++ x ∷ []) ++ s.0 = s.1 ∙ sym (append_assoc a (x ∷ []) s.0) in
-    refused (opens_front limit (a ++ x ∷ []) s.0 (subst (Opens limit) is opens))
+    refused (opens_front rule (a ++ x ∷ []) s.0 (subst (Opens rule) is opens))
 
-pub one_line_fault : (limit : ℕ) (text : List ℕ) (why why' : Reason) (block block' pos pos' : ℕ) → LineFault limit text why block pos → LineFault limit text why' block' pos'
+pub one_line_fault : (rule : LineRule) (text : List ℕ) (why why' : Reason) (block block' pos pos' : ℕ) → LineFault rule text why block pos → LineFault rule text why' block' pos'
     → (why ≡ why') × (block ≡ block') × (pos ≡ pos')
-one_line_fault limit text why why' block block' pos pos' f g =
+one_line_fault rule text why why' block block' pos pos' f g =
     let e : f.before ++ f.line ∷ f.after ≡ g.before ++ g.line ∷ g.after = sym f.are ∙ g.are in
     elim (cases_lt (length f.before) (length g.before)) [
-      | inl lt ↦ absurd (no_later limit f.before g.before f.line g.line f.after g.after e lt g.opens f.refused)
+      | inl lt ↦ absurd (no_later rule f.before g.before f.line g.line f.after g.after e lt g.opens f.refused)
       | inr ge ↦ elim (cases_lt (length g.before) (length f.before)) [
-        | inl gt ↦ absurd (no_later limit g.before f.before g.line f.line g.after f.after (sym e) gt f.opens g.refused)
+        | inl gt ↦ absurd (no_later rule g.before f.before g.line f.line g.after f.after (sym e) gt f.opens g.refused)
         | inr le ↦
             let s = same_section f.before g.before f.line g.line f.after g.after e (omega arith) in (
-              f.why_is ∙ ap (λ (v : List Line). reason_of limit (situation v).section f.line) s.0 ∙ ap (λ (v : Line). reason_of limit (situation g.before).section v) s.1 ∙ sym g.why_is,
+              f.why_is ∙ ap (λ (v : List Line). reason_of rule (situation v).section f.line) s.0 ∙ ap (λ (v : Line). reason_of rule (situation g.before).section v) s.1 ∙ sym g.why_is,
               f.block_is ∙ ap (λ (v : List Line). (situation v).finished) s.0 ∙ sym g.block_is,
               f.pos_is ∙ ap offset s.0 ∙ sym g.pos_is,
             )
       ]
     ]
 
-not_both : (limit : ℕ) (text : List ℕ) (why : Reason) (block pos : ℕ) → LineFault limit text why block pos → Opens limit (lines text) → ⊥
-not_both limit text why block pos f opens =
-    f.refused (opens_front limit (f.before ++ f.line ∷ []) f.after (subst (Opens limit) (f.are ∙ sym (append_assoc f.before (f.line ∷ []) f.after)) opens))
+not_both : (rule : LineRule) (text : List ℕ) (why : Reason) (block pos : ℕ) → LineFault rule text why block pos → Opens rule (lines text) → ⊥
+not_both rule text why block pos f opens =
+    f.refused (opens_front rule (f.before ++ f.line ∷ []) f.after (subst (Opens rule) (f.are ∙ sym (append_assoc f.before (f.line ∷ []) f.after)) opens))
 
-pub one_fault : (limit : ℕ) (text : List ℕ) (why why' : Reason) (block block' pos pos' : ℕ) → ArmorFault limit text why block pos → ArmorFault limit text why' block' pos'
+pub one_fault : (rule : LineRule) (text : List ℕ) (why why' : Reason) (block block' pos pos' : ℕ) → ArmorFault rule text why block pos → ArmorFault rule text why' block' pos'
     → (why ≡ why') × (block ≡ block') × (pos ≡ pos')
-one_fault limit text why why' block block' pos pos' (inl f) (inl g) = one_line_fault limit text why why' block block' pos pos' f g
-one_fault limit text why why' block block' pos pos' (inl f) (inr g) = absurd (not_both limit text why block pos f g.opens)
-one_fault limit text why why' block block' pos pos' (inr f) (inl g) = absurd (not_both limit text why' block' pos' g f.opens)
-one_fault limit text why why' block block' pos pos' (inr f) (inr g) = (f.why_is ∙ sym g.why_is, f.block_is ∙ sym g.block_is, f.pos_is ∙ sym g.pos_is)
+one_fault rule text why why' block block' pos pos' (inl f) (inl g) = one_line_fault rule text why why' block block' pos pos' f g
+one_fault rule text why why' block block' pos pos' (inl f) (inr g) = absurd (not_both rule text why block pos f g.opens)
+one_fault rule text why why' block block' pos pos' (inr f) (inl g) = absurd (not_both rule text why' block' pos' g f.opens)
+one_fault rule text why why' block block' pos pos' (inr f) (inr g) = (f.why_is ∙ sym g.why_is, f.block_is ∙ sym g.block_is, f.pos_is ∙ sym g.pos_is)
 
-pub one_list : (limit : ℕ) (text : List ℕ) (a b : List Block) → Armored limit text a → Armored limit text b → a ≡ b
-one_list limit text a b x y =
-    let p = complete limit (lines text) a x.whole in
-    let q = complete limit (lines text) b y.whole in
+pub one_list : (rule : LineRule) (text : List ℕ) (a b : List Block) → Armored rule text a → Armored rule text b → a ≡ b
+one_list rule text a b x y =
+    let p = complete rule (lines text) a x.whole in
+    let q = complete rule (lines text) b y.whole in
     let e : ◌≡◌ {A = Result Run Reason} (Ok p.last) (Ok q.last) = sym p.ran ∙ q.ran in
     let same : p.last ≡ q.last = cc in
     sym p.blocks_are ∙ ap (λ (v : Run). (built v.events).blocks) same ∙ q.blocks_are
 
-pub no_fault : (limit : ℕ) (text : List ℕ) (blocks : List Block) (why : Reason) (block pos : ℕ) → IsOctets text → Armored limit text blocks → ArmorFault limit text why block pos → ⊥
-no_fault limit text blocks why block pos octets a (inl f) =
-    not_both limit text why block pos f (record { text = text; blocks = blocks; more = []; octets = octets; armored = a; begins = sym (append-nil (lines text)) })
-no_fault limit text blocks why block pos octets a (inr f) = f.refused blocks a
+pub no_fault : (rule : LineRule) (text : List ℕ) (blocks : List Block) (why : Reason) (block pos : ℕ) → IsOctets text → Armored rule text blocks → ArmorFault rule text why block pos → ⊥
+no_fault rule text blocks why block pos octets a (inl f) =
+    not_both rule text why block pos f (record { text = text; blocks = blocks; more = []; octets = octets; armored = a; begins = sym (append-nil (lines text)) })
+no_fault rule text blocks why block pos octets a (inr f) = f.refused blocks a
 
 -- ---- some answer
-abbrev pub Answered : ℕ → List ℕ → Type 0
-Answered limit text = ((blocks : List Block) × Armored limit text blocks) ⊎ ((why : Reason) × (block : ℕ) × (pos : ℕ) × ArmorFault limit text why block pos)
+abbrev pub Answered : LineRule → List ℕ → Type 0
+Answered rule text = ((blocks : List Block) × Armored rule text blocks) ⊎ ((why : Reason) × (block : ℕ) × (pos : ℕ) × ArmorFault rule text why block pos)
 
 -- a run that isn't outside ends no armored text
-pub open_yet : (limit : ℕ) (text : List ℕ) (r : Run) → run limit (lines text) ≡ Ok r → (r.state.section ≡ Outside → ⊥) → (blocks : List Block) → Armored limit text blocks → ⊥
-open_yet limit text r ran n blocks a =
-    let p = complete limit (lines text) blocks a.whole in
+pub open_yet : (rule : LineRule) (text : List ℕ) (r : Run) → run rule (lines text) ≡ Ok r → (r.state.section ≡ Outside → ⊥) → (blocks : List Block) → Armored rule text blocks → ⊥
+open_yet rule text r ran n blocks a =
+    let p = complete rule (lines text) blocks a.whole in
     let same : r ≡ p.last = cc (sym ran ∙ p.ran) in
     n (ap (λ (v : Run). v.state.section) same ∙ ap (λ (v : State). v.section) p.outside)
 
 -- the run is over: outside of all blocks, with some of them finished, or too early
-ended_section : (limit : ℕ) (text : List ℕ) (r : Run) (section : Section) → section ≡ r.state.section → run limit (lines text) ≡ Ok r → Upto limit (lines text) r
-    → ((blocks : List Block) × Armored limit text blocks) ⊎ ((blocks : List Block) → Armored limit text blocks → ⊥)
-ended_section limit text r Outside is ran upto =
-    let stage : Stage limit Outside r.state.pending (built r.events) upto.open_ = subst (λ (v : Section). Stage limit v r.state.pending (built r.events) upto.open_) (sym is) upto.stage in
+ended_section : (rule : LineRule) (text : List ℕ) (r : Run) (section : Section) → section ≡ r.state.section → run rule (lines text) ≡ Ok r → Upto rule (lines text) r
+    → ((blocks : List Block) × Armored rule text blocks) ⊎ ((blocks : List Block) → Armored rule text blocks → ⊥)
+ended_section rule text r Outside is ran upto =
+    let stage : Stage rule.most Outside r.state.pending (built r.events) upto.open_ = subst (λ (v : Section). Stage rule.most v r.state.pending (built r.events) upto.open_) (sym is) upto.stage in
     let whole : upto.done ≡ lines text = sym (upto.are ∙ ap (λ (v : List Line). upto.done ++ v) stage.0 ∙ append-nil upto.done) in
     elim (cases_lt 0 (length (built r.events).blocks)) [
-      | inl some ↦ inl ((built r.events).blocks, record { whole = relist limit upto.done (lines text) (built r.events).blocks (built r.events).blocks whole refl upto.pieces; some = some })
+      | inl some ↦ inl ((built r.events).blocks, record { whole = relist rule upto.done (lines text) (built r.events).blocks (built r.events).blocks whole refl upto.pieces; some = some })
       | inr none ↦ inr (λ blocks a.
-          let p = complete limit (lines text) blocks a.whole in
+          let p = complete rule (lines text) blocks a.whole in
           let same : p.last ≡ r = cc (sym p.ran ∙ ran) in
           let count : length blocks ≡ length (built r.events).blocks = ap length (sym p.blocks_are) ∙ ap (λ (v : Run). length (built v.events).blocks) same in
           let some = a.some in
           absurd (omega arith))
     ]
-ended_section limit text r (Headers k) is ran upto = inr (open_yet limit text r ran (λ e. let f : Headers k ≡ Outside = is ∙ e in cc f))
-ended_section limit text r (Data k) is ran upto = inr (open_yet limit text r ran (λ e. let f : Data k ≡ Outside = is ∙ e in cc f))
-ended_section limit text r (AfterChecksum k) is ran upto = inr (open_yet limit text r ran (λ e. let f : AfterChecksum k ≡ Outside = is ∙ e in cc f))
+ended_section rule text r (Headers k) is ran upto = inr (open_yet rule text r ran (λ e. let f : Headers k ≡ Outside = is ∙ e in cc f))
+ended_section rule text r (Data k) is ran upto = inr (open_yet rule text r ran (λ e. let f : Data k ≡ Outside = is ∙ e in cc f))
+ended_section rule text r (AfterChecksum k) is ran upto = inr (open_yet rule text r ran (λ e. let f : AfterChecksum k ≡ Outside = is ∙ e in cc f))
 
-pub some_answer : (limit : ℕ) (text : List ℕ) → 128 ≤ limit → IsOctets text → Answered limit text
-some_answer limit text large all = by_run_ (run limit (lines text)) refl
+pub some_answer : (rule : LineRule) (text : List ℕ) → 128 ≤ rule.most → IsOctets text → Answered rule text
+some_answer rule text large all = by_run_ (run rule (lines text)) refl
   where
     octets : AreOctets text
     octets = all_octets text all
 
-    by_run_ : (a : Result Run Reason) → run limit (lines text) ≡ a → Answered limit text
+    by_run_ : (a : Result Run Reason) → run rule (lines text) ≡ a → Answered rule text
     by_run_ (Err e) is =
-        let s = find_stop limit first (lines text) e is in
-        inr (e, length (built s.last.events).blocks, offset s.before, inl (line_fault limit text s.before s.line s.after s.last e large octets s.are s.ran s.stops))
+        let s = find_stop rule first (lines text) e is in
+        inr (e, length (built s.last.events).blocks, offset s.before, inl (line_fault rule text s.before s.line s.after s.last e large octets s.are s.ran s.stops))
     by_run_ (Ok r) is =
-        let upto = sound limit (lines text) r is in
-        let t = tracks limit (lines text) r is in
-        elim (ended_section limit text r r.state.section refl is upto) [
+        let upto = sound rule (lines text) r is in
+        let t = tracks rule (lines text) r is in
+        elim (ended_section rule text r r.state.section refl is upto) [
           | inl a ↦ inl a
           | inr none ↦ inr (
             end_reason r.state.section,
             length (built r.events).blocks,
             length text,
             inr (record {
-              opens = extends limit large (lines text) r (are_lines text octets) is;
+              opens = extends rule large (lines text) r (are_lines text octets) is;
               refused = none;
               why_is = ap end_reason t.section;
               block_is = t.finished;

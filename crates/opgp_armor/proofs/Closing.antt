@@ -3,9 +3,12 @@ use Rattle.std.proofs.Common.{◌≡◌, ℕ, Bool, true, false, not, List, [], 
 use Rattle.std.proofs.lemmas.List.{append-nil}
 use Rattle.std.specs.declared.result.Result.{Result}
 use Rattle.std.specs.Str.{bytes_eq}
-use Rattle.std.proofs.Common.{nat_lt, length}
+use Rattle.std.proofs.Common.{◌+◌, nat_lt, length, take}
 use Rattle.opgp_octets.specs.declared.fault.Reason.{Reason}
 use Rattle.opgp_octets.specs.declared.fault.Reason.TheVariants as reason
+use Rattle.opgp_octets.specs.declared.outside.Outside.{Outside as Policy}
+use Rattle.opgp_octets.specs.declared.outside.Outside.TheVariants as policy
+use Rattle.opgp_armor.specs.Rules.{LineRule}
 use Rattle.opgp_armor.specs.declared.event.ArmorEvent.{ArmorEvent}
 use Rattle.opgp_armor.specs.declared.label.Label.{Label}
 use Rattle.opgp_armor.specs.declared.section.Section.{Section}
@@ -13,10 +16,10 @@ use Rattle.opgp_armor.specs.declared.section.Section.TheVariants.{Outside, Heade
 use Rattle.opgp_armor.specs.declared.reader.Dearmor.{Dearmor}
 use Rattle.opgp_armor.specs.Letters.{Pending, is_equals, data_line, no_letters}
 use Rattle.opgp_armor.specs.Text.{Line, content, begin_line, end_line}
-use Rattle.opgp_armor.specs.Armored.{is_dash, label_at}
+use Rattle.opgp_armor.specs.Armored.{is_dash, label_at, passes_by}
 use Rattle.opgp_armor.specs.Events.{Event, Begin, Header, Octets, End, events_of, is_open_behind}
-use Rattle.opgp_armor.specs.Machine.{Answer, Run, State, run, first, step, passes_by, inside, on_begin, on_header, on_letters, closing, header_of, some_octets, waits}
-use Rattle.opgp_armor.specs.Fed.{Fed}
+use Rattle.opgp_armor.specs.Machine.{Answer, Run, State, run, first, step, inside, on_blank, on_outside, on_begin, on_header, on_letters, closing, header_of, some_octets, waits}
+use Rattle.opgp_armor.specs.Fed.{Fed, rule_of}
 use Rattle.opgp_armor.proofs.Answer.{run_keeps}
 use Rattle.opgp_armor.proofs.Feeding.{going_of}
 
@@ -88,14 +91,21 @@ insides (AfterChecksum l) p (d ∷ c) =
     let late : Answer = Err reason.AfterChecksum in
     either true (is_dash d) shut late (ends l p (d ∷ c)) tt
 
-steps : (limit : ℕ) (s : State) (l : Line) → Agrees (is_inside s.section) (step limit s l)
+outsides : (o : Policy) (limit : ℕ) (s : State) (l : Line) → Agrees (is_inside s.section) (on_outside o limit s l)
+outsides policy.Skip limit s l = refl
+outsides policy.Refuse limit s l = by_content (content (take (limit + 1) l))
+  where
+    by_content : (c : List ℕ) → Agrees (is_inside s.section) (on_blank c (cond (nat_lt limit (length l)) (Err reason.LineTooLong) (Ok (s, []))))
+    by_content (x ∷ c) = tt
+    by_content [] = either (is_inside s.section) (nat_lt limit (length l)) (Err reason.LineTooLong) (Ok (s, [])) tt refl
+
+steps : (rule : LineRule) (s : State) (l : Line) → Agrees (is_inside s.section) (step rule s l)
 unfolding step
-steps limit s l =
-    let stay : Answer = Ok (s, []) in
+steps rule s l =
     let long : Answer = Err reason.LineTooLong in
     let on : Answer = inside s.section s.pending (content l) in
-    either (is_inside s.section) (passes_by s.section l) stay (cond (nat_lt limit (length l)) long on) refl
-    (either (is_inside s.section) (nat_lt limit (length l)) long on tt (insides s.section s.pending (content l)))
+    either (is_inside s.section) (passes_by s.section l) (on_outside rule.outside rule.most s l) (cond (nat_lt rule.most (length l)) long on) (outsides rule.outside rule.most s l)
+    (either (is_inside s.section) (nat_lt rule.most (length l)) long on tt (insides s.section s.pending (content l)))
 
 abbrev Tells : List Line → Run → Type 0
 Tells front r = is_open_behind false r.events ≡ is_inside r.state.section
@@ -103,15 +113,15 @@ Tells front r = is_open_behind false r.events ≡ is_inside r.state.section
 agrees : (b : Bool) (a : Answer) (s : State) (more : List Event) → a ≡ Ok (s, more) → Agrees b a → is_open_behind b more ≡ is_inside s.section
 agrees b a s more e h = let P : Answer → Type 0 = λ x. Agrees b x in subst P e h
 
-told_more : (limit : ℕ) (q : Run) (l : Line) (s : State) (more : List Event) → is_open_behind false q.events ≡ is_inside q.state.section → step limit q.state l ≡ Ok (s, more)
+told_more : (rule : LineRule) (q : Run) (l : Line) (s : State) (more : List Event) → is_open_behind false q.events ≡ is_inside q.state.section → step rule q.state l ≡ Ok (s, more)
     → is_open_behind false (q.events ++ more) ≡ is_inside s.section
-told_more limit q l s more told e =
-    open-append false q.events more ∙ ap (λ (b : Bool). is_open_behind b more) told ∙ agrees (is_inside q.state.section) (step limit q.state l) s more e (steps limit q.state l)
+told_more rule q l s more told e =
+    open-append false q.events more ∙ ap (λ (b : Bool). is_open_behind b more) told ∙ agrees (is_inside q.state.section) (step rule q.state l) s more e (steps rule q.state l)
 
-tells : (limit : ℕ) (ls : List Line) (r : Run) → run limit ls ≡ Ok r → is_open_behind false r.events ≡ is_inside r.state.section
+tells : (rule : LineRule) (ls : List Line) (r : Run) → run rule ls ≡ Ok r → is_open_behind false r.events ≡ is_inside r.state.section
 unfolding is_inside
-tells limit ls r h =
-    run_keeps limit Tells (λ front q l s more told e. told_more limit q l s more told e) [] ls first r refl h
+tells rule ls r h =
+    run_keeps rule Tells (λ front q l s more told e. told_more rule q l s more told e) [] ls first r refl h
 
 pub closes : (d : Dearmor) (given : List ℕ) (taken : List Event) → Fed d given taken → d.ready ≡ None → d.fault ≡ None → d.section ≡ Outside → is_open_behind false taken ≡ false
 unfolding is_inside
@@ -119,4 +129,4 @@ closes d given taken fed none no_fault outside =
     let going = going_of d given taken fed no_fault in
     let events : going.last.events ≡ taken = going.events ∙ ap (λ (v : Option ArmorEvent). taken ++ events_of v) none ∙ append-nil taken in
     let section : going.last.state.section ≡ Outside = ap (λ (v : State). v.section) going.state ∙ outside in
-    ap (is_open_behind false) (sym events) ∙ tells d.limit _ going.last going.ran ∙ ap is_inside section
+    ap (is_open_behind false) (sym events) ∙ tells (rule_of d) _ going.last going.ran ∙ ap is_inside section

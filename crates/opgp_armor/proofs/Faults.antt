@@ -5,6 +5,7 @@ use Rattle.std.proofs.lemmas.List.Concat.{flat_map-append}
 use Rattle.std.proofs.lemmas.Bool.{cases_Bool, cases_lt, eqb-true, ltb-false}
 use Rattle.std.specs.List.{flat_map, AllByRecursion, list_all}
 use Rattle.std.specs.declared.result.Result.{Result}
+use Rattle.opgp_armor.specs.Rules.{LineRule}
 use Rattle.opgp_armor.specs.declared.label.Label.{Label}
 use Rattle.opgp_armor.specs.declared.label.Label.TheVariants.{Message, PublicKeyBlock, PrivateKeyBlock, Signature}
 use Rattle.opgp_armor.specs.declared.section.Section.{Section}
@@ -174,46 +175,46 @@ module _ (limit : ℕ) (large : 128 ≤ limit) where
   close_stage (Data k) p b ls stage = close_data k b.headers stage.0 b.octets p ls stage.2 stage.3
   close_stage (AfterChecksum k) p b ls stage = close_checked k b.headers stage.0 b.octets p ls stage.2 stage.3 stage.4
 
-  -- What the machine accepts so far is the beginning of an armored text.
-  pub extends : (ls : List Line) (r : Run) → AllByRecursion IsLine ls → run limit ls ≡ Ok r → Opens limit ls
-  extends ls r are ran =
-      let upto = sound limit ls r ran in
-      let c = close_stage r.state.section r.state.pending (built r.events) upto.open_ upto.stage in
-      let bs : List Block = (built r.events).blocks ++ c.block ∷ [] in
-      let pieces : ArePieces limit (upto.done ++ (upto.open_ ++ c.extra)) bs =
-      piece_more limit upto.done (upto.open_ ++ c.extra) (built r.events).blocks (c.block ∷ []) (Whole (upto.open_ ++ c.extra) c.block) upto.pieces c.is_block refl refl in
-      let same : upto.done ++ (upto.open_ ++ c.extra) ≡ ls ++ c.extra = sym (append_assoc upto.done upto.open_ c.extra) ∙ ap (λ (v : List Line). v ++ c.extra) (sym upto.are) in
-      let all : AllByRecursion IsLine (ls ++ c.extra) = recursion-append IsLine ls c.extra are c.are_extra in
-      let text : List ℕ = text_of (ls ++ c.extra) in
-      let is : lines text ≡ ls ++ c.extra = lines-text_of (ls ++ c.extra) all in
-      record {
-        text = text;
-        blocks = bs;
-        more = c.extra;
-        octets = each_octet text (octets-text_of (ls ++ c.extra) all);
-        armored = record {
-          whole = relist limit (upto.done ++ (upto.open_ ++ c.extra)) (lines text) bs bs (same ∙ sym is) refl pieces;
-          some = omega (arith, length-append (built r.events).blocks (c.block ∷ []));
-        };
-        begins = is;
-      }
+-- What the machine accepts so far is the beginning of an armored text.
+pub extends : (rule : LineRule) → 128 ≤ rule.most → (ls : List Line) (r : Run) → AllByRecursion IsLine ls → run rule ls ≡ Ok r → Opens rule ls
+extends rule large ls r are ran =
+    let upto = sound rule ls r ran in
+    let c = close_stage rule.most large r.state.section r.state.pending (built r.events) upto.open_ upto.stage in
+    let bs : List Block = (built r.events).blocks ++ c.block ∷ [] in
+    let pieces : ArePieces rule (upto.done ++ (upto.open_ ++ c.extra)) bs =
+    piece_more rule upto.done (upto.open_ ++ c.extra) (built r.events).blocks (c.block ∷ []) (Whole (upto.open_ ++ c.extra) c.block) upto.pieces c.is_block refl refl in
+    let same : upto.done ++ (upto.open_ ++ c.extra) ≡ ls ++ c.extra = sym (append_assoc upto.done upto.open_ c.extra) ∙ ap (λ (v : List Line). v ++ c.extra) (sym upto.are) in
+    let all : AllByRecursion IsLine (ls ++ c.extra) = recursion-append IsLine ls c.extra are c.are_extra in
+    let text : List ℕ = text_of (ls ++ c.extra) in
+    let is : lines text ≡ ls ++ c.extra = lines-text_of (ls ++ c.extra) all in
+    record {
+      text = text;
+      blocks = bs;
+      more = c.extra;
+      octets = each_octet text (octets-text_of (ls ++ c.extra) all);
+      armored = record {
+        whole = relist rule (upto.done ++ (upto.open_ ++ c.extra)) (lines text) bs bs (same ∙ sym is) refl pieces;
+        some = omega (arith, length-append (built r.events).blocks (c.block ∷ []));
+      };
+      begins = is;
+    }
 
-by_run : (limit : ℕ) (more : List Line) (last : Run) (n : Result Run Reason) → run_from limit n more ≡ Ok last → (r : Run) × (n ≡ Ok r)
-by_run limit more last (Ok r) h = (r, refl)
-by_run limit more last (Err e) h = cc (sym (run_err limit e more) ∙ h)
+by_run : (rule : LineRule) (more : List Line) (last : Run) (n : Result Run Reason) → run_from rule n more ≡ Ok last → (r : Run) × (n ≡ Ok r)
+by_run rule more last (Ok r) h = (r, refl)
+by_run rule more last (Err e) h = cc (sym (run_err rule e more) ∙ h)
 
 -- An armored text's first lines are accepted.
-pub opens_ran : (limit : ℕ) (ls : List Line) → Opens limit ls → (r : Run) × (run limit ls ≡ Ok r)
-opens_ran limit ls opens =
-    let a = complete limit (lines opens.text) opens.blocks opens.armored.whole in
-    let ran : run_from limit (run limit ls) opens.more ≡ Ok a.last = sym (run-more limit (Ok first) ls opens.more) ∙ ap (run limit) (sym opens.begins) ∙ a.ran in
-    by_run limit opens.more a.last (run limit ls) ran
+pub opens_ran : (rule : LineRule) (ls : List Line) → Opens rule ls → (r : Run) × (run rule ls ≡ Ok r)
+opens_ran rule ls opens =
+    let a = complete rule (lines opens.text) opens.blocks opens.armored.whole in
+    let ran : run_from rule (run rule ls) opens.more ≡ Ok a.last = sym (run-more rule (Ok first) ls opens.more) ∙ ap (run rule) (sym opens.begins) ∙ a.ran in
+    by_run rule opens.more a.last (run rule ls) ran
 
 -- The first line that stops the machine: no armored text begins so.
-pub stopped : (limit : ℕ) (before : List Line) (l : Line) (r : Run) (e : Reason) → run limit before ≡ Ok r → step limit r.state l ≡ Err e → Opens limit (before ++ l ∷ []) → ⊥
-stopped limit before l r e ran err opens =
-    let o = opens_ran limit (before ++ l ∷ []) opens in
-    let stop : run limit (before ++ l ∷ []) ≡ Err e =
-    run-more limit (Ok first) before (l ∷ []) ∙ ap (λ (v : Result Run Reason). run_from limit v (l ∷ [])) ran
-    ∙ run-cons limit (Ok r) l [] ∙ ap (λ (v : Answer). run_from limit (onward r.events v) []) err ∙ run-nil limit (Err e) in
+pub stopped : (rule : LineRule) (before : List Line) (l : Line) (r : Run) (e : Reason) → run rule before ≡ Ok r → step rule r.state l ≡ Err e → Opens rule (before ++ l ∷ []) → ⊥
+stopped rule before l r e ran err opens =
+    let o = opens_ran rule (before ++ l ∷ []) opens in
+    let stop : run rule (before ++ l ∷ []) ≡ Err e =
+    run-more rule (Ok first) before (l ∷ []) ∙ ap (λ (v : Result Run Reason). run_from rule v (l ∷ [])) ran
+    ∙ run-cons rule (Ok r) l [] ∙ ap (λ (v : Answer). run_from rule (onward r.events v) []) err ∙ run-nil rule (Err e) in
     cc (sym o.1 ∙ stop)

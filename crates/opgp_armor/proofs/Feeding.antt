@@ -9,13 +9,15 @@ use Rattle.opgp_armor.specs.declared.event.ArmorEvent.{ArmorEvent}
 use Rattle.opgp_octets.specs.declared.fault.Reason.{Reason}
 use Rattle.opgp_armor.specs.declared.reader.Dearmor.{Dearmor}
 use Rattle.opgp_octets.specs.declared.fault.Fault.{Fault}
+use Rattle.opgp_armor.specs.declared.section.Section.{Section}
+use Rattle.opgp_armor.specs.Rules.{LineRule}
 use Rattle.opgp_armor.specs.Text.{Line, offset}
 use Rattle.opgp_armor.specs.Events.{Event, Begin, Header, Octets, End, Built, built, absorb, events_of, ends_in}
 use Rattle.opgp_armor.specs.Machine.{Answer, Run, State, start, run, run_from, first, onward, step}
 use Rattle.opgp_armor.specs.LineAnswer.{state_of}
 use Rattle.opgp_octets.specs.Octets.{IsOctets}
 use Rattle.opgp_armor.specs.Cuts.{Cut, feed, uncut, cut, lines_ended, kept, kept_most, is_plain, IsLineSplit}
-use Rattle.opgp_armor.specs.Fed.{Going, Stopped, Stands, Fed, AfterLine, SameReader}
+use Rattle.opgp_armor.specs.Fed.{Going, Stopped, Stands, Fed, AfterLine, SameReader, rule_of}
 use Rattle.opgp_armor.proofs.Lists.{fold-both}
 use Rattle.opgp_armor.proofs.Octets.{AreOctets, each_octet, all_octets}
 use Rattle.opgp_armor.proofs.DataLine.{octets-append, octets_front}
@@ -59,10 +61,10 @@ unfolding cut built
 going_first d section ready buffer start finished open_ =
     record {
       last = first;
-      ran = rw open_ (run-nil d.limit (Ok first));
+      ran = rw open_ (run-nil (rule_of d) (Ok first));
       state = sym section;
       events = ap events_of (sym ready);
-      buffered = λ e. buffer ∙ take_nil (kept_most d.limit d.section []);
+      buffered = λ e. buffer ∙ take_nil (kept_most (rule_of d) d.section []);
       begins = λ e. start;
       finished = finished;
     }
@@ -71,17 +73,17 @@ going_first d section ready buffer start finished open_ =
 -- the reader goes on, and the text has not ended
 pub record Open (d : Dearmor) (given : List ℕ) (taken : List Event) : Type 0 where
   pub last : Run
-  pub ran : run d.limit (cut given).ended ≡ Ok last
+  pub ran : run (rule_of d) (cut given).ended ≡ Ok last
   pub state : last.state ≡ state_of d.section d.pending
   pub events : last.events ≡ taken ++ events_of d.ready
-  pub buffered : d.buffer.items ≡ kept d.limit d.section (cut given).tail
+  pub buffered : d.buffer.items ≡ kept (rule_of d) d.section (cut given).tail
   pub begins : d.start ≡ offset (cut given).ended
   pub finished : d.finished ≡ length (built last.events).blocks
 
 pub open_of : (d : Dearmor) (given : List ℕ) (taken : List Event) → d.ended ≡ false → Going d given taken → Open d given taken
 open_of d given taken open_ going = record {
   last = going.last;
-  ran = subst (λ (v : Bool). run d.limit (lines_ended v given) ≡ Ok going.last) open_ going.ran;
+  ran = subst (λ (v : Bool). run (rule_of d) (lines_ended v given) ≡ Ok going.last) open_ going.ran;
   state = going.state;
   events = going.events;
   buffered = going.buffered open_;
@@ -92,7 +94,7 @@ open_of d given taken open_ going = record {
 pub going_open : (d : Dearmor) (given : List ℕ) (taken : List Event) → d.ended ≡ false → Open d given taken → Going d given taken
 going_open d given taken open_ going = record {
   last = going.last;
-  ran = subst (λ (v : Bool). run d.limit (lines_ended v given) ≡ Ok going.last) (sym open_) going.ran;
+  ran = subst (λ (v : Bool). run (rule_of d) (lines_ended v given) ≡ Ok going.last) (sym open_) going.ran;
   state = going.state;
   events = going.events;
   buffered = λ e. going.buffered;
@@ -104,37 +106,41 @@ going_open d given taken open_ going = record {
 -- the same, whatever of its unfinished line is kept
 pub record Before (d : Dearmor) (given : List ℕ) (taken : List Event) : Type 0 where
   pub last : Run
-  pub ran : run d.limit (cut given).ended ≡ Ok last
+  pub ran : run (rule_of d) (cut given).ended ≡ Ok last
   pub state : last.state ≡ state_of d.section d.pending
   pub events : last.events ≡ taken ++ events_of d.ready
   pub begins : d.start ≡ offset (cut given).ended
   pub finished : d.finished ≡ length (built last.events).blocks
 
-pub before_more : (d e : Dearmor) (given part : List ℕ) (taken : List Event) → Open d given taken → list_all is_plain part ≡ true → e.limit ≡ d.limit
+pub before_more : (d e : Dearmor) (given part : List ℕ) (taken : List Event) → Open d given taken → list_all is_plain part ≡ true → rule_of e ≡ rule_of d
     → state_of d.section d.pending ≡ state_of e.section e.pending → events_of d.ready ≡ events_of e.ready → e.start ≡ d.start → e.finished ≡ d.finished → Before e (given ++ part) taken
-before_more d e given part taken going plain limit state ready start finished =
+before_more d e given part taken going plain rule state ready start finished =
     let ended : (cut given).ended ≡ (cut (given ++ part)).ended = ap (λ (v : Cut). v.ended) (sym (cut_plain given part plain)) in
     record {
       last = going.last;
-      ran = rw (limit, ← ended) going.ran;
+      ran = rw (rule, ← ended) going.ran;
       state = going.state ∙ state;
       events = going.events ∙ ap (λ (v : List Event). taken ++ v) ready;
       begins = start ∙ going.begins ∙ ap offset ended;
       finished = finished ∙ going.finished;
     }
 
-pub going_more : (d e : Dearmor) (given part : List ℕ) (taken : List Event) → Open d given taken → list_all is_plain part ≡ true → e.limit ≡ d.limit → e.section ≡ d.section
+pub going_more : (d e : Dearmor) (given part : List ℕ) (taken : List Event) → Open d given taken → list_all is_plain part ≡ true → rule_of e ≡ rule_of d → e.section ≡ d.section
     → state_of d.section d.pending ≡ state_of e.section e.pending → events_of d.ready ≡ events_of e.ready
-    → ((tail : List ℕ) → d.buffer.items ≡ kept d.limit d.section tail → e.buffer.items ≡ kept d.limit d.section (tail ++ part)) → e.start ≡ d.start → e.finished ≡ d.finished → Open e (given ++ part) taken
-going_more d e given part taken going plain limit section state ready buffer start finished =
+    → ((tail : List ℕ) → d.buffer.items ≡ kept (rule_of d) d.section tail → e.buffer.items ≡ kept (rule_of d) d.section (tail ++ part)) → e.start ≡ d.start → e.finished ≡ d.finished → Open e (given ++ part) taken
+going_more d e given part taken going plain rule section state ready buffer start finished =
     let tail : (cut given).tail ++ part ≡ (cut (given ++ part)).tail = ap (λ (v : Cut). v.tail) (sym (cut_plain given part plain)) in
-    let more = before_more d e given part taken going plain limit state ready start finished in
+    let more = before_more d e given part taken going plain rule state ready start finished in
     record {
       last = more.last;
       ran = more.ran;
       state = more.state;
       events = more.events;
-      buffered = rw (limit, section, ← tail) (buffer (cut given).tail going.buffered);
+      buffered =
+          buffer (cut given).tail going.buffered
+          ∙ ap (λ (v : LineRule). kept v d.section ((cut given).tail ++ part)) (sym rule)
+          ∙ ap (λ (v : Section). kept (rule_of e) v ((cut given).tail ++ part)) (sym section)
+          ∙ ap (kept (rule_of e) e.section) tail;
       begins = more.begins;
       finished = more.finished;
     }
@@ -155,9 +161,9 @@ fold_ended s (c ∷ part) = elim (cases_Bool (c == 10)) [
       (more.0, ap (λ (v : Cut). (fold feed v part).ended) e ∙ more.1)
 ]
 
-pub stopped_more : (d e : Dearmor) (fault : Fault) (given part : List ℕ) (taken : List Event) → Stopped d fault given taken → d.ended ≡ false → e.ended ≡ d.ended → e.limit ≡ d.limit → events_of d.ready ≡ events_of e.ready
+pub stopped_more : (d e : Dearmor) (fault : Fault) (given part : List ℕ) (taken : List Event) → Stopped d fault given taken → d.ended ≡ false → e.ended ≡ d.ended → rule_of e ≡ rule_of d → events_of d.ready ≡ events_of e.ready
     → Stopped e fault (given ++ part) taken
-stopped_more d e fault given part taken stopped open_ ended limit ready =
+stopped_more d e fault given part taken stopped open_ ended rule ready =
     let more = fold_ended (cut given) part in
     let were : (cut given).ended ≡ stopped.before ++ stopped.line ∷ stopped.after = subst (λ (v : Bool). lines_ended v given ≡ stopped.before ++ stopped.line ∷ stopped.after) open_ stopped.are in
     record {
@@ -166,8 +172,8 @@ stopped_more d e fault given part taken stopped open_ ended limit ready =
       after = stopped.after ++ more.0;
       last = stopped.last;
       are = ap (λ (v : Bool). lines_ended v (given ++ part)) (ended ∙ open_) ∙ ap (λ (v : Cut). v.ended) (cut-more given part) ∙ more.1 ∙ ap (λ (v : List Line). v ++ more.0) were ∙ append_assoc stopped.before (stopped.line ∷ stopped.after) more.0;
-      ran = rw limit stopped.ran;
-      stops = rw limit stopped.stops;
+      ran = rw rule stopped.ran;
+      stops = rw rule stopped.stops;
       events = stopped.events ∙ ap (λ (v : List Event). taken ++ v) ready;
       pos = stopped.pos;
       block = stopped.block;
@@ -209,10 +215,10 @@ unfolding cut
 cut_length given = omega (arith, fold_length uncut given)
 
 module _ (m e : Dearmor) (given seen : List ℕ) (taken : List Event) (going : Before m given taken) (none : m.ready ≡ None)
-    (looks : step m.limit (state_of m.section m.pending) seen ≡ step m.limit (state_of m.section m.pending) (cut given).tail)
-    (limit : e.limit ≡ m.limit) (count : m.given ≡ length given + 1) (open_ : e.ended ≡ false) where
-  line_state : step m.limit (state_of m.section m.pending) seen ≡ step m.limit going.last.state (cut given).tail
-  line_state = looks ∙ ap (λ (v : State). step m.limit v (cut given).tail) (sym going.state)
+    (looks : step (rule_of m) (state_of m.section m.pending) seen ≡ step (rule_of m) (state_of m.section m.pending) (cut given).tail)
+    (rule : rule_of e ≡ rule_of m) (count : m.given ≡ length given + 1) (open_ : e.ended ≡ false) where
+  line_state : step (rule_of m) (state_of m.section m.pending) seen ≡ step (rule_of m) going.last.state (cut given).tail
+  line_state = looks ∙ ap (λ (v : State). step (rule_of m) v (cut given).tail) (sym going.state)
 
   now : cut (given ++ 10 ∷ []) ≡ record { ended = (cut given).ended ++ (cut given).tail ∷ []; tail = [] }
   now = cut_line given [] refl ∙ ap (λ (v : List ℕ). record { ended = (cut given).ended ++ v ∷ []; tail = [] }) (append-nil (cut given).tail)
@@ -220,21 +226,21 @@ module _ (m e : Dearmor) (given seen : List ℕ) (taken : List Event) (going : B
   quiet : going.last.events ≡ taken
   quiet = going.events ∙ ap (λ (v : Option ArmorEvent). taken ++ events_of v) none ∙ append-nil taken
 
-  ended_by : (a : Answer) → step m.limit (state_of m.section m.pending) seen ≡ a → AfterLine m e a → Stands e e.fault (given ++ 10 ∷ []) taken
+  ended_by : (a : Answer) → step (rule_of m) (state_of m.section m.pending) seen ≡ a → AfterLine m e a → Stands e e.fault (given ++ 10 ∷ []) taken
   ended_by (Ok (s, more)) is after =
       let r : Run = record { state = s; events = going.last.events ++ more } in
       let ended : (cut given).ended ++ (cut given).tail ∷ [] ≡ (cut (given ++ 10 ∷ [])).ended = ap (λ (v : Cut). v.ended) (sym now) in
       let tail : [] ≡ (cut (given ++ 10 ∷ [])).tail = ap (λ (v : Cut). v.tail) (sym now) in
-      let stepped : step m.limit going.last.state (cut given).tail ≡ Ok (s, more) = sym line_state ∙ is in
-      let ran : run m.limit ((cut given).ended ++ (cut given).tail ∷ []) ≡ Ok r =
-      run-more m.limit (Ok first) (cut given).ended ((cut given).tail ∷ []) ∙ ap (λ (v : Result Run Reason). run_from m.limit v ((cut given).tail ∷ [])) going.ran
-      ∙ run-cons m.limit (Ok going.last) (cut given).tail [] ∙ ap (λ (v : Answer). run_from m.limit (onward going.last.events v) []) stepped ∙ run-nil m.limit (Ok r) in
+      let stepped : step (rule_of m) going.last.state (cut given).tail ≡ Ok (s, more) = sym line_state ∙ is in
+      let ran : run (rule_of m) ((cut given).ended ++ (cut given).tail ∷ []) ≡ Ok r =
+      run-more (rule_of m) (Ok first) (cut given).ended ((cut given).tail ∷ []) ∙ ap (λ (v : Result Run Reason). run_from (rule_of m) v ((cut given).tail ∷ [])) going.ran
+      ∙ run-cons (rule_of m) (Ok going.last) (cut given).tail [] ∙ ap (λ (v : Answer). run_from (rule_of m) (onward going.last.events v) []) stepped ∙ run-nil (rule_of m) (Ok r) in
       subst (λ (v : Option Fault). Stands e v (given ++ 10 ∷ []) taken) (sym after.2) (going_open e (given ++ 10 ∷ []) taken open_ (record {
         last = r;
-        ran = rw (limit, ← ended) ran;
+        ran = rw (rule, ← ended) ran;
         state = after.0;
         events = ap (λ (v : List Event). v ++ more) quiet ∙ ap (λ (v : List Event). taken ++ v) after.1;
-        buffered = after.4 ∙ take_nil (kept_most e.limit e.section []) ∙ ap (kept e.limit e.section) tail;
+        buffered = after.4 ∙ take_nil (kept_most (rule_of e) e.section []) ∙ ap (kept (rule_of e) e.section) tail;
         begins = after.5 ∙ count ∙ rw (← ended) (omega (arith, offset-more (cut given).ended (cut given).tail, cut_length given));
         finished = after.3 ∙ ap (λ (v : ℕ). v + ends_in more) going.finished ∙ sym (blocks_end (built going.last.events) more) ∙ ap (λ (v : Built). length v.blocks) (sym (built_more going.last.events more));
       }))
@@ -245,8 +251,8 @@ module _ (m e : Dearmor) (given seen : List ℕ) (taken : List Event) (going : B
         after = [];
         last = going.last;
         are = ap (λ (v : Bool). lines_ended v (given ++ 10 ∷ [])) open_ ∙ ap (λ (v : Cut). v.ended) now;
-        ran = rw limit going.ran;
-        stops = rw limit (sym line_state ∙ is);
+        ran = rw rule going.ran;
+        stops = rw rule (sym line_state ∙ is);
         events = going.events ∙ ap (λ (v : Option ArmorEvent). taken ++ events_of v) (none ∙ sym after.1);
         pos = going.begins;
         block = going.finished;
@@ -268,13 +274,13 @@ pub going_of : (d : Dearmor) (given : List ℕ) (taken : List Event) → Fed d g
 going_of d given taken fed none = subst (λ (v : Option Fault). Stands d v given taken) none fed.stands
 
 pub part_plain : (d e : Dearmor) (piece line : List ℕ) (n : ℕ) (given : List ℕ) (taken : List Event) → Fed d given taken → IsOctets piece → d.fault ≡ None → d.ended ≡ false → IsLineSplit piece line n false
-    → e.fault ≡ d.fault → e.given ≡ d.given + n → e.limit ≡ d.limit → e.spent ≡ d.spent → e.ended ≡ d.ended → e.section ≡ d.section
+    → e.fault ≡ d.fault → e.given ≡ d.given + n → rule_of e ≡ rule_of d → e.spent ≡ d.spent → e.ended ≡ d.ended → e.section ≡ d.section
     → state_of d.section d.pending ≡ state_of e.section e.pending → events_of d.ready ≡ events_of e.ready
-    → ((tail : List ℕ) → d.buffer.items ≡ kept d.limit d.section tail → e.buffer.items ≡ kept d.limit d.section (tail ++ line)) → e.start ≡ d.start → e.finished ≡ d.finished
+    → ((tail : List ℕ) → d.buffer.items ≡ kept (rule_of d) d.section tail → e.buffer.items ≡ kept (rule_of d) d.section (tail ++ line)) → e.start ≡ d.start → e.finished ≡ d.finished
     → Fed e (given ++ take n piece) taken
-part_plain d e piece line n given taken fed octets none open_ split fault count limit spent ended section state ready buffer start finished =
+part_plain d e piece line n given taken fed octets none open_ split fault count rule spent ended section state ready buffer start finished =
     let going = open_of d given taken open_ (going_of d given taken fed none) in
-    let more = going_open e (given ++ line) taken (ended ∙ open_) (going_more d e given line taken going split.plain limit section state ready buffer start finished) in
+    let more = going_open e (given ++ line) taken (ended ∙ open_) (going_more d e given line taken going split.plain rule section state ready buffer start finished) in
     record {
       sound = spent ∙ fed.sound;
       octets = octets_more given piece n fed.octets octets;
@@ -285,35 +291,35 @@ part_plain d e piece line n given taken fed octets none open_ split fault count 
 
 -- what is answered of an unfinished line, is answered of the line
 abbrev pub Looks : Dearmor → List ℕ → List ℕ → Type 0
-Looks d line seen = (tail : List ℕ) → d.buffer.items ≡ kept d.limit d.section tail
-    → step d.limit (state_of d.section d.pending) seen ≡ step d.limit (state_of d.section d.pending) (tail ++ line)
+Looks d line seen = (tail : List ℕ) → d.buffer.items ≡ kept (rule_of d) d.section tail
+    → step (rule_of d) (state_of d.section d.pending) seen ≡ step (rule_of d) (state_of d.section d.pending) (tail ++ line)
 
 -- where it was kept ..
 pub looks_buffered : (d : Dearmor) (line seen : List ℕ)
-    → ((tail : List ℕ) → d.buffer.items ≡ kept d.limit d.section tail → seen ≡ kept d.limit d.section (tail ++ line)) → Looks d line seen
+    → ((tail : List ℕ) → d.buffer.items ≡ kept (rule_of d) d.section tail → seen ≡ kept (rule_of d) d.section (tail ++ line)) → Looks d line seen
 looks_buffered d line seen buffer = λ tail is.
-    ap (step d.limit (state_of d.section d.pending)) (buffer tail is) ∙ step_seen d.limit (state_of d.section d.pending) (tail ++ line) d.low
+    ap (step (rule_of d) (state_of d.section d.pending)) (buffer tail is) ∙ step_seen (rule_of d) (state_of d.section d.pending) (tail ++ line) d.low
 
 -- .. and where it lies whole in a piece
 pub looks_whole : (d : Dearmor) (line : List ℕ) → d.buffer.items ≡ [] → Looks d line line
 looks_whole d line empty = λ tail is.
-    ap (λ (v : List ℕ). step d.limit (state_of d.section d.pending) (v ++ line)) (sym (kept_none d.limit d.section tail (sym is ∙ empty)))
+    ap (λ (v : List ℕ). step (rule_of d) (state_of d.section d.pending) (v ++ line)) (sym (kept_none (rule_of d) d.section tail (sym is ∙ empty)))
 
 pub part_line : (d m e : Dearmor) (piece line seen : List ℕ) (n : ℕ) (given : List ℕ) (taken : List Event) → Fed d given taken → IsOctets piece → d.fault ≡ None → d.ended ≡ false → d.ready ≡ None → IsLineSplit piece line n true
-    → Looks d line seen → m.given ≡ d.given + n → m.limit ≡ d.limit → m.spent ≡ d.spent → m.ended ≡ d.ended
+    → Looks d line seen → m.given ≡ d.given + n → rule_of m ≡ rule_of d → m.spent ≡ d.spent → m.ended ≡ d.ended
     → state_of d.section d.pending ≡ state_of m.section m.pending → d.ready ≡ m.ready → m.start ≡ d.start → m.finished ≡ d.finished
-    → SameReader m e → AfterLine m e (step m.limit (state_of m.section m.pending) seen)
+    → SameReader m e → AfterLine m e (step (rule_of m) (state_of m.section m.pending) seen)
     → Fed e (given ++ take n piece) taken
-part_line d m e piece line seen n given taken fed octets none open_ quiet_ split look count limit spent ended state ready start finished same after =
+part_line d m e piece line seen n given taken fed octets none open_ quiet_ split look count rule spent ended state ready start finished same after =
     let going = open_of d given taken open_ (going_of d given taken fed none) in
-    let mid : Before m (given ++ line) taken = before_more d m given line taken going split.plain limit state (ap events_of ready) start finished in
+    let mid : Before m (given ++ line) taken = before_more d m given line taken going split.plain rule state (ap events_of ready) start finished in
     let cut_ : n ≡ length line + 1 = sym (length-take-le n piece split.within) ∙ ap length split.front ∙ length-append line (10 ∷ []) in
     let all : (given ++ line) ++ 10 ∷ [] ≡ given ++ take n piece = append_assoc given line (10 ∷ []) ∙ ap (λ (v : List ℕ). given ++ v) (sym split.front) in
     let counted : m.given ≡ length (given ++ line) + 1 = omega (arith, count, fed.count, length-append given line) in
     let tail : (cut given).tail ++ line ≡ (cut (given ++ line)).tail = ap (λ (v : Cut). v.tail) (sym (cut_plain given line split.plain)) in
-    let looked : step m.limit (state_of m.section m.pending) seen ≡ step m.limit (state_of m.section m.pending) (cut (given ++ line)).tail =
-    rw (limit, ← state, ← tail) (look (cut given).tail going.buffered) in
-    let stands = ended_by m e (given ++ line) seen taken mid (sym ready ∙ quiet_) looked same.limit counted (same.ended ∙ ended ∙ open_) (step m.limit (state_of m.section m.pending) seen) refl after in
+    let looked : step (rule_of m) (state_of m.section m.pending) seen ≡ step (rule_of m) (state_of m.section m.pending) (cut (given ++ line)).tail =
+    rw (rule, ← state, ← tail) (look (cut given).tail going.buffered) in
+    let stands = ended_by m e (given ++ line) seen taken mid (sym ready ∙ quiet_) looked same.rule counted (same.ended ∙ ended ∙ open_) (step (rule_of m) (state_of m.section m.pending) seen) refl after in
     record {
       sound = same.spent ∙ spent ∙ fed.sound;
       octets = octets_more given piece n fed.octets octets;
@@ -334,18 +340,18 @@ no_octet e given taken fed = subst (λ (v : List ℕ). Fed e v taken) (sym (appe
 pub without_octet : (e : Dearmor) (given : List ℕ) (taken : List Event) → Fed e (given ++ []) taken → Fed e given taken
 without_octet e given taken fed = subst (λ (v : List ℕ). Fed e v taken) (append-nil given) fed
 
-some_stands : (d e : Dearmor) (f : Option Fault) (given part : List ℕ) (taken : List Event) → (f ≡ None → ⊥) → Stands d f given taken → d.ended ≡ false → e.ended ≡ d.ended → e.limit ≡ d.limit → events_of d.ready ≡ events_of e.ready
+some_stands : (d e : Dearmor) (f : Option Fault) (given part : List ℕ) (taken : List Event) → (f ≡ None → ⊥) → Stands d f given taken → d.ended ≡ false → e.ended ≡ d.ended → rule_of e ≡ rule_of d → events_of d.ready ≡ events_of e.ready
     → Stands e f (given ++ part) taken
-some_stands d e None given part taken some stands open_ ended limit ready = absurd (some refl)
-some_stands d e (Some fault) given part taken some stands open_ ended limit ready = stopped_more d e fault given part taken stands open_ ended limit ready
+some_stands d e None given part taken some stands open_ ended rule ready = absurd (some refl)
+some_stands d e (Some fault) given part taken some stands open_ ended rule ready = stopped_more d e fault given part taken stands open_ ended rule ready
 
 pub part_stopped : (d e : Dearmor) (piece : List ℕ) (n : ℕ) (given : List ℕ) (taken : List Event) → Fed d given taken → IsOctets piece → (d.fault ≡ None → ⊥) → d.ended ≡ false → n ≤ length piece
-    → e.fault ≡ d.fault → e.given ≡ d.given + n → e.limit ≡ d.limit → e.spent ≡ d.spent → e.ended ≡ d.ended → events_of d.ready ≡ events_of e.ready → Fed e (given ++ take n piece) taken
-part_stopped d e piece n given taken fed octets some open_ within fault count limit spent ended ready = record {
+    → e.fault ≡ d.fault → e.given ≡ d.given + n → rule_of e ≡ rule_of d → e.spent ≡ d.spent → e.ended ≡ d.ended → events_of d.ready ≡ events_of e.ready → Fed e (given ++ take n piece) taken
+part_stopped d e piece n given taken fed octets some open_ within fault count rule spent ended ready = record {
   sound = spent ∙ fed.sound;
   octets = octets_more given piece n fed.octets octets;
   count = count ∙ rw (count_more given piece n within) (omega (arith, fed.count));
-  stands = subst (λ (v : Option Fault). Stands e v (given ++ take n piece) taken) (sym fault) (some_stands d e d.fault given (take n piece) taken some fed.stands open_ ended limit ready);
+  stands = subst (λ (v : Option Fault). Stands e v (given ++ take n piece) taken) (sym fault) (some_stands d e d.fault given (take n piece) taken some fed.stands open_ ended rule ready);
 }
 
 -- ---- the first line end

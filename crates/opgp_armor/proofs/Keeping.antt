@@ -1,5 +1,5 @@
 -- What is kept of an unfinished line.
-use Rattle.std.proofs.Common.{◌≡◌, ℕ, zero, suc, ◌+◌, ◌-◌, ◌<◌, ◌≤◌, Bool, true, false, cond, not, nat_eq, List, [], ◌∷◌, ◌++◌, length, take, drop, refl, sym, ap, ◌∙◌, arith, inl, inr, Ok, Err}
+use Rattle.std.proofs.Common.{◌≡◌, ℕ, zero, suc, ◌+◌, ◌-◌, ◌<◌, ◌≤◌, Bool, true, false, cond, not, nat_eq, nat_lt, List, [], ◌∷◌, ◌++◌, length, take, drop, refl, sym, ap, ◌∙◌, arith, inl, inr, Err}
 use Rattle.std.proofs.lemmas.List.{append_assoc, append-nil, length-append, take_all, take-take, length-take, take-append-le, take-append-drop}
 use Rattle.std.proofs.lemmas.Bool.{cases_Bool, cases_lt, lt-ltb}
 use Rattle.std.specs.Cmp.Lexicographic.{pointwise}
@@ -7,9 +7,13 @@ use Rattle.std.specs.List.{starts_with}
 use Rattle.opgp_armor.specs.declared.section.Section.{Section}
 use Rattle.opgp_armor.specs.declared.section.Section.TheVariants.{Outside, Headers, Data, AfterChecksum}
 use Rattle.opgp_octets.specs.declared.fault.Reason.TheVariants as reason
+use Rattle.opgp_octets.specs.declared.outside.Outside.{Outside as Policy}
+use Rattle.opgp_octets.specs.declared.outside.Outside.TheVariants as policy
+use Rattle.opgp_armor.specs.Rules.{LineRule}
 use Rattle.opgp_armor.specs.Text.{Line, begin_mark}
-use Rattle.opgp_armor.specs.Machine.{State, passes_by, step}
-use Rattle.opgp_armor.specs.Cuts.{kept}
+use Rattle.opgp_armor.specs.Armored.{passes_by}
+use Rattle.opgp_armor.specs.Machine.{State, on_outside, step}
+use Rattle.opgp_armor.specs.Cuts.{kept, kept_outside}
 
 pub take_seen : (n : ℕ) (a b : List ℕ) → take n (take n a ++ b) ≡ take n (a ++ b)
 take_seen zero a b = refl
@@ -56,15 +60,19 @@ mark_long l h = elim (cases_lt (length l) 15) [
   | inr ge ↦ ge
 ]
 
-kept_passing : (limit : ℕ) (l : Line) → starts_with nat_eq l begin_mark ≡ false → kept limit Outside l ≡ take 15 l
+-- lines outside are passed over
+abbrev pub skipping : ℕ → LineRule
+skipping limit = record { most = limit; outside = policy.Skip }
+
+kept_passing : (limit : ℕ) (l : Line) → starts_with nat_eq l begin_mark ≡ false → kept (skipping limit) Outside l ≡ take 15 l
 kept_passing limit l h = ap (λ (v : Bool). take (cond (not v) 15 (limit + 1)) l) h
 
-kept_beginning : (limit : ℕ) (l : Line) → starts_with nat_eq l begin_mark ≡ true → kept limit Outside l ≡ take (limit + 1) l
+kept_beginning : (limit : ℕ) (l : Line) → starts_with nat_eq l begin_mark ≡ true → kept (skipping limit) Outside l ≡ take (limit + 1) l
 kept_beginning limit l h = ap (λ (v : Bool). take (cond (not v) 15 (limit + 1)) l) h
 
 -- the octets of a line that doesn't begin with the mark
-pub keeps_passing : (limit : ℕ) (tail part b : List ℕ) → 128 ≤ limit → b ≡ kept limit Outside tail → starts_with nat_eq (b ++ take (15 - length b) part) begin_mark ≡ false
-    → b ++ take (15 - length b) part ≡ kept limit Outside (tail ++ part)
+pub keeps_passing : (limit : ℕ) (tail part b : List ℕ) → 128 ≤ limit → b ≡ kept (skipping limit) Outside tail → starts_with nat_eq (b ++ take (15 - length b) part) begin_mark ≡ false
+    → b ++ take (15 - length b) part ≡ kept (skipping limit) Outside (tail ++ part)
 keeps_passing limit tail part b large is test = elim (cases_Bool (starts_with nat_eq tail begin_mark)) [
   | inl y ↦
       let whole : b ≡ take (limit + 1) tail = is ∙ kept_beginning limit tail y in
@@ -83,9 +91,9 @@ rest_after b part n m e h =
     ap (λ (v : List ℕ). (b ++ v) ++ drop n part) (sym e) ∙ append_assoc b (take n part) (drop n part) ∙ ap (λ (v : List ℕ). b ++ v) (take-append-drop n part)
 
 -- the octets of a line that begins with the mark
-pub keeps_beginning : (limit n : ℕ) (tail part b rest : List ℕ) → 128 ≤ limit → b ≡ kept limit Outside tail → starts_with nat_eq (b ++ take (15 - length b) part) begin_mark ≡ true
+pub keeps_beginning : (limit n : ℕ) (tail part b rest : List ℕ) → 128 ≤ limit → b ≡ kept (skipping limit) Outside tail → starts_with nat_eq (b ++ take (15 - length b) part) begin_mark ≡ true
     → n ≤ length part → take n part ≡ take (15 - length b) part → rest ≡ drop n part
-    → (b ++ take (15 - length b) part) ++ take (limit + 1 - length (b ++ take (15 - length b) part)) rest ≡ kept limit Outside (tail ++ part)
+    → (b ++ take (15 - length b) part) ++ take (limit + 1 - length (b ++ take (15 - length b) part)) rest ≡ kept (skipping limit) Outside (tail ++ part)
 keeps_beginning limit n tail part b rest large is test within first rest_is =
     let b1 : List ℕ = b ++ take (15 - length b) part in
     let short : length b ≤ limit + 1 = elim (cases_Bool (starts_with nat_eq tail begin_mark)) [
@@ -118,6 +126,24 @@ keeps_beginning limit n tail part b rest large is test within first rest_is =
     ] in
     now ∙ end.1 ∙ sym (kept_beginning limit (tail ++ part) end.0)
 
+-- the first octets of a line that goes on
+pub keeps_front : (n : ℕ) (tail part b : List ℕ) → b ≡ take n tail → b ++ take (n - length b) part ≡ take n (tail ++ part)
+keeps_front n tail part b is =
+    filled n b part (omega (arith, ap length is, length-take n tail)) ∙ ap (λ (v : List ℕ). take n (v ++ part)) is ∙ take_seen n tail part
+
+-- where lines outside are refused, as much is kept of them as of others
+kept_refused : (o : Policy) (limit : ℕ) (section : Section) (l : Line) → o ≡ policy.Refuse → kept (record { most = limit; outside = o }) section l ≡ take (limit + 1) l
+kept_refused policy.Skip limit section l is = cc
+kept_refused policy.Refuse limit section l is = elim (cases_Bool (passes_by section l)) [
+  | inl y ↦ ap (λ (v : Bool). take (cond v (limit + 1) (limit + 1)) l) y
+  | inr n ↦ ap (λ (v : Bool). take (cond v (limit + 1) (limit + 1)) l) n
+]
+
+pub keeps_refused : (o : Policy) (limit : ℕ) (section : Section) (part b new : List ℕ) → o ≡ policy.Refuse → ((tail : List ℕ) → b ≡ take (limit + 1) tail → new ≡ take (limit + 1) (tail ++ part))
+    → (tail : List ℕ) → b ≡ kept (record { most = limit; outside = o }) section tail → new ≡ kept (record { most = limit; outside = o }) section (tail ++ part)
+keeps_refused o limit section part b new refuses keeps tail is =
+    keeps tail (is ∙ kept_refused o limit section tail refuses) ∙ sym (kept_refused o limit section (tail ++ part) refuses)
+
 -- ---- the machine looks at no more of a line
 passes_seen : (n : ℕ) (section : Section) (l : Line) → 15 ≤ n → passes_by section (take n l) ≡ passes_by section l
 passes_seen n Outside l large = ap not (mark_seen n l large)
@@ -125,37 +151,61 @@ passes_seen n (Headers k) l large = refl
 passes_seen n (Data k) l large = refl
 passes_seen n (AfterChecksum k) l large = refl
 
-step_passing : (limit : ℕ) (s : State) (l : Line) → passes_by s.section l ≡ true → step limit s l ≡ Ok (s, [])
-unfolding step
-step_passing limit s l h = rw h refl
+mark_kept : (o : Policy) (limit : ℕ) → 128 ≤ limit → 15 ≤ kept_outside o limit
+mark_kept policy.Skip limit large = omega arith
+mark_kept policy.Refuse limit large = omega arith
 
-step_long : (limit : ℕ) (s : State) (l : Line) → passes_by s.section l ≡ false → limit < length l → step limit s l ≡ Err reason.LineTooLong
-unfolding step
-step_long limit s l n h = rw (n, lt-ltb limit (length l) h) refl
-
-pub step_seen : (limit : ℕ) (s : State) (l : Line) → 128 ≤ limit → step limit s (kept limit s.section l) ≡ step limit s l
-step_seen limit s l large = elim (cases_Bool (passes_by s.section l)) [
-  | inl y ↦
-      let is : kept limit s.section l ≡ take 15 l = ap (λ (v : Bool). take (cond v 15 (limit + 1)) l) y in
-      ap (step limit s) is ∙ step_passing limit s (take 15 l) (passes_seen 15 s.section l (omega arith) ∙ y) ∙ sym (step_passing limit s l y)
-  | inr n ↦
-      let is : kept limit s.section l ≡ take (limit + 1) l = ap (λ (v : Bool). take (cond v 15 (limit + 1)) l) n in
-      elim (cases_lt limit (length l)) [
-        | inl lt ↦
-            ap (step limit s) is
-            ∙ step_long limit s (take (limit + 1) l) (passes_seen (limit + 1) s.section l (omega arith) ∙ n) (omega (arith, length-take (limit + 1) l))
-            ∙ sym (step_long limit s l n lt)
-        | inr ge ↦ ap (step limit s) (is ∙ take_all (limit + 1) l (omega arith))
-      ]
+long_seen : (limit : ℕ) (l : Line) → nat_lt limit (length (take (limit + 1) l)) ≡ nat_lt limit (length l)
+long_seen limit l = elim (cases_lt limit (length l)) [
+  | inl lt ↦ lt-ltb limit (length (take (limit + 1) l)) (omega (arith, length-take (limit + 1) l)) ∙ sym (lt-ltb limit (length l) lt)
+  | inr ge ↦ ap (λ (v : List ℕ). nat_lt limit (length v)) (take_all (limit + 1) l (omega arith))
 ]
+
+outside_seen : (o : Policy) (limit : ℕ) (s : State) (l : Line) → on_outside o limit s (take (kept_outside o limit) l) ≡ on_outside o limit s l
+outside_seen policy.Skip limit s l = refl
+outside_seen policy.Refuse limit s l = rw (take-take (limit + 1) (limit + 1) l (omega arith), long_seen limit l) refl
+
+step_passing : (rule : LineRule) (s : State) (l : Line) → passes_by s.section l ≡ true → step rule s l ≡ on_outside rule.outside rule.most s l
+unfolding step
+step_passing rule s l h = rw h refl
+
+step_long : (rule : LineRule) (s : State) (l : Line) → passes_by s.section l ≡ false → rule.most < length l → step rule s l ≡ Err reason.LineTooLong
+unfolding step
+step_long rule s l n h = rw (n, lt-ltb rule.most (length l) h) refl
+
+pub step_seen : (rule : LineRule) (s : State) (l : Line) → 128 ≤ rule.most → step rule s (kept rule s.section l) ≡ step rule s l
+step_seen rule s l large =
+    let few : ℕ = kept_outside rule.outside rule.most in
+    let many : ℕ = rule.most + 1 in
+    elim (cases_Bool (passes_by s.section l)) [
+      | inl y ↦
+          let is : kept rule s.section l ≡ take few l = ap (λ (v : Bool). take (cond v few many) l) y in
+          ap (step rule s) is
+          ∙ step_passing rule s (take few l) (passes_seen few s.section l (mark_kept rule.outside rule.most large) ∙ y)
+          ∙ outside_seen rule.outside rule.most s l
+          ∙ sym (step_passing rule s l y)
+      | inr n ↦
+          let is : kept rule s.section l ≡ take many l = ap (λ (v : Bool). take (cond v few many) l) n in
+          elim (cases_lt rule.most (length l)) [
+            | inl lt ↦
+                ap (step rule s) is
+                ∙ step_long rule s (take many l) (passes_seen many s.section l (omega arith) ∙ n) (omega (arith, length-take many l))
+                ∙ sym (step_long rule s l n lt)
+            | inr ge ↦ ap (step rule s) (is ∙ take_all many l (omega arith))
+          ]
+    ]
+
+some_kept : (o : Policy) (limit c : ℕ) (l : List ℕ) → take (kept_outside o limit) (c ∷ l) ≡ [] → ⊥
+some_kept policy.Skip limit c l h = cc h
+some_kept policy.Refuse limit c l h = let e : length (take (limit + 1) (c ∷ l)) ≡ 0 = ap length h in absurd (omega (arith, length-take (limit + 1) (c ∷ l)))
 
 -- nothing is kept of a line exactly where it has no octets
-pub kept_none : (limit : ℕ) (section : Section) (l : Line) → kept limit section l ≡ [] → l ≡ []
-kept_none limit section [] h = refl
-kept_none limit section (c ∷ l) h = elim (cases_Bool (passes_by section (c ∷ l))) [
-  | inl y ↦ cc (sym (ap (λ (v : Bool). take (cond v 15 (limit + 1)) (c ∷ l)) y) ∙ h)
-  | inr n ↦ absurd (some_kept limit c l (sym (ap (λ (v : Bool). take (cond v 15 (limit + 1)) (c ∷ l)) n) ∙ h))
-]
-  where
-    some_kept : (n c : ℕ) (l : List ℕ) → take (n + 1) (c ∷ l) ≡ [] → ⊥
-    some_kept n c l h = let e : length (take (n + 1) (c ∷ l)) ≡ 0 = ap length h in absurd (omega (arith, length-take (n + 1) (c ∷ l)))
+pub kept_none : (rule : LineRule) (section : Section) (l : Line) → kept rule section l ≡ [] → l ≡ []
+kept_none rule section [] h = refl
+kept_none rule section (c ∷ l) h =
+    let few : ℕ = kept_outside rule.outside rule.most in
+    let many : ℕ = rule.most + 1 in
+    elim (cases_Bool (passes_by section (c ∷ l))) [
+      | inl y ↦ absurd (some_kept rule.outside rule.most c l (sym (ap (λ (v : Bool). take (cond v few many) (c ∷ l)) y) ∙ h))
+      | inr n ↦ absurd (some_kept policy.Refuse rule.most c l (sym (ap (λ (v : Bool). take (cond v few many) (c ∷ l)) n) ∙ h))
+    ]

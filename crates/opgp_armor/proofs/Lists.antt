@@ -6,6 +6,7 @@ use Rattle.std.proofs.lemmas.Bool.{cases_Bool}
 use Rattle.std.proofs.lemmas.Slice.Eq.{bytes_eq-Decides}
 use Rattle.std.specs.List.{fold, flat_map, AllByRecursion}
 use Rattle.std.specs.Str.{bytes_eq}
+use Rattle.opgp_armor.specs.Rules.{LineRule}
 use Rattle.opgp_armor.specs.declared.label.Label.{Label}
 use Rattle.opgp_armor.specs.declared.label.Label.TheVariants.{Message, PublicKeyBlock, PrivateKeyBlock, Signature}
 use Rattle.opgp_armor.specs.Text.{Line}
@@ -42,11 +43,11 @@ label_at_some spelled c l h = elim (cases_Bool (bytes_eq c (spelled Message))) [
 ]
 
 -- one piece more
-pub piece_more : (limit : ℕ) (ls part : List Line) (blocks more : List Block) (p : Piece) → ArePieces limit ls blocks → IsPiece limit p
-    → part ≡ lines_of p → more ≡ blocks_of p → ArePieces limit (ls ++ part) (blocks ++ more)
-piece_more limit ls part blocks more p are is lines_are blocks_are = record {
+pub piece_more : (rule : LineRule) (ls part : List Line) (blocks more : List Block) (p : Piece) → ArePieces rule ls blocks → IsPiece rule p
+    → part ≡ lines_of p → more ≡ blocks_of p → ArePieces rule (ls ++ part) (blocks ++ more)
+piece_more rule ls part blocks more p are is lines_are blocks_are = record {
   pieces = are.pieces ++ p ∷ [];
-  each = recursion-append (IsPiece limit) are.pieces (p ∷ []) are.each (is, tt);
+  each = recursion-append (IsPiece rule) are.pieces (p ∷ []) are.each (is, tt);
   are = rw (lines_are, are.are) (sym (flat_map-append lines_of are.pieces (p ∷ []) ∙ ap (λ (v : List Line). flat_map lines_of are.pieces ++ v) (append-nil (lines_of p))));
   blocks_are = rw (blocks_are, are.blocks_are) (sym (flat_map-append blocks_of are.pieces (p ∷ []) ∙ ap (λ (v : List Block). flat_map blocks_of are.pieces ++ v) (append-nil (blocks_of p))));
 }

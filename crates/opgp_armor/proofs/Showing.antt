@@ -8,14 +8,15 @@ use Rattle.std.specs.List.{fold, starts_with, AllByRecursion}
 use Rattle.std.specs.Str.{bytes_eq}
 use Rattle.std.specs.declared.result.Result.{Result}
 use Rattle.opgp_octets.specs.declared.fault.Reason.{Reason}
+use Rattle.opgp_armor.specs.Rules.{LineRule}
 use Rattle.opgp_armor.specs.declared.label.Label.{Label}
 use Rattle.opgp_armor.specs.declared.section.Section.{Section}
 use Rattle.opgp_armor.specs.declared.section.Section.TheVariants.{Outside, Headers, Data, AfterChecksum}
 use Rattle.opgp_armor.specs.Letters.{is_equals, base64_of, IsBase64, groups_of, Pending, no_letters, data_line}
 use Rattle.opgp_armor.specs.Text.{Line, content, begin_mark, begin_line, end_line}
-use Rattle.opgp_armor.specs.Armored.{Opens, IsHeader, begins_with, is_dash, label_at, after_content}
+use Rattle.opgp_armor.specs.Armored.{Opens, IsHeader, begins_with, is_dash, label_at, after_content, passes_by}
 use Rattle.opgp_armor.specs.Events.{Event, Begin, Header, End, Built, absorb, built}
-use Rattle.opgp_armor.specs.Machine.{State, Run, Answer, header_of, on_begin, on_header, on_letters, some_octets, waits, closing, inside, passes_by, step, start, first, run}
+use Rattle.opgp_armor.specs.Machine.{State, Run, Answer, header_of, on_begin, on_header, on_letters, some_octets, waits, closing, inside, step, start, first, run}
 use Rattle.opgp_armor.specs.Shown.{Standing, letters_after, after_standing, begun, EndsGroups, LineMakes, Makes, at_start, Shown}
 use Rattle.opgp_armor.proofs.Octets.{AreOctets, each_octet, all_octets}
 use Rattle.opgp_armor.proofs.Standard.{decoded_some}
@@ -23,7 +24,7 @@ use Rattle.opgp_armor.proofs.Awaiting.{Holds}
 use Rattle.opgp_armor.proofs.DataLine.{data_line_holds, holds_groups}
 use Rattle.opgp_armor.proofs.Lists.{fold-both, label_at_some}
 use Rattle.opgp_armor.proofs.HeaderLines.{header_is, header_found, header_of-nil, some_pair}
-use Rattle.opgp_armor.proofs.Sound.{ok_pair, letters_nil, built_more, not_true}
+use Rattle.opgp_armor.proofs.Sound.{ok_pair, passed, letters_nil, built_more, not_true}
 use Rattle.opgp_armor.proofs.Complete.{begins_mark}
 use Rattle.opgp_armor.proofs.Texts.{IsLine}
 use Rattle.opgp_armor.proofs.Faults.{extends, stopped}
@@ -164,65 +165,65 @@ passing_told limit (Headers k) w b p l h = cc h
 passing_told limit (Data k) w b p l h = cc h
 passing_told limit (AfterChecksum k) w b p l h = cc h
 
-step_told : (limit : ℕ) (s t : State) (w : List ℕ) (b : Built) (l : Line) (more : List Event) → Knows s.section w b.octets s.pending → step limit s l ≡ Ok (t, more) → Told limit s.section w b l t more
+step_told : (rule : LineRule) (s t : State) (w : List ℕ) (b : Built) (l : Line) (more : List Event) → Knows s.section w b.octets s.pending → step rule s l ≡ Ok (t, more) → Told rule.most s.section w b l t more
 unfolding step
-step_told limit s t w b l more knows h = elim (cases_Bool (passes_by s.section l)) [
+step_told rule s t w b l more knows h = elim (cases_Bool (passes_by s.section l)) [
   | inl y ↦
-      let e = ok_pair {E = Reason} s t [] more (rw y at h) in
-      rw (← e.0, ← e.1) (passing_told limit s.section w b s.pending l y)
-  | inr n ↦ elim (cases_Bool (nat_lt limit (length l))) [
+      let e = passed rule.outside rule.most s t l more (rw y at h) in
+      rw (← e.0, ← e.1) (passing_told rule.most s.section w b s.pending l y)
+  | inr n ↦ elim (cases_Bool (nat_lt rule.most (length l))) [
     | inl y ↦ cc (rw (n, y) at h)
-    | inr n2 ↦ inside_told limit w b s.pending l (ltb-false limit (length l) n2) t more s.section (content l) refl knows (rw (n, n2) at h)
+    | inr n2 ↦ inside_told rule.most w b s.pending l (ltb-false rule.most (length l) n2) t more s.section (content l) refl knows (rw (n, n2) at h)
   ]
 ]
 
 -- the run so far has made what the lines make
-record Follows (limit : ℕ) (ls : List Line) (r : Run) : Type 0 where
-  made : Makes limit at_start ls r.events
+record Follows (rule : LineRule) (ls : List Line) (r : Run) : Type 0 where
+  made : Makes rule.most at_start ls r.events
   section : r.state.section ≡ (fold after_standing at_start ls).section
   knows : Knows r.state.section (fold after_standing at_start ls).letters (built r.events).octets r.state.pending
 
-step_follows : (limit : ℕ) (ls : List Line) (r : Run) (l : Line) (s : State) (more : List Event) → Follows limit ls r → step limit r.state l ≡ Ok (s, more)
-    → Follows limit (ls ++ l ∷ []) (record { state = s; events = r.events ++ more })
-step_follows limit ls r l s more f h =
+step_follows : (rule : LineRule) (ls : List Line) (r : Run) (l : Line) (s : State) (more : List Event) → Follows rule ls r → step rule r.state l ≡ Ok (s, more)
+    → Follows rule (ls ++ l ∷ []) (record { state = s; events = r.events ++ more })
+step_follows rule ls r l s more f h =
     let t : Standing = fold after_standing at_start ls in
-    let told = step_told limit r.state s t.letters (built r.events) l more f.knows h in
-    let moves = step_moves limit r.state s (built r.events) l more h in
+    let told = step_told rule r.state s t.letters (built r.events) l more f.knows h in
+    let moves = step_moves rule r.state s (built r.events) l more h in
     let now : built (r.events ++ more) ≡ fold absorb (built r.events) more = built_more r.events more in
     let next : fold after_standing at_start (ls ++ l ∷ []) ≡ after_standing t l = fold-both after_standing at_start ls (l ∷ []) in
     record {
-      made = makes-append limit at_start ls l r.events more f.made (subst (λ (v : Section). LineMakes limit v t.letters l more) f.section told.made);
+      made = makes-append rule.most at_start ls l r.events more f.made (subst (λ (v : Section). LineMakes rule.most v t.letters l more) f.section told.made);
       section = moves.0 ∙ ap (λ (v : Section). after_content v (content l)) f.section ∙ ap (λ (v : Standing). v.section) (sym next);
       knows = subst (λ (v : Built). Knows s.section (fold after_standing at_start (ls ++ l ∷ [])).letters v.octets s.pending) (sym now)
           (subst (λ (v : List ℕ). Knows s.section v (fold absorb (built r.events) more).octets s.pending)
           (ap (λ (v : Section). letters_after v t.letters (content l)) f.section ∙ ap (λ (v : Standing). v.letters) (sym next)) told.knows);
     }
 
-pub run_makes : (limit : ℕ) (ls : List Line) (r : Run) → run limit ls ≡ Ok r → Makes limit at_start ls r.events
-run_makes limit ls r h =
-    (run_keeps limit (Follows limit) (λ front q l s more f k. step_follows limit front q l s more f k) [] ls first r (record { made = refl; section = refl; knows = tt }) h).made
+pub run_makes : (rule : LineRule) (ls : List Line) (r : Run) → run rule ls ≡ Ok r → Makes rule.most at_start ls r.events
+run_makes rule ls r h =
+    (run_keeps rule (Follows rule) (λ front q l s more f k. step_follows rule front q l s more f k) [] ls first r (record { made = refl; section = refl; knows = tt }) h).made
 
 -- the lines so far go on
-pub shown_going : (limit : ℕ) (ls : List Line) (r : Run) → 128 ≤ limit → AllByRecursion IsLine ls → run limit ls ≡ Ok r → Shown limit ls r.events
-shown_going limit ls r large are ran = record {
+pub shown_going : (rule : LineRule) (ls : List Line) (r : Run) → 128 ≤ rule.most → AllByRecursion IsLine ls → run rule ls ≡ Ok r → Shown rule ls r.events
+shown_going rule ls r large are ran = record {
   front = ls;
   back = [];
   are = sym (append-nil ls);
-  opens = extends limit large ls r are ran;
+  opens = extends rule large ls r are ran;
   longest = λ l more e opens. cc e;
-  made = run_makes limit ls r ran;
+  made = run_makes rule ls r ran;
 }
 
 -- a line has stopped the machine
-pub shown_stopped : (limit : ℕ) (ls before : List Line) (line : Line) (after : List Line) (r : Run) (e : Reason) → 128 ≤ limit → AllByRecursion IsLine before → ls ≡ before ++ line ∷ after
-    → run limit before ≡ Ok r → step limit r.state line ≡ Err e → Shown limit ls r.events
-shown_stopped limit ls before line after r e large are is ran stops = record {
+pub shown_stopped : (rule : LineRule) (ls before : List Line) (line : Line) (after : List Line) (r : Run) (e : Reason) → 128 ≤ rule.most → AllByRecursion IsLine before → ls ≡ before ++ line ∷ after
+    → run rule before ≡ Ok r → step rule r.state line ≡ Err e → Shown rule ls r.events
+shown_stopped rule ls before line after r e large are is ran stops = record {
   front = before;
   back = line ∷ after;
   are = is;
-  opens = extends limit large before r are ran;
-  longest = λ l more same opens. let one : l ≡ line = cc in stopped limit before line r e ran stops (subst (λ (v : Line). Opens limit (before ++ v ∷ [])) one opens);
-  made = run_makes limit before r ran;
+  opens = extends rule large before r are ran;
+  longest = λ l more same opens. let one : l ≡ line = cc in stopped rule before line r e ran stops (subst (λ (v : Line). Opens rule (before ++ v ∷ [])) one opens);
+  made = run_makes rule before r ran;
 }
 
 -- ---- one list of events
@@ -279,8 +280,8 @@ makes_one limit s (l ∷ ls) a b x y =
     ∙ sym y.2
 
 -- the longest list of first lines is one
-front_opens : (limit : ℕ) (a b : List Line) → Opens limit (a ++ b) → Opens limit a
-front_opens limit a b o = record { text = o.text; blocks = o.blocks; more = b ++ o.more; octets = o.octets; armored = o.armored; begins = o.begins ∙ append_assoc a b o.more }
+front_opens : (rule : LineRule) (a b : List Line) → Opens rule (a ++ b) → Opens rule a
+front_opens rule a b o = record { text = o.text; blocks = o.blocks; more = b ++ o.more; octets = o.octets; armored = o.armored; begins = o.begins ∙ append_assoc a b o.more }
 
 -- one of two fronts of a list goes on as the other
 record Behind (a b c d : List Line) : Type 0 where
@@ -299,18 +300,18 @@ behind (x ∷ a) (y ∷ b) c d e =
       | inr h ↦ inr (record { more = h.more; longer = ap (λ (v : List Line). x ∷ v) h.longer ∙ ap (λ (v : Line). v ∷ (b ++ h.more)) e0; rest = h.rest })
     ]
 
-no_behind : (limit : ℕ) (a b c d more : List Line) → b ≡ a ++ more → c ≡ more ++ d → Opens limit b → ((l : Line) (rest : List Line) → c ≡ l ∷ rest → Opens limit (a ++ l ∷ []) → ⊥) → a ≡ b
-no_behind limit a b c d [] longer rest opens longest = sym (longer ∙ append-nil a)
-no_behind limit a b c d (l ∷ more) longer rest opens longest =
+no_behind : (rule : LineRule) (a b c d more : List Line) → b ≡ a ++ more → c ≡ more ++ d → Opens rule b → ((l : Line) (rest : List Line) → c ≡ l ∷ rest → Opens rule (a ++ l ∷ []) → ⊥) → a ≡ b
+no_behind rule a b c d [] longer rest opens longest = sym (longer ∙ append-nil a)
+no_behind rule a b c d (l ∷ more) longer rest opens longest =
     let is : b ≡ (a ++ l ∷ []) ++ more = longer ∙ sym (append_assoc a (l ∷ []) more) in
-    absurd (longest l (more ++ d) rest (front_opens limit (a ++ l ∷ []) more (subst (Opens limit) is opens)))
+    absurd (longest l (more ++ d) rest (front_opens rule (a ++ l ∷ []) more (subst (Opens rule) is opens)))
 
-front_one : (limit : ℕ) (ls : List Line) (a b : List Event) (x : Shown limit ls a) (y : Shown limit ls b) → x.front ≡ y.front
-front_one limit ls a b x y = elim (behind x.front y.front x.back y.back (sym x.are ∙ y.are)) [
-  | inl h ↦ no_behind limit x.front y.front x.back y.back h.more h.longer h.rest y.opens x.longest
-  | inr h ↦ sym (no_behind limit y.front x.front y.back x.back h.more h.longer h.rest x.opens y.longest)
+front_one : (rule : LineRule) (ls : List Line) (a b : List Event) (x : Shown rule ls a) (y : Shown rule ls b) → x.front ≡ y.front
+front_one rule ls a b x y = elim (behind x.front y.front x.back y.back (sym x.are ∙ y.are)) [
+  | inl h ↦ no_behind rule x.front y.front x.back y.back h.more h.longer h.rest y.opens x.longest
+  | inr h ↦ sym (no_behind rule y.front x.front y.back x.back h.more h.longer h.rest x.opens y.longest)
 ]
 
-pub one_list_of_events : (limit : ℕ) (ls : List Line) (a b : List Event) → Shown limit ls a → Shown limit ls b → a ≡ b
-one_list_of_events limit ls a b x y =
-    makes_one limit at_start y.front a b (subst (λ (v : List Line). Makes limit at_start v a) (front_one limit ls a b x y) x.made) y.made
+pub one_list_of_events : (rule : LineRule) (ls : List Line) (a b : List Event) → Shown rule ls a → Shown rule ls b → a ≡ b
+one_list_of_events rule ls a b x y =
+    makes_one rule.most at_start y.front a b (subst (λ (v : List Line). Makes rule.most at_start v a) (front_one rule ls a b x y) x.made) y.made

@@ -5,6 +5,7 @@ use Rattle.std.proofs.lemmas.List.Sums.{sum_by-append}
 use Rattle.std.proofs.lemmas.Bool.{cases_Bool}
 use Rattle.std.specs.List.{fold, list_all}
 use Rattle.opgp_octets.specs.declared.fault.Fault.{Fault}
+use Rattle.opgp_armor.specs.Rules.{LineRule}
 use Rattle.opgp_armor.specs.declared.reader.Dearmor.{Dearmor}
 use Rattle.opgp_armor.specs.Letters.{is_letter}
 use Rattle.opgp_armor.specs.declared.section.Section.{Section}
@@ -14,7 +15,7 @@ use Rattle.opgp_armor.specs.Text.{Line, content, onto, lines, offset}
 use Rattle.opgp_armor.specs.Events.{Event, Begin, Header, Octets, End, Built, absorb, built, open_block, nothing_built, events_of, event_octets}
 use Rattle.opgp_armor.specs.Machine.{State, Run, step, first, run}
 use Rattle.opgp_armor.specs.Cuts.{cut, lines_ended}
-use Rattle.opgp_armor.specs.Fed.{Fed, Stands}
+use Rattle.opgp_armor.specs.Fed.{Fed, Stands, rule_of}
 use Rattle.opgp_armor.proofs.Small.{step_shrinks}
 use Rattle.opgp_armor.proofs.Answer.{run_keeps, tracks}
 use Rattle.opgp_armor.proofs.Feeding.{blocks_end, cut_length}
@@ -130,26 +131,26 @@ record Took (ls : List Line) (r : Run) : Type 0 where
   letters : list_all is_letter r.state.pending.letters ≡ true
   held : event_octets r.events + length r.state.pending.letters ≤ total ls
 
-took_more : (limit : ℕ) (front : List Line) (r : Run) (l : Line) (s : State) (more : List Event) → Took front r → step limit r.state l ≡ Ok (s, more) → Took (front ++ l ∷ []) (record { state = s; events = r.events ++ more })
+took_more : (rule : LineRule) (front : List Line) (r : Run) (l : Line) (s : State) (more : List Event) → Took front r → step rule r.state l ≡ Ok (s, more) → Took (front ++ l ∷ []) (record { state = s; events = r.events ++ more })
 unfolding total
-took_more limit front r l s more took is =
-    let small = step_shrinks limit r.state s l more took.few took.letters is in
+took_more rule front r l s more took is =
+    let small = step_shrinks rule r.state s l more took.few took.letters is in
     record { few = small.few; letters = small.are_letters; held = omega (arith, events_both r.events more, total_both front (l ∷ []), small.held, took.held) }
 
 took_first : Took [] first
 unfolding total
 took_first = record { few = omega arith; letters = refl; held = omega arith }
 
-took : (limit : ℕ) (ls : List Line) (r : Run) → run limit ls ≡ Ok r → Took ls r
-took limit ls r h = run_keeps limit Took (took_more limit) [] ls first r took_first h
+took : (rule : LineRule) (ls : List Line) (r : Run) → run rule ls ≡ Ok r → Took ls r
+took rule ls r h = run_keeps rule Took (took_more rule) [] ls first r took_first h
 
 -- ---- readers
 stands_few : (d : Dearmor) (f : Option Fault) (given : List ℕ) (taken : List Event) → Stands d f given taken → event_octets (taken ++ events_of d.ready) ≤ length given
 unfolding total
 stands_few d None given taken going =
-    omega (arith, (took d.limit (lines_ended d.ended given) going.last going.ran).held, ap event_octets going.events, total_ended d.ended given)
+    omega (arith, (took (rule_of d) (lines_ended d.ended given) going.last going.ran).held, ap event_octets going.events, total_ended d.ended given)
 stands_few d (Some fault) given taken s =
-    omega (arith, (took d.limit s.before s.last s.ran).held, ap event_octets s.events, ap total s.are, total_both s.before (s.line ∷ s.after), total_ended d.ended given)
+    omega (arith, (took (rule_of d) s.before s.last s.ran).held, ap event_octets s.events, ap total s.are, total_both s.before (s.line ∷ s.after), total_ended d.ended given)
 
 pub fed_all : (d : Dearmor) (given : List ℕ) (taken : List Event) → Fed d given taken → event_octets (taken ++ events_of d.ready) ≤ length given
 fed_all d given taken fed = stands_few d d.fault given taken fed.stands
@@ -160,9 +161,9 @@ fed_few d given taken more fed = omega (arith, fed_all d given (taken ++ more) f
 
 stands_blocks : (d : Dearmor) (f : Option Fault) (given : List ℕ) (taken : List Event) → Stands d f given taken → length (built (taken ++ events_of d.ready)).blocks ≤ length given
 stands_blocks d None given taken going =
-    omega (arith, (tracks d.limit (lines_ended d.ended given) going.last going.ran).finished, ap (λ (v : List Event). length (built v).blocks) going.events, finished_few (lines_ended d.ended given), ended_few d.ended given)
+    omega (arith, (tracks (rule_of d) (lines_ended d.ended given) going.last going.ran).finished, ap (λ (v : List Event). length (built v).blocks) going.events, finished_few (lines_ended d.ended given), ended_few d.ended given)
 stands_blocks d (Some fault) given taken s =
-    omega (arith, (tracks d.limit s.before s.last s.ran).finished, ap (λ (v : List Event). length (built v).blocks) s.events, finished_few s.before, ap length s.are, length-append s.before (s.line ∷ s.after), ended_few d.ended given)
+    omega (arith, (tracks (rule_of d) s.before s.last s.ran).finished, ap (λ (v : List Event). length (built v).blocks) s.events, finished_few s.before, ap length s.are, length-append s.before (s.line ∷ s.after), ended_few d.ended given)
 
 -- each block takes an octet at least
 pub fed_blocks : (d : Dearmor) (given : List ℕ) (taken : List Event) → Fed d given taken → length (built taken).blocks ≤ length given

@@ -6,16 +6,17 @@ use Rattle.std.specs.List.{list_all}
 use Rattle.std.specs.Str.{bytes_eq}
 use Rattle.std.specs.declared.result.Result.{Result}
 use Rattle.opgp_octets.specs.declared.fault.Reason.{Reason}
+use Rattle.opgp_armor.specs.Rules.{LineRule}
 use Rattle.opgp_armor.specs.declared.label.Label.{Label}
 use Rattle.opgp_armor.specs.declared.section.Section.{Section}
 use Rattle.opgp_armor.specs.declared.section.Section.TheVariants.{Outside, Headers, Data, AfterChecksum}
 use Rattle.opgp_armor.specs.Letters.{is_letter, is_equals, Pending, no_letters, data_line}
 use Rattle.opgp_armor.specs.Text.{Line, content, begin_line, end_line}
-use Rattle.opgp_armor.specs.Armored.{is_dash, label_at}
+use Rattle.opgp_armor.specs.Armored.{is_dash, label_at, passes_by}
 use Rattle.opgp_armor.specs.Events.{Event, Begin, Header, End, event_octets}
-use Rattle.opgp_armor.specs.Machine.{State, Answer, header_of, on_begin, on_header, on_letters, some_octets, waits, closing, inside, passes_by, step, start}
+use Rattle.opgp_armor.specs.Machine.{State, Answer, header_of, on_begin, on_header, on_letters, some_octets, waits, closing, inside, step, start}
 use Rattle.opgp_armor.proofs.DataLine.{data_line_shrinks}
-use Rattle.opgp_armor.proofs.Sound.{ok_pair}
+use Rattle.opgp_armor.proofs.Sound.{ok_pair, passed}
 use Rattle.opgp_armor.proofs.HeaderLines.{header_is}
 use Rattle.opgp_armor.proofs.Complete.{content_front}
 
@@ -95,26 +96,26 @@ module _ (limit : ℕ) (p : Pending) (few : length p.letters < 4) (letters : lis
     | inr n ↦ cc (rw n at h)
   ]
 
-pub step_small : (limit : ℕ) (s t : State) (l : Line) (more : List Event) → length s.pending.letters < 4 → list_all is_letter s.pending.letters ≡ true → step limit s l ≡ Ok (t, more) → IsSmall limit (length s.pending.letters) t more
+pub step_small : (rule : LineRule) (s t : State) (l : Line) (more : List Event) → length s.pending.letters < 4 → list_all is_letter s.pending.letters ≡ true → step rule s l ≡ Ok (t, more) → IsSmall rule.most (length s.pending.letters) t more
 unfolding step
-step_small limit s t l more few letters h = elim (cases_Bool (passes_by s.section l)) [
-  | inl y ↦ stays limit s.pending few letters t more s.section (rw y at h)
-  | inr n ↦ elim (cases_Bool (nat_lt limit (length l))) [
+step_small rule s t l more few letters h = elim (cases_Bool (passes_by s.section l)) [
+  | inl y ↦ let e = passed rule.outside rule.most s t l more (rw y at h) in rw (← e.0, ← e.1) (stays rule.most s.pending few letters s [] s.section refl)
+  | inr n ↦ elim (cases_Bool (nat_lt rule.most (length l))) [
     | inl y ↦ cc (rw (n, y) at h)
     | inr n2 ↦
-        let within : length l ≤ limit = ltb-false limit (length l) n2 in
+        let within : length l ≤ rule.most = ltb-false rule.most (length l) n2 in
         let f = content_front l in
-        inside_small limit s.pending few letters t more s.section (content l) (omega (arith, ap length f.1, length-append (content l) f.0)) (rw (n, n2) at h)
+        inside_small rule.most s.pending few letters t more s.section (content l) (omega (arith, ap length f.1, length-append (content l) f.0)) (rw (n, n2) at h)
   ]
 ]
 
--- whatever the limit, a line leaves behind no more octets than it has, beside the letters that waited
-pub step_shrinks : (limit : ℕ) (s t : State) (l : Line) (more : List Event) → length s.pending.letters < 4 → list_all is_letter s.pending.letters ≡ true → step limit s l ≡ Ok (t, more)
+-- whatever the rule, a line leaves behind no more octets than it has, beside the letters that waited
+pub step_shrinks : (rule : LineRule) (s t : State) (l : Line) (more : List Event) → length s.pending.letters < 4 → list_all is_letter s.pending.letters ≡ true → step rule s l ≡ Ok (t, more)
     → IsSmall (length l) (length s.pending.letters) t more
 unfolding step
-step_shrinks limit s t l more few letters h = elim (cases_Bool (passes_by s.section l)) [
-  | inl y ↦ stays (length l) s.pending few letters t more s.section (rw y at h)
-  | inr n ↦ elim (cases_Bool (nat_lt limit (length l))) [
+step_shrinks rule s t l more few letters h = elim (cases_Bool (passes_by s.section l)) [
+  | inl y ↦ let e = passed rule.outside rule.most s t l more (rw y at h) in rw (← e.0, ← e.1) (stays (length l) s.pending few letters s [] s.section refl)
+  | inr n ↦ elim (cases_Bool (nat_lt rule.most (length l))) [
     | inl y ↦ cc (rw (n, y) at h)
     | inr n2 ↦
         let f = content_front l in

@@ -1,22 +1,26 @@
 -- What the machine accepts is armored, block for block.
-use Rattle.std.proofs.Common.{◌≡◌, ℕ, ◌≤◌, Bool, true, false, not, nat_lt, nat_eq, List, [], ◌∷◌, ◌++◌, length, refl, sym, ap, ◌∙◌, arith, inl, inr, ◌⊎◌, Option, None, Some, Ok, Err}
-use Rattle.std.proofs.lemmas.List.{append_assoc, append-nil, nil_from_length}
+use Rattle.std.proofs.Common.{◌≡◌, ℕ, ◌+◌, ◌≤◌, Bool, true, false, cond, not, nat_lt, nat_eq, List, [], ◌∷◌, ◌++◌, length, take, refl, sym, ap, ◌∙◌, arith, inl, inr, ◌⊎◌, Option, None, Some, Ok, Err}
+use Rattle.std.proofs.lemmas.List.{append_assoc, append-nil, nil_from_length, take_all}
 use Rattle.std.proofs.lemmas.List.Concat.{flat_map-append}
 use Rattle.std.proofs.lemmas.Bool.{cases_Bool, ltb-false}
 use Rattle.std.specs.List.{fold, flat_map, starts_with}
 use Rattle.std.specs.Str.{bytes_eq}
 use Rattle.std.specs.declared.result.Result.{Result}
+use Rattle.opgp_armor.specs.Rules.{LineRule}
 use Rattle.opgp_armor.specs.declared.label.Label.{Label}
 use Rattle.opgp_armor.specs.declared.section.Section.{Section}
 use Rattle.opgp_armor.specs.declared.section.Section.TheVariants.{Outside, Headers, Data, AfterChecksum}
 use Rattle.opgp_octets.specs.declared.fault.Reason.{Reason}
+use Rattle.opgp_octets.specs.declared.fault.Reason.TheVariants as reason
+use Rattle.opgp_octets.specs.declared.outside.Outside.{Outside as Policy}
+use Rattle.opgp_octets.specs.declared.outside.Outside.TheVariants as policy
 use Rattle.opgp_armor.specs.Letters.{is_equals, base64_of, Pending, no_letters, data_line}
 use Rattle.opgp_armor.proofs.Octets.{each_octet}
 use Rattle.opgp_armor.proofs.Awaiting.{Holds}
 use Rattle.opgp_armor.specs.Text.{Line, content, begin_mark, begin_line, end_line}
-use Rattle.opgp_armor.specs.Armored.{label_at, Block, ArePieces, Other, Whole, IsBlock, IsHead, IsBody, IsChecked, IsBlank, IsDataLine, IsHeader, AreHeaders, begins_with, is_dash}
+use Rattle.opgp_armor.specs.Armored.{label_at, Block, ArePieces, Other, Whole, IsBlock, IsHead, IsBody, IsChecked, IsBlank, IsDataLine, IsHeader, AreHeaders, IsAllowed, begins_with, is_dash, passes_by}
 use Rattle.opgp_armor.specs.Events.{Event, Begin, Header, End, Built, absorb, built, nothing_built}
-use Rattle.opgp_armor.specs.Machine.{State, Run, Answer, header_of, on_begin, on_header, on_letters, some_octets, waits, closing, inside, passes_by, step, start, onward, next, run_from, first, run}
+use Rattle.opgp_armor.specs.Machine.{State, Run, Answer, header_of, on_begin, on_header, on_letters, some_octets, waits, closing, inside, on_blank, on_outside, step, start, onward, next, run_from, first, run}
 use Rattle.opgp_armor.proofs.Lists.{fold-both, recursion-append, same_text, label_at_some, piece_more}
 use Rattle.opgp_armor.proofs.HeaderLines.{Header as HeaderParts, header_is}
 use Rattle.opgp_armor.proofs.DataLine.{data_line_holds, not_false}
@@ -239,16 +243,16 @@ module _ (limit : ℕ) (b : Built) (ls : List Line) (l : Line) (s : State) (more
   ]
 
 -- the lines so far: finished pieces, and the open ones
-pub record Upto (limit : ℕ) (ls : List Line) (r : Run) : Type 0 where
+pub record Upto (rule : LineRule) (ls : List Line) (r : Run) : Type 0 where
   pub done : List Line
   pub open_ : List Line
   pub are : ls ≡ done ++ open_
-  pub pieces : ArePieces limit done (built r.events).blocks
-  pub stage : Stage limit r.state.section r.state.pending (built r.events) open_
+  pub pieces : ArePieces rule done (built r.events).blocks
+  pub stage : Stage rule.most r.state.section r.state.pending (built r.events) open_
 
-pub upto_first : (limit : ℕ) → Upto limit [] first
+pub upto_first : (rule : LineRule) → Upto rule [] first
 unfolding built
-upto_first limit = record { done = []; open_ = []; are = refl; pieces = record { pieces = []; each = tt; are = refl; blocks_are = refl }; stage = (refl, refl) }
+upto_first rule = record { done = []; open_ = []; are = refl; pieces = record { pieces = []; each = tt; are = refl; blocks_are = refl }; stage = (refl, refl) }
 
 pub built_more : (events more : List Event) → built (events ++ more) ≡ fold absorb (built events) more
 unfolding built
@@ -265,33 +269,48 @@ passing limit (Headers k) p b l ls h stage = cc h
 passing limit (Data k) p b l ls h stage = cc h
 passing limit (AfterChecksum k) p b l ls h stage = cc h
 
--- the same pieces, under other names
-pub relist : (limit : ℕ) (a a' : List Line) (bs bs' : List Block) → a ≡ a' → bs ≡ bs' → ArePieces limit a bs → ArePieces limit a' bs'
-relist limit a a' bs bs' e f are = rw (← e, ← f) are
+-- a line outside that goes on changes nothing, and is allowed there
+pub passed : (o : Policy) (limit : ℕ) (s t : State) (l : Line) (more : List Event) → on_outside o limit s l ≡ Ok (t, more) → (s ≡ t) × ([] ≡ more) × IsAllowed o limit l
+passed policy.Skip limit s t l more h = let e = ok_pair {E = Reason} s t [] more h in (e.0, e.1, tt)
+passed policy.Refuse limit s t l more h = by_content (content (take (limit + 1) l)) refl h
+  where
+    by_content : (c : List ℕ) → content (take (limit + 1) l) ≡ c → on_blank c (cond (nat_lt limit (length l)) (Err reason.LineTooLong) (Ok (s, []))) ≡ Ok (t, more) → (s ≡ t) × ([] ≡ more) × IsBlank limit l
+    by_content (x ∷ c) is k = cc k
+    by_content [] is k = elim (cases_Bool (nat_lt limit (length l))) [
+      | inl y ↦ cc (rw y at k)
+      | inr n ↦
+          let e = ok_pair {E = Reason} s t [] more (rw n at k) in
+          let within : length l ≤ limit = ltb-false limit (length l) n in
+          (e.0, e.1, record { blank = sym (ap content (take_all (limit + 1) l (omega arith))) ∙ is; within = within })
+    ]
 
-pub step_upto : (limit : ℕ) (ls : List Line) (r : Run) (l : Line) (s : State) (more : List Event) → Upto limit ls r → step limit r.state l ≡ Ok (s, more)
-    → Upto limit (ls ++ l ∷ []) (record { state = s; events = r.events ++ more })
+-- the same pieces, under other names
+pub relist : (rule : LineRule) (a a' : List Line) (bs bs' : List Block) → a ≡ a' → bs ≡ bs' → ArePieces rule a bs → ArePieces rule a' bs'
+relist rule a a' bs bs' e f are = rw (← e, ← f) are
+
+pub step_upto : (rule : LineRule) (ls : List Line) (r : Run) (l : Line) (s : State) (more : List Event) → Upto rule ls r → step rule r.state l ≡ Ok (s, more)
+    → Upto rule (ls ++ l ∷ []) (record { state = s; events = r.events ++ more })
 unfolding step
-step_upto limit ls r l s more upto h = elim (cases_Bool (passes_by r.state.section l)) [
+step_upto rule ls r l s more upto h = elim (cases_Bool (passes_by r.state.section l)) [
   | inl y ↦
-      let e = ok_pair {E = Reason} r.state s [] more (rw y at h) in
-      let out = passing limit r.state.section r.state.pending (built r.events) l upto.open_ y upto.stage in
+      let e = passed rule.outside rule.most r.state s l more (rw y at h) in
+      let out = passing rule.most r.state.section r.state.pending (built r.events) l upto.open_ y upto.stage in
       let same : built r.events ≡ built (r.events ++ more) = rw (← e.1, append-nil r.events) refl in
       let whole : upto.done ≡ ls = sym (upto.are ∙ ap (λ (v : List Line). upto.done ++ v) out.0 ∙ append-nil upto.done) in
       record {
         done = ls ++ l ∷ [];
         open_ = [];
         are = sym (append-nil (ls ++ l ∷ []));
-        pieces = relist limit (upto.done ++ l ∷ []) (ls ++ l ∷ []) ((built r.events).blocks ++ []) (built (r.events ++ more)).blocks
+        pieces = relist rule (upto.done ++ l ∷ []) (ls ++ l ∷ []) ((built r.events).blocks ++ []) (built (r.events ++ more)).blocks
             (ap (λ (v : List Line). v ++ l ∷ []) whole) (append-nil (built r.events).blocks ∙ ap (λ (v : Built). v.blocks) same)
-            (piece_more limit upto.done (l ∷ []) (built r.events).blocks [] (Other l) upto.pieces out.1 refl refl);
+            (piece_more rule upto.done (l ∷ []) (built r.events).blocks [] (Other l) upto.pieces (out.1, e.2) refl refl);
         stage = rw (← e.0, ← same, ← out.0) upto.stage;
       }
-  | inr n ↦ elim (cases_Bool (nat_lt limit (length l))) [
+  | inr n ↦ elim (cases_Bool (nat_lt rule.most (length l))) [
     | inl y ↦ cc (rw (n, y) at h)
     | inr n2 ↦
-        let within : length l ≤ limit = ltb-false limit (length l) n2 in
-        let grown = inside_grows limit (built r.events) upto.open_ l s more within r.state.section r.state.pending (content l) refl upto.stage (rw (n, n2) at h) in
+        let within : length l ≤ rule.most = ltb-false rule.most (length l) n2 in
+        let grown = inside_grows rule.most (built r.events) upto.open_ l s more within r.state.section r.state.pending (content l) refl upto.stage (rw (n, n2) at h) in
         let now : fold absorb (built r.events) more ≡ built (r.events ++ more) = sym (built_more r.events more) in
         let same : (upto.done ++ upto.open_) ++ l ∷ [] ≡ upto.done ++ (upto.open_ ++ l ∷ []) = append_assoc upto.done upto.open_ (l ∷ []) in
         elim grown [
@@ -299,16 +318,16 @@ step_upto limit ls r l s more upto h = elim (cases_Bool (passes_by r.state.secti
             done = upto.done;
             open_ = upto.open_ ++ l ∷ [];
             are = ap (λ (v : List Line). v ++ l ∷ []) upto.are ∙ same;
-            pieces = relist limit upto.done upto.done (built r.events).blocks (built (r.events ++ more)).blocks refl (sym g.0 ∙ ap (λ (v : Built). v.blocks) now) upto.pieces;
+            pieces = relist rule upto.done upto.done (built r.events).blocks (built (r.events ++ more)).blocks refl (sym g.0 ∙ ap (λ (v : Built). v.blocks) now) upto.pieces;
             stage = rw (← now) g.1;
           }
           | inr g ↦ record {
             done = ls ++ l ∷ [];
             open_ = [];
             are = sym (append-nil (ls ++ l ∷ []));
-            pieces = relist limit (upto.done ++ (upto.open_ ++ l ∷ [])) (ls ++ l ∷ []) ((built r.events).blocks ++ g.0 ∷ []) (built (r.events ++ more)).blocks
+            pieces = relist rule (upto.done ++ (upto.open_ ++ l ∷ [])) (ls ++ l ∷ []) ((built r.events).blocks ++ g.0 ∷ []) (built (r.events ++ more)).blocks
                 (sym (ap (λ (v : List Line). v ++ l ∷ []) upto.are ∙ same)) (sym g.2 ∙ ap (λ (v : Built). v.blocks) now)
-                (piece_more limit upto.done (upto.open_ ++ l ∷ []) (built r.events).blocks (g.0 ∷ []) (Whole (upto.open_ ++ l ∷ []) g.0) upto.pieces g.1 refl refl);
+                (piece_more rule upto.done (upto.open_ ++ l ∷ []) (built r.events).blocks (g.0 ∷ []) (Whole (upto.open_ ++ l ∷ []) g.0) upto.pieces g.1 refl refl);
             stage = rw g.3 (refl, refl);
           }
         ]
@@ -316,43 +335,43 @@ step_upto limit ls r l s more upto h = elim (cases_Bool (passes_by r.state.secti
 ]
 
 -- ---- runs
-pub run-more : (limit : ℕ) (r : Result Run Reason) (a b : List Line) → run_from limit r (a ++ b) ≡ run_from limit (run_from limit r a) b
+pub run-more : (rule : LineRule) (r : Result Run Reason) (a b : List Line) → run_from rule r (a ++ b) ≡ run_from rule (run_from rule r a) b
 unfolding run_from
-run-more limit r a b = fold-both (next limit) r a b
+run-more rule r a b = fold-both (next rule) r a b
 
-pub run_err : (limit : ℕ) (e : Reason) (ls : List Line) → run_from limit (Err e) ls ≡ Err e
+pub run_err : (rule : LineRule) (e : Reason) (ls : List Line) → run_from rule (Err e) ls ≡ Err e
 unfolding run_from
-run_err limit e [] = refl
-run_err limit e (l ∷ ls) = run_err limit e ls
+run_err rule e [] = refl
+run_err rule e (l ∷ ls) = run_err rule e ls
 
-pub run-cons : (limit : ℕ) (r : Result Run Reason) (l : Line) (ls : List Line) → run_from limit r (l ∷ ls) ≡ run_from limit (next limit r l) ls
+pub run-cons : (rule : LineRule) (r : Result Run Reason) (l : Line) (ls : List Line) → run_from rule r (l ∷ ls) ≡ run_from rule (next rule r l) ls
 unfolding run_from
-run-cons limit r l ls = refl
+run-cons rule r l ls = refl
 
-pub run-nil : (limit : ℕ) (r : Result Run Reason) → run_from limit r [] ≡ r
+pub run-nil : (rule : LineRule) (r : Result Run Reason) → run_from rule r [] ≡ r
 unfolding run_from
-run-nil limit r = refl
+run-nil rule r = refl
 
 onward_ok : (events : List Event) (a : Answer) (r : Run) → onward events a ≡ Ok r → (s : State) × (more : List Event) × (a ≡ Ok (s, more)) × (r ≡ record { state = s; events = events ++ more })
 onward_ok events (Err e) r h = cc h
 onward_ok events (Ok (s, more)) r h = (s, more, refl, cc h)
 
-run_one : (limit : ℕ) (front : List Line) (l : Line) (ls : List Line) (r q : Run) → Upto limit front r
-    → ((m : Run) → Upto limit (front ++ l ∷ []) m → run_from limit (Ok m) ls ≡ Ok q → Upto limit ((front ++ l ∷ []) ++ ls) q)
-    → (n : Result Run Reason) → onward r.events (step limit r.state l) ≡ n → run_from limit n ls ≡ Ok q → Upto limit (front ++ l ∷ ls) q
-run_one limit front l ls r q upto again (Err e) is k = cc (sym (run_err limit e ls) ∙ k)
-run_one limit front l ls r q upto again (Ok m) is k =
-    let o = onward_ok r.events (step limit r.state l) m is in
-    let one = step_upto limit front r l o.0 o.1 upto o.2 in
+run_one : (rule : LineRule) (front : List Line) (l : Line) (ls : List Line) (r q : Run) → Upto rule front r
+    → ((m : Run) → Upto rule (front ++ l ∷ []) m → run_from rule (Ok m) ls ≡ Ok q → Upto rule ((front ++ l ∷ []) ++ ls) q)
+    → (n : Result Run Reason) → onward r.events (step rule r.state l) ≡ n → run_from rule n ls ≡ Ok q → Upto rule (front ++ l ∷ ls) q
+run_one rule front l ls r q upto again (Err e) is k = cc (sym (run_err rule e ls) ∙ k)
+run_one rule front l ls r q upto again (Ok m) is k =
+    let o = onward_ok r.events (step rule r.state l) m is in
+    let one = step_upto rule front r l o.0 o.1 upto o.2 in
     rw append_assoc at (again m (rw o.3 one) k)
 
-pub run_upto : (limit : ℕ) (front ls : List Line) (r q : Run) → Upto limit front r → run_from limit (Ok r) ls ≡ Ok q → Upto limit (front ++ ls) q
-run_upto limit front [] r q upto h =
-    let e : r ≡ q = cc (sym (run-nil limit (Ok r)) ∙ h) in
+pub run_upto : (rule : LineRule) (front ls : List Line) (r q : Run) → Upto rule front r → run_from rule (Ok r) ls ≡ Ok q → Upto rule (front ++ ls) q
+run_upto rule front [] r q upto h =
+    let e : r ≡ q = cc (sym (run-nil rule (Ok r)) ∙ h) in
     rw (append-nil front, ← e) upto
-run_upto limit front (l ∷ ls) r q upto h =
-    run_one limit front l ls r q upto (λ m one k. run_upto limit (front ++ l ∷ []) ls m q one k) (onward r.events (step limit r.state l)) refl (sym (run-cons limit (Ok r) l ls) ∙ h)
+run_upto rule front (l ∷ ls) r q upto h =
+    run_one rule front l ls r q upto (λ m one k. run_upto rule (front ++ l ∷ []) ls m q one k) (onward r.events (step rule r.state l)) refl (sym (run-cons rule (Ok r) l ls) ∙ h)
 
 -- What the machine accepts is armored.
-pub sound : (limit : ℕ) (ls : List Line) (q : Run) → run limit ls ≡ Ok q → Upto limit ls q
-sound limit ls q h = run_upto limit [] ls first q (upto_first limit) h
+pub sound : (rule : LineRule) (ls : List Line) (q : Run) → run rule ls ≡ Ok q → Upto rule ls q
+sound rule ls q h = run_upto rule [] ls first q (upto_first rule) h

@@ -2,6 +2,7 @@
 use Rattle.std.proofs.Common.{◌≡◌, ℕ, ◌+◌, ◌≤◌, ◌==◌, Bool, true, false, if◌then◌else◌, List, [], ◌∷◌, ◌++◌, length, sym, ap, subst, inl, inr, ◌⊎◌, arith}
 use Rattle.std.proofs.lemmas.List.{length-append}
 use Rattle.std.specs.List.{flat_map, AllByRecursion}
+use Rattle.opgp_armor.specs.Rules.{LineRule}
 use Rattle.opgp_armor.specs.Armored.{Armored, Block, IsBlock, IsBody, IsChecked, IsPiece, Piece, Other, Whole, blocks_of, lines_of}
 use Rattle.opgp_armor.specs.Text.{Line, content, is_trailing, lines, onto, strip}
 use Rattle.opgp_armor.proofs.Standard.{base64_size}
@@ -65,15 +66,15 @@ block_few limit b ls is =
     let size = base64_size b.octets in
     omega (arith, front_few limit b is.letters is.front is.is_front, ap total is.are, total-append is.front (is.last ∷ []), ap (length {A = ℕ}) is.spelled.1, size.1, size.2)
 
-pieces_few : (limit n : ℕ) (ps : List Piece) → AllByRecursion (IsPiece limit) ps → total (flat_map lines_of ps) ≤ n → AllByRecursion (λ b. length b.octets ≤ n) (flat_map blocks_of ps)
-pieces_few limit n [] all h = tt
-pieces_few limit n (Other l ∷ ps) all h = pieces_few limit n ps all.1 (omega (arith, total-append (l ∷ []) (flat_map lines_of ps)))
-pieces_few limit n (Whole ls b ∷ ps) all h = (
-  omega (arith, block_few limit b ls all.0, total-append ls (flat_map lines_of ps)),
-  pieces_few limit n ps all.1 (omega (arith, total-append ls (flat_map lines_of ps))),
+pieces_few : (rule : LineRule) (n : ℕ) (ps : List Piece) → AllByRecursion (IsPiece rule) ps → total (flat_map lines_of ps) ≤ n → AllByRecursion (λ b. length b.octets ≤ n) (flat_map blocks_of ps)
+pieces_few rule n [] all h = tt
+pieces_few rule n (Other l ∷ ps) all h = pieces_few rule n ps all.1 (omega (arith, total-append (l ∷ []) (flat_map lines_of ps)))
+pieces_few rule n (Whole ls b ∷ ps) all h = (
+  omega (arith, block_few rule.most b ls all.0, total-append ls (flat_map lines_of ps)),
+  pieces_few rule n ps all.1 (omega (arith, total-append ls (flat_map lines_of ps))),
 )
 
-pub blocks_few : (limit : ℕ) (text : List ℕ) (blocks : List Block) → Armored limit text blocks → AllByRecursion (λ b. length b.octets ≤ length text) blocks
-blocks_few limit text blocks a =
+pub blocks_few : (rule : LineRule) (text : List ℕ) (blocks : List Block) → Armored rule text blocks → AllByRecursion (λ b. length b.octets ≤ length text) blocks
+blocks_few rule text blocks a =
     let w = a.whole in
-    subst (λ (bs : List Block). AllByRecursion (λ b. length b.octets ≤ length text) bs) (sym w.blocks_are) (pieces_few limit (length text) w.pieces w.each (omega (arith, ap total w.are, lines_few text)))
+    subst (λ (bs : List Block). AllByRecursion (λ b. length b.octets ≤ length text) bs) (sym w.blocks_are) (pieces_few rule (length text) w.pieces w.each (omega (arith, ap total w.are, lines_few text)))

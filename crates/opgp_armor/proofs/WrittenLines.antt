@@ -9,6 +9,7 @@ use Rattle.std.proofs.lemmas.List.Concat.{flat_map-append}
 use Rattle.std.proofs.lemmas.Bool.{cases_Bool, cases_lt, eqb-true}
 use Rattle.std.specs.List.{flat_map, list_all, list_any, AllByRecursion}
 use Rattle.opgp_octets.specs.Octets.{IsOctets}
+use Rattle.opgp_armor.specs.Rules.{LineRule}
 use Rattle.opgp_armor.specs.declared.label.Label.{Label}
 use Rattle.opgp_armor.specs.declared.label.Label.TheVariants.{Message, PublicKeyBlock, PrivateKeyBlock, Signature}
 use Rattle.opgp_armor.specs.Letters.{is_equals, may_stand, base64_of}
@@ -258,7 +259,7 @@ blank_known : content [] ≡ []
 unfolding content
 blank_known = refl
 
-module _ (limit : ℕ) (label : Label) (hs : List (List ℕ × List ℕ)) (o : List ℕ) (large : 128 ≤ limit) (octets : IsOctets o) (writable : AreWritable hs) (within : AreWithin limit hs) where
+module _ (rule : LineRule) (label : Label) (hs : List (List ℕ × List ℕ)) (o : List ℕ) (large : 128 ≤ rule.most) (octets : IsOctets o) (writable : AreWritable hs) (within : AreWithin rule.most hs) where
   abbrev block : Block
   block = record { label = label; headers = hs; octets = o }
 
@@ -268,10 +269,10 @@ module _ (limit : ℕ) (label : Label) (hs : List (List ℕ × List ℕ)) (o : L
   all_lines : armor_lines label hs o ≡ front ++ end_line label ∷ []
   all_lines = ap (λ (v : List Line). begin_line label ∷ v) (sym (append_assoc (map header_line hs) ([] ∷ letter_lines (base64_of o)) (end_line label ∷ [])))
 
-  written_rows : AreRows limit (letter_lines (base64_of o)) (base64_of o)
-  written_rows = letter_lines_are limit o large (all_octets o octets)
+  written_rows : AreRows rule.most (letter_lines (base64_of o)) (base64_of o)
+  written_rows = letter_lines_are rule.most o large (all_octets o octets)
 
-  is_block : IsBlock limit block (armor_lines label hs o)
+  is_block : IsBlock rule.most block (armor_lines label hs o)
   is_block =
       let b = begin_known label in
       let e = end_known label in
@@ -285,7 +286,7 @@ module _ (limit : ℕ) (label : Label) (hs : List (List ℕ × List ℕ)) (o : L
           gap = [];
           data_lines = letter_lines (base64_of o);
           are = refl;
-          is_head = record { first = begin_line label; rest = map header_line hs; are = refl; begins = b.0; within = omega (arith, b.2); headers_are = headers_are limit hs writable within };
+          is_head = record { first = begin_line label; rest = map header_line hs; are = refl; begins = b.0; within = omega (arith, b.2); headers_are = headers_are rule.most hs writable within };
           is_gap = record { blank = blank_known; within = omega arith };
           are_data_lines = written_rows.are_data_lines;
           joined = written_rows.joined;
@@ -303,7 +304,7 @@ module _ (limit : ℕ) (label : Label) (hs : List (List ℕ × List ℕ)) (o : L
   )
 
   -- Written armor is the armored text of the one block.
-  pub written_armored : Armored limit (armor_text label hs o) (record { label = label; headers = hs; octets = o } ∷ [])
+  pub written_armored : Armored rule (armor_text label hs o) (record { label = label; headers = hs; octets = o } ∷ [])
   written_armored = record {
     whole = record {
       pieces = Whole (armor_lines label hs o) block ∷ [];

@@ -1,7 +1,7 @@
 -- What an armored text is (RFC 9580, 6.2), as a relation between a text and its finished blocks;
 -- and what the fault of any other text is.
 use Rattle.std.specs.Prelude.{◌≡◌, ℕ, ◌+◌, ◌==◌, ◌<◌, ◌≤◌, nat_eq, nat_lt, Bool, true, false}
-use Rattle.std.specs.Prelude.{if◌then◌else◌, ◌⊎◌, List, [], ◌∷◌, ◌++◌, length}
+use Rattle.std.specs.Prelude.{not, if◌then◌else◌, ◌⊎◌, List, [], ◌∷◌, ◌++◌, length, take}
 use Rattle.std.specs.List.{list_any, list_all, flat_map, fold, starts_with, AllByRecursion}
 use Rattle.std.specs.Str.{bytes_eq}
 use Rattle.std.specs.declared.option.Option.{Option}
@@ -15,7 +15,10 @@ use Rattle.opgp_octets.specs.declared.fault.Fault.{Fault}
 use Rattle.opgp_octets.specs.declared.fault.Layer.TheVariants as layer
 use Rattle.opgp_octets.specs.declared.fault.Reason.{Reason}
 use Rattle.opgp_octets.specs.declared.fault.Reason.TheVariants as reason
+use Rattle.opgp_octets.specs.declared.outside.Outside.{Outside}
+use Rattle.opgp_octets.specs.declared.outside.Outside.TheVariants as policy
 use Rattle.opgp_armor.specs.Letters.{is_equals, may_stand, IsBase64}
+use Rattle.opgp_armor.specs.Rules.{LineRule}
 use Rattle.opgp_armor.specs.Text.{Line, lines, offset, content, begin_mark, begin_line, end_line}
 
 -- a block, by the contents of its vectors
@@ -122,31 +125,37 @@ abbrev pub blocks_of : Piece → List Block
 blocks_of (Other l) = []
 blocks_of (Whole ls b) = b ∷ []
 
-abbrev pub IsPiece : ℕ → Piece → Type 0
-IsPiece limit (Other l) = starts_with nat_eq l begin_mark ≡ false
-IsPiece limit (Whole ls b) = IsBlock limit b ls
+-- what the policy asks of a line outside: nothing, or to be blank
+abbrev pub IsAllowed : Outside → ℕ → Line → Type 0
+IsAllowed policy.Skip limit l = Unit {0}
+IsAllowed policy.Refuse limit l = IsBlank limit l
+
+abbrev pub IsPiece : LineRule → Piece → Type 0
+IsPiece rule (Other l) =
+    (starts_with nat_eq l begin_mark ≡ false) × IsAllowed rule.outside rule.most l
+IsPiece rule (Whole ls b) = IsBlock rule.most b ls
 
 -- the lines are, in order, outside lines and these blocks
-pub record ArePieces (limit : ℕ) (ls : List Line) (blocks : List Block) : Type 0 where
+pub record ArePieces (rule : LineRule) (ls : List Line) (blocks : List Block) : Type 0 where
   pub pieces : List Piece
-  pub each : AllByRecursion (IsPiece limit) pieces
+  pub each : AllByRecursion (IsPiece rule) pieces
   pub are : ls ≡ flat_map lines_of pieces
   pub blocks_are : blocks ≡ flat_map blocks_of pieces
 
 -- An armored text: outside lines and at least one block.
-pub record Armored (limit : ℕ) (text : List ℕ) (blocks : List Block) : Type 0 where
-  pub whole : ArePieces limit (lines text) blocks
+pub record Armored (rule : LineRule) (text : List ℕ) (blocks : List Block) : Type 0 where
+  pub whole : ArePieces rule (lines text) blocks
   pub some : 0 < length blocks
 
 -- ---- faults
 
 -- these are the first lines of some armored text
-pub record Opens (limit : ℕ) (ls : List Line) : Type 0 where
+pub record Opens (rule : LineRule) (ls : List Line) : Type 0 where
   pub text : List ℕ
   pub blocks : List Block
   pub more : List Line
   pub octets : IsOctets text
-  pub armored : Armored limit text blocks
+  pub armored : Armored rule text blocks
   pub begins : lines text ≡ ls ++ more
 
 -- the label that such a line names, which is a begin line or an end line
@@ -206,19 +215,35 @@ short_reason (sections.Data label) c =
 short_reason (sections.AfterChecksum label) c =
     if begins_with is_dash c then reason.EndLabel else reason.AfterChecksum
 
-abbrev pub reason_of : ℕ → Section → Line → Reason
-reason_of limit section l =
-    if nat_lt limit (length l) then reason.LineTooLong else short_reason section (content l)
+-- the line is outside of all blocks, and doesn't begin one
+abbrev pub passes_by : Section → Line → Bool
+passes_by sections.Outside l = not (starts_with nat_eq l begin_mark)
+passes_by (sections.Headers label) l = false
+passes_by (sections.Data label) l = false
+passes_by (sections.AfterChecksum label) l = false
+
+-- why a line outside is refused: its first octets, one more than a line may have, aren't blank, or
+-- they are, and there are too many
+abbrev pub outside_reason : List ℕ → Reason
+outside_reason [] = reason.LineTooLong
+outside_reason (c ∷ cs) = reason.Outside
+
+abbrev pub reason_of : LineRule → Section → Line → Reason
+reason_of rule section l =
+    if passes_by section l then outside_reason (content (take (rule.most + 1) l))
+    else if nat_lt rule.most (length l) then reason.LineTooLong
+    else short_reason section (content l)
 
 -- The first line that no armored text can have there.
-pub record LineFault (limit : ℕ) (text : List ℕ) (why : Reason) (block pos : ℕ) : Type 0 where
+pub record LineFault (rule : LineRule) (text : List ℕ) (why : Reason)
+    (block pos : ℕ) : Type 0 where
   pub before : List Line
   pub line : Line
   pub after : List Line
   pub are : lines text ≡ before ++ line ∷ after
-  pub opens : Opens limit before
-  pub refused : Opens limit (before ++ line ∷ []) → ⊥
-  pub why_is : why ≡ reason_of limit (situation before).section line
+  pub opens : Opens rule before
+  pub refused : Opens rule (before ++ line ∷ []) → ⊥
+  pub why_is : why ≡ reason_of rule (situation before).section line
   pub block_is : block ≡ (situation before).finished
   pub pos_is : pos ≡ offset before
 
@@ -229,19 +254,19 @@ end_reason (sections.Data label) = reason.Unfinished
 end_reason (sections.AfterChecksum label) = reason.Unfinished
 
 -- The text ends too early.
-pub record EndFault (limit : ℕ) (text : List ℕ) (why : Reason) (block pos : ℕ) : Type 0 where
-  pub opens : Opens limit (lines text)
-  pub refused : (blocks : List Block) → Armored limit text blocks → ⊥
+pub record EndFault (rule : LineRule) (text : List ℕ) (why : Reason) (block pos : ℕ) : Type 0 where
+  pub opens : Opens rule (lines text)
+  pub refused : (blocks : List Block) → Armored rule text blocks → ⊥
   pub why_is : why ≡ end_reason (situation (lines text)).section
   pub block_is : block ≡ (situation (lines text)).finished
   pub pos_is : pos ≡ length text
 
-abbrev pub ArmorFault : ℕ → List ℕ → Reason → ℕ → ℕ → Type 0
-ArmorFault limit text why block pos =
-    LineFault limit text why block pos ⊎ EndFault limit text why block pos
+abbrev pub ArmorFault : LineRule → List ℕ → Reason → ℕ → ℕ → Type 0
+ArmorFault rule text why block pos =
+    LineFault rule text why block pos ⊎ EndFault rule text why block pos
 
 -- The fault of a text, as it is reported.
-pub record IsArmorFault (limit : ℕ) (text : List ℕ) (f : Fault) : Type 0 where
+pub record IsArmorFault (rule : LineRule) (text : List ℕ) (f : Fault) : Type 0 where
   pub layer_is : f.layer ≡ layer.Armor
   pub inner_is : f.inner ≡ 0
-  pub found : ArmorFault limit text f.reason f.block f.pos
+  pub found : ArmorFault rule text f.reason f.block f.pos

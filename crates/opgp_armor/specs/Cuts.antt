@@ -3,8 +3,11 @@ use Rattle.std.specs.Prelude.{◌≡◌, ℕ, ◌==◌, ◌<◌, ◌≤◌, ◌+
 use Rattle.std.specs.Prelude.{List, [], ◌∷◌, ◌++◌, length, take}
 use Rattle.std.specs.List.{fold, list_all}
 use Rattle.opgp_armor.specs.declared.section.Section.{Section}
+use Rattle.opgp_octets.specs.declared.outside.Outside.{Outside}
+use Rattle.opgp_octets.specs.declared.outside.Outside.TheVariants as policy
+use Rattle.opgp_armor.specs.Rules.{LineRule}
 use Rattle.opgp_armor.specs.Text.{Line, lines}
-use Rattle.opgp_armor.specs.Machine.{passes_by}
+use Rattle.opgp_armor.specs.Armored.{passes_by}
 
 -- the ended lines, and the octets after them
 pub record Cut : Type 0 where
@@ -27,13 +30,19 @@ abbrev pub lines_ended : Bool → List ℕ → List Line
 lines_ended false text = (cut text).ended
 lines_ended true text = lines text
 
--- the most octets that are kept of an unfinished line: outside of blocks, as many as tell a begin
--- line
-abbrev pub kept_most : ℕ → Section → Line → ℕ
-kept_most limit section l = if passes_by section l then 15 else limit + 1
+-- the most octets that are kept of an unfinished line outside that begins no block: as many as tell a
+-- begin line, or, where such a line is refused, as many as of any other
+abbrev pub kept_outside : Outside → ℕ → ℕ
+kept_outside policy.Skip limit = 15
+kept_outside policy.Refuse limit = limit + 1
 
-abbrev pub kept : ℕ → Section → Line → List ℕ
-kept limit section l = take (kept_most limit section l) l
+-- the most octets that are kept of an unfinished line
+abbrev pub kept_most : LineRule → Section → Line → ℕ
+kept_most rule section l =
+    if passes_by section l then kept_outside rule.outside rule.most else rule.most + 1
+
+abbrev pub kept : LineRule → Section → Line → List ℕ
+kept rule section l = take (kept_most rule section l) l
 
 -- ---- the first line end of a piece
 abbrev pub is_plain : ℕ → Bool

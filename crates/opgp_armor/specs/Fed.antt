@@ -10,6 +10,7 @@ use Rattle.opgp_octets.specs.declared.fault.Layer.TheVariants as layer
 use Rattle.opgp_octets.specs.declared.fault.Reason.{Reason}
 use Rattle.opgp_octets.specs.declared.fault.Reason.TheVariants as reason
 use Rattle.opgp_armor.specs.declared.reader.Dearmor.{Dearmor}
+use Rattle.opgp_armor.specs.Rules.{LineRule}
 use Rattle.opgp_armor.specs.Text.{Line, offset}
 use Rattle.opgp_armor.specs.Events.{Event, built, events_of, ends_in, octets_held}
 use Rattle.opgp_armor.specs.Machine.{Answer, Run, run, step}
@@ -20,6 +21,10 @@ use Rattle.opgp_armor.specs.Shown.{Shown}
 -- the most octets of a line
 abbrev pub line_limit_of : Dearmor → ℕ
 line_limit_of d = d.limit
+
+-- what lines may be
+abbrev pub rule_of : Dearmor → LineRule
+rule_of d = record { most = d.limit; outside = d.outside }
 
 -- an event is ready to be taken
 abbrev pub is_ready : Dearmor → Bool
@@ -53,10 +58,10 @@ spent_fault =
 -- The reader goes on: it is in the state of the run over the ended lines.
 pub record Going (d : Dearmor) (given : List ℕ) (taken : List Event) : Type 0 where
   pub last : Run
-  pub ran : run d.limit (lines_ended d.ended given) ≡ Ok last
+  pub ran : run (rule_of d) (lines_ended d.ended given) ≡ Ok last
   pub state : last.state ≡ state_of d.section d.pending
   pub events : last.events ≡ taken ++ events_of d.ready
-  pub buffered : d.ended ≡ false → d.buffer.items ≡ kept d.limit d.section (cut given).tail
+  pub buffered : d.ended ≡ false → d.buffer.items ≡ kept (rule_of d) d.section (cut given).tail
   pub begins : d.ended ≡ false → d.start ≡ offset (cut given).ended
   pub finished : d.finished ≡ length (built last.events).blocks
 
@@ -68,8 +73,8 @@ pub record Stopped (d : Dearmor) (fault : Fault) (given : List ℕ)
   pub after : List Line
   pub last : Run
   pub are : lines_ended d.ended given ≡ before ++ line ∷ after
-  pub ran : run d.limit before ≡ Ok last
-  pub stops : step d.limit last.state line ≡ Err fault.reason
+  pub ran : run (rule_of d) before ≡ Ok last
+  pub stops : step (rule_of d) last.state line ≡ Err fault.reason
   pub events : last.events ≡ taken ++ events_of d.ready
   pub pos : fault.pos ≡ offset before
   pub block : fault.block ≡ length (built last.events).blocks
@@ -97,7 +102,7 @@ KeepsFed old new octets events =
 -- The first n octets of the piece, without the last, yield no event beyond those that were taken.
 abbrev pub IsQuiet : Dearmor → List ℕ → ℕ → Type 0
 IsQuiet d piece n = (k : ℕ) → k < n → (given : List ℕ) (taken : List Event) → Fed d given taken
-    → Shown (line_limit_of d) (lines_ended false (given ++ take k piece)) taken
+    → Shown (rule_of d) (lines_ended false (given ++ take k piece)) taken
 
 -- the events that were taken, and what is ready
 abbrev pub events_so_far : Dearmor → List Event → List Event
@@ -110,7 +115,7 @@ fault_at why block pos =
 
 -- what doesn't change at the end of a line
 pub record SameReader (old new : Dearmor) : Type 0 where
-  pub limit : line_limit_of new ≡ line_limit_of old
+  pub rule : rule_of new ≡ rule_of old
   pub given : count_of new ≡ count_of old
   pub spent : is_spent new ≡ is_spent old
   pub ended : has_ended new ≡ has_ended old

@@ -1,5 +1,6 @@
 pub mod Letters
 pub mod Text
+pub mod Rules
 pub mod Armored
 pub mod Events
 pub mod Machine

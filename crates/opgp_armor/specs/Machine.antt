@@ -1,7 +1,7 @@
 -- Armor line by line: the plain definition that the code follows.
-use Rattle.std.specs.Prelude.{ℕ, nat_eq, nat_lt, Bool, false, not, if◌then◌else◌, List, [], ◌∷◌}
-use Rattle.std.specs.Prelude.{◌++◌, length}
-use Rattle.std.specs.List.{starts_with, fold}
+use Rattle.std.specs.Prelude.{ℕ, nat_lt, Bool, not, if◌then◌else◌, List, [], ◌∷◌}
+use Rattle.std.specs.Prelude.{◌++◌, ◌+◌, length, take}
+use Rattle.std.specs.List.{fold}
 use Rattle.std.specs.Str.{bytes_eq}
 use Rattle.std.specs.declared.option.Option.{Option}
 use Rattle.std.specs.declared.option.Option.TheVariants.{None, Some}
@@ -12,9 +12,12 @@ use Rattle.opgp_armor.specs.declared.section.Section.{Section}
 use Rattle.opgp_armor.specs.declared.section.Section.TheVariants as sections
 use Rattle.opgp_octets.specs.declared.fault.Reason.{Reason}
 use Rattle.opgp_octets.specs.declared.fault.Reason.TheVariants as reason
+use Rattle.opgp_octets.specs.declared.outside.Outside.{Outside}
+use Rattle.opgp_octets.specs.declared.outside.Outside.TheVariants as policy
 use Rattle.opgp_armor.specs.Letters.{is_equals, Pending, no_letters, data_line}
-use Rattle.opgp_armor.specs.Text.{Line, content, begin_mark, begin_line, end_line}
-use Rattle.opgp_armor.specs.Armored.{is_colon, is_dash, is_space, label_at}
+use Rattle.opgp_armor.specs.Rules.{LineRule}
+use Rattle.opgp_armor.specs.Text.{Line, content, begin_line, end_line}
+use Rattle.opgp_armor.specs.Armored.{is_colon, is_dash, is_space, label_at, passes_by}
 use Rattle.opgp_armor.specs.Events.{Event, Begin, Header, Octets, End}
 
 pub record State : Type 0 where
@@ -92,18 +95,23 @@ inside (sections.AfterChecksum l) p [] =
 inside (sections.AfterChecksum l) p (c ∷ cs) =
     if is_dash c then closing l p (c ∷ cs) else Err reason.AfterChecksum
 
--- the line is outside of all blocks, and doesn't begin one
-abbrev pub passes_by : Section → Line → Bool
-passes_by sections.Outside l = not (starts_with nat_eq l begin_mark)
-passes_by (sections.Headers label) l = false
-passes_by (sections.Data label) l = false
-passes_by (sections.AfterChecksum label) l = false
+-- a line outside whose first octets have this content
+abbrev pub on_blank : List ℕ → Answer → Answer
+on_blank [] answer = answer
+on_blank (c ∷ cs) answer = Err reason.Outside
+
+-- a line outside of all blocks that doesn't begin one
+abbrev pub on_outside : Outside → ℕ → State → Line → Answer
+on_outside policy.Skip limit s l = Ok (s, [])
+on_outside policy.Refuse limit s l =
+    on_blank (content (take (limit + 1) l))
+    (if nat_lt limit (length l) then Err reason.LineTooLong else Ok (s, []))
 
 -- one line
-unfoldable pub step : ℕ → State → Line → Answer
-step limit s l =
-    if passes_by s.section l then Ok (s, [])
-    else if nat_lt limit (length l) then Err reason.LineTooLong
+unfoldable pub step : LineRule → State → Line → Answer
+step rule s l =
+    if passes_by s.section l then on_outside rule.outside rule.most s l
+    else if nat_lt rule.most (length l) then Err reason.LineTooLong
     else inside s.section s.pending (content l)
 
 abbrev pub start : State
@@ -118,15 +126,15 @@ abbrev pub onward : List Event → Answer → Result Run Reason
 onward events (Err e) = Err e
 onward events (Ok (s, more)) = Ok (record { state = s; events = events ++ more })
 
-abbrev pub next : ℕ → Result Run Reason → Line → Result Run Reason
-next limit (Err e) l = Err e
-next limit (Ok r) l = onward r.events (step limit r.state l)
+abbrev pub next : LineRule → Result Run Reason → Line → Result Run Reason
+next rule (Err e) l = Err e
+next rule (Ok r) l = onward r.events (step rule r.state l)
 
-unfoldable pub run_from : ℕ → Result Run Reason → List Line → Result Run Reason
-run_from limit r ls = fold (next limit) r ls
+unfoldable pub run_from : LineRule → Result Run Reason → List Line → Result Run Reason
+run_from rule r ls = fold (next rule) r ls
 
 abbrev pub first : Run
 first = record { state = start; events = [] }
 
-abbrev pub run : ℕ → List Line → Result Run Reason
-run limit ls = run_from limit (Ok first) ls
+abbrev pub run : LineRule → List Line → Result Run Reason
+run rule ls = run_from rule (Ok first) ls

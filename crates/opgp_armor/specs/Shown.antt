@@ -6,6 +6,7 @@ use Rattle.opgp_armor.specs.declared.label.Label.{Label}
 use Rattle.opgp_armor.specs.declared.section.Section.{Section}
 use Rattle.opgp_armor.specs.declared.section.Section.TheVariants as sections
 use Rattle.opgp_armor.specs.Letters.{is_equals, IsBase64, groups_of}
+use Rattle.opgp_armor.specs.Rules.{LineRule}
 use Rattle.opgp_armor.specs.Text.{Line, content, begin_line}
 use Rattle.opgp_armor.specs.Armored.{IsHeader, begins_with, is_dash, label_at, after_content, Opens}
 use Rattle.opgp_armor.specs.Events.{Event, Begin, Header, End}
@@ -66,10 +67,10 @@ abbrev pub at_start : Standing
 at_start = record { section = sections.Outside; letters = [] }
 
 -- The events of the longest list of first lines that an armored text begins with.
-pub record Shown (limit : ℕ) (ls : List Line) (events : List Event) : Type 0 where
+pub record Shown (rule : LineRule) (ls : List Line) (events : List Event) : Type 0 where
   pub front : List Line
   pub back : List Line
   pub are : ls ≡ front ++ back
-  pub opens : Opens limit front
-  pub longest : (l : Line) (more : List Line) → back ≡ l ∷ more → Opens limit (front ++ l ∷ []) → ⊥
-  pub made : Makes limit at_start front events
+  pub opens : Opens rule front
+  pub longest : (l : Line) (more : List Line) → back ≡ l ∷ more → Opens rule (front ++ l ∷ []) → ⊥
+  pub made : Makes rule.most at_start front events

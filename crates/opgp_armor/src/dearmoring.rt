@@ -2,7 +2,7 @@
 
 ghost use Rattle.std.specs.Prelude.{◌≡◌, ◌+◌, ◌<◌, ◌≤◌, length, take, IfOk, OnOk, MatchResult};
 ghost use Rattle.std.specs.List.{fold};
-ghost use Rattle.opgp_octets.specs.Limits.{line_limit};
+ghost use Rattle.opgp_armor.specs.Rules.{line_rule};
 ghost use Rattle.opgp_armor.specs.Armored.{Armored, IsArmorFault};
 ghost use Rattle.opgp_armor.specs.Blocks.{blocks_of_stored, built_of};
 ghost use Rattle.opgp_armor.specs.Events.{event_of, events_of, absorb, nothing_built};
@@ -100,8 +100,8 @@ pub fn dearmor(
     limits: &Limits,
 ) -> Result<Result<Vec<Block>, Fault>, OutOfMemory>
     ensures { IfOk result (λ answer. MatchResult answer
-        (λ blocks. Armored (line_limit limits.now) text.now (blocks_of_stored blocks.items))
-        (IsArmorFault (line_limit limits.now) text.now)) }
+        (λ blocks. Armored (line_rule limits.now) text.now (blocks_of_stored blocks.items))
+        (IsArmorFault (line_rule limits.now) text.now)) }
 {
     let mut reader = Dearmor::new(alloc, *limits);
     let mut building = Building::new(alloc);

@@ -5,51 +5,61 @@ ghost use Rattle.std.specs.Prelude.{false, length, sum_by};
 ghost use Rattle.std.specs.List.{AllByRecursion};
 ghost use Rattle.opgp_octets.specs.Octets.{IsOctets};
 ghost use Rattle.opgp_octets.specs.declared.fault.Fault.{Fault};
+ghost use Rattle.opgp_octets.specs.declared.outside.Outside.TheVariants as policy;
 ghost use Rattle.opgp_armor.specs.declared.label.Label.{Label};
 ghost use Rattle.opgp_armor.specs.declared.reader.Dearmor.{Dearmor};
 ghost use Rattle.opgp_armor.specs.Armored.{Armored, Block, IsArmorFault};
 ghost use Rattle.opgp_armor.specs.Cuts.{lines_ended};
 ghost use Rattle.opgp_armor.specs.Events.{AreInOrder, Event, built, event_octets};
-ghost use Rattle.opgp_armor.specs.Fed.{Fed, events_so_far, fault_of, has_ended, line_limit_of};
+ghost use Rattle.opgp_armor.specs.Fed.{Fed, events_so_far, fault_of, has_ended, rule_of};
 ghost use Rattle.opgp_armor.specs.Letters.{base64_of};
+ghost use Rattle.opgp_armor.specs.Rules.{LineRule};
 ghost use Rattle.opgp_armor.specs.Shown.{Shown};
 ghost use Rattle.opgp_armor.specs.Written.{AreWithin, AreWritable, armor_text, data_lines};
 
 /// A text has at most one list of blocks.
 pub fn one_list()
-    ensures { (limit : ℕ) (text : List ℕ) (a b : List Block) → Armored limit text a
-        → Armored limit text b → a ≡ b }
+    ensures { (rule : LineRule) (text : List ℕ) (a b : List Block) → Armored rule text a
+        → Armored rule text b → a ≡ b }
 {}
 
 /// A text has at most one fault.
 pub fn one_fault()
-    ensures { (limit : ℕ) (text : List ℕ) (f g : Fault) → IsArmorFault limit text f
-        → IsArmorFault limit text g → f ≡ g }
+    ensures { (rule : LineRule) (text : List ℕ) (f g : Fault) → IsArmorFault rule text f
+        → IsArmorFault rule text g → f ≡ g }
 {}
 
 /// An armored text has no fault.
 #[tactic(auto, using(crate::proofs::Wholes::no_whole_fault))]
 pub fn no_fault()
-    ensures { (limit : ℕ) (text : List ℕ) (blocks : List Block) (f : Fault) → IsOctets text
-        → Armored limit text blocks → ¬ IsArmorFault limit text f }
+    ensures { (rule : LineRule) (text : List ℕ) (blocks : List Block) (f : Fault) → IsOctets text
+        → Armored rule text blocks → ¬ IsArmorFault rule text f }
 {}
 
 /// A text that isn't armored has a fault.
 pub fn some_answer()
-    ensures { (limit : ℕ) (text : List ℕ) → 128 ≤ limit → IsOctets text
-        → ((blocks : List Block) × Armored limit text blocks)
-        ⊎ ((f : Fault) × IsArmorFault limit text f) }
+    ensures { (rule : LineRule) (text : List ℕ) → 128 ≤ rule.most → IsOctets text
+        → ((blocks : List Block) × Armored rule text blocks)
+        ⊎ ((f : Fault) × IsArmorFault rule text f) }
+{}
+
+/// A text that is armored under some policy is armored, with the same blocks, where lines outside are
+/// passed over.
+#[tactic(auto, using(crate::proofs::Wholes::passed_over))]
+pub fn refusing_lines_outside_changes_no_blocks()
+    ensures { (rule : LineRule) (text : List ℕ) (blocks : List Block) → Armored rule text blocks
+        → Armored (record { most = rule.most; outside = policy.Skip }) text blocks }
 {}
 
 /// The octets of blocks are numbers below 256.
 pub fn blocks_hold_octets()
-    ensures { (limit : ℕ) (text : List ℕ) (blocks : List Block) → Armored limit text blocks
+    ensures { (rule : LineRule) (text : List ℕ) (blocks : List Block) → Armored rule text blocks
         → AllByRecursion (λ b. IsOctets b.octets) blocks }
 {}
 
 /// A block has no more octets than the text that it is in.
 pub fn a_block_has_no_more_octets_than_the_text()
-    ensures { (limit : ℕ) (text : List ℕ) (blocks : List Block) → Armored limit text blocks
+    ensures { (rule : LineRule) (text : List ℕ) (blocks : List Block) → Armored rule text blocks
         → AllByRecursion (λ b. length b.octets ≤ length text) blocks }
 {}
 
@@ -58,13 +68,13 @@ pub fn a_block_has_no_more_octets_than_the_text()
 #[tactic(auto, using(crate::proofs::Pushing::shown))]
 pub fn events_are_those_of_the_longest_opening()
     ensures { (d : Dearmor) (given : List ℕ) (taken : List Event) → Fed d given taken
-        → Shown (line_limit_of d) (lines_ended (has_ended d) given) (events_so_far d taken) }
+        → Shown (rule_of d) (lines_ended (has_ended d) given) (events_so_far d taken) }
 {}
 
 /// Lines have at most one list of events.
 pub fn one_list_of_events()
-    ensures { (limit : ℕ) (ls : List (List ℕ)) (a b : List Event) → Shown limit ls a
-        → Shown limit ls b → a ≡ b }
+    ensures { (rule : LineRule) (ls : List (List ℕ)) (a b : List Event) → Shown rule ls a
+        → Shown rule ls b → a ≡ b }
 {}
 
 /// What was taken and what is ready come in the order of blocks: a begin line, its headers, its
@@ -110,14 +120,14 @@ pub fn no_more_blocks_than_octets()
 pub fn a_fault_stays()
     ensures { (d : Dearmor) (given more : List ℕ) (taken : List Event) (f : Fault) → IsOctets more
         → has_ended d ≡ false → Fed d given taken → fault_of d ≡ Some f
-        → IsArmorFault (line_limit_of d) (given ++ more) f }
+        → IsArmorFault (rule_of d) (given ++ more) f }
 {}
 
-/// Written armor is the armored text of the one block.
+/// Written armor is the armored text of the one block, whatever becomes of lines outside.
 pub fn written_armor_is_read_again()
-    ensures { (limit : ℕ) (label : Label) (headers : List (List ℕ × List ℕ)) (octets : List ℕ)
-        → 128 ≤ limit → IsOctets octets → AreWritable headers → AreWithin limit headers
-        → Armored limit (armor_text label headers octets)
+    ensures { (rule : LineRule) (label : Label) (headers : List (List ℕ × List ℕ)) (octets : List ℕ)
+        → 128 ≤ rule.most → IsOctets octets → AreWritable headers → AreWithin rule.most headers
+        → Armored rule (armor_text label headers octets)
         (record { label = label; headers = headers; octets = octets } ∷ []) }
 {}
 

@@ -6,9 +6,10 @@ ghost use Rattle.std.specs.Str.{bytes_eq};
 ghost use Rattle.std.specs.List.{starts_with};
 ghost use Rattle.opgp_armor.specs.Letters.{data_line};
 ghost use Rattle.opgp_armor.specs.Text.{content, begin_line, end_line, begin_mark, is_trailing};
-ghost use Rattle.opgp_armor.specs.Armored.{label_at};
+ghost use Rattle.opgp_armor.specs.Armored.{label_at, passes_by};
 ghost use Rattle.opgp_armor.specs.Machine.{without_space, header_of, closing, inside, on_begin};
-ghost use Rattle.opgp_armor.specs.Machine.{on_header, on_letters, passes_by, step};
+ghost use Rattle.opgp_armor.specs.Machine.{on_header, on_letters, on_outside, step};
+ghost use Rattle.opgp_octets.specs.declared.outside.Outside.TheVariants as policy;
 ghost use Rattle.opgp_armor.specs.declared.section.Section.TheVariants.{Headers, Data};
 ghost use Rattle.opgp_armor.specs.declared.section.Section.TheVariants.{AfterChecksum};
 ghost use Rattle.opgp_armor.specs.LineAnswer.{pending_of, state_of, header_view, IsAnswer};
@@ -20,7 +21,7 @@ use crate::pending::Pending;
 use crate::refusal::Refusal;
 use crate::section::Section;
 use memchr::memchr;
-use opgp_octets::Reason;
+use opgp_octets::{Outside, Reason};
 use std::alloc::Global;
 
 /// What a line does: the section that follows it, the letters left over then, and the event it
@@ -242,19 +243,54 @@ fn after_checksum(label: Label, pending: Pending, content: &[u8]) -> Result<Reac
     Err(Refusal::Reason(Reason::AfterChecksum))
 }
 
+/// What a line outside of blocks does that begins none, where only blank ones are allowed.
+///
+/// The first `limit + 1` octets decide whether it is blank.
+fn blank(limit: usize, section: Section, pending: Pending, line: &[u8]) -> Result<Reaction, Refusal>
+    ensures { IsAnswer result (on_outside policy.Refuse limit (state_of section pending) line.now) }
+{
+    let long = line.len() > limit;
+    let seen = if long { &line[..limit + 1] } else { line };
+    if content_of(seen).len() > 0 {
+        return Err(Refusal::Reason(Reason::Outside));
+    }
+    if long {
+        return Err(Refusal::Reason(Reason::LineTooLong));
+    }
+    moved(section, pending)
+}
+
+/// What a line outside of blocks does that begins none.
+fn pass(
+    limit: usize,
+    outside: Outside,
+    section: Section,
+    pending: Pending,
+    line: &[u8],
+) -> Result<Reaction, Refusal>
+    ensures { IsAnswer result (on_outside outside limit (state_of section pending) line.now) }
+{
+    match outside {
+        Outside::Skip => moved(section, pending),
+        Outside::Refuse => blank(limit, section, pending, line),
+    }
+}
+
 /// What a line does in this section.
 #[tactic(auto, unfolding(crate::specs::Machine::step))]
 pub(crate) fn answer_line(
     alloc: Global,
     limit: usize,
+    outside: Outside,
     section: Section,
     pending: Pending,
     line: &[u8],
 ) -> Result<Reaction, Refusal>
-    ensures { IsAnswer result (step limit (state_of section pending) line.now) }
+    ensures { IsAnswer result
+        (step (record { most = limit; outside = outside }) (state_of section pending) line.now) }
 {
     if lies_outside(section, line) {
-        return moved(section, pending);
+        return pass(limit, outside, section, pending, line);
     }
     if line.len() > limit {
         return Err(Refusal::Reason(Reason::LineTooLong));

@@ -8,7 +8,8 @@ ghost use Rattle.opgp_armor.specs.Events.{events_of, ends_in, is_open_behind, oc
 ghost use Rattle.opgp_armor.specs.Machine.{step};
 ghost use Rattle.opgp_armor.specs.LineAnswer.{pending_of, state_of};
 ghost use Rattle.opgp_armor.specs.Cuts.{kept, IsLineSplit};
-ghost use Rattle.opgp_armor.specs.declared.section.Section.TheVariants.{Outside};
+ghost use Rattle.opgp_armor.specs.declared.section.Section.TheVariants as sections;
+ghost use Rattle.opgp_octets.specs.declared.outside.Outside.TheVariants as policy;
 
 use crate::event::ArmorEvent;
 use crate::lines::{Reaction, answer_line};
@@ -16,7 +17,7 @@ use crate::pending::Pending;
 use crate::refusal::Refusal;
 use crate::section::Section;
 use memchr::memchr;
-use opgp_octets::{Fault, Layer, Limits, OutOfMemory, PushFault, Reason};
+use opgp_octets::{Fault, Layer, Limits, OutOfMemory, Outside, PushFault, Reason};
 use std::alloc::{AllocError, Global};
 use std::mem;
 
@@ -28,6 +29,7 @@ use std::mem;
 pub struct Dearmor {
     alloc: Global,
     limit: usize,
+    outside: Outside,
     buffer: Vec<u8>,
     section: Section,
     pending: Pending,
@@ -58,12 +60,16 @@ fn fill(buffer: &mut Vec<u8>, most: usize, part: &[u8]) -> Result<usize, OutOfMe
     Ok(count)
 }
 
-/// Keeps what is needed of an unfinished line outside of blocks, which continues with `part`.
+/// Keeps what is needed of an unfinished line outside of blocks, which continues with `part`, where
+/// lines that begin no block are passed over.
 fn keep_outside(buffer: &mut Vec<u8>, limit: usize, part: &[u8]) -> Result<(), OutOfMemory>
     requires low { 128 ≤ limit }
     requires high { limit ≤ 1048576 }
-    ensures kept { OnOk result ((tail : List ℕ) → buffer.old.items ≡ kept limit Outside tail
-        → buffer.new.items ≡ kept limit Outside (tail ++ part.now)) }
+    ensures kept { OnOk result ((tail : List ℕ)
+        → buffer.old.items
+        ≡ kept (record { most = limit; outside = policy.Skip }) sections.Outside tail
+        → buffer.new.items
+        ≡ kept (record { most = limit; outside = policy.Skip }) sections.Outside (tail ++ part.now)) }
     ensures short { length buffer.old.items ≤ limit + 1 → length buffer.new.items ≤ limit + 1 }
     ensures grown { length buffer.new.items ≤ length buffer.old.items + length part.now }
 {
@@ -74,25 +80,43 @@ fn keep_outside(buffer: &mut Vec<u8>, limit: usize, part: &[u8]) -> Result<(), O
     Ok(())
 }
 
+/// Keeps the first `limit + 1` octets of an unfinished line, which continues with `part`.
+fn keep_front(buffer: &mut Vec<u8>, limit: usize, part: &[u8]) -> Result<(), OutOfMemory>
+    requires low { 128 ≤ limit }
+    requires high { limit ≤ 1048576 }
+    ensures kept { OnOk result ((tail : List ℕ) → buffer.old.items ≡ take (limit + 1) tail
+        → buffer.new.items ≡ take (limit + 1) (tail ++ part.now)) }
+    ensures short { length buffer.old.items ≤ limit + 1 → length buffer.new.items ≤ limit + 1 }
+    ensures grown { length buffer.new.items ≤ length buffer.old.items + length part.now }
+{
+    fill(buffer, limit + 1, part)?;
+    Ok(())
+}
+
 /// Keeps what is needed of an unfinished line, which continues with `part`.
 fn keep(
     buffer: &mut Vec<u8>,
     limit: usize,
+    outside: Outside,
     section: Section,
     part: &[u8],
 ) -> Result<(), OutOfMemory>
     requires low { 128 ≤ limit }
     requires high { limit ≤ 1048576 }
-    ensures kept { OnOk result ((tail : List ℕ) → buffer.old.items ≡ kept limit section tail
-        → buffer.new.items ≡ kept limit section (tail ++ part.now)) }
+    ensures kept { OnOk result ((tail : List ℕ)
+        → buffer.old.items ≡ kept (record { most = limit; outside = outside }) section tail
+        → buffer.new.items ≡ kept (record { most = limit; outside = outside }) section
+        (tail ++ part.now)) }
     ensures short { length buffer.old.items ≤ limit + 1 → length buffer.new.items ≤ limit + 1 }
     ensures grown { length buffer.new.items ≤ length buffer.old.items + length part.now }
 {
     match section {
-        Section::Outside => keep_outside(buffer, limit, part),
+        Section::Outside => match outside {
+            Outside::Skip => keep_outside(buffer, limit, part),
+            Outside::Refuse => keep_front(buffer, limit, part),
+        },
         Section::Headers(_) | Section::Data(_) | Section::AfterChecksum(_) => {
-            fill(buffer, limit + 1, part)?;
-            Ok(())
+            keep_front(buffer, limit, part)
         }
     }
 }
@@ -125,8 +149,8 @@ fn split_line(rest: &[u8]) -> (&[u8], usize, bool)
 /// Why a text that ends in this section, after this number of blocks, is refused; None if it may
 /// end.
 fn end_of_text(section: Section, finished: u64) -> Option<Reason>
-    ensures { MatchOption result ((section ≡ Outside) × (0 < finished))
-        (λ r. (r ≡ end_reason section) × (section ≡ Outside → finished ≡ 0)) }
+    ensures { MatchOption result ((section ≡ sections.Outside) × (0 < finished))
+        (λ r. (r ≡ end_reason section) × (section ≡ sections.Outside → finished ≡ 0)) }
 {
     match section {
         Section::Outside => {
@@ -149,9 +173,11 @@ impl Dearmor {
     ghost use Rattle.opgp_armor.specs.Events.{Event, built};
     ghost use Rattle.opgp_armor.specs.Fed.{Fed, KeepsFed, IsQuiet, AfterLine, SameReader};
     ghost use Rattle.opgp_armor.specs.Fed.{line_limit_of, is_ready, count_of, is_spent, has_ended};
-    ghost use Rattle.opgp_armor.specs.Fed.{fault_of, held_of, spent_fault};
+    ghost use Rattle.opgp_armor.specs.Fed.{rule_of, fault_of, held_of, spent_fault};
+    ghost use Rattle.opgp_armor.specs.Rules.{line_rule};
 
-    /// A reader that was given nothing. Lines have at most as many octets as the limits allow.
+    /// A reader that was given nothing. Lines have at most as many octets as the limits allow, and
+    /// with [`Outside::Refuse`] those outside of blocks that begin none are blank.
     ///
     /// Allocates nothing; pushes do, from `alloc`.
     pub fn new(alloc: Global, limits: Limits) -> Dearmor
@@ -161,11 +187,13 @@ impl Dearmor {
         ensures open { has_ended result ≡ false }
         ensures count { count_of result ≡ 0 }
         ensures limits { line_limit_of result ≡ line_limit limits }
+        ensures rule { rule_of result ≡ line_rule limits }
         ensures held { held_of result ≡ 0 }
     {
         Dearmor {
             alloc,
             limit: limits.line() as usize,
+            outside: limits.outside(),
             buffer: Vec::new(alloc),
             section: Section::Outside,
             pending: Pending::none(),
@@ -212,6 +240,7 @@ impl Dearmor {
         ensures open { has_ended self.new ≡ has_ended self.old }
         ensures count { count_of self.new ≡ count_of self.old }
         ensures limits { line_limit_of self.new ≡ line_limit_of self.old }
+        ensures rule { rule_of self.new ≡ rule_of self.old }
         ensures held { held_of self.new ≤ line_limit_of self.new + 16 }
         ensures shrinks { held_of self.new ≤ held_of self.old }
     {
@@ -226,10 +255,17 @@ impl Dearmor {
         requires room { self.old.finished < self.old.given }
         ensures same { SameReader self.old self.new }
         ensures line { OnOk result (AfterLine self.old self.new
-            (step self.old.limit (state_of self.old.section self.old.pending) line.now)) }
+            (step (rule_of self.old) (state_of self.old.section self.old.pending) line.now)) }
         ensures free { OnErr result (self.new.ready ≡ None) }
     {
-        match answer_line(self.alloc, self.limit, self.section, self.pending, line) {
+        match answer_line(
+            self.alloc,
+            self.limit,
+            self.outside,
+            self.section,
+            self.pending,
+            line,
+        ) {
             Ok(
                 Reaction {
                     section,
@@ -265,7 +301,7 @@ impl Dearmor {
         requires room { self.old.finished < self.old.given }
         ensures same { SameReader self.old self.new }
         ensures line { OnOk result (AfterLine self.old self.new
-            (step self.old.limit (state_of self.old.section self.old.pending)
+            (step (rule_of self.old) (state_of self.old.section self.old.pending)
             self.old.buffer.items)) }
         ensures free { OnErr result (self.new.ready ≡ None) }
     {
@@ -288,7 +324,7 @@ impl Dearmor {
         ensures count { IfOk result (λ n. self.new.given ≡ self.old.given + n) }
         ensures spent { self.new.spent ≡ self.old.spent }
         ensures open { self.new.ended ≡ false }
-        ensures limits { self.new.limit ≡ self.old.limit }
+        ensures rule { rule_of self.new ≡ rule_of self.old }
         ensures free { OnErr result (self.new.ready ≡ None) }
         ensures faulty { (f : Fault) → self.old.fault ≡ Some f
             → (result ≡ Ok (length rest.now)) × (self.new.fault ≡ Some f)
@@ -305,7 +341,13 @@ impl Dearmor {
             self.end_line(line)?;
             return Ok(n);
         }
-        keep(&mut self.buffer, self.limit, self.section, line)?;
+        keep(
+            &mut self.buffer,
+            self.limit,
+            self.outside,
+            self.section,
+            line,
+        )?;
         if ends {
             self.end_buffered()?;
         }
@@ -319,7 +361,7 @@ impl Dearmor {
         ensures free { self.new.ready ≡ None }
         ensures count { self.new.given ≡ given }
         ensures open { self.new.ended ≡ self.old.ended }
-        ensures limits { self.new.limit ≡ self.old.limit }
+        ensures rule { rule_of self.new ≡ rule_of self.old }
     {
         self.buffer = Vec::new(self.alloc);
         self.finished = 0;
@@ -350,6 +392,7 @@ impl Dearmor {
             × (count_of self.new ≡ count_of self.old)) }
         ensures was_spent { (result ≡ Err PushFault.Spent) ↔ (is_spent self.old ≡ true) }
         ensures limits { line_limit_of self.new ≡ line_limit_of self.old }
+        ensures rule { rule_of self.new ≡ rule_of self.old }
         ensures held { held_of self.new ≤ line_limit_of self.new + 16 }
         ensures open { has_ended self.new ≡ false }
 
@@ -384,7 +427,7 @@ impl Dearmor {
         ensures count { self.new.given ≡ self.old.given }
         ensures spent { self.new.spent ≡ self.old.spent }
         ensures ended { self.new.ended ≡ true }
-        ensures limits { self.new.limit ≡ self.old.limit }
+        ensures rule { rule_of self.new ≡ rule_of self.old }
         ensures free { OnErr result (self.new.ready ≡ None) }
         ensures faulty { (f : Fault) → self.old.fault ≡ Some f
             → (result ≡ Ok tt) × (self.new.fault ≡ Some f) × (self.new.ready ≡ None) }
@@ -414,6 +457,7 @@ impl Dearmor {
         ensures spent { OnErr result (is_spent self.new ≡ true) }
         ensures was_spent { (result ≡ Err PushFault.Spent) ↔ (is_spent self.old ≡ true) }
         ensures limits { line_limit_of self.new ≡ line_limit_of self.old }
+        ensures rule { rule_of self.new ≡ rule_of self.old }
         ensures held { held_of self.new ≤ line_limit_of self.new + 16 }
     {
         if self.spent {
@@ -441,8 +485,8 @@ impl Dearmor {
         requires free { is_ready self ≡ false }
         requires ended { has_ended self ≡ true }
         ensures ok { (given : List ℕ) (taken : List Event) → Fed self given taken
-            → MatchResult result (λ _. Armored (line_limit_of self) given (built taken).blocks)
-            (IsArmorFault (line_limit_of self) given) }
+            → MatchResult result (λ _. Armored (rule_of self) given (built taken).blocks)
+            (IsArmorFault (rule_of self) given) }
         // No block is open at the end of an armored text.
         ensures closed { OnOk result ((given : List ℕ) (taken : List Event) → Fed self given taken
             → is_open_behind false taken ≡ false) }

@@ -1,8 +1,9 @@
 //! Writing armor.
 
-ghost use Rattle.std.specs.Prelude.{◌≡◌, ◌≤◌, ◌++◌, ◌∷◌, [], ℕ, length, take, map, IfOk, OnOk};
+ghost use Rattle.std.specs.Prelude.{◌≡◌, ◌≤◌, ◌++◌, ◌∷◌, [], length, take, map, IfOk, OnOk};
 ghost use Rattle.opgp_armor.specs.Armored.{Armored};
 ghost use Rattle.opgp_armor.specs.Blocks.{headers_of};
+ghost use Rattle.opgp_armor.specs.Rules.{LineRule};
 ghost use Rattle.opgp_armor.specs.Text.{begin_line, end_line};
 ghost use Rattle.opgp_armor.specs.Letters.{base64_of};
 ghost use Rattle.opgp_armor.specs.Written.{AreWithin, AreWritable, armor_text, data_lines};
@@ -104,8 +105,8 @@ pub fn armor(
     requires { AreWritable (headers_of headers.now) }
     ensures text { IfOk result (λ text.
         text.items ≡ armor_text label (headers_of headers.now) octets.now) }
-    ensures block { IfOk result (λ text. (limit : ℕ) → 128 ≤ limit
-        → AreWithin limit (headers_of headers.now) → Armored limit text.items
+    ensures block { IfOk result (λ text. (rule : LineRule)
+        → 128 ≤ rule.most → AreWithin rule.most (headers_of headers.now) → Armored rule text.items
         (record { label = label; headers = headers_of headers.now; octets = octets.now } ∷ [])) }
 {
     let mut text = Vec::new(alloc);

@@ -5,7 +5,8 @@ use Rattle.std.specs.Result.{MatchResult}
 use Rattle.std.proofs.lemmas.List.{length-append}
 use Rattle.opgp_octets.specs.declared.fault.Fault.{Fault}
 use Rattle.opgp_octets.specs.declared.limits.Limits.{Limits}
-use Rattle.opgp_octets.specs.Limits.{input_limit, line_limit}
+use Rattle.opgp_octets.specs.Limits.{input_limit}
+use Rattle.opgp_armor.specs.Rules.{LineRule, line_rule}
 use Rattle.opgp_armor.specs.Armored.{Armored, Block}
 use Rattle.opgp_frame.specs.declared.packet.Placed.{Placed}
 use Rattle.opgp_frame.specs.Frames.{StandFrom, spelled}
@@ -21,7 +22,7 @@ use Rattle.opgp_engine.specs.Signed.{AreSigned}
 
 -- what armor promises of its definition
 abbrev pub HasNoMoreOctets : Type 0
-HasNoMoreOctets = (limit : ℕ) (text : List ℕ) (blocks : List Block) → Armored limit text blocks → AllByRecursion (λ b. length b.octets ≤ length text) blocks
+HasNoMoreOctets = (rule : LineRule) (text : List ℕ) (blocks : List Block) → Armored rule text blocks → AllByRecursion (λ b. length b.octets ≤ length text) blocks
 
 abbrev AreShort : ℕ → List TextBlock → Type 0
 AreShort n bs = AllByRecursion (λ b. length b.octets ≤ n) bs
@@ -35,7 +36,7 @@ armored_few n (b ∷ bs) all = (all.0, armored_few n bs all.1)
 
 texts_few : HasNoMoreOctets → (binary : Bool) (limits : Limits) (input : List ℕ) (bs : List TextBlock) → Holds binary limits input bs → AreShort (length input) bs
 texts_few law true limits input bs h = subst (AreShort (length input)) (sym h) (let same : length input ≤ length input = omega arith in (same, tt))
-texts_few law false limits input bs h = subst (AreShort (length input)) (sym h.2) (armored_few (length input) h.0 (law (line_limit limits) input h.0 h.1))
+texts_few law false limits input bs h = subst (AreShort (length input)) (sym h.2) (armored_few (length input) h.0 (law (line_rule limits) input h.0 h.1))
 
 stand_few : (limits : Limits) (block at n : ℕ) (ps : List Placed) → StandFrom limits block at ps → at + length (spelled ps) ≤ n → EndWithin n (map of_packet ps)
 stand_few limits block at n [] s h = tt

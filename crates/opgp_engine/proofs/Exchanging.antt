@@ -41,7 +41,7 @@ module _ {T : Type 0} (was now : Limits → T → List Item → Type 0) (wanted 
     inside = x.inside;
     quiet = x.quiet;
     going = x.going;
-    limit = x.limit;
+    rule = x.rule;
     count = x.count;
     few = x.few;
   }
@@ -71,7 +71,7 @@ module _ {T A : Type 0} (fed : A → Limits → T → List Item → Type 0) (wan
   through_one : (d : Dearmor) (f : Framer T) (input : List ℕ) → Through FedSome wanted limits d f input → (a : A) × Through (fed a) wanted limits d f input
   through_one d f input x =
       let k = framed_one f _ _ _ x.framed in
-      (k.0, record { taken = x.taken; fed = x.fed; framed = k.1; inside = x.inside; quiet = x.quiet; going = x.going; limit = x.limit; count = x.count; few = x.few })
+      (k.0, record { taken = x.taken; fed = x.fed; framed = k.1; inside = x.inside; quiet = x.quiet; going = x.going; rule = x.rule; count = x.count; few = x.few })
 
   passed_one : (mode : Mode) (front : Front) (f : Framer T) (seen input : List ℕ) → Passed FedSome wanted mode limits front f seen input → (a : A) × Passed (fed a) wanted mode limits front f seen input
   passed_one mode Undecided f seen input x = let k = framed_one f [] None input x.4 in (k.0, (x.0, x.1, x.2, x.3, k.1))

@@ -1,9 +1,10 @@
 -- What a reader of parts holds.
-use Rattle.std.proofs.Common.{◌≡◌, ℕ, ◌+◌, ◌≤◌, false, List, ◌++◌, refl, sym, ◌∙◌, subst, Option, Some, None, is_some, arith}
+use Rattle.std.proofs.Common.{◌≡◌, ℕ, ◌+◌, ◌≤◌, false, List, ◌++◌, refl, sym, ◌∙◌, subst, ap, Option, Some, None, is_some, arith}
 use Rattle.opgp_octets.specs.declared.fault.Fault.{Fault}
 use Rattle.opgp_octets.specs.declared.limits.Limits.{Limits}
 use Rattle.opgp_octets.specs.Limits.{body_limit, cert_limit, line_limit, pieces_limit}
 use Rattle.opgp_armor.specs.declared.reader.Dearmor.{Dearmor}
+use Rattle.opgp_armor.specs.Rules.{LineRule}
 use Rattle.opgp_armor.specs.Fed.{held_of as text_held, line_limit_of}
 use Rattle.opgp_frame.specs.declared.deframe.Deframe.{Deframe}
 use Rattle.opgp_frame.specs.Fed.{held_of as packet_held, limits_of}
@@ -55,7 +56,7 @@ module _ {T : Type 0} (fed : Limits → T → List Item → Type 0) (wanted : Wa
   front_short : (mode : Mode) (front : Front) (f : Framer T) (seen input : List ℕ) → Passed fed wanted mode limits front f seen input → front_held front ≤ line_limit limits + 16
   front_short mode Undecided f seen input x = omega arith
   front_short mode Binary f seen input x = omega arith
-  front_short mode (Armored d) f seen input x = omega (arith, text_short d, x.1.limit)
+  front_short mode (Armored d) f seen input x = omega (arith, text_short d, ap (λ (r : LineRule). r.most) x.1.rule)
 
 -- what was taken is counted
 pub counted : (u : Use) (p : PartReader) → IsUsed u p → shown_count u.taken ≡ taken_count p

@@ -3,7 +3,7 @@ use Rattle.std.proofs.Common.{◌≡◌, ℕ, ◌+◌, Bool, true, false, List, 
 use Rattle.opgp_octets.specs.Octets.{IsOctets}
 use Rattle.opgp_octets.specs.declared.fault.Fault.{Fault}
 use Rattle.opgp_octets.specs.declared.limits.Limits.{Limits}
-use Rattle.opgp_octets.specs.Limits.{line_limit}
+use Rattle.opgp_armor.specs.Rules.{line_rule}
 use Rattle.opgp_frame.specs.declared.packet.Placed.{Placed}
 use Rattle.opgp_engine.specs.declared.mode.Mode.{Mode}
 use Rattle.opgp_ring.specs.Composition.{Item}
@@ -13,15 +13,15 @@ use Rattle.opgp_engine.specs.Reading.{TextBlock, Wanted, armored_block, block_it
 module _ (w : LayersAreOne) (limits : Limits) where
   one_text : (binary : Bool) (input : List ℕ) (a b : List TextBlock) → Holds binary limits input a → Holds binary limits input b → a ≡ b
   one_text true input a b h k = h ∙ sym k
-  one_text false input a b h k = h.2 ∙ ap (map armored_block) (w.armor_list (line_limit limits) input h.0 k.0 h.1 k.1) ∙ sym k.2
+  one_text false input a b h k = h.2 ∙ ap (map armored_block) (w.armor_list (line_rule limits) input h.0 k.0 h.1 k.1) ∙ sym k.2
 
   one_text_fault : (binary : Bool) (input : List ℕ) (f g : Fault) → IsTextFault binary limits input f → IsTextFault binary limits input g → f ≡ g
   one_text_fault true input f g h k = absurd h
-  one_text_fault false input f g h k = w.armor_fault (line_limit limits) input f g h k
+  one_text_fault false input f g h k = w.armor_fault (line_rule limits) input f g h k
 
   text_or_fault : (binary : Bool) (input : List ℕ) (a : List TextBlock) (f : Fault) → IsOctets input → Holds binary limits input a → IsTextFault binary limits input f → ⊥
   text_or_fault true input a f octets h k = k
-  text_or_fault false input a f octets h k = w.armor_no_fault (line_limit limits) input h.0 f octets h.1 k
+  text_or_fault false input a f octets h k = w.armor_no_fault (line_rule limits) input h.0 f octets h.1 k
 
   one_framed : (wanted : Wanted) (n : ℕ) (bs : List TextBlock) (xs ys : List Item) → AreFramed limits wanted n bs xs → AreFramed limits wanted n bs ys → xs ≡ ys
   one_framed wanted n [] xs ys h k = h ∙ sym k

@@ -2,11 +2,11 @@
 use Rattle.std.proofs.Common.{◌≡◌, ◌≢◌, ℕ, ◌<◌, Bool, true, false, List, [], ◌∷◌, ◌++◌, length, refl, sym, ◌∙◌, subst, Option, None, Some, Ok, slice_index, arith, append_assoc, append-nil}
 use Rattle.std.proofs.lemmas.Bool.{lt-leb}
 use Rattle.opgp_octets.specs.declared.limits.Limits.{Limits}
-use Rattle.opgp_octets.specs.Limits.{line_limit}
 use Rattle.opgp_armor.specs.declared.label.Label.{Label}
 use Rattle.opgp_armor.specs.declared.label.Label.TheVariants.{Message}
 use Rattle.opgp_armor.specs.declared.reader.Dearmor.{Dearmor}
-use Rattle.opgp_armor.specs.Fed.{Fed as FedText, is_ready, has_ended, count_of, line_limit_of}
+use Rattle.opgp_armor.specs.Rules.{line_rule}
+use Rattle.opgp_armor.specs.Fed.{Fed as FedText, is_ready, has_ended, count_of, rule_of}
 use Rattle.opgp_ring.specs.Composition.{Item}
 use Rattle.opgp_engine.specs.declared.framer.Framer.{Framer}
 use Rattle.opgp_engine.specs.declared.mode.Mode.{Mode}
@@ -38,13 +38,13 @@ module _ {T : Type 0} (fed_top : Limits → T → List Item → Type 0) (wanted 
 
   -- a first octet below 128 tells that the input is armored
   pub decide_text : (mode : Mode) (limits : Limits) (d : Dearmor) (old f : Framer T) (front : Front) (first : ℕ) (input : List ℕ) → front ≡ Undecided → Passed fed_top wanted mode limits front old input input → first < 128
-      → FedText d [] [] → is_ready d ≡ false → has_ended d ≡ false → line_limit_of d ≡ line_limit limits → count_of d ≡ 0 → has_begun f ≡ false
+      → FedText d [] [] → is_ready d ≡ false → has_ended d ≡ false → rule_of d ≡ line_rule limits → count_of d ≡ 0 → has_begun f ≡ false
       → ((limits : Limits) (done : List TextBlock) (was : Option Label) (octets : List ℕ) → Framed fed_top wanted limits old done was octets → Framed fed_top wanted limits f done (Some Message) [])
       → Passed fed_top wanted mode limits (Armored d) f (input ++ first ∷ []) input
-  decide_text mode limits d old f Undecided first input is passed small fed quiet going limit count begun step =
-      (text_told mode input first passed.0 passed.2 small, subst (Through fed_top wanted limits d f) (sym passed.2) (through_none fed_top wanted limits d f fed quiet going limit count begun (step limits [] None input passed.4)))
-  decide_text mode limits d old f Binary first input is passed small fed quiet going limit count begun step = cc
-  decide_text mode limits d old f (Armored e) first input is passed small fed quiet going limit count begun step = cc
+  decide_text mode limits d old f Undecided first input is passed small fed quiet going rule count begun step =
+      (text_told mode input first passed.0 passed.2 small, subst (Through fed_top wanted limits d f) (sym passed.2) (through_none fed_top wanted limits d f fed quiet going rule count begun (step limits [] None input passed.4)))
+  decide_text mode limits d old f Binary first input is passed small fed quiet going rule count begun step = cc
+  decide_text mode limits d old f (Armored e) first input is passed small fed quiet going rule count begun step = cc
 
   -- what the first octet of a piece tells, the piece tells
   pub piece_told : (mode : Mode) (limits : Limits) (front : Front) (f : Framer T) (input piece now : List ℕ) → 0 < length piece → front ≢ Undecided → Passed fed_top wanted mode limits front f (input ++ slice_index piece 0 ∷ []) now

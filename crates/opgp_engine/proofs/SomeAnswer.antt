@@ -6,7 +6,8 @@ use Rattle.std.proofs.lemmas.List.Elements.{All-append, All-nil, All-cons}
 use Rattle.opgp_octets.specs.Octets.{IsOctets}
 use Rattle.opgp_octets.specs.declared.fault.Fault.{Fault}
 use Rattle.opgp_octets.specs.declared.limits.Limits.{Limits}
-use Rattle.opgp_octets.specs.Limits.{input_limit, line_limit}
+use Rattle.opgp_octets.specs.Limits.{input_limit}
+use Rattle.opgp_armor.specs.Rules.{line_rule}
 use Rattle.opgp_armor.specs.Armored.{Block}
 use Rattle.opgp_frame.specs.declared.packet.Placed.{Placed}
 use Rattle.opgp_frame.specs.Frames.{StandFrom}
@@ -39,11 +40,11 @@ mapped_octets (b ∷ bs) all = (all.0, mapped_octets bs all.1)
 -- blocks hold octets
 text_octets : LayersAnswer → (limits : Limits) (binary : Bool) (input : List ℕ) (bs : List TextBlock) → IsOctets input → Holds binary limits input bs → HaveOctets bs
 text_octets w limits true input bs octets h = subst HaveOctets (sym h) (unfold HaveOctets in (octets, tt))
-text_octets w limits false input bs octets h = subst HaveOctets (sym h.2) (mapped_octets h.0 (w.armor_octets (line_limit limits) input h.0 h.1))
+text_octets w limits false input bs octets h = subst HaveOctets (sym h.2) (mapped_octets h.0 (w.armor_octets (line_rule limits) input h.0 h.1))
 
 some_text : LayersAnswer → (limits : Limits) (binary : Bool) (input : List ℕ) → IsOctets input → ((bs : List TextBlock) × Holds binary limits input bs) ⊎ ((f : Fault) × IsTextFault binary limits input f)
 some_text w limits true input octets = inl (_, refl)
-some_text w limits false input octets = elim (w.armor (line_limit limits) input limits.allowed.line_in.0 octets) [
+some_text w limits false input octets = elim (w.armor (line_rule limits) input limits.allowed.line_in.0 octets) [
   | inl h ↦ inl (map armored_block h.0, (h.0, h.1, refl))
   | inr k ↦ inr k
 ]

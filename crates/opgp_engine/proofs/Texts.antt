@@ -5,13 +5,13 @@ use Rattle.std.specs.List.{fold}
 use Rattle.std.specs.Result.{MatchResult, OnOk}
 use Rattle.opgp_octets.specs.declared.fault.Fault.{Fault}
 use Rattle.opgp_octets.specs.declared.limits.Limits.{Limits}
-use Rattle.opgp_octets.specs.Limits.{line_limit}
 use Rattle.opgp_armor.specs.declared.event.ArmorEvent.{ArmorEvent}
 use Rattle.opgp_armor.specs.declared.label.Label.TheVariants.{Message}
 use Rattle.opgp_armor.specs.declared.reader.Dearmor.{Dearmor}
 use Rattle.opgp_armor.specs.Armored.{Armored, Block, IsArmorFault}
 use Rattle.opgp_armor.specs.Events.{AreInOrder, Event, Begin, Header, Octets, End, Built, absorb, built, event_octets, events_of, is_open_behind}
-use Rattle.opgp_armor.specs.Fed.{Fed, events_so_far, is_ready, has_ended, count_of, line_limit_of}
+use Rattle.opgp_armor.specs.Rules.{LineRule, line_rule}
+use Rattle.opgp_armor.specs.Fed.{Fed, events_so_far, is_ready, has_ended, count_of, rule_of}
 use Rattle.opgp_ring.specs.Composition.{Item}
 use Rattle.opgp_engine.specs.declared.framer.Framer.{Framer}
 use Rattle.opgp_engine.specs.Reading.{Wanted, armored_block}
@@ -104,17 +104,17 @@ fed_end d given taken f = subst (λ (g : List ℕ). Fed d g taken) (append-nil g
 
 -- ---- what goes through
 module _ {T : Type 0} (fed_top : Limits → T → List Item → Type 0) (wanted : Wanted) where
-  pub through_none : (limits : Limits) (d : Dearmor) (f : Framer T) → Fed d [] [] → is_ready d ≡ false → has_ended d ≡ false → line_limit_of d ≡ line_limit limits → count_of d ≡ 0
+  pub through_none : (limits : Limits) (d : Dearmor) (f : Framer T) → Fed d [] [] → is_ready d ≡ false → has_ended d ≡ false → rule_of d ≡ line_rule limits → count_of d ≡ 0
       → has_begun f ≡ false → Framed fed_top wanted limits f [] (Some Message) [] → Through fed_top wanted limits d f []
   unfolding built
-  through_none limits d f fed quiet going limit count begun framed = record {
+  through_none limits d f fed quiet going rule count begun framed = record {
     taken = [];
     fed = fed;
     framed = framed;
     inside = λ t. absurd (not_both (has_begun f) t begun);
     quiet = quiet;
     going = going;
-    limit = limit;
+    rule = rule;
     count = count;
     few = omega arith;
   }
@@ -152,39 +152,39 @@ module _ {T : Type 0} (fed_top : Limits → T → List Item → Type 0) (wanted 
   -- one event more, or none
   pub through_more : (limits : Limits) (d e : Dearmor) (f h : Framer T) (input part : List ℕ) (event : Option ArmorEvent) (t : Through fed_top wanted limits d f input) → KeepsOrder → Fed e (input ++ part) (t.taken ++ events_of event)
       → ((limits : Limits) (b : Built) → FramesBuilt fed_top wanted limits f b → FramesBuilt fed_top wanted limits h (fold absorb b (events_of event))) → BegunAfter (has_begun f) (has_begun h) (events_of event)
-      → is_ready e ≡ false → has_ended e ≡ false → line_limit_of e ≡ line_limit_of d
+      → is_ready e ≡ false → has_ended e ≡ false → rule_of e ≡ rule_of d
       → count_of e ≡ count_of d + length part → count_of e < 2 ^ 63 → Through fed_top wanted limits e h (input ++ part)
-  through_more limits d e f h input part event t law fed step after quiet going limit count few = record {
+  through_more limits d e f h input part event t law fed step after quiet going rule count few = record {
     taken = t.taken ++ events_of event;
     fed = fed;
     framed = frames_more limits f h t.taken (events_of event) step t.framed;
     inside = stays_inside limits d e f h input (input ++ part) event t law fed quiet after;
     quiet = quiet;
     going = going;
-    limit = limit ∙ t.limit;
+    rule = rule ∙ t.rule;
     count = omega (arith, count, t.count, length-append input part);
     few = few;
   }
 
-  text_ends : (limits : Limits) (limit : ℕ) (h : Framer T) (input : List ℕ) (b : Built) (result : Result Unit Fault) → FramesBuilt fed_top wanted limits h b → limit ≡ line_limit limits
-      → MatchResult result (λ _. Armored limit input b.blocks) (IsArmorFault limit input) → (result ≡ Ok tt → has_begun h ≡ false) → IsEnd fed_top wanted false limits h input result
-  text_ends limits limit h input b (Ok tt) framed is armored closed = record {
+  text_ends : (limits : Limits) (rule : LineRule) (h : Framer T) (input : List ℕ) (b : Built) (result : Result Unit Fault) → FramesBuilt fed_top wanted limits h b → rule ≡ line_rule limits
+      → MatchResult result (λ _. Armored rule input b.blocks) (IsArmorFault rule input) → (result ≡ Ok tt → has_begun h ≡ false) → IsEnd fed_top wanted false limits h input result
+  text_ends limits rule h input b (Ok tt) framed is armored closed = record {
     blocks = map armored_block b.blocks;
-    holds = (b.blocks, subst (λ (n : ℕ). Armored n input b.blocks) is armored, refl);
+    holds = (b.blocks, subst (λ (n : LineRule). Armored n input b.blocks) is armored, refl);
     label = Some b.label;
     octets = b.octets;
     framed = framed;
     closed = closed refl;
   }
-  text_ends limits limit h input b (Err fault) framed is faulty closed = subst (λ (n : ℕ). IsArmorFault n input fault) is faulty
+  text_ends limits rule h input b (Err fault) framed is faulty closed = subst (λ (n : LineRule). IsArmorFault n input fault) is faulty
 
   -- the text has ended
   pub through_end : (limits : Limits) (d e : Dearmor) (f h : Framer T) (input : List ℕ) (event : Option ArmorEvent) (result : Result Unit Fault) (t : Through fed_top wanted limits d f input) → KeepsOrder
       → Fed e input (t.taken ++ events_of event) → is_ready e ≡ false
       → ((limits : Limits) (b : Built) → FramesBuilt fed_top wanted limits f b → FramesBuilt fed_top wanted limits h (fold absorb b (events_of event))) → BegunAfter (has_begun f) (has_begun h) (events_of event)
-      → line_limit_of e ≡ line_limit_of d
-      → MatchResult result (λ _. Armored (line_limit_of e) input (built (t.taken ++ events_of event)).blocks) (IsArmorFault (line_limit_of e) input)
+      → rule_of e ≡ rule_of d
+      → MatchResult result (λ _. Armored (rule_of e) input (built (t.taken ++ events_of event)).blocks) (IsArmorFault (rule_of e) input)
       → (result ≡ Ok tt → is_open_behind false (t.taken ++ events_of event) ≡ false) → IsEnd fed_top wanted false limits h input result
-  through_end limits d e f h input event result t law fed quiet step after limit answer closed =
-      text_ends limits (line_limit_of e) h input (built (t.taken ++ events_of event)) result (frames_more limits f h t.taken (events_of event) step t.framed) (limit ∙ t.limit) answer
+  through_end limits d e f h input event result t law fed quiet step after rule answer closed =
+      text_ends limits (rule_of e) h input (built (t.taken ++ events_of event)) result (frames_more limits f h t.taken (events_of event) step t.framed) (rule ∙ t.rule) answer
       (λ ok. false_of (has_begun h) (λ is. not_both (is_open_behind false (t.taken ++ events_of event)) (stays_inside limits d e f h input input event t law fed quiet after is) (closed ok)))

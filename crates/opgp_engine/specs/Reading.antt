@@ -6,8 +6,9 @@ use Rattle.opgp_octets.specs.declared.fault.Fault.{Fault}
 use Rattle.opgp_octets.specs.declared.fault.Layer.TheVariants.{Input}
 use Rattle.opgp_octets.specs.declared.fault.Reason.TheVariants.{InputTooLong}
 use Rattle.opgp_octets.specs.declared.limits.Limits.{Limits}
-use Rattle.opgp_octets.specs.Limits.{input_limit, line_limit}
+use Rattle.opgp_octets.specs.Limits.{input_limit}
 use Rattle.opgp_armor.specs.declared.label.Label.{Label}
+use Rattle.opgp_armor.specs.Rules.{line_rule}
 use Rattle.opgp_armor.specs.Armored.{Armored, Block, IsArmorFault}
 use Rattle.opgp_frame.specs.declared.packet.Placed.{Placed}
 use Rattle.opgp_frame.specs.Frames.{Frames, IsFramingFault}
@@ -38,7 +39,7 @@ armored_block b = record { label = Some b.label; octets = b.octets }
 abbrev pub Holds : Bool → Limits → List ℕ → List TextBlock → Type 0
 Holds true limits input blocks = blocks ≡ record { label = None; octets = input } ∷ []
 Holds false limits input blocks = (armored : List Block)
-    × Armored (line_limit limits) input armored × (blocks ≡ map armored_block armored)
+    × Armored (line_rule limits) input armored × (blocks ≡ map armored_block armored)
 
 -- the octets of all blocks, in order
 abbrev pub blocks_octets : List TextBlock → List ℕ
@@ -47,7 +48,7 @@ blocks_octets blocks = flat_map (λ b. b.octets) blocks
 -- the input is to be armored text, and this is its fault
 abbrev pub IsTextFault : Bool → Limits → List ℕ → Fault → Type 0
 IsTextFault true limits input f = ⊥
-IsTextFault false limits input f = IsArmorFault (line_limit limits) input f
+IsTextFault false limits input f = IsArmorFault (line_rule limits) input f
 
 -- ---- their packets
 -- which labels are accepted; a binary block has none

@@ -4,12 +4,12 @@ use Rattle.std.specs.Prelude.{Some, Result}
 use Rattle.std.specs.Result.{MatchResult}
 use Rattle.opgp_octets.specs.declared.fault.Fault.{Fault}
 use Rattle.opgp_octets.specs.declared.limits.Limits.{Limits}
-use Rattle.opgp_octets.specs.Limits.{line_limit}
 use Rattle.opgp_armor.specs.declared.label.Label.{Label}
 use Rattle.opgp_armor.specs.declared.reader.Dearmor.{Dearmor}
 use Rattle.opgp_armor.specs.Events.{Event, Begin, Header, Octets, End, Built, built}
 use Rattle.opgp_armor.specs.Events.{is_open_behind}
-use Rattle.opgp_armor.specs.Fed.{Fed, is_ready, has_ended, count_of, line_limit_of}
+use Rattle.opgp_armor.specs.Rules.{line_rule}
+use Rattle.opgp_armor.specs.Fed.{Fed, is_ready, has_ended, count_of, rule_of}
 use Rattle.opgp_ring.specs.Composition.{Item}
 use Rattle.opgp_engine.specs.declared.framer.Framer.{Framer}
 use Rattle.opgp_engine.specs.Reading.{TextBlock, Wanted, armored_block, Holds, IsTextFault}
@@ -49,7 +49,7 @@ pub record Through {T : Type 0} (fed_top : Limits → T → List Item → Type 0
   pub inside : has_begun f ≡ true → is_open_behind false taken ≡ true
   pub quiet : is_ready d ≡ false
   pub going : has_ended d ≡ false
-  pub limit : line_limit_of d ≡ line_limit limits
+  pub rule : rule_of d ≡ line_rule limits
   pub count : count_of d ≡ length input
   pub few : count_of d < 2 ^ 63
 

@@ -42,8 +42,8 @@ layer_of n =
 unfoldable pub reason_of : ℕ → Option Reason
 reason_of n =
     with_number reason_number n
-    (reason.Spent ∷ reason.Short ∷ reason.MpiBits ∷ reason.NoBlock ∷ reason.Label ∷ reason.Header
-    ∷ reason.Letters ∷ reason.Padding ∷ reason.AfterChecksum ∷ reason.EndLabel ∷ reason.Unfinished
+    (reason.Spent ∷ reason.Short ∷ reason.MpiBits ∷ reason.Outside ∷ reason.NoBlock ∷ reason.Label
+    ∷ reason.Header ∷ reason.Letters ∷ reason.Padding ∷ reason.AfterChecksum ∷ reason.EndLabel ∷ reason.Unfinished
     ∷ reason.LineTooLong ∷ reason.InputTooLong ∷ reason.NotAPacket ∷ reason.TypeZero
     ∷ reason.Compressed ∷ reason.UnknownCritical ∷ reason.Indeterminate ∷ reason.Truncated
     ∷ reason.PartialKind ∷ reason.FirstPartial ∷ reason.BodyTooLong ∷ reason.TooManyPieces

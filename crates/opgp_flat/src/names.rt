@@ -169,7 +169,7 @@ pub(crate) fn reason_of(number: u8) -> Option<Reason>
 {
     by_number! { number, Reason;
         1 Spent 2 Short 3 MpiBits
-        10 NoBlock 11 Label 12 Header 13 Letters 14 Padding 15 AfterChecksum 16 EndLabel
+        9 Outside 10 NoBlock 11 Label 12 Header 13 Letters 14 Padding 15 AfterChecksum 16 EndLabel
         17 Unfinished 18 LineTooLong 19 InputTooLong
         20 NotAPacket 21 TypeZero 22 Compressed 23 UnknownCritical 24 Indeterminate 25 Truncated
         26 PartialKind 27 FirstPartial 28 BodyTooLong 29 TooManyPieces

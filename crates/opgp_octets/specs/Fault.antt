@@ -21,6 +21,7 @@ abbrev pub reason_row : Reason → ℕ × List ℕ
 reason_row reason.Spent = (1, codes "Spent")
 reason_row reason.Short = (2, codes "Short")
 reason_row reason.MpiBits = (3, codes "MpiBits")
+reason_row reason.Outside = (9, codes "Outside")
 reason_row reason.NoBlock = (10, codes "NoBlock")
 reason_row reason.Label = (11, codes "Label")
 reason_row reason.Header = (12, codes "Header")

@@ -1,6 +1,7 @@
 -- The values of limits.
 use Rattle.std.specs.Prelude.{ℕ}
 use Rattle.opgp_octets.specs.declared.limits.Limits.{Limits}
+use Rattle.opgp_octets.specs.declared.outside.Outside.{Outside}
 
 -- the most octets of an armored line
 abbrev pub line_limit : Limits → ℕ
@@ -21,3 +22,7 @@ input_limit l = l.input
 -- the most partial lengths of a packet
 abbrev pub pieces_limit : Limits → ℕ
 pieces_limit l = l.pieces
+
+-- what becomes of lines outside of armored blocks
+abbrev pub outside_of : Limits → Outside
+outside_of l = l.outside

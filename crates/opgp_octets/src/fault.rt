@@ -27,6 +27,8 @@ pub enum Reason {
     Short = 2,
     /// A count of bits isn't that of the most significant bit.
     MpiBits = 3,
+    /// A line outside of blocks isn't blank, and the limits have [`crate::Outside::Refuse`].
+    Outside = 9,
     /// The text has no armored block.
     NoBlock = 10,
     /// A begin line has an unknown label.
@@ -185,7 +187,7 @@ impl Reason {
         ensures { result.now ≡ reason_name self }
     {
         names! { self, Reason;
-            Spent Short MpiBits NoBlock Label Header Letters Padding AfterChecksum EndLabel
+            Spent Short MpiBits Outside NoBlock Label Header Letters Padding AfterChecksum EndLabel
             Unfinished LineTooLong InputTooLong NotAPacket TypeZero Compressed UnknownCritical
             Indeterminate Truncated PartialKind FirstPartial BodyTooLong TooManyPieces KeyVersion
             KeyTooLong Count OidSize KdfSize Trailing SubEmpty SubShort AreaShort SaltSize

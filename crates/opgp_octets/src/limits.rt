@@ -4,6 +4,8 @@ ghost use Rattle.std.specs.Prelude.{◌≡◌, ◌↔◌, IsSome, IfSome, IsTrue
 ghost use Rattle.opgp_octets.specs.Ranges.{AreAllowed, IsIn, line_range, body_range, cert_range};
 ghost use Rattle.opgp_octets.specs.Ranges.{input_range, pieces_range};
 
+use crate::outside::Outside;
+
 /// The range of a limit, and its default.
 #[derive(Clone, Copy, Debug)]
 pub struct Range {
@@ -23,7 +25,8 @@ impl Range {
     }
 }
 
-/// The limits of what is read; a value equal to a limit is accepted.
+/// The limits of what is read; a value equal to a limit is accepted. With them goes what becomes of
+/// lines outside of armored blocks.
 #[derive(Clone, Copy, Debug)]
 pub struct Limits {
     line: u64,
@@ -31,12 +34,14 @@ pub struct Limits {
     cert: u64,
     input: u64,
     pieces: u64,
+    outside: Outside,
     ghost allowed: { AreAllowed line body cert input pieces },
 }
 
 impl Limits {
     ghost use Rattle.opgp_octets.specs.Limits.{line_limit, body_limit, cert_limit, input_limit};
-    ghost use Rattle.opgp_octets.specs.Limits.{pieces_limit};
+    ghost use Rattle.opgp_octets.specs.Limits.{pieces_limit, outside_of};
+    ghost use Rattle.opgp_octets.specs.declared.outside.Outside.TheVariants as policy;
 
     /// Octets of an armored line without its line feed.
     pub const LINE: Range = Range {
@@ -74,6 +79,7 @@ impl Limits {
     };
 
     /// These limits, or None where one is out of its range: [`Limits::LINE`] to [`Limits::PIECES`].
+    /// Lines outside of blocks are passed over.
     pub fn new(line: u64, body: u64, cert: u64, input: u64, pieces: u64) -> Option<Limits>
         ensures some { IsSome result ↔ AreAllowed line body cert input pieces }
         ensures line { IfSome result (λ l. line_limit l ≡ line) }
@@ -81,6 +87,7 @@ impl Limits {
         ensures cert { IfSome result (λ l. cert_limit l ≡ cert) }
         ensures input { IfSome result (λ l. input_limit l ≡ input) }
         ensures pieces { IfSome result (λ l. pieces_limit l ≡ pieces) }
+        ensures outside { IfSome result (λ l. outside_of l ≡ policy.Skip) }
     {
         let allowed = Limits::LINE.has(line)
             && Limits::BODY.has(body)
@@ -94,6 +101,7 @@ impl Limits {
                 cert,
                 input,
                 pieces,
+                outside: Outside::Skip,
             })
         } else {
             None
@@ -101,13 +109,15 @@ impl Limits {
     }
 
     /// The default limits: lines of 8,192 octets, bodies of 16,777,216, certificates of 67,108,864,
-    /// an input of 2^40, and 1,048,576 partial lengths of a packet.
+    /// an input of 2^40, and 1,048,576 partial lengths of a packet. Lines outside of blocks are passed
+    /// over.
     pub fn usual() -> Limits
         ensures line { line_limit result ≡ line_range.usual }
         ensures body { body_limit result ≡ body_range.usual }
         ensures cert { cert_limit result ≡ cert_range.usual }
         ensures input { input_limit result ≡ input_range.usual }
         ensures pieces { pieces_limit result ≡ pieces_range.usual }
+        ensures outside { outside_of result ≡ policy.Skip }
     {
         Limits {
             line: Limits::LINE.usual,
@@ -115,6 +125,26 @@ impl Limits {
             cert: Limits::CERT.usual,
             input: Limits::INPUT.usual,
             pieces: Limits::PIECES.usual,
+            outside: Outside::Skip,
+        }
+    }
+
+    /// The same limits, with this policy for lines outside of armored blocks.
+    pub fn with_outside(self, outside: Outside) -> Limits
+        ensures line { line_limit result ≡ line_limit self }
+        ensures body { body_limit result ≡ body_limit self }
+        ensures cert { cert_limit result ≡ cert_limit self }
+        ensures input { input_limit result ≡ input_limit self }
+        ensures pieces { pieces_limit result ≡ pieces_limit self }
+        ensures outside { outside_of result ≡ outside }
+    {
+        Limits {
+            line: self.line,
+            body: self.body,
+            cert: self.cert,
+            input: self.input,
+            pieces: self.pieces,
+            outside,
         }
     }
 
@@ -156,5 +186,12 @@ impl Limits {
         ensures range { IsIn pieces_range result }
     {
         self.pieces
+    }
+
+    /// What becomes of lines outside of armored blocks.
+    pub fn outside(self) -> Outside
+        ensures { result ≡ outside_of self }
+    {
+        self.outside
     }
 }

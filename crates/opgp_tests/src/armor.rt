@@ -1,7 +1,7 @@
 //! Armor, by vectors of RFC 9580 and by hand.
 
 use opgp_armor::{ArmorEvent, Block, Dearmor, Label, armor, dearmor};
-use opgp_octets::{Fault, Layer, Limits, PushFault, Reason, fault_line};
+use opgp_octets::{Fault, Layer, Limits, Outside, PushFault, Reason, fault_line};
 use std::alloc::{AllocError, Global};
 use std::process::Abort;
 use std::test::Fail;
@@ -266,6 +266,70 @@ fn texts_and_their_faults(rt: HostRuntime) -> Result<(), Fail> {
     }
     for (rest, want) in BLOCKS {
         let text = joined(rt.alloc(), &[BEGIN, rest], b"")?;
+        let got = answer(&rt, rt.alloc(), text.as_slice(), &limits)?;
+        assert_eq!(rt; got.as_str(), want);
+    }
+    Ok(())
+}
+
+// What stands before the key's block and after it, and the answer where only blank lines may.
+const OUTSIDE: [(&[u8], &[u8], &str); 8] = [
+    (b"", b"", "PublicKeyBlock 0 53;"),
+    (b"\n \t\r\n", b" \r\n\n\t", "PublicKeyBlock 0 53;"),
+    (b"hello\n", b"", "armor: Outside block 0 at 0 inner 0"),
+    (b"\n hello", b"\n", "armor: Outside block 0 at 1 inner 0"),
+    (
+        b"> -----BEGIN PGP MESSAGE-----\n",
+        b"",
+        "armor: Outside block 0 at 0 inner 0",
+    ),
+    (
+        b"",
+        b"\xC6\x33\x04",
+        "armor: Outside block 1 at 147 inner 0",
+    ),
+    (
+        b"",
+        b"\n -----BEGIN PGP \n",
+        "armor: Outside block 1 at 148 inner 0",
+    ),
+    (
+        b"",
+        b"-----BEGIN PGP \n",
+        "armor: Label block 1 at 147 inner 0",
+    ),
+];
+
+#[test]
+fn lines_outside_refused(rt: HostRuntime) -> Result<(), Fail> {
+    let limits = Limits::usual().with_outside(Outside::Refuse);
+    for (before, after, want) in OUTSIDE {
+        let text = joined(rt.alloc(), &[before, BEGIN, b"\n", DATA, END, after], b"")?;
+        let got = answer(&rt, rt.alloc(), text.as_slice(), &limits)?;
+        assert_eq!(rt; got.as_str(), want);
+    }
+    Ok(())
+}
+
+// How many blanks a line before the block has, what follows them there, and the answer under a limit of 128.
+const BLANKS: [(usize, &[u8], &str); 4] = [
+    (128, b"", "PublicKeyBlock 0 53;"),
+    (129, b"", "armor: LineTooLong block 0 at 0 inner 0"),
+    (128, b"x", "armor: Outside block 0 at 0 inner 0"),
+    (129, b"x", "armor: LineTooLong block 0 at 0 inner 0"),
+];
+
+#[test]
+fn long_lines_outside_refused(rt: HostRuntime) -> Result<(), Fail> {
+    let limits = Limits::new(128, 512, 512, 0, 1).ok_or("limits")?;
+    let limits = limits.with_outside(Outside::Refuse);
+    for (count, behind, want) in BLANKS {
+        let blanks = vec![in rt.alloc(); b' '; count]?;
+        let text = joined(
+            rt.alloc(),
+            &[blanks.as_slice(), behind, b"\n", BEGIN, b"\n", DATA, END],
+            b"",
+        )?;
         let got = answer(&rt, rt.alloc(), text.as_slice(), &limits)?;
         assert_eq!(rt; got.as_str(), want);
     }

@@ -1,7 +1,7 @@
 use opgp_octets::{
-    BodyFault, Fault, Layer, Limits, Mpi, MpiFault, MpiView, PacketLen, ParseFault, PushFault,
-    Reason, SubLen, fault_line, read_len, read_sub_len, shortest, write_hexadecimal, write_len,
-    write_sub_len,
+    BodyFault, Fault, Layer, Limits, Mpi, MpiFault, MpiView, Outside, PacketLen, ParseFault,
+    PushFault, Reason, SubLen, fault_line, read_len, read_sub_len, shortest, write_hexadecimal,
+    write_len, write_sub_len,
 };
 use std::alloc::Global;
 use std::fmt::Display;
@@ -130,6 +130,9 @@ fn limits_at_each_edge(rt: HostRuntime) {
         );
     }
     assert!(rt; Limits::usual().line() == 8192);
+    assert!(rt; Limits::usual().outside() == Outside::Skip);
+    let strict = Limits::usual().with_outside(Outside::Refuse);
+    assert!(rt; strict.outside() == Outside::Refuse && strict.pieces() == 1_048_576);
 }
 
 // The table of docs/FORMAT.md, "Faults".
@@ -137,6 +140,7 @@ const REASONS: &[(u8, Reason, &str)] = &[
     (1, Reason::Spent, "Spent"),
     (2, Reason::Short, "Short"),
     (3, Reason::MpiBits, "MpiBits"),
+    (9, Reason::Outside, "Outside"),
     (10, Reason::NoBlock, "NoBlock"),
     (11, Reason::Label, "Label"),
     (12, Reason::Header, "Header"),

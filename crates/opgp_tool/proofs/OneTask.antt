@@ -93,6 +93,7 @@ one_limits : (options : List Row) (a b : Limits) → HasLimits options a → Has
 one_limits options a b m n = same_limits a b (one_number options _ _ _ m.line n.line)
     (one_number options _ _ _ m.body n.body) (one_number options _ _ _ m.cert n.cert)
     (one_number options _ _ _ m.input n.input) (one_number options _ _ _ m.pieces n.pieces)
+    (m.outside ∙ sym n.outside)
 
 abbrev task_with : Mode → Limits → Action → Task
 task_with mode limits action = record { mode = mode; limits = limits; action = action }

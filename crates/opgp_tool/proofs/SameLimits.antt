@@ -1,16 +1,18 @@
--- Limits are their numbers.
-use Rattle.std.proofs.Common.{◌≡◌, ap, subst, ℕ}
+-- Limits are their numbers and their policy.
+use Rattle.std.proofs.Common.{◌≡◌, ◌∙◌, ap, subst, ℕ}
 use Rattle.std.proofs.Props.{props}
 use Rattle.opgp_octets.specs.Ranges.{AreAllowed}
 use Rattle.opgp_octets.specs.declared.limits.Limits.{Limits}
+use Rattle.opgp_octets.specs.declared.outside.Outside.{Outside}
 
-abbrev of : (line body cert input pieces : ℕ) → AreAllowed line body cert input pieces → Limits
-of line body cert input pieces allowed = record {
+abbrev with_policy : (o : Outside) (line body cert input pieces : ℕ) → AreAllowed line body cert input pieces → Limits
+with_policy o line body cert input pieces allowed = record {
   line = line;
   body = body;
   cert = cert;
   input = input;
   pieces = pieces;
+  outside = o;
   allowed = allowed;
 }
 
@@ -18,7 +20,10 @@ of line body cert input pieces allowed = record {
 allowed-prop : (line body cert input pieces : ℕ) → IsProp (AreAllowed line body cert input pieces)
 allowed-prop line body cert input pieces = hlevel props
 
-module _ (l b c i p : ℕ) (h : AreAllowed l b c i p) where
+module _ (o : Outside) (l b c i p : ℕ) (h : AreAllowed l b c i p) where
+  abbrev of : (line body cert input pieces : ℕ) → AreAllowed line body cert input pieces → Limits
+  of = with_policy o
+
   one : (k : AreAllowed l b c i p) → of l b c i p h ≡ of l b c i p k
   one k = ap (of l b c i p) (allowed-prop l b c i p h k)
 
@@ -48,6 +53,8 @@ module _ (l b c i p : ℕ) (h : AreAllowed l b c i p) where
       (five p2 i2 c2 b2 e f g m)
 
 pub same_limits : (a b : Limits) → a.line ≡ b.line → a.body ≡ b.body → a.cert ≡ b.cert
-    → a.input ≡ b.input → a.pieces ≡ b.pieces → a ≡ b
-same_limits a b line body cert input pieces = six a.line a.body a.cert a.input a.pieces a.allowed
+    → a.input ≡ b.input → a.pieces ≡ b.pieces → a.outside ≡ b.outside → a ≡ b
+same_limits a b line body cert input pieces outside =
+    six a.outside a.line a.body a.cert a.input a.pieces a.allowed
     b.pieces b.input b.cert b.body b.line pieces input cert body line b.allowed
+    ∙ ap (λ (o : Outside). with_policy o b.line b.body b.cert b.input b.pieces b.allowed) outside

@@ -45,6 +45,9 @@ number_rule name = valued_rule name (parser.Unsigned 0 18446744073709551615)
 abbrev pub mode_rule : Choice → Rule
 mode_rule modes = choice_rule (codes "mode") modes (codes "auto")
 
+abbrev pub outside_rule : Choice → Rule
+outside_rule policies = choice_rule (codes "outside") policies (codes "skip")
+
 abbrev pub out_rule : Choice → Rule
 out_rule outs = choice_rule (codes "out") outs (codes "armor")
 
@@ -95,9 +98,12 @@ spool_rule = text_rule (codes "spool")
 abbrev pub key_rule : Rule
 key_rule = text_rule (codes "key")
 
--- the values of `--mode`, `--out` and `--of`
+-- the values of `--mode`, `--outside`, `--out` and `--of`
 abbrev pub AreModes : Choice → Type 0
 AreModes modes = words_in modes ≡ codes "auto" ∷ codes "armor" ∷ codes "binary" ∷ []
+
+abbrev pub ArePolicies : Choice → Type 0
+ArePolicies policies = words_in policies ≡ codes "skip" ∷ codes "refuse" ∷ []
 
 abbrev pub AreOuts : Choice → Type 0
 AreOuts outs = words_in outs ≡ codes "armor" ∷ codes "binary" ∷ []
@@ -110,20 +116,30 @@ abbrev pub with_limits : App → App
 with_limits app = with_rule (with_rule (with_rule (with_rule (with_rule app line_rule) body_rule)
     cert_rule) input_rule) pieces_rule
 
--- the command of this name takes the mode, the limits, `--progress`, `--spool`, and these options
-abbrev pub command_shape : Text → Choice → List Rule → Shape
-command_shape name modes more = record (new_shape name) {
-  rules = mode_rule modes ∷ line_rule ∷ body_rule ∷ cert_rule ∷ input_rule ∷ pieces_rule
-      ∷ progress_rule ∷ spool_rule ∷ more;
+-- the values of the two options of every command that take one of some words
+pub record Choices : Type 0 where
+  pub modes : Choice
+  pub policies : Choice
+
+pub record AreChoices (choices : Choices) : Type 0 where
+  pub modes : AreModes choices.modes
+  pub policies : ArePolicies choices.policies
+
+-- the command of this name takes the mode, the policy for lines outside, the limits, `--progress`,
+-- `--spool`, and these options
+abbrev pub command_shape : Text → Choices → List Rule → Shape
+command_shape name choices more = record (new_shape name) {
+  rules = mode_rule choices.modes ∷ outside_rule choices.policies ∷ line_rule ∷ body_rule
+      ∷ cert_rule ∷ input_rule ∷ pieces_rule ∷ progress_rule ∷ spool_rule ∷ more;
 }
 
 pub record IsCommand (name : Text) (more : List Rule) (c : Command) : Type 0 where
-  pub modes : Choice
-  pub are_modes : AreModes modes
-  pub app : app_of c ≡ record { top = command_shape name modes more; subs = [] }
+  pub choices : Choices
+  pub are_choices : AreChoices choices
+  pub app : app_of c ≡ record { top = command_shape name choices more; subs = [] }
 
-abbrev pub AllModes : List Choice → Type 0
-AllModes = AllByRecursion AreModes
+abbrev pub AllChoices : List Choices → Type 0
+AllChoices = AllByRecursion AreChoices
 
 abbrev pub AllOuts : List Choice → Type 0
 AllOuts = AllByRecursion AreOuts
@@ -135,9 +151,9 @@ bare_program = record {
   subs = [];
 }
 
--- the eight commands, in order, each with its own values for `--mode`, `--of` and `--out`
-abbrev pub program_of : (show list check octets write normalise split join tops : Choice)
-    → (write_outs normalise_outs split_outs join_outs : Choice) → App
+-- the eight commands, in order, each with its own values for `--mode`, `--outside`, `--of` and `--out`
+abbrev pub program_of : (show list check octets write normalise split join : Choices)
+    → (tops write_outs normalise_outs split_outs join_outs : Choice) → App
 program_of show list check octets write normalise split join tops
     write_outs normalise_outs split_outs join_outs = record {
       top = record (new_shape (codes "opgp")) { subcommand_required = true; is_leaf = false };
@@ -154,16 +170,16 @@ program_of show list check octets write normalise split join tops
     }
 
 pub record IsProgram (program : App) : Type 0 where
-  pub show_modes : Choice
-  pub list_modes : Choice
-  pub check_modes : Choice
-  pub octets_modes : Choice
-  pub write_modes : Choice
-  pub normalise_modes : Choice
-  pub split_modes : Choice
-  pub join_modes : Choice
-  pub are_modes : AllModes (show_modes ∷ list_modes ∷ check_modes ∷ octets_modes ∷ write_modes
-      ∷ normalise_modes ∷ split_modes ∷ join_modes ∷ [])
+  pub show_choices : Choices
+  pub list_choices : Choices
+  pub check_choices : Choices
+  pub octets_choices : Choices
+  pub write_choices : Choices
+  pub normalise_choices : Choices
+  pub split_choices : Choices
+  pub join_choices : Choices
+  pub are_choices : AllChoices (show_choices ∷ list_choices ∷ check_choices ∷ octets_choices
+      ∷ write_choices ∷ normalise_choices ∷ split_choices ∷ join_choices ∷ [])
   pub tops : Choice
   pub are_tops : AreTops tops
   pub write_outs : Choice
@@ -171,8 +187,9 @@ pub record IsProgram (program : App) : Type 0 where
   pub split_outs : Choice
   pub join_outs : Choice
   pub are_outs : AllOuts (write_outs ∷ normalise_outs ∷ split_outs ∷ join_outs ∷ [])
-  pub is : program ≡ program_of show_modes list_modes check_modes octets_modes write_modes
-      normalise_modes split_modes join_modes tops write_outs normalise_outs split_outs join_outs
+  pub is : program ≡ program_of show_choices list_choices check_choices octets_choices
+      write_choices normalise_choices split_choices join_choices
+      tops write_outs normalise_outs split_outs join_outs
 
 -- the command line names a command of this program, and asks for what its name and its options say
 abbrev pub SaysTask : App → List Text → Asked → Type 0

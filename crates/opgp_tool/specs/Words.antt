@@ -6,6 +6,9 @@ use Rattle.std.specs.Str.Parse.{IsNumeral, digits_value, without_leading_plus}
 use Rattle.clap.specs.Words.{Row, Text, first_of, one_of}
 use Rattle.opgp_octets.specs.declared.limits.Limits.{Limits}
 use Rattle.opgp_octets.specs.Limits.{line_limit, body_limit, cert_limit, input_limit, pieces_limit}
+use Rattle.opgp_octets.specs.Limits.{outside_of as policy_of}
+use Rattle.opgp_octets.specs.declared.outside.Outside.{Outside}
+use Rattle.opgp_octets.specs.declared.outside.Outside.TheVariants as outside
 use Rattle.opgp_engine.specs.declared.mode.Mode.{Mode}
 use Rattle.opgp_engine.specs.declared.mode.Mode.TheVariants as mode
 use Rattle.opgp_engine.specs.declared.out.Out.{Out}
@@ -35,6 +38,12 @@ mode_of None = mode.Auto
 mode_of (Some word) = if bytes_eq word (codes "armor") then mode.Armor
     else (if bytes_eq word (codes "binary") then mode.Binary else mode.Auto)
 
+-- `--outside`: `refuse`, or else `skip`
+abbrev pub outside_of : Option Text → Outside
+outside_of None = outside.Skip
+outside_of (Some word) =
+    if bytes_eq word (codes "refuse") then outside.Refuse else outside.Skip
+
 -- `--out`: `binary`, or else `armor`
 abbrev pub out_of : Option Text → Out
 out_of None = out.Armor
@@ -60,13 +69,14 @@ abbrev pub is_given : Option Text → Bool
 is_given None = false
 is_given (Some word) = bytes_eq word (codes "true")
 
--- each limit is the number of the option of its name
+-- each limit is the number of the option of its name, and the policy is that of `--outside`
 pub record HasLimits (options : List Row) (limits : Limits) : Type 0 where
   pub line : HasNumber options (codes "line") (line_limit limits)
   pub body : HasNumber options (codes "body") (body_limit limits)
   pub cert : HasNumber options (codes "cert") (cert_limit limits)
   pub input : HasNumber options (codes "input") (input_limit limits)
   pub pieces : HasNumber options (codes "pieces") (pieces_limit limits)
+  pub outside : policy_of limits ≡ outside_of (first_of (codes "outside") options)
 
 -- the action of the command of this name with these options
 abbrev pub IsAction : Text → List Row → Action → Type 0

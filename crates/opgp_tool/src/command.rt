@@ -2,7 +2,8 @@
 
 ghost use Rattle.std.specs.Prelude.{◌≡◌, true, false, IfOk, IsOkAnd, [], ◌∷◌, codes};
 ghost use Rattle.clap.specs.Words.{rule_of, app_of, shape_of, with_rule, with_subcommand};
-ghost use Rattle.opgp_tool.specs.Program.{Choice, AreModes, AreOuts, AreTops, mode_rule, out_rule};
+ghost use Rattle.opgp_tool.specs.Program.{Choice, AreModes, ArePolicies, AreOuts, AreTops};
+ghost use Rattle.opgp_tool.specs.Program.{mode_rule, outside_rule, out_rule};
 ghost use Rattle.opgp_tool.specs.Program.{of_rule, limit_rule, row_rule, nth_rule, flag_rule, merge_rule, key_rule};
 ghost use Rattle.opgp_tool.specs.Program.{text_rule, values_rule, with_limits};
 ghost use Rattle.opgp_tool.specs.Program.{IsCommand, IsProgram, bare_program};
@@ -17,6 +18,8 @@ use opgp_octets::{Limits, OutOfMemory, Range};
 use std::alloc::Global;
 
 static MODES: [&str; 3] = ["auto", "armor", "binary"];
+
+static POLICIES: [&str; 2] = ["skip", "refuse"];
 
 static OUTS: [&str; 2] = ["armor", "binary"];
 
@@ -34,6 +37,20 @@ fn mode_option<'a>(alloc: Global) -> Arg<'a>
         .value_parser(MODES.as_slice())
         .default_value("auto")
         .help("How the input is read")
+}
+
+/// `--outside`: what becomes of lines outside of armored blocks.
+fn outside_option<'a>(alloc: Global) -> Arg<'a>
+    ensures rule { (words : Choice) × ArePolicies words × (rule_of result ≡ outside_rule words) }
+    ensures own { result.global ≡ false }
+{
+    Arg::new(alloc, "outside")
+        .long("outside")
+        .value_name("POLICY")
+        .action(ArgAction::Set)
+        .value_parser(POLICIES.as_slice())
+        .default_value("skip")
+        .help("What becomes of lines outside of armored blocks")
 }
 
 /// `--out`: how keyrings are written.
@@ -187,7 +204,9 @@ fn new_command<'a>(
     ensures { IfOk result (IsCommand name.entry.now []) }
 {
     let command = Command::new(alloc, name).about(about).after_help(more);
-    let command = with_limits(alloc, with_option(command, mode_option(alloc))?)?;
+    let command = with_option(command, mode_option(alloc))?;
+    let command = with_option(command, outside_option(alloc))?;
+    let command = with_limits(alloc, command)?;
     let help = "Shows on standard error how much was read";
     let command = with_option(command, flag_option(alloc, "progress", help))?;
     let help = "Holds the output in a file in this directory";

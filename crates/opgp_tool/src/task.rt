@@ -7,7 +7,8 @@ ghost use Rattle.clap.specs.declared.error.kind.ErrorKind.TheVariants.{OutOfMemo
 ghost use Rattle.opgp_stack.specs.declared.task.Action.{Action};
 ghost use Rattle.opgp_stack.specs.declared.task.Task.{Task};
 ghost use Rattle.opgp_octets.specs.declared.limits.Limits.{Limits};
-ghost use Rattle.opgp_tool.specs.Words.{mode_of, out_of, top_of, is_given, HasNumber, HasLimits};
+ghost use Rattle.opgp_tool.specs.Words.{mode_of, outside_of, out_of, top_of, is_given};
+ghost use Rattle.opgp_tool.specs.Words.{HasNumber, HasLimits};
 ghost use Rattle.opgp_tool.specs.Words.{Asked, IsAction, IsNth, IsRequest, IsTask, asked_by};
 ghost use Rattle.opgp_tool.specs.Program.{IsProgram, SaysNone, SaysTask};
 ghost use Rattle.opgp_tool.specs.declared.task.Usage.TheVariants.{Memory};
@@ -15,7 +16,7 @@ ghost use Rattle.opgp_tool.specs.declared.task.Usage.TheVariants.{Memory};
 use crate::command::program;
 use clap::error::ErrorKind;
 use clap::{ArgMatches, Error};
-use opgp_octets::{Limits, OutOfMemory};
+use opgp_octets::{Limits, OutOfMemory, Outside};
 use opgp_stack::{Action, KeyName, Mode, Out, Task, Top};
 use std::alloc::Global;
 use std::convert::AsStr;
@@ -58,6 +59,15 @@ fn mode_of(matches: &ArgMatches) -> Mode
         Some("armor") => Mode::Armor,
         Some("binary") => Mode::Binary,
         _ => Mode::Auto,
+    }
+}
+
+fn outside_of(matches: &ArgMatches) -> Outside
+    ensures { result ≡ outside_of (first_of (codes "outside") (rows_of (found_of matches.now))) }
+{
+    match word_of(matches, "outside") {
+        Some("refuse") => Outside::Refuse,
+        _ => Outside::Skip,
     }
 }
 
@@ -119,7 +129,8 @@ fn limits_of(matches: &ArgMatches) -> Option<Limits>
     let cert = number_of(matches, "cert")?;
     let input = number_of(matches, "input")?;
     let pieces = number_of(matches, "pieces")?;
-    Limits::new(line, body, cert, input, pieces)
+    let limits = Limits::new(line, body, cert, input, pieces)?;
+    Some(limits.with_outside(outside_of(matches)))
 }
 
 /// What `split` writes: every certificate, that of a number, or those with a key.

@@ -25,6 +25,6 @@ returns-clause-text c =
     t5 ∙ assembled b e hs (letter_lines (base64_of c.args.octets.now))
 
 pub returns-clause-block : goal.returns-clause-block
-returns-clause-block c = λ limit large within.
-    subst (λ (v : List ℕ). Armored limit v (record { label = c.args.label; headers = headers_of c.args.headers.now; octets = c.args.octets.now } ∷ [])) (sym (returns-clause-text c))
-    (written_armored limit c.args.label (headers_of c.args.headers.now) c.args.octets.now large (λ i. omega (arith, c.type_inv.octets i)) c.requires within)
+returns-clause-block c = λ rule large within.
+    subst (λ (v : List ℕ). Armored rule v (record { label = c.args.label; headers = headers_of c.args.headers.now; octets = c.args.octets.now } ∷ [])) (sym (returns-clause-text c))
+    (written_armored rule c.args.label (headers_of c.args.headers.now) c.args.octets.now large (λ i. omega (arith, c.type_inv.octets i)) c.requires within)

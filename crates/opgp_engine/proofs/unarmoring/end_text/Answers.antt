@@ -20,4 +20,4 @@ pub returns : goal.returns
 returns g c limits input t =
     let fed = fed_end _ _ _ (c.in-Ok.ensures.fed _ _ t.fed) in
     through_end g.T.Receiver.fed g.T.Receiver.wanted limits c.args.dearmor c.last.new.self c.args.framer.now c.absorb.new.framer input c.in-Ok.event c.finish.result t c.events_are_in_order.ensures fed c.in-Ok.ensures.free
-    c.in_ok-absorb.ensures.framed c.in_ok-absorb.ensures.begun c.in-Ok.ensures.limits (c.finish.ensures.ok _ _ fed) (λ ok. on_ok c.finish.result _ c.finish.ensures.closed ok _ _ fed)
+    c.in_ok-absorb.ensures.framed c.in_ok-absorb.ensures.begun c.in-Ok.ensures.rule (c.finish.ensures.ok _ _ fed) (λ ok. on_ok c.finish.result _ c.finish.ensures.closed ok _ _ fed)

@@ -45,27 +45,27 @@ returns c = IfOk-weaker c.with_command-8.result _ _ (λ r last.
     let eight = join.2 (ap plain_of join.1.2.app)
     ∙ ap₂ with_subcommand seven (ap top_of join.1.2.app) in
     record {
-      show_modes = show.1.modes;
-      list_modes = list.1.modes;
-      check_modes = check.1.modes;
-      octets_modes = octets.1.2.modes;
-      write_modes = write.1.2.modes;
-      normalise_modes = normalise.1.2.modes;
-      split_modes = split.1.2.modes;
-      join_modes = join.1.2.modes;
-      are_modes = (
-        show.1.are_modes,
+      show_choices = show.1.choices;
+      list_choices = list.1.choices;
+      check_choices = check.1.choices;
+      octets_choices = octets.1.2.choices;
+      write_choices = write.1.2.choices;
+      normalise_choices = normalise.1.2.choices;
+      split_choices = split.1.2.choices;
+      join_choices = join.1.2.choices;
+      are_choices = (
+        show.1.are_choices,
         (
-          list.1.are_modes,
+          list.1.are_choices,
           (
-            check.1.are_modes,
+            check.1.are_choices,
             (
-              octets.1.2.are_modes,
+              octets.1.2.are_choices,
               (
-                write.1.2.are_modes,
+                write.1.2.are_choices,
                 (
-                  normalise.1.2.are_modes,
-                  (split.1.2.are_modes, (join.1.2.are_modes, tt)),
+                  normalise.1.2.are_choices,
+                  (split.1.2.are_choices, (join.1.2.are_choices, tt)),
                 ),
               ),
             ),

@@ -9,5 +9,5 @@ parts-init c = pushed_none c.args.self.now c.args.piece.now c.if-self.false c.re
 pub parts-preserved : goal.parts-preserved
 parts-preserved c =
     let e = c.in-Ok.ensures in
-    pushed_more c.args.self.now c.parts.self c.part.new.self c.args.piece.now c.parts.taken c.in-Ok.n c.parts.invariant e.moves.0 e.moves.1 e.count e.spent e.«open» e.limits e.fed
+    pushed_more c.args.self.now c.parts.self c.part.new.self c.args.piece.now c.parts.taken c.in-Ok.n c.parts.invariant e.moves.0 e.moves.1 e.count e.spent e.«open» e.rule e.fed
     (λ f is. let s = e.faulty f is in (s.1, s.2)) e.quiet

@@ -1,5 +1,5 @@
 use Rattle.std.proofs.Common.{◌∙◌, ap, arith}
-use Rattle.opgp_octets.specs.Limits.{line_limit}
+use Rattle.opgp_armor.specs.Rules.{line_rule}
 use Rattle.opgp_engine.proofs.Passing.{decide_text, undecided_fresh}
 use Rattle.opgp_engine.proofs.pipeline.Pipeline.decide.Goals as goal
 
@@ -12,5 +12,5 @@ pub returns-else-first-ge128-clause-passed : goal.returns-else-first-ge128-claus
 returns-else-first-ge128-clause-passed g c mode limits input f =
     let p = c.args.self.now in
     let d = c.new.ensures in
-    decide_text g.T.Receiver.fed g.T.Receiver.wanted mode limits c.new.result p.framer c.begin.new.self p.front c.args.first input c.in-Undecided.is f.passed (omega arith) d.fed d.free d.«open» (d.limits ∙ ap line_limit f.limits_kept) d.count
+    decide_text g.T.Receiver.fed g.T.Receiver.wanted mode limits c.new.result p.framer c.begin.new.self p.front c.args.first input c.in-Undecided.is f.passed (omega arith) d.fed d.free d.«open» (d.rule ∙ ap line_rule f.limits_kept) d.count
     c.begin.ensures.begun c.begin.ensures.framed

@@ -13,6 +13,6 @@ returns-in-Armor-clause-fed g c =
       count = p.given;
       passed = subst (λ (v : Front). Passed g.T.Receiver.fed g.T.Receiver.wanted c.args.mode c.args.limits v c.over-in-Armor.result.framer [] []) (sym p.front) (
         (λ more. rw c.in-Armor.is refl),
-        through_none g.T.Receiver.fed g.T.Receiver.wanted c.args.limits c.new.result c.over-in-Armor.result.framer d.fed d.free d.«open» d.limits d.count p.begun p.framed,
+        through_none g.T.Receiver.fed g.T.Receiver.wanted c.args.limits c.new.result c.over-in-Armor.result.framer d.fed d.free d.«open» d.rule d.count p.begun p.framed,
       );
     }

@@ -67,8 +67,8 @@ pub mod packet {
 /// What can be said of each signature of a keyring.
 pub mod report {
     pub use opgp_report::{
-        Finding, Job, KeyIndex, LeftOctets, Place, Report, Row, Verdict, Verifier, Visitor, check,
-        index_keys, laws, question_at, signer, visit,
+        Finding, IssuerName, Job, KeyIndex, LeftOctets, Place, Report, Reporting, Row, Verdict,
+        Verifier, Visitor, check, index_keys, issuer_named, laws, question_at, signer, visit,
     };
 }
 

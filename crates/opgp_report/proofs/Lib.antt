@@ -2,6 +2,8 @@ pub mod Asking
 mod FirstLaws
 mod NamedKeys
 mod Numbered
+mod Reported
 mod Rewriting
 mod Scanning
 mod Standing
+mod Unsigned

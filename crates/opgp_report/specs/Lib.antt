@@ -2,9 +2,12 @@ pub mod Asked
 pub mod Reporter
 pub mod First
 pub mod Left
+pub mod IssuerName
 pub mod KeyIndex
 pub mod Report
+pub mod Reporting
 pub mod Row
+pub mod RowMaker
 pub mod RowValue
 pub mod Signer
 pub mod Signers

@@ -9,6 +9,7 @@ use Rattle.opgp_packet.specs.SignatureBody.{SignatureValue, signature_at}
 use Rattle.opgp_hash.specs.declared.why.Why.TheVariants.{Opaque}
 use Rattle.opgp_hash.specs.Digest.{digest_of}
 use Rattle.opgp_hash.specs.KeyId.{id_of}
+use Rattle.opgp_hash.specs.QuestionValue.{QuestionValue}
 use Rattle.opgp_frame.specs.Header.{is_type}
 use Rattle.opgp_ring.specs.Keyring.{CertificateValue, ComponentValue, KeyringValue}
 use Rattle.opgp_report.specs.declared.verifier.Verdict.{Verdict}
@@ -37,12 +38,16 @@ signer_in keys v = option_and_then (λ i. slice_get keys i) (signer_of (map prin
 abbrev pub Says : Type 0
 Says = JobValue → Verdict
 
+-- what is found of a signature that is hashed, whose issuer's key is this one
+abbrev pub finding_by : Says → Option (List ℕ) → SignatureValue → QuestionValue → FindingValue
+finding_by says signer v q =
+    asked_with q.kind q.hash (option_map (λ body. id_of (print_of body)) signer) (digest_of q)
+    (says (record { signature = v; digest = digest_of q; signer = signer }))
+
 module _ (says : Says) (keys : List (List ℕ)) where
   abbrev pub finding_of : SignatureValue → Asked → FindingValue
   finding_of v (Err why) = not_asked why
-  finding_of v (Ok q) = asked_with q.kind q.hash
-      (option_map (λ body. id_of (print_of body)) (signer_in keys v)) (digest_of q)
-      (says (record { signature = v; digest = digest_of q; signer = signer_in keys v }))
+  finding_of v (Ok q) = finding_by says (signer_in keys v) v q
 
   -- octets that aren't a signature aren't hashed
   abbrev pub finding_at : Result SignatureValue BodyFault → Asked → FindingValue

@@ -1,9 +1,11 @@
 -- The issuer's key, as a signature's subpackets name it (RFC 9580, 5.2.3.12, 5.2.3.35).
-use Rattle.std.specs.Prelude.{ℕ, List, [], ◌∷◌, Option, Some, None}
+use Rattle.std.specs.Prelude.{◌≡◌, ◌⊎◌, ℕ, List, [], ◌∷◌, length, Option, Some, None, slice_get}
+use Rattle.std.specs.Option.{option_map, option_and_then}
 use Rattle.opgp_packet.specs.Subpackets.{Sub}
 use Rattle.opgp_packet.specs.Areas.{hashed_subs, unhashed_subs}
 use Rattle.opgp_packet.specs.SignatureBody.{SignatureValue}
 use Rattle.opgp_packet.specs.SubView.{issuer_in, issuer_fingerprint_in}
+use Rattle.opgp_hash.specs.KeyId.{id_of}
 use Rattle.opgp_hash.specs.declared.fingerprints.Fingerprint.{Fingerprint}
 use Rattle.opgp_report.specs.First.{first_by_id, first_by_print}
 
@@ -15,18 +17,45 @@ abbrev pub first_some : {A B : Type 0} → (A → Option B) → List A → Optio
 first_some f [] = None
 first_some f (x ∷ xs) = some_or (f x) (first_some f xs)
 
--- the key that is named: by a fingerprint, or else by a key ID
-abbrev pub key_named : List Fingerprint → Option (ℕ × List ℕ) → Option (List ℕ) → Option ℕ
-key_named prints (Some x) id = first_by_print x.0 x.1 prints
-key_named prints None (Some id) = first_by_id id prints
-key_named prints None None = None
+-- ---- a name of the issuer's key, apart from any list of keys
+-- the key of this version with this fingerprint, or else the key with this key ID; or nothing
+pub data NameValue : Type 0 where
+  by_print : ℕ → List ℕ → NameValue
+  by_id : List ℕ → NameValue
+  unnamed : NameValue
+
+abbrev pub name_by : Option (ℕ × List ℕ) → Option (List ℕ) → NameValue
+name_by (Some x) id = by_print x.0 x.1
+name_by None (Some id) = by_id id
+name_by None None = unnamed
 
 -- a fingerprint counts only in the hashed area, and then key IDs are ignored; a key ID counts in
 -- both, in the hashed area first
-abbrev pub signer_by : List Fingerprint → List Sub → List Sub → Option ℕ
-signer_by prints hashed unhashed = key_named prints (first_some issuer_fingerprint_in hashed)
+abbrev pub issuer_by : List Sub → List Sub → NameValue
+issuer_by hashed unhashed = name_by (first_some issuer_fingerprint_in hashed)
     (some_or (first_some issuer_in hashed) (first_some issuer_in unhashed))
 
--- the place of the issuer's key in a list of keys
+-- the name that a signature gives
+abbrev pub issuer_of : SignatureValue → NameValue
+issuer_of signature = issuer_by (hashed_subs signature) (unhashed_subs signature)
+
+-- the size that a fingerprint has in its version
+abbrev pub IsPrint : ℕ → List ℕ → Type 0
+IsPrint version octets =
+    ((version ≡ 4) × (length octets ≡ 20)) ⊎ ((version ≡ 6) × (length octets ≡ 32))
+
+-- ---- the key in a list of keys
+-- the place of the first key that has this name
+abbrev pub named_in : List Fingerprint → NameValue → Option ℕ
+named_in prints (by_print version octets) = first_by_print version octets prints
+named_in prints (by_id id) = first_by_id id prints
+named_in prints unnamed = None
+
+-- its key ID
+abbrev pub id_named : List Fingerprint → NameValue → Option (List ℕ)
+id_named prints name =
+    option_map id_of (option_and_then (λ i. slice_get prints i) (named_in prints name))
+
+-- the place of the issuer's key
 abbrev pub signer_of : List Fingerprint → SignatureValue → Option ℕ
-signer_of prints signature = signer_by prints (hashed_subs signature) (unhashed_subs signature)
+signer_of prints signature = named_in prints (issuer_of signature)

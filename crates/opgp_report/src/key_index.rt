@@ -11,8 +11,11 @@ ghost use Rattle.std.proofs.Props.{props};
 ghost use Rattle.opgp_report.specs.First.{has_print, first_by_id, first_by_print};
 ghost use Rattle.opgp_report.specs.First.{is_sized, first_or, HasFirsts, HasFirstIds, IsId};
 
-use opgp_hash::Fingerprint;
+use crate::issuer_name::IssuerName;
+use crate::signers::print_of;
+use opgp_hash::{Fingerprint, KeyId};
 use opgp_octets::OutOfMemory;
+use opgp_ring::{Certificate, Component, Head};
 use std::alloc::Global;
 use std::collections::BTreeMap;
 
@@ -33,7 +36,14 @@ pub struct KeyIndex {
 }
 
 impl KeyIndex {
+    ghost use Rattle.std.specs.Prelude.{length, map};
+    ghost use Rattle.std.specs.List.{flat_map};
+    ghost use Rattle.std.specs.Option.{option_map};
+    ghost use Rattle.opgp_report.specs.First.{print_of};
+    ghost use Rattle.opgp_report.specs.IssuerName.{name_value};
     ghost use Rattle.opgp_report.specs.KeyIndex.{prints_shown};
+    ghost use Rattle.opgp_report.specs.Report.{certificate_keys, subkey_bodies};
+    ghost use Rattle.opgp_report.specs.Signer.{id_named, named_in};
 
     /// The index of an empty list of keys.
     pub fn new(alloc: Global) -> KeyIndex
@@ -81,6 +91,70 @@ impl KeyIndex {
                     ids,
                 })
             }
+        }
+    }
+
+    /// The index with the keys of a certificate appended: its primary key, then its subkeys. Each key
+    /// is hashed once.
+    ///
+    /// Fails only when out of memory.
+    pub fn with_certificate(self, certificate: &Certificate) -> Result<KeyIndex, OutOfMemory>
+        ensures { IfOk result (λ n. prints_shown n
+            ≡ prints_shown self ++ map print_of (certificate_keys certificate.now)) }
+    {
+        let primary = certificate.key().view();
+        let names = self.with(print_of(&primary))?;
+        let names = names.with_components(certificate.components())?;
+        Ok(names)
+    }
+
+    /// The index with the subkeys of components appended. Fails only when out of memory.
+    fn with_components(self, components: &[Component]) -> Result<KeyIndex, OutOfMemory>
+        ensures { IfOk result (λ n. prints_shown n
+            ≡ prints_shown self ++ map print_of (flat_map subkey_bodies components.now)) }
+    {
+        let mut names = self;
+        let mut rest = components;
+        'components: while let [component, more @ ..] = rest {
+            if let Head::Subkey(key) = component.head().head() {
+                names = names.with(print_of(&key.view()))?;
+            }
+            rest = more;
+        }
+        Ok(names)
+    }
+
+    /// How many keys there are.
+    pub(crate) fn len(&self) -> usize
+        ensures { result ≡ length (prints_shown self.now) }
+    {
+        self.prints.len()
+    }
+
+    /// The place of the first key that has this name.
+    pub fn find(&self, name: IssuerName) -> Option<usize>
+        ensures { result ≡ named_in (prints_shown self.now) (name_value name) }
+    {
+        match name {
+            IssuerName::Print(print) => {
+                self.first_by_fingerprint(print.version(), print.octets())
+            }
+            IssuerName::Id(id) => self.first_by_key_id(id.0),
+            IssuerName::Unnamed => None,
+        }
+    }
+
+    /// The key ID of the first key that has this name.
+    pub(crate) fn id_named(&self, name: IssuerName) -> Option<KeyId>
+        ensures { option_map (λ id. id.0) result
+            ≡ id_named (prints_shown self.now) (name_value name) }
+    {
+        match self.find(name) {
+            Some(place) => match self.prints.get(place) {
+                Some(print) => Some(print.key_id()),
+                None => None,
+            },
+            None => None,
         }
     }
 

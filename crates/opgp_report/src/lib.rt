@@ -4,13 +4,16 @@
 
 mod checking;
 mod finding;
+mod issuer_name;
 mod key_index;
 pub mod laws;
 mod left_octets;
 mod place;
 mod report;
 mod reporter;
+mod reporting;
 mod row;
+mod row_maker;
 mod signers;
 mod signing;
 mod verifier;
@@ -18,12 +21,14 @@ mod walk;
 
 pub use checking::check;
 pub use finding::{question_at, rows_left};
+pub use issuer_name::IssuerName;
 pub use key_index::KeyIndex;
 pub use left_octets::LeftOctets;
 pub use place::Place;
 pub use report::Report;
+pub use reporting::Reporting;
 pub use row::{Finding, Row};
 pub use signers::index_keys;
-pub use signing::signer;
+pub use signing::{issuer_named, signer};
 pub use verifier::{Job, Verdict, Verifier};
 pub use walk::{Visitor, visit};

@@ -1,21 +1,23 @@
 //! The rows for the signatures of a keyring.
 
 ghost use Rattle.std.specs.Prelude.{◌≡◌, ◌++◌, [], List, Ok, Result, map};
+ghost use Rattle.std.specs.Option.{option_map};
 ghost use Rattle.std.specs.Result.{ForOk};
 ghost use Rattle.opgp_hash.specs.CertificateHasher.{hasher_subject};
 ghost use Rattle.opgp_hash.specs.Question.{question_value};
 ghost use Rattle.opgp_hash.specs.QuestionValue.{QuestionValue};
 ghost use Rattle.opgp_hash.specs.declared.why.Why.{Why};
 ghost use Rattle.opgp_octets.specs.Reading.{Reads};
+ghost use Rattle.opgp_packet.specs.Parsed.{body_octets};
 ghost use Rattle.opgp_packet.specs.SigView.{sig_view_value};
 ghost use Rattle.opgp_report.specs.Reporter.{AddsRows, reporter_keys};
-ghost use Rattle.opgp_report.specs.Report.{finding_of};
+ghost use Rattle.opgp_report.specs.Report.{finding_by, finding_of};
 ghost use Rattle.opgp_report.specs.Row.{finding_value, row_value};
 ghost use Rattle.opgp_report.specs.Signers.{signers_keys};
 
 use crate::place::Place;
 use crate::row::{Finding, Row};
-use crate::signers::Signers;
+use crate::signers::{Signer, Signers};
 use crate::verifier::{Job, Verifier};
 use crate::walk::Visitor;
 use opgp_hash::{CertificateHasher, Question, Site, Why, ask_at};
@@ -62,19 +64,37 @@ impl<'a, V: Verifier> Reporter<'a, V> {
             Err(why) => return Finding::NotAsked(why),
         };
         let signer = self.signers.find(signature);
-        let digest = hasher.digest(&question);
-        let job = Job {
-            signature,
-            digest,
-            signer: signer.map(|s| s.key),
-        };
-        Finding::Asked {
-            kind: question.kind(),
-            hash: question.hash(),
-            signer: signer.map(|s| s.id),
-            digest,
-            verdict: self.verifier.verify(&job),
-        }
+        found(hasher, signature, &question, signer, self.verifier)
+    }
+}
+
+/// What is found of a signature that is hashed, over the hasher's current subject, and whose issuer's
+/// key is this one.
+pub(crate) fn found<V: Verifier>(
+    hasher: &mut CertificateHasher<'_>,
+    signature: SigView<'_>,
+    question: &Question<'_>,
+    signer: Option<Signer<'_>>,
+    verifier: &V,
+) -> Finding
+    requires { (question_value question.now).subject ≡ hasher_subject hasher.old }
+    ensures subject { hasher_subject hasher.new ≡ hasher_subject hasher.old }
+    ensures value { finding_value result ≡ finding_by (V.says verifier.now)
+        (option_map (λ s. body_octets s.key) signer.entry) (sig_view_value signature.entry)
+        (question_value question.now) }
+{
+    let digest = hasher.digest(question);
+    let job = Job {
+        signature,
+        digest,
+        signer: signer.map(|s| s.key),
+    };
+    Finding::Asked {
+        kind: question.kind(),
+        hash: question.hash(),
+        signer: signer.map(|s| s.id),
+        digest,
+        verdict: verifier.verify(&job),
     }
 }
 

@@ -15,7 +15,7 @@ pub enum Finding {
         hash: u8,
         /// The key ID of the key that it names as its issuer, where the keyring has it.
         signer: Option<KeyId>,
-        /// The key ID of the key that it names as its issuer, if the keyring has that key.
+        /// The digest of what it hashes.
         digest: Digest,
         /// The verdict of the verifier.
         verdict: Verdict,

@@ -127,7 +127,7 @@ pub fn index_keys(alloc: Global, keyring: &Keyring) -> Result<KeyIndex, OutOfMem
 }
 
 /// The fingerprint of a key.
-fn print_of(key: &KeyView<'_>) -> Fingerprint
+pub(crate) fn print_of(key: &KeyView<'_>) -> Fingerprint
     ensures { result ≡ print_of (body_octets key.now) }
 {
     // Called for their contracts, which tie the version that is hashed to the body's first octet.

@@ -2,13 +2,17 @@
 
 ghost use Rattle.std.specs.Prelude.{◌≡◌, ℕ, List};
 ghost use Rattle.std.specs.Option.{option_map};
+ghost use Rattle.opgp_hash.specs.Fingerprint.{print_octets, print_version};
 ghost use Rattle.opgp_packet.specs.SigView.{sig_view_value};
 ghost use Rattle.opgp_packet.specs.Subs.{subs_to_come};
 ghost use Rattle.opgp_packet.specs.SubView.{issuer_in, issuer_fingerprint_in};
+ghost use Rattle.opgp_report.specs.IssuerName.{name_value};
 ghost use Rattle.opgp_report.specs.KeyIndex.{prints_shown};
-ghost use Rattle.opgp_report.specs.Signer.{first_some, signer_by, signer_of};
+ghost use Rattle.opgp_report.specs.Signer.{IsPrint, first_some, issuer_by, issuer_of, signer_of};
 
+use crate::issuer_name::IssuerName;
 use crate::key_index::KeyIndex;
+use opgp_hash::{Fingerprint, KeyId};
 use opgp_packet::{SigView, Subs};
 
 /// The place of the issuer's key: the first key with the fingerprint that the signature's hashed
@@ -16,40 +20,66 @@ use opgp_packet::{SigView, Subs};
 pub fn signer(names: &KeyIndex, signature: SigView<'_>) -> Option<usize>
     ensures { result ≡ signer_of (prints_shown names.now) (sig_view_value signature.entry) }
 {
+    names.find(issuer_named(signature))
+}
+
+/// The name that a signature gives its issuer: the first fingerprint that fits in its hashed area,
+/// or else the first key ID in one of its areas, the hashed one first (RFC 9580, 5.2.3.12,
+/// 5.2.3.35). Allocates nothing.
+pub fn issuer_named(signature: SigView<'_>) -> IssuerName
+    ensures { name_value result ≡ issuer_of (sig_view_value signature.entry) }
+{
     match signature {
-        SigView::Three(_) | SigView::Other(_) => None,
-        SigView::Four(four) => signer_by(names, four.hashed(), four.unhashed()),
-        SigView::Six(six) => signer_by(names, six.hashed(), six.unhashed()),
+        SigView::Three(_) | SigView::Other(_) => IssuerName::Unnamed,
+        SigView::Four(four) => issuer_by(four.hashed(), four.unhashed()),
+        SigView::Six(six) => issuer_by(six.hashed(), six.unhashed()),
     }
 }
 
-fn signer_by(names: &KeyIndex, hashed: Subs<'_>, unhashed: Subs<'_>) -> Option<usize>
-    ensures { result ≡ signer_by (prints_shown names.now) (subs_to_come hashed.entry)
-        (subs_to_come unhashed.entry) }
+fn issuer_by(hashed: Subs<'_>, unhashed: Subs<'_>) -> IssuerName
+    ensures { name_value result
+        ≡ issuer_by (subs_to_come hashed.entry) (subs_to_come unhashed.entry) }
 {
-    if let Some((version, octets)) = first_print(hashed) {
-        return names.first_by_fingerprint(version, octets);
+    if let Some(print) = first_print(hashed) {
+        return IssuerName::Print(print);
     }
     if let Some(id) = first_id(hashed) {
-        return names.first_by_key_id(id);
+        return IssuerName::Id(KeyId(id));
     }
     match first_id(unhashed) {
-        Some(id) => names.first_by_key_id(id),
-        None => None,
+        Some(id) => IssuerName::Id(KeyId(id)),
+        None => IssuerName::Unnamed,
     }
 }
 
-/// The version and fingerprint in the first subpacket that has them.
-fn first_print<'a>(subs: Subs<'a>) -> Option<(u8, &'a [u8])>
-    ensures { option_map (λ x. (x.0, x.1.now)) result
+/// The fingerprint in the first subpacket that has one.
+fn first_print(subs: Subs<'_>) -> Option<Fingerprint>
+    ensures { option_map (λ f. (print_version f, print_octets f)) result
         ≡ first_some issuer_fingerprint_in (subs_to_come subs.entry) }
 {
     for sub in subs {
-        if let Some(print) = sub.issuer_fingerprint() {
-            return Some(print);
+        if let Some((version, octets)) = sub.issuer_fingerprint() {
+            return Some(print_of_version(version, octets));
         }
     }
     None
+}
+
+/// The fingerprint of this version with these octets.
+fn print_of_version(version: u8, octets: &[u8]) -> Fingerprint
+    requires { IsPrint version octets.now }
+    ensures version { print_version result ≡ version }
+    ensures octets { print_octets result ≡ octets.now }
+{
+    if version == 4 {
+        let mut four = [0; 20];
+        four.copy_from_slice(octets);
+        Fingerprint::Four(four)
+    } else {
+        let mut six = [0; 32];
+        six.copy_from_slice(octets);
+        Fingerprint::Six(six)
+    }
 }
 
 /// The key ID in the first subpacket that has one.

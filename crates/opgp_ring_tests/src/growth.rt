@@ -4,7 +4,7 @@ use crate::reading::{KEY, SIGNATURE};
 use opgp_frame::{Form, Packet, Placed};
 use opgp_merge::merge;
 use opgp_octets::{Fault, Layer, Limits, PushFault, Reason};
-use opgp_report::{LeftOctets, check};
+use opgp_report::{LeftOctets, Report, Reporting, check};
 use opgp_ring::{
     BlockOf, Certificate, Composer, Keyring, Ready, SignedLiteral, compose, compose_signed,
     end_fits, flatten, join, nth,
@@ -213,5 +213,25 @@ fn merging_refused_growth(rt: HostRuntime) {
             assert_eq!(rt; certificate.components().len(), 1);
             assert_eq!(rt; certificate.components()[0].hangs().len(), 1);
         }
+    }
+}
+
+/// The report of the keyring, made of its certificates one by one; None where memory runs out.
+fn reported(alloc: Global, ring: &Keyring) -> Option<Report> {
+    let mut reporting = Reporting::new(alloc);
+    for certificate in ring.certificates() {
+        reporting = reporting.with(certificate).ok()?;
+    }
+    Some(reporting.report())
+}
+
+#[test]
+fn reporting_refused_growth(rt: HostRuntime) {
+    if let Some(ring) = ring(&rt, rt.alloc(), 2) {
+        if let Some(report) = reported(rt.alloc(), &ring) {
+            assert_eq!(rt; report.rows().len(), 2);
+            drop(report);
+        }
+        drop(ring);
     }
 }

@@ -4,8 +4,11 @@ ghost use Rattle.opgp_report.specs.declared.verifier.Verdict.TheVariants as verd
 
 use crate::reading::{KEY, ring_of};
 use byteorder::{BigEndian, WriteBytesExt};
-use opgp_hash::{Digest, digest};
-use opgp_report::{Finding, Job, LeftOctets, Verdict, Verifier, check, question_at};
+use opgp_hash::{Digest, Fingerprint, digest, fingerprint_of_view};
+use opgp_packet::KeyView;
+use opgp_report::{
+    Finding, Job, LeftOctets, Reporting, Row, Verdict, Verifier, check, question_at,
+};
 use std::alloc::Global;
 use std::cell::Cell;
 use std::test::Fail;
@@ -100,6 +103,15 @@ fn embedding(alloc: Global, signatures: &[Signature]) -> Result<Vec<u8>, Fail> {
     Ok(area)
 }
 
+/// The body of the standard's key, made at this time.
+fn key_body(alloc: Global, created: u32) -> Result<Vec<u8>, Fail> {
+    let mut body = Vec::new(alloc);
+    body.push(4)?;
+    body.write_u32::<BigEndian>(created)?;
+    body.extend_from_slice(&KEY[7..])?;
+    Ok(body)
+}
+
 /// The octets of packets.
 #[derive(Drop)]
 struct Packets {
@@ -125,10 +137,7 @@ impl Packets {
 
     /// Adds the standard's key, made at this time, as a packet of this tag.
     fn add_key(&mut self, tag: u8, created: u32) -> Result<(), Fail> {
-        let mut body = Vec::new(self.alloc);
-        body.push(4)?;
-        body.write_u32::<BigEndian>(created)?;
-        body.extend_from_slice(&KEY[7..])?;
+        let body = key_body(self.alloc, created)?;
         self.add(tag, &body)
     }
 
@@ -266,6 +275,110 @@ fn kept_states_change_no_digest(rt: HostRuntime) -> Result<(), Fail> {
         match row.finding {
             Finding::Asked { digest: found, .. } => assert!(rt; found == digest(&question)),
             Finding::NotAsked(_) => return Err("not asked".into()),
+        }
+    }
+    Ok(())
+}
+
+/// The fingerprint of the standard's key, made at this time.
+fn print_of(alloc: Global, created: u32) -> Result<Fingerprint, Fail> {
+    let body = key_body(alloc, created)?;
+    let body = body.as_slice();
+    if body.len() > 255 {
+        return Err("too long".into());
+    }
+    match KeyView::parse_body(body) {
+        Ok(key) => Ok(fingerprint_of_view(key)),
+        Err(_) => Err("no key".into()),
+    }
+}
+
+/// An area that names this key as the issuer's: by its fingerprint, or else by its key ID.
+fn naming(alloc: Global, print: Fingerprint, whole: bool) -> Result<Vec<u8>, Fail> {
+    let mut area = Vec::new(alloc);
+    if whole {
+        area.extend_from_slice(b"\x16\x21\x04")?;
+        area.extend_from_slice(print.octets())?;
+    } else {
+        area.extend_from_slice(b"\x09\x10")?;
+        area.extend_from_slice(&print.key_id().0)?;
+    }
+    Ok(area)
+}
+
+/// This many certificates, whose keys are made at the times from 0 on. Each has two signatures that
+/// name the key after it, which the last certificate's don't find, and one that isn't hashed.
+fn naming_the_next(alloc: Global, count: u32) -> Result<Vec<u8>, Fail> {
+    let mut packets = Packets::new(alloc);
+    let signature = Signature {
+        kind: 0x1F,
+        hash: 8,
+        left: [0xAB, 0xCD],
+    };
+    for created in 0..count {
+        let next = print_of(alloc, created + 1)?;
+        packets.add_key(0xC6, created)?;
+        let by_print = naming(alloc, next, true)?;
+        packets.add(0xC2, &signature.body(alloc, &by_print, b"")?)?;
+        packets.add_signature(0x18, 8, [0, 0])?;
+        let by_id = naming(alloc, next, false)?;
+        packets.add(0xC2, &signature.body(alloc, b"", &by_id)?)?;
+    }
+    Ok(packets.octets)
+}
+
+/// Whether two rows are equal.
+fn same(one: &Row, other: &Row) -> bool {
+    match (one.finding, other.finding) {
+        (Finding::NotAsked(why), Finding::NotAsked(not)) => {
+            one.place == other.place && why.name() == not.name()
+        }
+        (
+            Finding::Asked {
+                kind,
+                hash,
+                signer,
+                digest,
+                verdict,
+            },
+            Finding::Asked {
+                kind: its_kind,
+                hash: its_hash,
+                signer: its_signer,
+                digest: its_digest,
+                verdict: its_verdict,
+            },
+        ) => {
+            one.place == other.place
+                && (kind, hash, signer) == (its_kind, its_hash, its_signer)
+                && digest == its_digest
+                && verdict == its_verdict
+        }
+        _ => false,
+    }
+}
+
+// A report that is made of one certificate after the other has the rows of the whole keyring's, with
+// issuers whose keys come later.
+#[test]
+fn certificates_one_by_one_give_the_same_report(rt: HostRuntime) -> Result<(), Fail> {
+    for count in [0, 1, 17, 300] {
+        let ring = ring_of(rt.alloc(), &naming_the_next(rt.alloc(), count)?)?;
+        let mut reporting = Reporting::new(rt.alloc());
+        for certificate in ring.certificates() {
+            reporting = reporting.with(certificate)?;
+        }
+        let report = reporting.report();
+        let whole = check(rt.alloc(), &ring, &LeftOctets)?;
+        assert_eq!(rt; report.rows().len(), 3 * count as usize);
+        assert_eq!(rt; whole.rows().len(), report.rows().len());
+        for (row, its) in report.rows().iter().zip(whole.rows()) {
+            assert!(rt; same(row, its));
+            if let Finding::Asked { signer, .. } = row.finding {
+                let next = u32::try_from(row.place.certificate)?.saturating_add(1);
+                let id = print_of(rt.alloc(), next)?.key_id();
+                assert_eq!(rt; signer, (next < count).then_some(id));
+            }
         }
     }
     Ok(())

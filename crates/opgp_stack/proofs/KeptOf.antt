@@ -19,29 +19,40 @@ use Rattle.opgp_stack.specs.Running.{Made, OfRing, ReadsFor, Refused, Text}
 abbrev pub KeyringOf : {A : Type 0} → (KeyringValue → A → Type 0) → Task → List ℕ → Outcome A → Type 0
 KeyringOf Holds task input answer = AnswerOf key_label (OfKeyring Holds task.limits) task.mode task.limits input answer
 
-module _ {K A : Type 0} (kept : K → List PartValue → Type 0) (Holds : KeyringValue → A → Type 0) (show : K → A) (by : (r : KeyringValue) (k : K) → kept k (parts_of r) → Holds r (show k)) (task : Task) where
-  shows : (k : K) (input : List ℕ) → AnswerOf key_label (KeepsAll kept task.limits) task.mode task.limits input (Ok k) → KeyringOf Holds task input (Ok (show k))
-  shows k input (at_length x e) = absurd cc
-  shows k input (at_armor x f h e) = absurd cc
-  shows k input (at_framing x bs h f i e) = absurd cc
-  shows k input (at_top x bs h items i t) = at_top x bs h items i (t.ring, t.composed, by t.ring k t.has)
+module _ {K A : Type 0} (kept : K → List PartValue → Type 0) (Holds : KeyringValue → A → Type 0) (task : Task) where
+  shown_as : (k : K) (value : A) → ((r : KeyringValue) → kept k (parts_of r) → Holds r value) → (input : List ℕ) → AnswerOf key_label (KeepsAll kept task.limits) task.mode task.limits input (Ok k) → KeyringOf Holds task input (Ok value)
+  shown_as k value by input (at_length x e) = absurd cc
+  shown_as k value by input (at_armor x f h e) = absurd cc
+  shown_as k value by input (at_framing x bs h f i e) = absurd cc
+  shown_as k value by input (at_top x bs h items i t) = at_top x bs h items i (t.ring, t.composed, by t.ring t.has)
 
   refuses : (fault : Fault) (input : List ℕ) → AnswerOf key_label (KeepsAll kept task.limits) task.mode task.limits input (Err fault) → KeyringOf Holds task input (Err fault)
   refuses fault input h = fault_by key_label (KeepsAll kept task.limits) (OfKeyring Holds task.limits) task.mode task.limits input fault (λ items t. t) h
 
   module _ {R : Type 0} (left : R → Option (List ℕ)) (has_failed : R → Bool) (old new : R) where
+    -- of what was kept, this is so of a value
+    pub read_as : (k : K) (value : A) → ((r : KeyringValue) → kept k (parts_of r) → Holds r value) → OfAll left has_failed old new task.limits (λ input. AnswerOf key_label (KeepsAll kept task.limits) task.mode task.limits input (Ok k)) → OfAll left has_failed old new task.limits (λ input. KeyringOf Holds task input (Ok value))
+    read_as k value by h = of_all left has_failed old new task.limits _ _ (shown_as k value by) h
+
+    pub unread : (e : RunFault) → ReadsFor (λ answer. OfAll left has_failed old new task.limits (λ input. AnswerOf key_label (KeepsAll kept task.limits) task.mode task.limits input answer)) (has_failed new ≡ true) (has_failed new ≡ false) (Err e)
+        → ReadsFor (λ answer. OfAll left has_failed old new task.limits (λ input. KeyringOf Holds task input answer)) (has_failed new ≡ true) (has_failed new ≡ false) (Err e)
+    unread (run.Refused fault) h = of_all left has_failed old new task.limits _ _ (refuses fault) h
+    unread run.Read h = h
+    unread run.Memory h = h
+    unread run.Write h = h
+    unread run.Spool h = h
+    unread run.NoSuchRow h = h
+    unread run.NoSuchCertificate h = h
+
+-- of what was kept, this is so of what it shows
+module _ {K A : Type 0} (kept : K → List PartValue → Type 0) (Holds : KeyringValue → A → Type 0) (show : K → A) (by : (r : KeyringValue) (k : K) → kept k (parts_of r) → Holds r (show k)) (task : Task) where
+  module _ {R : Type 0} (left : R → Option (List ℕ)) (has_failed : R → Bool) (old new : R) where
     pub kept_read : (k : K) → OfAll left has_failed old new task.limits (λ input. AnswerOf key_label (KeepsAll kept task.limits) task.mode task.limits input (Ok k)) → OfAll left has_failed old new task.limits (λ input. KeyringOf Holds task input (Ok (show k)))
-    kept_read k h = of_all left has_failed old new task.limits _ _ (shows k) h
+    kept_read k h = read_as kept Holds task left has_failed old new k (show k) (λ r. by r k) h
 
     pub kept_unread : (e : RunFault) → ReadsFor (λ answer. OfAll left has_failed old new task.limits (λ input. AnswerOf key_label (KeepsAll kept task.limits) task.mode task.limits input answer)) (has_failed new ≡ true) (has_failed new ≡ false) (Err e)
         → ReadsFor (λ answer. OfAll left has_failed old new task.limits (λ input. KeyringOf Holds task input answer)) (has_failed new ≡ true) (has_failed new ≡ false) (Err e)
-    kept_unread (run.Refused fault) h = of_all left has_failed old new task.limits _ _ (refuses fault) h
-    kept_unread run.Read h = h
-    kept_unread run.Memory h = h
-    kept_unread run.Write h = h
-    kept_unread run.Spool h = h
-    kept_unread run.NoSuchRow h = h
-    kept_unread run.NoSuchCertificate h = h
+    kept_unread e h = unread kept Holds task left has_failed old new e h
 
 -- what a task makes of it
 pub made_of : {A : Type 0} (Holds : KeyringValue → A → Type 0) (made : A → Made) (make : KeyringValue → Made) → ((r : KeyringValue) (value : A) → Holds r value → made value ≡ make r) → (task : Task) (input : List ℕ) (value : A)

@@ -1,10 +1,15 @@
 -- The lines of a keyring's report, one for each of its rows.
-use Rattle.std.specs.Prelude.{ℕ, ◌+◌, List, [], ◌∷◌, ◌++◌, codes, take, Option, Some, None}
+use Rattle.std.specs.Prelude.{◌≡◌, ℕ, ◌+◌, List, [], ◌∷◌, ◌++◌, codes, take, Option, Some, None}
 use Rattle.std.specs.Fmt.{decimal}
 use Rattle.std.specs.List.{flat_map}
 use Rattle.hex.specs.Hex.{encode_upper}
 use Rattle.opgp_hash.specs.Why.{why_text}
 use Rattle.opgp_hash.specs.Digest.{digest_octets}
+use Rattle.opgp_ring.specs.Keyring.{KeyringValue}
+use Rattle.opgp_report.specs.Left.{says_left}
+use Rattle.opgp_report.specs.Report.{report_of}
+use Rattle.opgp_report.specs.Row.{report_rows}
+use Rattle.opgp_report.specs.declared.report.Report.{Report}
 use Rattle.opgp_report.specs.declared.place.Place.{Place}
 use Rattle.opgp_report.specs.declared.verifier.Verdict.{Verdict}
 use Rattle.opgp_report.specs.declared.verifier.Verdict.TheVariants.{Good, Bad, Undecided}
@@ -53,3 +58,8 @@ row_line number row = line_at number row.place (finding_words row.finding)
 abbrev pub report_lines : ℕ → List RowValue → List ℕ
 report_lines number [] = []
 report_lines number (row ∷ rows) = row_line number row ++ report_lines (number + 1) rows
+
+-- ---- what was made of a keyring
+-- its report, with the verifier that compares first octets
+abbrev pub HasReport : KeyringValue → Report → Type 0
+HasReport r report = report_rows report ≡ report_of says_left r

@@ -11,6 +11,7 @@ mod listing;
 mod one_part;
 mod part_texts;
 mod reporting;
+mod row_keeper;
 mod run_fault;
 mod running;
 mod showing;

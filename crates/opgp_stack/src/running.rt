@@ -4,8 +4,7 @@ ghost use Rattle.std.specs.Prelude.{◌≡◌, ◌⊎◌, ℕ, List, [], true, f
 ghost use Rattle.opgp_octets.specs.declared.limits.Limits.{Limits};
 ghost use Rattle.opgp_ring.specs.Keyring.{flat};
 ghost use Rattle.opgp_ring.specs.Composition.{placed_in};
-ghost use Rattle.opgp_report.specs.Left.{says_left};
-ghost use Rattle.opgp_report.specs.Report.{report_of};
+ghost use Rattle.opgp_report.specs.Row.{report_rows};
 ghost use Rattle.opgp_engine.specs.Draft.{DraftHas};
 ghost use Rattle.opgp_engine.specs.Keyrings.{ComposesTo, key_label};
 ghost use Rattle.opgp_engine.specs.Packets.{any_label};
@@ -16,7 +15,7 @@ ghost use Rattle.opgp_stack.specs.ByKey.{NamedIn};
 ghost use Rattle.opgp_stack.specs.KeyName.{name_octets};
 ghost use Rattle.opgp_stack.specs.OnePart.{HasNth, HasRow, found_question};
 ghost use Rattle.opgp_stack.specs.Parts.{HasText, OfKeyring};
-ghost use Rattle.opgp_stack.specs.Report.{report_lines};
+ghost use Rattle.opgp_stack.specs.Report.{HasReport, report_lines};
 ghost use Rattle.opgp_stack.specs.Shown.{IsShown};
 ghost use Rattle.opgp_stack.specs.Running.{IsMade, IsSpooled, Made, ReadsFor, RunsAs, RunsSpooled};
 ghost use Rattle.opgp_stack.specs.Running.{ended, found_made, one_text, question_made};
@@ -28,6 +27,7 @@ use crate::one_part::{NthCertificate, Number, RowFound};
 use crate::part_texts::{
     ArmoredAlone, AsTheyAre, BareAlone, EachPart, Lines, Normalised, PartTexts,
 };
+use crate::row_keeper::RowKeeper;
 use crate::run_fault::RunFault;
 use crate::shown_text::{EachPacket, Plain, ShownText, Valued};
 use crate::task::{Action, Task, Top};
@@ -37,7 +37,7 @@ use opgp_engine::{
     write_certificate, write_keyring,
 };
 use opgp_merge::merge;
-use opgp_report::{LeftOctets, check, question_at};
+use opgp_report::{Report, question_at};
 use opgp_ring::{Certificate, Gathering, Keyring, SignedGathering};
 use opgp_stream::{Sink, Source};
 use std::alloc::Global;
@@ -247,6 +247,21 @@ fn row_of<R: Source, N: Number>(
     }
 }
 
+/// Reads a keyring, and returns its report. No certificate is kept once its rows are made.
+fn rows_of<R: Source>(alloc: Global, task: &Task, reader: &mut R) -> Result<Report, RunFault>
+    requires { R.has_failed reader.old ≡ false }
+    ensures { ReadsFor (λ answer. OfAll R.left R.has_failed reader.old reader.new task.now.limits
+        (λ octets. AnswerOf key_label (OfKeyring HasReport task.now.limits) task.now.mode
+        task.now.limits octets answer)) (R.has_failed reader.new ≡ true)
+        (R.has_failed reader.new ≡ false) result }
+{
+    let top = RowKeeper::new(alloc);
+    match ask(alloc, task, reader, Gathering::new(alloc, task.limits, top)) {
+        Ok(kept) => Ok(kept.report()),
+        Err(fault) => Err(fault),
+    }
+}
+
 /// Reads a keyring, and returns what is written of its certificates with a key of this name, and
 /// whether there are any. No certificate is kept.
 fn named_of<R: Source, N: Sought, S: Spool + Drop>(
@@ -306,8 +321,8 @@ fn run_and<R: Source, W: Sink, S: Spool + Drop>(
         }
         Action::Check => {
             drop(spool);
-            let ring = ring_of(alloc, task, reader)?;
-            done(check_all(alloc, &ring, writer), ring, after)
+            let report = rows_of(alloc, task, reader)?;
+            done(write_rows(alloc, &report, writer), report, after)
         }
         Action::Octets { row, top } => match top {
             Top::Ring => {
@@ -404,16 +419,13 @@ fn write_found<W: Sink, S: Spool + Drop>(
     }
 }
 
-/// Writes the report of a keyring with the verifier [`LeftOctets`].
-fn check_all<W: Sink>(alloc: Global, keyring: &Keyring, writer: &mut W) -> Result<(), RunFault>
+/// Writes a line for each row of a report.
+fn write_rows<W: Sink>(alloc: Global, report: &Report, writer: &mut W) -> Result<(), RunFault>
     requires { W.has_failed writer.old ≡ false }
     ensures { IsMade W.held W.has_failed writer.old writer.new result
-        (Made.Text (report_lines 0 (report_of says_left keyring.now))) }
+        (Made.Text (report_lines 0 (report_rows report.now))) }
 {
-    match check(alloc, keyring, &LeftOctets) {
-        Ok(report) => end(write_report(alloc, &report, writer)),
-        Err(_) => end(Err(EngineError::Memory)),
-    }
+    end(write_report(alloc, report, writer))
 }
 
 /// Writes a certificate, if there is one.

@@ -1,10 +1,10 @@
-use Rattle.std.proofs.Common.{◌∙◌, ◌⊎◌, inl, inr, refl, ap, sym, Err, Ok, Option, None, ℕ, Bool}
+use Rattle.std.proofs.Common.{◌∙◌, ◌⊎◌, inl, inr, refl, ap, sym, Err, Ok, Option, None, ℕ, Bool, List}
 use Rattle.std.specs.Prelude.{slice_get}
 use Rattle.opgp_frame.specs.Packet.{packets_octets}
 use Rattle.opgp_merge.specs.Merged.{merged_of}
 use Rattle.opgp_report.specs.Asked.{question_in}
-use Rattle.opgp_report.specs.Left.{says_left}
-use Rattle.opgp_report.specs.Report.{report_of}
+use Rattle.opgp_report.specs.Row.{report_rows}
+use Rattle.opgp_report.specs.RowValue.{RowValue}
 use Rattle.opgp_ring.specs.Keyring.{flat}
 use Rattle.opgp_ring.specs.Normal.{normal_of}
 use Rattle.opgp_ring.specs.SignedLiteral.{signed_packets}
@@ -21,7 +21,7 @@ use Rattle.opgp_stack.specs.Hashing.{message_asked}
 use Rattle.opgp_stack.specs.KeyName.{name_octets}
 use Rattle.opgp_stack.specs.Listing.{listing}
 use Rattle.opgp_stack.specs.OnePart.{HasNth, HasRow, found_question}
-use Rattle.opgp_stack.specs.Report.{report_lines}
+use Rattle.opgp_stack.specs.Report.{HasReport, report_lines}
 use Rattle.opgp_stack.specs.Running.{IsMade, IsSpooled, Made, Text, one_text, question_made}
 use Rattle.opgp_stack.specs.Showing.{packet_lines}
 use Rattle.opgp_stack.specs.Values.{valued_lines}
@@ -60,14 +60,14 @@ returns-in_ok-text-in-List g c =
     (text_made (DraftHas g.S.Spool.serves g.S.Spool.tells g.S.Spool.holds g.S.Spool.has_failed) part_lines (λ r. listing (flat r)) (λ o. o) lines_text (λ (made : Made). IsMade g.W.Sink.held g.W.Sink.has_failed c.args.writer.now c.write_draft-in-List.new.writer c.write_draft-in-List.result made ⊎ IsSpooled g.S.Spool.serves g.S.Spool.tells g.W.Sink.held g.W.Sink.has_failed c.args.writer.now c.write_draft-in-List.new.writer c.write_draft-in-List.result made) c.in_ok-text-in-List.text (λ octets h. inr (c.write_draft-in-List.ensures octets h)) c.args.task.now)
     c.in_ok-text-in-List.ensures refl
 
-pub returns-in_err-ring-in-Check : goal.returns-in_err-ring-in-Check
-returns-in_err-ring-in-Check g c = stopped (RingOf c.args.task.now) _ c.in-Check.is (λ fault. inl (refl, refl)) _ _ (λ octets fault h. (Err fault, h, refl)) c.in_err-ring-in-Check.ensures c.from_residual-in_err-ring-in-Check.ensures
+pub returns-in_err-report-in-Check : goal.returns-in_err-report-in-Check
+returns-in_err-report-in-Check g c = stopped (KeyringOf HasReport c.args.task.now) _ c.in-Check.is (λ fault. inl (refl, refl)) _ _ (refused_of HasReport _ c.args.task.now) c.in_err-report-in-Check.ensures c.from_residual-in_err-report-in-Check.ensures
 
-pub returns-in_ok-ring-in-Check : goal.returns-in_ok-ring-in-Check
-returns-in_ok-ring-in-Check g c =
-    ran (RingOf c.args.task.now) _ c.in-Check.is (λ fault. inl (refl, refl)) _ _ _ c.in_ok-ring-in-Check.ring
-    (λ octets h. (Text (report_lines 0 (report_of says_left c.in_ok-ring-in-Check.ring)), (Ok c.in_ok-ring-in-Check.ring, h, refl), inl c.check_all.ensures))
-    c.in_ok-ring-in-Check.ensures c.done.ensures
+pub returns-in_ok-report-in-Check : goal.returns-in_ok-report-in-Check
+returns-in_ok-report-in-Check g c =
+    ran (KeyringOf HasReport c.args.task.now) _ c.in-Check.is (λ fault. inl (refl, refl)) _ _ _ c.in_ok-report-in-Check.report
+    (λ octets h. (Text (report_lines 0 (report_rows c.in_ok-report-in-Check.report)), made_of HasReport (λ report. Text (report_lines 0 (report_rows report))) _ (λ r report k. ap (λ (rows : List RowValue). Text (report_lines 0 rows)) k) c.args.task.now octets c.in_ok-report-in-Check.report h, inl c.write_rows.ensures))
+    c.in_ok-report-in-Check.ensures c.done.ensures
 
 pub returns-in_err-message-in-Literal : goal.returns-in_err-message-in-Literal
 returns-in_err-message-in-Literal g c = stopped (LiteralOf c.args.task.now) _ (c.in-Octets.is ∙ ap (λ (t : Top). action.Octets c.in-Octets.row t) c.in-Literal.is) (λ fault. inl (refl, refl)) _ _ (λ octets fault h. (Err fault, answer_shown message_label AreSigned signed_packets c.args.task.now.mode c.args.task.now.limits octets (Err fault) h, refl)) c.in_err-message-in-Literal.ensures c.from_residual-in_err-message-in-Literal.ensures

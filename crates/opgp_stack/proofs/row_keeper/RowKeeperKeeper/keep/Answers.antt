@@ -1,0 +1,14 @@
+use Rattle.std.proofs.Common.{List, sym, subst}
+use Rattle.opgp_ring.specs.Keyring.{CertificateValue}
+use Rattle.opgp_report.specs.Reporting.{Reports}
+use Rattle.opgp_report.specs.declared.reporting.Reporting.{Reporting}
+use Rattle.opgp_stack.specs.OnePart.{certificates_in}
+use Rattle.opgp_stack.proofs.Looking.{certificate_push, lead_push}
+use Rattle.opgp_stack.proofs.row_keeper.RowKeeperKeeper.keep.Goals as goal
+
+pub returns-in-Lead : goal.returns-in-Lead
+returns-in-Lead c = rw c.in-Lead.is (λ parts h a. subst (λ (cs : List CertificateValue). Reports c.args.self.now.rows cs) (sym (lead_push parts _)) h)
+
+pub returns : goal.returns
+returns c = rw c.in-Certificate.is (λ parts h a. subst (λ (cs : List CertificateValue). Reports c.in_ok-self.field-0 cs) (sym (certificate_push parts c.in-Certificate.certificate))
+    (c.in_ok-self.ensures (certificates_in parts) (subst (λ (k : Reporting). Reports k (certificates_in parts)) (sym c.replace-rows.ensures.value) h)))

@@ -3,8 +3,6 @@
 #![tactic(auto)]
 
 #[cfg(test)]
-mod hash;
-#[cfg(test)]
 mod key;
 #[cfg(test)]
 mod meaning;

@@ -7,13 +7,7 @@ mod composer;
 #[cfg(test)]
 mod growth;
 #[cfg(test)]
-mod keyrings;
-#[cfg(test)]
-mod making;
-#[cfg(test)]
 mod merging;
-#[cfg(test)]
-mod parts;
 #[cfg(test)]
 mod reading;
 #[cfg(test)]

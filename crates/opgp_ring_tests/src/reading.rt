@@ -1,7 +1,7 @@
 //! Packets and keyrings of octets, for the tests.
 
 use opgp_frame::{Deframe, Packet, Placed, write_packet};
-use opgp_octets::{Limits, fault_line};
+use opgp_octets::Limits;
 use opgp_ring::{BlockOf, Keyring, compose, flatten};
 use std::alloc::Global;
 use std::test::Fail;
@@ -84,18 +84,5 @@ pub fn ring_of(alloc: Global, octets: &[u8]) -> Result<Keyring, Fail> {
     match compose(alloc, blocks, &Limits::usual())? {
         Ok(ring) => Ok(ring),
         Err(_) => Err("no keyring".into()),
-    }
-}
-
-/// How many fillers lead the keyring of these blocks, and how many certificates it has; or its
-/// fault.
-pub fn answer(alloc: Global, blocks: &[(bool, &[u8])], limits: &Limits) -> Result<String, Fail> {
-    match compose(alloc, blocks_of(alloc, blocks)?, limits)? {
-        Ok(ring) => {
-            let lead = ring.lead().len();
-            let certificates = ring.certificates().len();
-            Ok(format!(in alloc; "lead {lead} certificates {certificates}")?)
-        }
-        Err(fault) => Ok(fault_line(alloc, &fault)?),
     }
 }

@@ -6,8 +6,6 @@ mod armor;
 #[cfg(test)]
 mod frame;
 #[cfg(test)]
-mod numbers;
-#[cfg(test)]
 mod octets;
 #[cfg(test)]
 mod stream;

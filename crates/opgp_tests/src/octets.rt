@@ -1,146 +1,15 @@
 use opgp_octets::{
-    BodyFault, Fault, Layer, Limits, Mpi, MpiFault, MpiView, Outside, PacketLen, ParseFault,
-    PushFault, Reason, SubLen, fault_line, read_len, read_sub_len, shortest, write_hexadecimal,
-    write_len, write_sub_len,
+    BodyFault, Fault, Layer, MpiFault, PacketLen, ParseFault, PushFault, Reason, SubLen,
+    fault_line, write_hexadecimal, write_len, write_sub_len,
 };
 use std::alloc::Global;
 use std::fmt::Display;
-
-// The end of the key of RFC 9580, A.1: an integer of 263 bits.
-const POINT: &[u8] =
-    b"\x01\x07\x40\x3F\x09\x89\x94\xBD\xD9\x16\xED\x40\x53\x19\x79\x34\xE4\xA8\x7C\x80\x73\x3A\x12\x80\xD6\x2F\x80\x10\x99\x2E\x43\xEE\x3B\x24\x06";
-
-/// Whether the octets are read as the length, and it is written as them.
-fn is_packet_len(alloc: Global, octets: &[u8], len: PacketLen) -> bool {
-    let mut out = Vec::new(alloc);
-    read_len(octets) == Some((len, octets.len()))
-        && len.fits()
-        && write_len(&len, &mut out).is_ok()
-        && out.as_slice() == octets
-}
-
-// The lengths of RFC 9580, 4.2.1.4, and the edges of its forms.
-#[test]
-fn packet_lengths_of_the_standard(rt: HostRuntime) {
-    for (octets, len) in [
-        (b"\x64".as_slice(), PacketLen::One(100)),
-        (b"\xC5\xFB".as_slice(), PacketLen::Two(1723)),
-        (b"\xFF\x00\x01\x86\xA0".as_slice(), PacketLen::Five(100000)),
-        (b"\xEF".as_slice(), PacketLen::Partial(15)),
-        (b"\xBF".as_slice(), PacketLen::One(191)),
-        (b"\xC0\x00".as_slice(), PacketLen::Two(192)),
-        (b"\xDF\xFF".as_slice(), PacketLen::Two(8383)),
-    ] {
-        assert!(rt; is_packet_len(rt.alloc(), octets, len), "{octets:?}");
-    }
-    assert!(rt; read_len(b"\xFF\x00\x00\x00").is_none());
-}
-
-#[test]
-fn shortest_lengths_at_each_edge(rt: HostRuntime) {
-    for (n, len) in [
-        (191, PacketLen::One(191)),
-        (192, PacketLen::Two(192)),
-        (8383, PacketLen::Two(8383)),
-        (8384, PacketLen::Five(8384)),
-    ] {
-        assert!(rt; shortest(n) == len, "{n}");
-    }
-}
-
-/// Whether the octets are read as the subpacket's length, and it is written as them.
-fn is_sub_len(alloc: Global, octets: &[u8], len: SubLen) -> bool {
-    let mut out = Vec::new(alloc);
-    read_sub_len(octets) == Some((len, octets.len()))
-        && len.fits()
-        && write_sub_len(&len, &mut out).is_ok()
-        && out.as_slice() == octets
-}
-
-// RFC 9580, 5.2.3.7: a first octet below 255 makes a length of two octets.
-#[test]
-fn subpacket_lengths_of_the_standard(rt: HostRuntime) {
-    for (octets, len) in [
-        (b"\xBF".as_slice(), SubLen::One(191)),
-        (b"\xC0\x00".as_slice(), SubLen::Two(192)),
-        (b"\xFE\xFF".as_slice(), SubLen::Two(16319)),
-        (b"\xFF\x00\x00\x00\x05".as_slice(), SubLen::Five(5)),
-    ] {
-        assert!(rt; is_sub_len(rt.alloc(), octets, len), "{octets:?}");
-    }
-    assert!(rt; SubLen::Two(300).amount() == 300);
-}
-
-/// An integer's bits and how many octets it takes, or why there is none.
-fn integer_of(octets: &[u8], strict: bool) -> Result<(u16, usize), Reason> {
-    let (integer, count) = MpiView::read(octets, strict)?;
-    Ok((integer.bits(), count))
-}
-
-#[test]
-fn integers_of_the_standard(rt: HostRuntime) {
-    for (octets, strict, want) in [
-        (b"\x00\x01\x01".as_slice(), true, Ok((1, 3))),
-        (b"\x00\x09\x01\xFF".as_slice(), true, Ok((9, 4))),
-        (b"\x00\x01\xFF".as_slice(), false, Ok((1, 3))),
-        (b"\x00\x01\xFF".as_slice(), true, Err(Reason::MpiBits)),
-        (b"\x00\x00\x07".as_slice(), true, Ok((0, 2))),
-        (b"\x00\x09\x01".as_slice(), true, Err(Reason::Short)),
-    ] {
-        assert!(rt; integer_of(octets, strict) == want, "{octets:?}");
-    }
-}
-
-/// Whether a copy of the standard's point has its octets; None if there is no memory for it.
-fn is_copied(alloc: Global, point: &Mpi) -> Option<bool> {
-    let copy = point.copy(alloc).ok()?;
-    Some(copy.octets() == &POINT[2..] && point.octets() == copy.octets())
-}
-
-/// The bits and octets of the standard's point, and whether it is copied.
-fn point_of(alloc: Global) -> Result<(u16, usize, Option<bool>), MpiFault> {
-    let (point, count) = Mpi::read(alloc, POINT, true)?;
-    Ok((point.bits(), count, is_copied(alloc, &point)))
-}
-
-#[test]
-fn point_of_the_standard(rt: HostRuntime) {
-    assert!(rt; point_of(rt.alloc()) == Ok((263, 35, Some(true))));
-}
-
-#[test]
-fn limits_at_each_edge(rt: HostRuntime) {
-    for (line, body, cert, input, pieces, allowed) in [
-        (128, 512, 512, 0, 1, true),
-        (1_048_576, 4_294_967_295, 1 << 40, 1 << 62, 16_777_216, true),
-        (127, 512, 512, 0, 1, false),
-        (128, 511, 512, 0, 1, false),
-        (128, 512, 511, 0, 1, false),
-        (128, 512, 512, 0, 0, false),
-        (1_048_577, 512, 512, 0, 1, false),
-        (128, 4_294_967_296, 512, 0, 1, false),
-        (128, 512, (1 << 40) + 1, 0, 1, false),
-        (128, 512, 512, (1 << 62) + 1, 1, false),
-        (128, 512, 512, 0, 16_777_217, false),
-    ] {
-        let limits = Limits::new(line, body, cert, input, pieces);
-        assert!(rt;
-            limits.is_some() == allowed,
-            "{line} {body} {cert} {input} {pieces}"
-        );
-    }
-    assert!(rt; Limits::usual().line() == 8192);
-    assert!(rt; Limits::usual().outside() == Outside::Skip);
-    let strict = Limits::usual().with_outside(Outside::Refuse);
-    assert!(rt; strict.outside() == Outside::Refuse && strict.pieces() == 1_048_576);
-}
 
 // The table of docs/FORMAT.md, "Faults".
 const REASONS: &[(u8, Reason, &str)] = &[
     (1, Reason::Spent, "Spent"),
     (2, Reason::Short, "Short"),
     (3, Reason::MpiBits, "MpiBits"),
-    (9, Reason::Outside, "Outside"),
     (10, Reason::NoBlock, "NoBlock"),
     (11, Reason::Label, "Label"),
     (12, Reason::Header, "Header"),
@@ -270,11 +139,6 @@ fn lengths_refused_growth(rt: HostRuntime) {
 
 #[test]
 fn refused_growth(rt: HostRuntime) {
-    let alloc = rt.alloc();
-    match point_of(alloc) {
-        Ok((_, _, copied)) => assert!(rt; copied != Some(false)),
-        Err(fault) => assert!(rt; fault == MpiFault::Memory),
-    }
     let fault = Fault {
         layer: Layer::Input,
         reason: Reason::InputTooLong,
@@ -283,5 +147,5 @@ fn refused_growth(rt: HostRuntime) {
         inner: 0,
     };
     let line = "input: InputTooLong block 0 at 52 inner 0";
-    assert!(rt; is_line(alloc, &fault, line) != Some(false));
+    assert!(rt; is_line(rt.alloc(), &fault, line) != Some(false));
 }

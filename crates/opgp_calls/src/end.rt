@@ -1,0 +1,28 @@
+//! Why a line has no answer.
+
+use opgp_octets::{OutOfMemory, PushFault};
+use std::alloc::AllocFailed;
+
+/// Why a line has no answer.
+#[derive(Clone, Copy)]
+pub(crate) enum End {
+    /// What is wanted instead of what is there.
+    Bad(&'static str),
+    /// An allocation failed.
+    Memory,
+}
+
+impl From<OutOfMemory> for End {
+    fn from(_refused: OutOfMemory) -> End {
+        End::Memory
+    }
+}
+
+impl From<PushFault> for End {
+    fn from(fault: PushFault) -> End {
+        match fault {
+            PushFault::Memory => End::Memory,
+            PushFault::Spent => End::Bad("a reader that isn't spent"),
+        }
+    }
+}

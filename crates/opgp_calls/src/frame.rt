@@ -1,0 +1,293 @@
+//! The calls of `opgp_frame`.
+
+use crate::answer::Answer;
+use crate::end::End;
+use crate::given::Given;
+use crate::octets::limits_of;
+use opgp_frame::{
+    Deframe, Form, LastForm, Packet, Pieces, Placed, Spelling, reframe, spelled_len_of,
+    write_packet, write_parts,
+};
+use std::alloc::Global;
+
+/// The answer to a call of this crate; false where it has none of the name.
+pub(crate) fn answered(
+    alloc: Global,
+    name: &str,
+    given: &Given,
+    answer: &mut Answer,
+) -> Result<bool, End> {
+    match name {
+        "deframe" => deframe(alloc, given, answer)?,
+        "packet" => packet(alloc, given, answer)?,
+        "packet_copy" => packet_copy(alloc, given, answer)?,
+        "placed_copy" => placed_copy(alloc, given, answer)?,
+        "packet_parts" => packet_parts(alloc, given, answer)?,
+        "packet_behind" => packet_behind(alloc, given, answer)?,
+        "reframe" => reframed(alloc, given, answer)?,
+        "spelling" => spelling(alloc, given, answer)?,
+        "pieces" => pieces(alloc, given, answer)?,
+        "form_copy" => form_copy(alloc, given, answer)?,
+        "shortest_form" => shortest_form(given, answer)?,
+        _ => return Ok(false),
+    }
+    Ok(true)
+}
+
+/// `deframe LIMITS.. BLOCK SIZE OCTETS..`: pushes of so many octets.
+fn deframe(alloc: Global, given: &Given, answer: &mut Answer) -> Result<(), End> {
+    let limits = limits_of(given)?;
+    let block = given.number(5)?;
+    let size = given.long(6)?.max(1);
+    let mut reader = Deframe::new(alloc, block, limits);
+    push_all(alloc, &mut reader, given.all_octets(), size, answer)?;
+    add_end(reader, answer)
+}
+
+/// Pushes octets, so many at a time, and adds the packets.
+fn push_all(
+    alloc: Global,
+    reader: &mut Deframe,
+    words: &[Vec<u8>],
+    size: u32,
+    answer: &mut Answer,
+) -> Result<(), End> {
+    for octets in words {
+        for piece in octets.chunks(size.max(1) as usize) {
+            push(alloc, reader, piece, answer)?;
+        }
+    }
+    answer.named("given", reader.given())
+}
+
+/// Adds how the packets end.
+fn add_end(reader: Deframe, answer: &mut Answer) -> Result<(), End> {
+    if reader.ready() {
+        return Err(End::Bad("packets that were taken"));
+    }
+    answer.ended(reader.finish())
+}
+
+/// Pushes octets, and adds the packets.
+fn push(alloc: Global, reader: &mut Deframe, piece: &[u8], answer: &mut Answer) -> Result<(), End> {
+    let mut rest = piece;
+    for _ in 0..=piece.len() {
+        if rest.is_empty() {
+            break;
+        }
+        if reader.ready() || reader.given() > 1 << 40 || rest.len() > 1 << 40 {
+            return Err(End::Bad("fewer octets"));
+        }
+        let count = reader.push(rest)?;
+        rest = &rest[count..];
+        if let Some(placed) = reader.take() {
+            add_placed(alloc, &placed, answer)?;
+        }
+    }
+    Ok(())
+}
+
+/// Adds a packet: its place, block, header and octets.
+fn add_placed(alloc: Global, placed: &Placed, answer: &mut Answer) -> Result<(), End> {
+    answer.named("at", placed.pos)?;
+    answer.number(placed.block)?;
+    add_packet(alloc, &placed.packet, answer)
+}
+
+/// Adds a packet: its type, its form, how long its body and it are, and its octets.
+fn add_packet(alloc: Global, packet: &Packet, answer: &mut Answer) -> Result<(), End> {
+    answer.number(u64::from(packet.kind()))?;
+    add_form(packet.form(), answer)?;
+    answer.number(packet.body().len() as u64)?;
+    answer.number(packet.spelled_len())?;
+    let mut written = Vec::new(alloc);
+    write_packet(packet, &mut written)?;
+    answer.octets(written.as_slice())
+}
+
+/// Adds the name of a form and the exponents of its pieces.
+pub(crate) fn add_form(form: &Form, answer: &mut Answer) -> Result<(), End> {
+    match form {
+        Form::OldOne => answer.word("old1"),
+        Form::OldTwo => answer.word("old2"),
+        Form::OldFour => answer.word("old4"),
+        Form::NewOne => answer.word("new1"),
+        Form::NewTwo => answer.word("new2"),
+        Form::NewFive => answer.word("new5"),
+        Form::Partial(pieces) => add_pieces(pieces, answer),
+    }
+}
+
+/// Adds the form of a last length and the exponents of the pieces before it.
+fn add_pieces(pieces: &Pieces, answer: &mut Answer) -> Result<(), End> {
+    answer.word(match pieces.last() {
+        LastForm::One => "partial1",
+        LastForm::Two => "partial2",
+        LastForm::Five => "partial5",
+    })?;
+    answer.octets(pieces.exponents())
+}
+
+/// A form of this name, with the exponents that there are if it is partial.
+fn form_of(alloc: Global, given: &Given) -> Result<Option<Form>, End> {
+    let name = given.name(0)?;
+    match last_of(name) {
+        Some(last) => partial_of(alloc, given.octets(0)?, last),
+        None => Ok(Some(whole_of(name)?)),
+    }
+}
+
+/// The form of a last length that this name of a partial form says.
+fn last_of(name: &str) -> Option<LastForm> {
+    match name {
+        "partial1" => Some(LastForm::One),
+        "partial2" => Some(LastForm::Two),
+        "partial5" => Some(LastForm::Five),
+        _ => None,
+    }
+}
+
+/// A partial form, if there are such pieces.
+fn partial_of(alloc: Global, exponents: &[u8], last: LastForm) -> Result<Option<Form>, End> {
+    match Pieces::new(Vec::from_slice(alloc, exponents)?, last) {
+        Some(pieces) => Ok(Some(Form::Partial(pieces))),
+        None => Ok(None),
+    }
+}
+
+/// The form of this name that isn't partial.
+fn whole_of(name: &str) -> Result<Form, End> {
+    match name {
+        "old1" => Ok(Form::OldOne),
+        "old2" => Ok(Form::OldTwo),
+        "old4" => Ok(Form::OldFour),
+        "new1" => Ok(Form::NewOne),
+        "new2" => Ok(Form::NewTwo),
+        "new5" => Ok(Form::NewFive),
+        _ => Err(End::Bad("a form")),
+    }
+}
+
+/// The packet of these words: a form, exponents, a type and a body.
+fn packet_of(alloc: Global, given: &Given) -> Result<Option<Packet>, End> {
+    let kind = given.small(0)?;
+    let body = Vec::from_slice(alloc, given.octets(1)?)?;
+    match form_of(alloc, given)? {
+        Some(form) => Ok(Packet::new(form, kind, body)),
+        None => Ok(None),
+    }
+}
+
+/// `packet FORM EXPONENTS TYPE BODY`: a packet of these parts, or that there is none.
+fn packet(alloc: Global, given: &Given, answer: &mut Answer) -> Result<(), End> {
+    match packet_of(alloc, given)? {
+        Some(packet) => add_packet(alloc, &packet, answer),
+        None => answer.word("none"),
+    }
+}
+
+/// `packet_copy FORM EXPONENTS TYPE BODY`: a copy of a packet.
+fn packet_copy(alloc: Global, given: &Given, answer: &mut Answer) -> Result<(), End> {
+    match packet_of(alloc, given)? {
+        Some(packet) => add_packet(alloc, &packet.copy(alloc)?, answer),
+        None => answer.word("none"),
+    }
+}
+
+/// `placed_copy FORM EXPONENTS TYPE BODY BLOCK PLACE`: a copy of a packet in a place.
+fn placed_copy(alloc: Global, given: &Given, answer: &mut Answer) -> Result<(), End> {
+    let (block, pos) = (given.number(1)?, given.number(2)?);
+    match packet_of(alloc, given)? {
+        Some(packet) => {
+            let placed = Placed { packet, block, pos };
+            add_placed(alloc, &placed.copy(alloc)?, answer)
+        }
+        None => answer.word("none"),
+    }
+}
+
+/// `packet_parts FORM EXPONENTS TYPE BODY`: what a packet is taken apart into.
+fn packet_parts(alloc: Global, given: &Given, answer: &mut Answer) -> Result<(), End> {
+    match packet_of(alloc, given)? {
+        Some(packet) => {
+            let (form, kind, body) = packet.into_parts();
+            answer.number(u64::from(kind))?;
+            add_form(&form, answer)?;
+            answer.octets(body.as_slice())
+        }
+        None => answer.word("none"),
+    }
+}
+
+/// `packet_behind FORM EXPONENTS TYPE BODY OCTETS`: a packet written behind octets.
+fn packet_behind(alloc: Global, given: &Given, answer: &mut Answer) -> Result<(), End> {
+    match packet_of(alloc, given)? {
+        Some(packet) => {
+            let mut out = Vec::from_slice(alloc, given.octets(2)?)?;
+            write_parts(packet.form(), packet.kind(), packet.body(), &mut out)?;
+            answer.octets(out.as_slice())
+        }
+        None => answer.word("none"),
+    }
+}
+
+/// `reframe FORM EXPONENTS TYPE BODY`: a packet in the current format.
+fn reframed(alloc: Global, given: &Given, answer: &mut Answer) -> Result<(), End> {
+    match packet_of(alloc, given)? {
+        Some(packet) => add_packet(alloc, &reframe(packet), answer),
+        None => answer.word("none"),
+    }
+}
+
+/// `spelling FORM EXPONENTS TYPE BODY`: the length headers of a packet, and how long each part is.
+fn spelling(alloc: Global, given: &Given, answer: &mut Answer) -> Result<(), End> {
+    match packet_of(alloc, given)? {
+        Some(packet) => {
+            add_spelling(
+                Spelling::new(packet.form(), packet.kind(), packet.body()),
+                answer,
+            )
+        }
+        None => answer.word("none"),
+    }
+}
+
+/// Adds the headers of a packet, each with the size of its part, and whether nothing comes after
+/// them.
+fn add_spelling(mut spelling: Spelling, answer: &mut Answer) -> Result<(), End> {
+    for _ in 0..u64::MAX {
+        let Some((header, part)) = spelling.next() else {
+            break;
+        };
+        answer.octets(header.as_slice())?;
+        answer.number(part.len() as u64)?;
+    }
+    answer.truth(spelling.next().is_none())
+}
+
+/// `pieces FORM EXPONENTS`: pieces and a copy of them, or that there are none.
+fn pieces(alloc: Global, given: &Given, answer: &mut Answer) -> Result<(), End> {
+    match form_of(alloc, given)? {
+        Some(Form::Partial(pieces)) => {
+            add_pieces(&pieces, answer)?;
+            add_pieces(&pieces.copy(alloc)?, answer)
+        }
+        _ => answer.word("none"),
+    }
+}
+
+/// `form_copy FORM EXPONENTS`: a copy of a form.
+fn form_copy(alloc: Global, given: &Given, answer: &mut Answer) -> Result<(), End> {
+    match form_of(alloc, given)? {
+        Some(form) => add_form(&form.copy(alloc)?, answer),
+        None => answer.word("none"),
+    }
+}
+
+/// `shortest_form SIZE`: the shortest form of a body of so many octets, and how long its packet is.
+fn shortest_form(given: &Given, answer: &mut Answer) -> Result<(), End> {
+    let size = given.long(0)?;
+    let form = Form::shortest(size);
+    add_form(&form, answer)?;
+    answer.number(spelled_len_of(&form, u64::from(size)))
+}

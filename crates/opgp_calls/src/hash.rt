@@ -1,0 +1,76 @@
+//! The calls of `opgp_hash`.
+
+ghost use Rattle.opgp_octets.specs.Octets.{IsBodySized};
+
+use crate::answer::Answer;
+use crate::end::End;
+use crate::given::Given;
+use opgp_hash::{Digest, Fingerprint, KeyId, fingerprint, fingerprint_of_view, key_id};
+use opgp_packet::{Key, KeyView};
+use std::alloc::Global;
+
+/// The answer to a call of this crate; false where it has none of the name.
+pub(crate) fn answered(
+    alloc: Global,
+    name: &str,
+    given: &Given,
+    answer: &mut Answer,
+) -> Result<bool, End> {
+    let octets = match given.octets(0) {
+        Ok(octets) if octets.len() <= 4_294_967_295 => octets,
+        _ => return Ok(false),
+    };
+    match name {
+        "key_names" => key_names(alloc, octets, answer)?,
+        "digest" => digest(octets, answer)?,
+        _ => return Ok(false),
+    }
+    Ok(true)
+}
+
+/// `key_names BODY`: the fingerprint and the key ID of a key, of a view and of a value.
+fn key_names(alloc: Global, body: &[u8], answer: &mut Answer) -> Result<(), End>
+    requires { IsBodySized body.now }
+{
+    let Ok(view) = KeyView::parse_body(body) else {
+        return answer.word("refused");
+    };
+    add_print(&fingerprint_of_view(view), answer)?;
+    add_names(&view.copy(alloc)?, answer)
+}
+
+/// Adds the fingerprint and the key ID of a key.
+fn add_names(key: &Key, answer: &mut Answer) -> Result<(), End> {
+    add_print(&fingerprint(key), answer)?;
+    add_id(&key_id(key), answer)
+}
+
+/// Adds a fingerprint: its version, octets and digits, and its key ID.
+fn add_print(print: &Fingerprint, answer: &mut Answer) -> Result<(), End> {
+    answer.number(u64::from(print.version()))?;
+    answer.octets(print.octets())?;
+    answer.shown(print)?;
+    answer.word(print.write_digits(&mut [0; 64]))?;
+    add_id(&print.key_id(), answer)
+}
+
+/// Adds a key ID: its octets and its digits.
+fn add_id(id: &KeyId, answer: &mut Answer) -> Result<(), End> {
+    answer.octets(&id.0)?;
+    answer.shown(id)?;
+    answer.word(id.write_digits(&mut [0; 16]))
+}
+
+/// `digest OCTETS`: a digest of 20 or 32 octets: its octets and its digits.
+fn digest(octets: &[u8], answer: &mut Answer) -> Result<(), End> {
+    let digest = if let Ok(octets) = <[u8; 20]>::try_from(octets) {
+        Digest::Sha1(octets)
+    } else if let Ok(octets) = <[u8; 32]>::try_from(octets) {
+        Digest::Sha256(octets)
+    } else {
+        return Err(End::Bad("20 or 32 octets"));
+    };
+    answer.octets(digest.octets())?;
+    answer.shown(&digest)?;
+    answer.word(digest.write_digits(&mut [0; 128]))
+}

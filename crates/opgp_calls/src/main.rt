@@ -1,0 +1,73 @@
+//! Public calls of the crates, for tests alone: a line of standard input names a call and what it is
+//! given, and a line is written with all of its answer.
+#![tactic(auto)]
+
+mod answer;
+mod armor;
+mod end;
+mod frame;
+mod given;
+mod hash;
+mod headers;
+mod material;
+mod meaning;
+mod numbers;
+mod octets;
+mod packet;
+mod ring;
+mod signature;
+
+use crate::answer::Answer;
+use crate::end::End;
+use crate::given::Given;
+use anyhow::{Result, bail};
+use std::alloc::Global;
+use std::io::Read;
+
+fn main(rt: HostRuntime) -> Result<()> {
+    let text = read_all(&rt)?;
+    for (number, line) in text.as_str().lines().enumerate() {
+        answer_line(&rt, number, line)?;
+    }
+    Ok(())
+}
+
+/// The text of standard input.
+fn read_all(rt: &HostRuntime) -> Result<String> {
+    let mut text = String::new(rt.alloc());
+    rt.stdin().read_to_string(&mut text)?;
+    Ok(text)
+}
+
+/// Writes the answer to a line: `memory` where the call ran out of it.
+fn answer_line(rt: &(impl Print + AllocGlobal), number: usize, line: &str) -> Result<()> {
+    let mut answer = Answer::new(rt.alloc());
+    match answered(rt.alloc(), line, &mut answer) {
+        Ok(()) => rt.println(answer.text())?,
+        Err(End::Memory) => rt.println("memory")?,
+        Err(End::Bad(wanted)) => bail!("line {number}: {wanted}"),
+    }
+    Ok(())
+}
+
+/// The answer to a line.
+fn answered(alloc: Global, line: &str, answer: &mut Answer) -> Result<(), End> {
+    let (name, words) = match line.split_once(' ') {
+        Some(parts) => parts,
+        None => (line, ""),
+    };
+    let given = Given::of(alloc, words)?;
+    let known = numbers::answered(name, &given, answer)?
+        || octets::answered(alloc, name, &given, answer)?
+        || armor::answered(alloc, name, &given, answer)?
+        || frame::answered(alloc, name, &given, answer)?
+        || packet::answered(alloc, name, &given, answer)?
+        || signature::answered(alloc, name, &given, answer)?
+        || hash::answered(alloc, name, &given, answer)?
+        || ring::answered(alloc, name, &given, answer)?;
+    if known {
+        Ok(())
+    } else {
+        Err(End::Bad("the name of a call"))
+    }
+}

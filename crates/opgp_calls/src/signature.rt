@@ -1,0 +1,170 @@
+//! The calls of `opgp_packet` about signatures.
+
+ghost use Rattle.opgp_octets.specs.Octets.{IsBodySized};
+
+use crate::answer::Answer;
+use crate::end::End;
+use crate::given::Given;
+use crate::material::add_signed;
+use crate::meaning::add_meaning;
+use crate::octets::add_sub_len_of;
+use opgp_octets::ParseFault;
+use opgp_packet::{AreasView, SigView, Signature, Subs, ThreeView};
+use std::alloc::Global;
+
+/// The answer to a call about signatures; false where there is none of the name.
+pub(crate) fn answered(
+    alloc: Global,
+    name: &str,
+    given: &Given,
+    answer: &mut Answer,
+) -> Result<bool, End> {
+    let body = match given.octets(0) {
+        Ok(body) if body.len() <= 4_294_967_295 => body,
+        _ => return Ok(false),
+    };
+    match name {
+        "signature" => signature(alloc, body, answer)?,
+        "signature_fields" => signature_fields(body, answer)?,
+        "subpackets" => subpackets(body, answer)?,
+        _ => return Ok(false),
+    }
+    Ok(true)
+}
+
+/// `signature BODY`: a signature's body, or its fault, in each way to read it.
+fn signature(alloc: Global, body: &[u8], answer: &mut Answer) -> Result<(), End>
+    requires { IsBodySized body.now }
+{
+    match SigView::parse_body(body) {
+        Ok(view) => answer.octets(view.body())?,
+        Err(fault) => answer.named(fault.reason.name(), fault.inner)?,
+    }
+    parsed(alloc, body, answer)?;
+    kept(alloc, body, answer)
+}
+
+/// Adds what a signature has that is parsed, or its fault.
+fn parsed(alloc: Global, body: &[u8], answer: &mut Answer) -> Result<(), End>
+    requires { IsBodySized body.now }
+{
+    match Signature::parse_body(alloc, body) {
+        Ok(signature) => add_value(alloc, &signature, answer),
+        Err(ParseFault::Body(fault)) => answer.named(fault.reason.name(), fault.inner),
+        Err(ParseFault::Memory) => Err(End::Memory),
+    }
+}
+
+/// Adds a body, how long it is, and the bodies of copies of the signature and of its view.
+fn add_value(alloc: Global, signature: &Signature, answer: &mut Answer) -> Result<(), End> {
+    answer.octets(signature.body())?;
+    answer.number(signature.body_len())?;
+    answer.octets(signature.copy(alloc)?.body())?;
+    answer.octets(Signature::of(alloc, signature.view())?.body())
+}
+
+/// Adds a signature's body that is kept, written behind octets and then given back, or its fault.
+fn kept(alloc: Global, body: &[u8], answer: &mut Answer) -> Result<(), End>
+    requires { IsBodySized body.now }
+{
+    match Signature::from_body(Vec::from_slice(alloc, body)?) {
+        Ok(signature) => {
+            let mut out = Vec::from_slice(alloc, b"so far")?;
+            signature.write_body(&mut out)?;
+            answer.octets(out.as_slice())?;
+            answer.octets(signature.into_body().as_slice())
+        }
+        Err(fault) => answer.named(fault.reason.name(), fault.inner),
+    }
+}
+
+/// `signature_fields BODY`: the fields of a signature.
+fn signature_fields(body: &[u8], answer: &mut Answer) -> Result<(), End>
+    requires { IsBodySized body.now }
+{
+    let Ok(view) = SigView::parse_body(body) else {
+        return answer.word("refused");
+    };
+    add_common(&view, answer)?;
+    match view {
+        SigView::Three(three) => add_three(&three, answer),
+        SigView::Four(four) => add_areas("four", &four, answer),
+        SigView::Six(six) => add_areas("six", &six, answer),
+        SigView::Other(other) => {
+            answer.word("other")?;
+            answer.octets(other.body())
+        }
+    }
+}
+
+/// Adds what a signature of each version that is typed has: its type, its algorithms, its left octets.
+fn add_common(view: &SigView<'_>, answer: &mut Answer) -> Result<(), End> {
+    for field in [view.kind(), view.algorithm(), view.hash()] {
+        match field {
+            Some(field) => answer.number(u64::from(field))?,
+            None => answer.word("none")?,
+        }
+    }
+    match view.left() {
+        Some(left) => answer.octets(&left),
+        None => answer.word("none"),
+    }
+}
+
+/// Adds the fields of a signature of version 3.
+fn add_three(three: &ThreeView<'_>, answer: &mut Answer) -> Result<(), End> {
+    answer.named("three", u64::from(three.kind()))?;
+    answer.number(u64::from(three.created()))?;
+    answer.octets(&three.issuer())?;
+    answer.number(u64::from(three.algorithm()))?;
+    answer.number(u64::from(three.hash()))?;
+    answer.octets(&three.left())?;
+    add_signed(three.material(), answer)
+}
+
+/// Adds the fields of a signature of version 4 or 6.
+fn add_areas<const V: u8>(
+    version: &str,
+    view: &AreasView<'_, V>,
+    answer: &mut Answer,
+) -> Result<(), End> {
+    answer.named(version, u64::from(view.kind()))?;
+    answer.number(u64::from(view.algorithm()))?;
+    answer.number(u64::from(view.hash()))?;
+    answer.octets(view.hashed_area())?;
+    answer.octets(view.unhashed_area())?;
+    answer.octets(&view.left())?;
+    answer.octets(view.salt())?;
+    answer.octets(view.front())?;
+    add_signed(view.material(), answer)
+}
+
+/// `subpackets BODY`: the subpackets of a signature, the hashed ones first.
+fn subpackets(body: &[u8], answer: &mut Answer) -> Result<(), End>
+    requires { IsBodySized body.now }
+{
+    match SigView::parse_body(body) {
+        Ok(SigView::Four(four)) => {
+            add_subs(four.hashed(), answer)?;
+            add_subs(four.unhashed(), answer)
+        }
+        Ok(SigView::Six(six)) => {
+            add_subs(six.hashed(), answer)?;
+            add_subs(six.unhashed(), answer)
+        }
+        _ => answer.word("none"),
+    }
+}
+
+/// Adds subpackets: the form and the number of the length, the kind, whether it is critical, the
+/// octets, what they mean.
+fn add_subs(subs: Subs<'_>, answer: &mut Answer) -> Result<(), End> {
+    for sub in subs {
+        add_sub_len_of(sub.len(), answer)?;
+        answer.number(u64::from(sub.kind()))?;
+        answer.truth(sub.critical())?;
+        answer.octets(sub.octets())?;
+        add_meaning(sub.meaning(), answer)?;
+    }
+    answer.word("end")
+}

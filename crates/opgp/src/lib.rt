@@ -59,8 +59,8 @@ pub mod packet {
         Body, Cursor, FourSignature, FourView, Key, KeyId8, KeyView, Literal, LiteralView,
         Material, MaterialView, MpiSpan, Octets, OtherSignature, OtherView, Parsed, SigView,
         Signature, SignatureMaterial, SignatureMaterialView, SixSignature, SixView, Span,
-        SubFields, SubMeaning, SubView, Subpacket, Subs, ThreePlaces, ThreeSignature, ThreeView, UserId, Walk,
-        fault_in_area, field_laws, key_laws, signature_laws,
+        SubFields, SubMeaning, SubView, Subpacket, Subs, ThreePlaces, ThreeSignature, ThreeView,
+        UserId, Walk, fault_in_area, field_laws, key_laws, signature_laws,
     };
 }
 

@@ -4,8 +4,8 @@ use crate::answer::Answer;
 use crate::end::End;
 use crate::given::Given;
 use opgp_octets::{
-    Limits, Mpi, MpiFault, MpiView, PacketLen, SubLen, read_len, read_sub_len, shortest, write_len,
-    write_sub_len,
+    Limits, Mpi, MpiFault, MpiView, Outside, PacketLen, SubLen, read_len, read_sub_len, shortest,
+    write_len, write_sub_len,
 };
 use std::alloc::Global;
 
@@ -141,7 +141,7 @@ fn add_integer(integer: &Mpi, answer: &mut Answer) -> Result<(), End> {
     answer.octets(integer.octets())
 }
 
-/// `limits LINE BODY CERT INPUT PIECES`: these limits, or that they aren't allowed.
+/// `limits [refuse] LINE BODY CERT INPUT PIECES`: these limits, or that they aren't allowed.
 fn limits(given: &Given, answer: &mut Answer) -> Result<(), End> {
     match limits_if_allowed(given)? {
         Some(limits) => add_limits(limits, answer),
@@ -149,14 +149,19 @@ fn limits(given: &Given, answer: &mut Answer) -> Result<(), End> {
     }
 }
 
-/// The limits of the first five numbers, if they are allowed.
+/// The limits of the first five numbers, if they are allowed; with `refuse` lines outside of blocks
+/// must be blank.
 fn limits_if_allowed(given: &Given) -> Result<Option<Limits>, End> {
     let line = given.number(0)?;
     let body = given.number(1)?;
     let cert = given.number(2)?;
     let input = given.number(3)?;
     let pieces = given.number(4)?;
-    Ok(Limits::new(line, body, cert, input, pieces))
+    let limits = Limits::new(line, body, cert, input, pieces);
+    Ok(match given.name(0) {
+        Ok("refuse") => limits.map(|it| it.with_outside(Outside::Refuse)),
+        _ => limits,
+    })
 }
 
 /// The limits of the first five numbers.
@@ -173,7 +178,11 @@ fn add_limits(limits: Limits, answer: &mut Answer) -> Result<(), End> {
     answer.named("body", limits.body())?;
     answer.named("cert", limits.cert())?;
     answer.named("input", limits.input())?;
-    answer.named("pieces", limits.pieces())
+    answer.named("pieces", limits.pieces())?;
+    answer.word(match limits.outside() {
+        Outside::Skip => "skip",
+        Outside::Refuse => "refuse",
+    })
 }
 
 /// `shortest NUMBER`: the shortest length of a packet of so many octets.

@@ -5,8 +5,6 @@
 #[cfg(test)]
 mod key;
 #[cfg(test)]
-mod meaning;
-#[cfg(test)]
 mod questions;
 #[cfg(test)]
 mod sig;

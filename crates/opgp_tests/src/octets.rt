@@ -10,6 +10,7 @@ const REASONS: &[(u8, Reason, &str)] = &[
     (1, Reason::Spent, "Spent"),
     (2, Reason::Short, "Short"),
     (3, Reason::MpiBits, "MpiBits"),
+    (9, Reason::Outside, "Outside"),
     (10, Reason::NoBlock, "NoBlock"),
     (11, Reason::Label, "Label"),
     (12, Reason::Header, "Header"),

@@ -48,7 +48,10 @@ fn formed(fields: SubFields<'_>) -> SubpacketValues
         SubFields::Revoker(class, algorithm, fingerprint) => {
             values(6, [class as u32, algorithm as u32], 2, fingerprint.len())
         }
-        SubFields::KeyId(id) => values(7, [0, 0], 0, id.len()),
+        SubFields::KeyId(id) => {
+            let octets: &[u8] = &id;
+            values(7, [0, 0], 0, octets.len())
+        }
         SubFields::Notation(flags, name, value) => SubpacketValues {
             form: 8,
             numbers: [flags, 0],

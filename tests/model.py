@@ -466,8 +466,8 @@ VALUES = {
 
 
 def said(kind, octets):
-    """What a subpacket says, or its octets where they say nothing."""
-    return VALUES[kind](octets) if meaning(kind, octets) == "typed" else digits(octets)
+    """What a subpacket says, or its octets where they say nothing, or where their kind has no line of its own."""
+    return VALUES.get(kind, digits)(octets) if meaning(kind, octets) == "typed" else digits(octets)
 
 
 # A subpacket's numbers and its fields of octets, by its form, as docs/LIBRARY-C.md has them.

@@ -45,8 +45,8 @@ pub mod merge {
 /// Limits, faults, lengths, and registered numbers with their names (RFC 9580, 3, 9).
 pub mod octets {
     pub use opgp_octets::{
-        BodyFault, Fault, HashAlgorithm, KeyAlgorithm, Layer, Limits, Mpi, MpiFault, MpiView,
-        OutOfMemory, Outside, PacketLen, PacketType, ParseFault, PushFault, Range, Reason,
+        BodyFault, Fault, HashAlgorithm, KeyAlgorithm, Layer, Limits, Malformed, Mpi, MpiFault,
+        MpiView, OutOfMemory, Outside, PacketLen, PacketType, ParseFault, PushFault, Range, Reason,
         SignatureType, SubLen, SubpacketKind, fault_line, laws, read_len, read_sub_len, shortest,
         u16_at, u32_at, write_digits, write_hexadecimal, write_len, write_sub_len,
     };

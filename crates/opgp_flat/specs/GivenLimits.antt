@@ -2,13 +2,15 @@
 use Rattle.std.specs.Prelude.{◌≡◌}
 use Rattle.opgp_octets.specs.declared.limits.Limits.{Limits}
 use Rattle.opgp_octets.specs.Limits.{line_limit, body_limit, cert_limit, input_limit, pieces_limit}
-use Rattle.opgp_octets.specs.Limits.{outside_of}
+use Rattle.opgp_octets.specs.Limits.{malformed_of, outside_of}
+use Rattle.opgp_octets.specs.declared.malformed.Malformed.TheVariants.{Refuse}
 use Rattle.opgp_octets.specs.declared.outside.Outside.TheVariants.{Skip}
 use Rattle.opgp_octets.specs.Ranges.{AreAllowed, line_range, body_range, cert_range, input_range}
 use Rattle.opgp_octets.specs.Ranges.{pieces_range}
 use Rattle.opgp_flat.specs.declared.given_limits.GivenLimits.{GivenLimits}
 
--- the limits are the given ones, and lines outside of armored blocks are passed over
+-- the limits are the given ones; lines outside of armored blocks are passed over, and malformed
+-- signatures refused
 pub record AreThese (l : Limits) (g : GivenLimits) : Type 0 where
   pub line : line_limit l ≡ g.line
   pub body : body_limit l ≡ g.body
@@ -16,6 +18,7 @@ pub record AreThese (l : Limits) (g : GivenLimits) : Type 0 where
   pub input : input_limit l ≡ g.input
   pub pieces : pieces_limit l ≡ g.pieces
   pub outside : outside_of l ≡ Skip
+  pub malformed : malformed_of l ≡ Refuse
 
 -- each is in its range, and the number that is reserved is 0
 abbrev pub MayBeGiven : GivenLimits → Type 0

@@ -1,6 +1,7 @@
 -- The values of limits.
 use Rattle.std.specs.Prelude.{ℕ}
 use Rattle.opgp_octets.specs.declared.limits.Limits.{Limits}
+use Rattle.opgp_octets.specs.declared.malformed.Malformed.{Malformed}
 use Rattle.opgp_octets.specs.declared.outside.Outside.{Outside}
 
 -- the most octets of an armored line
@@ -26,3 +27,7 @@ pieces_limit l = l.pieces
 -- what becomes of lines outside of armored blocks
 abbrev pub outside_of : Limits → Outside
 outside_of l = l.outside
+
+-- what becomes of malformed signatures
+abbrev pub malformed_of : Limits → Malformed
+malformed_of l = l.malformed

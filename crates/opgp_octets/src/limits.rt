@@ -4,6 +4,7 @@ ghost use Rattle.std.specs.Prelude.{◌≡◌, ◌↔◌, IsSome, IfSome, IsTrue
 ghost use Rattle.opgp_octets.specs.Ranges.{AreAllowed, IsIn, line_range, body_range, cert_range};
 ghost use Rattle.opgp_octets.specs.Ranges.{input_range, pieces_range};
 
+use crate::malformed::Malformed;
 use crate::outside::Outside;
 
 /// The range of a limit, and its default.
@@ -26,7 +27,7 @@ impl Range {
 }
 
 /// The limits of what is read; a value equal to a limit is accepted. With them goes what becomes of
-/// lines outside of armored blocks.
+/// lines outside of armored blocks, and of malformed signatures.
 #[derive(Clone, Copy, Debug)]
 pub struct Limits {
     line: u64,
@@ -35,13 +36,15 @@ pub struct Limits {
     input: u64,
     pieces: u64,
     outside: Outside,
+    malformed: Malformed,
     ghost allowed: { AreAllowed line body cert input pieces },
 }
 
 impl Limits {
     ghost use Rattle.opgp_octets.specs.Limits.{line_limit, body_limit, cert_limit, input_limit};
-    ghost use Rattle.opgp_octets.specs.Limits.{pieces_limit, outside_of};
+    ghost use Rattle.opgp_octets.specs.Limits.{pieces_limit, outside_of, malformed_of};
     ghost use Rattle.opgp_octets.specs.declared.outside.Outside.TheVariants as policy;
+    ghost use Rattle.opgp_octets.specs.declared.malformed.Malformed.TheVariants as signature;
 
     /// Octets of an armored line without its line feed.
     pub const LINE: Range = Range {
@@ -79,7 +82,7 @@ impl Limits {
     };
 
     /// These limits, or None where one is out of its range: [`Limits::LINE`] to [`Limits::PIECES`].
-    /// Lines outside of blocks are passed over.
+    /// Lines outside of blocks are passed over, and malformed signatures refused.
     pub fn new(line: u64, body: u64, cert: u64, input: u64, pieces: u64) -> Option<Limits>
         ensures some { IsSome result ↔ AreAllowed line body cert input pieces }
         ensures line { IfSome result (λ l. line_limit l ≡ line) }
@@ -88,6 +91,7 @@ impl Limits {
         ensures input { IfSome result (λ l. input_limit l ≡ input) }
         ensures pieces { IfSome result (λ l. pieces_limit l ≡ pieces) }
         ensures outside { IfSome result (λ l. outside_of l ≡ policy.Skip) }
+        ensures malformed { IfSome result (λ l. malformed_of l ≡ signature.Refuse) }
     {
         let allowed = Limits::LINE.has(line)
             && Limits::BODY.has(body)
@@ -102,6 +106,7 @@ impl Limits {
                 input,
                 pieces,
                 outside: Outside::Skip,
+                malformed: Malformed::Refuse,
             })
         } else {
             None
@@ -110,7 +115,7 @@ impl Limits {
 
     /// The default limits: lines of 8,192 octets, bodies of 16,777,216, certificates of 67,108,864,
     /// an input of 2^40, and 1,048,576 partial lengths of a packet. Lines outside of blocks are passed
-    /// over.
+    /// over, and malformed signatures refused.
     pub fn usual() -> Limits
         ensures line { line_limit result ≡ line_range.usual }
         ensures body { body_limit result ≡ body_range.usual }
@@ -118,6 +123,7 @@ impl Limits {
         ensures input { input_limit result ≡ input_range.usual }
         ensures pieces { pieces_limit result ≡ pieces_range.usual }
         ensures outside { outside_of result ≡ policy.Skip }
+        ensures malformed { malformed_of result ≡ signature.Refuse }
     {
         Limits {
             line: Limits::LINE.usual,
@@ -126,6 +132,7 @@ impl Limits {
             input: Limits::INPUT.usual,
             pieces: Limits::PIECES.usual,
             outside: Outside::Skip,
+            malformed: Malformed::Refuse,
         }
     }
 
@@ -137,6 +144,7 @@ impl Limits {
         ensures input { input_limit result ≡ input_limit self }
         ensures pieces { pieces_limit result ≡ pieces_limit self }
         ensures outside { outside_of result ≡ outside }
+        ensures malformed { malformed_of result ≡ malformed_of self }
     {
         Limits {
             line: self.line,
@@ -145,6 +153,28 @@ impl Limits {
             input: self.input,
             pieces: self.pieces,
             outside,
+            malformed: self.malformed,
+        }
+    }
+
+    /// The same limits, with this policy for malformed signatures.
+    pub fn with_malformed(self, malformed: Malformed) -> Limits
+        ensures line { line_limit result ≡ line_limit self }
+        ensures body { body_limit result ≡ body_limit self }
+        ensures cert { cert_limit result ≡ cert_limit self }
+        ensures input { input_limit result ≡ input_limit self }
+        ensures pieces { pieces_limit result ≡ pieces_limit self }
+        ensures outside { outside_of result ≡ outside_of self }
+        ensures malformed { malformed_of result ≡ malformed }
+    {
+        Limits {
+            line: self.line,
+            body: self.body,
+            cert: self.cert,
+            input: self.input,
+            pieces: self.pieces,
+            outside: self.outside,
+            malformed,
         }
     }
 
@@ -193,5 +223,12 @@ impl Limits {
         ensures { result ≡ outside_of self }
     {
         self.outside
+    }
+
+    /// What becomes of malformed signatures.
+    pub fn malformed(self) -> Malformed
+        ensures { result ≡ malformed_of self }
+    {
+        self.malformed
     }
 }

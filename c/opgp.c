@@ -13,7 +13,7 @@ IS_AT(opgp_limits, body, 8);
 IS_AT(opgp_limits, cert, 16);
 IS_AT(opgp_limits, input, 24);
 IS_AT(opgp_limits, pieces, 32);
-IS_AT(opgp_limits, reserved, 40);
+IS_AT(opgp_limits, policies, 40);
 
 _Static_assert(sizeof(opgp_fault) == 32, "opgp_fault");
 IS_AT(opgp_fault, block, 0);

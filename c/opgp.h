@@ -40,7 +40,7 @@ enum {
     OPGP_REFUSED = 1, /* the input is refused: the fault says where and why */
     OPGP_ROOM = 2,    /* a table has less room than the sizes now say; it is unchanged */
     OPGP_MEMORY = 3,  /* out of memory, or there is more than a size_t counts */
-    OPGP_LIMITS = 4,  /* a limit is out of its range, or the reserved number isn't 0 */
+    OPGP_LIMITS = 4,  /* a limit is out of its range, or a policy stands for nothing */
     OPGP_CLOSED = 5,  /* the handle holds nothing */
     OPGP_NO_ROW = 6,  /* there is no such row, or its signature isn't hashed; no such certificate, name or fault; no part waits */
     OPGP_ENDED = 7    /* the input of the reader has ended */
@@ -81,14 +81,20 @@ enum {
 
 /* ---- Structs. Each is what the proved calls fill, field by field; reserved octets are zeros. */
 
-/* The most of everything. opgp_usual_limits gives the usual ones. */
+/* Policies of reading, to be added up. */
+enum {
+    OPGP_REFUSE_OUTSIDE = 1, /* lines outside of armored blocks are refused unless they are blank; usually they are passed over */
+    OPGP_KEEP_MALFORMED = 2  /* signatures that are malformed are kept, octet for octet (5.2.5); usually they refuse the input */
+};
+
+/* The most of everything, and policies. opgp_usual_limits gives the usual ones. */
 typedef struct opgp_limits {
     uint64_t line;     /* octets of an armored line, without its line feed: 128 to 2^20 */
     uint64_t body;     /* octets of a packet's body: 512 to 2^32 - 1 */
     uint64_t cert;     /* octets of a certificate's packets, headers included: 512 to 2^40 */
     uint64_t input;    /* octets of the input: 0 to 2^62 */
     uint64_t pieces;   /* partial lengths of one packet (4.2.1.4): 1 to 2^24 */
-    uint64_t reserved; /* 0 */
+    uint64_t policies; /* 0, or the sum of the policies that are wanted */
 } opgp_limits;
 
 /* Why an input is refused. docs/FAULTS.md says what each reason means. */
@@ -232,7 +238,7 @@ OPGP_API uint32_t opgp_fault_line(const opgp_fault *fault, uint8_t *text, size_t
  *
  * Proved: with OPGP_DONE it holds the one keyring that the octets encode; with OPGP_REFUSED they encode none, and *fault is
  * the one fault of the lowest layer that refuses them; OPGP_LIMITS is answered if and only if a limit is out of its range or
- * the reserved number isn't 0. */
+ * a policy stands for nothing. */
 OPGP_API uint32_t opgp_ring_open(const uint8_t *in, size_t n, const opgp_limits *limits, opgp_ring *ring, opgp_fault *fault);
 
 /* Lets go what a handle holds, if it holds something. The handle, and each copy of it, can't be used again. */

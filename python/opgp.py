@@ -42,7 +42,7 @@ Octets = Union[bytes, bytearray, memoryview]
 
 
 class _Limits(ctypes.Structure):
-    _fields_ = [(name, ctypes.c_uint64) for name in ("line", "body", "cert", "input", "pieces", "reserved")]
+    _fields_ = [(name, ctypes.c_uint64) for name in ("line", "body", "cert", "input", "pieces", "policies")]
 
 
 class _Fault(ctypes.Structure):
@@ -203,7 +203,8 @@ def _fields(spans: Any) -> tuple[bytes, ...]:
 
 
 class Limits(NamedTuple):
-    """The most of everything. `Limits()` are the library's usual ones; a number out of its range is a ValueError of `read`."""
+    """The most of everything, and policies. `Limits()` are the library's usual ones; a number out of its range is a ValueError of
+    `read`."""
 
     line: int = 2**13
     """Octets of an armored line, without its line feed: 128 to 2**20."""
@@ -215,6 +216,10 @@ class Limits(NamedTuple):
     """Octets of the input: 0 to 2**62."""
     pieces: int = 2**20
     """Partial lengths of one packet (4.2.1.4): 1 to 2**24."""
+    refuse_outside: bool = False
+    """Whether lines outside of armored blocks are refused unless they are blank; else they are passed over."""
+    keep_malformed: bool = False
+    """Whether malformed signatures are kept, octet for octet (5.2.5); else they refuse the input."""
 
 
 class Fault(ValueError):
@@ -742,10 +747,11 @@ def _lent(octets: bytes) -> Any:
 def _limits(limits: Optional[Limits]) -> Any:
     if limits is None:
         return None
-    for it in limits:
+    numbers = limits[:5]
+    for it in numbers:
         if not 0 <= it < 2**64:
             raise ValueError(_library.opgp_status_text(_LIMITS).decode("ascii"))
-    return ctypes.byref(_Limits(*limits, 0))
+    return ctypes.byref(_Limits(*numbers, bool(limits.refuse_outside) + 2 * bool(limits.keep_malformed)))
 
 
 def _raise_but_for_done(status: int) -> None:

@@ -330,6 +330,39 @@ static void try_limit(opgp_ring *ring, size_t at, uint64_t least, uint64_t most)
     }
 }
 
+/* Reads octets under a policy; the status, and of a refusal the reason's number. */
+static unsigned read_by(opgp_ring *ring, uint64_t policies, const char *octets, size_t count)
+{
+    opgp_limits limits;
+    opgp_fault fault = {0, 0, 0, 0, 0, {0}};
+    opgp_usual_limits(&limits);
+    limits.policies = policies;
+    uint32_t status = opgp_ring_open((const uint8_t *)octets, count, &limits, ring, &fault);
+    return status * 256 + fault.reason;
+}
+
+/* A line outside of an empty block, and a key with a signature of one octet, under each policy. */
+static void policies(opgp_ring *ring)
+{
+    static const char outside[] = "a line\n-----BEGIN PGP PUBLIC KEY BLOCK-----\n\n-----END PGP PUBLIC KEY BLOCK-----\n";
+    static const char malformed[] = "\xC6\x33\x04\x53\xF3\x5F\x0B\x16\x09\x2B\x06\x01\x04\x01\xDA\x47\x0F\x01\x01\x07\x40"
+                                    "\x3F\x09\x89\x94\xBD\xD9\x16\xED\x40\x53\x19\x79\x34\xE4\xA8\x7C\x80\x73\x3A\x12"
+                                    "\x80\xD6\x2F\x80\x10\x99\x2E\x43\xEE\x3B\x24\x06\xC2\x01\x04";
+    const uint64_t refuse = OPGP_REFUSE_OUTSIDE, keep = OPGP_KEEP_MALFORMED;
+    const unsigned is_outside = OPGP_REFUSED * 256 + 9, is_short = OPGP_REFUSED * 256 + 2;
+    holds(read_by(ring, 0, outside, sizeof outside - 1) == OPGP_DONE, "a line outside is passed over");
+    holds(read_by(ring, keep, outside, sizeof outside - 1) == OPGP_DONE, "a line outside, where malformed signatures are kept");
+    holds(read_by(ring, refuse, outside, sizeof outside - 1) == is_outside, "a line outside is refused");
+    holds(read_by(ring, refuse + keep, outside, sizeof outside - 1) == is_outside, "a line outside under both policies");
+    holds(read_by(ring, 0, malformed, sizeof malformed - 1) == is_short, "a malformed signature is refused");
+    holds(read_by(ring, refuse, malformed, sizeof malformed - 1) == is_short, "a malformed signature, where lines outside are refused");
+    holds(read_by(ring, keep, malformed, sizeof malformed - 1) == OPGP_DONE, "a malformed signature is kept");
+    uint8_t text[64];
+    uint64_t count = 0;
+    holds(opgp_ring_write(ring, 0, text, sizeof text, &count) == OPGP_DONE && count == sizeof malformed - 1 && !memcmp(text, malformed, count),
+          "a malformed signature is written again");
+}
+
 static void closed(void)
 {
     opgp_ring ring = {false, NULL};
@@ -439,9 +472,8 @@ static void rooms(void)
               && is_zero(fault.reserved, sizeof fault.reserved),
           "an input of more than no octets");
     limits.input = UINT64_C(1) << 62;
-    limits.reserved = 1;
-    holds(opgp_ring_open(in, size, &limits, &ring, &fault) == OPGP_LIMITS, "a reserved number");
-    limits.reserved = 0;
+    try_limit(&ring, offsetof(opgp_limits, policies), 0, OPGP_REFUSE_OUTSIDE + OPGP_KEEP_MALFORMED);
+    policies(&ring);
     holds(opgp_ring_open(in, size, &limits, &ring, &fault) == OPGP_DONE, "a keyring in place of another");
     holds(opgp_ring_open(&byte, 0, &limits, &ring, &fault) == OPGP_DONE, "nothing in place of a keyring");
     opgp_packet packet;
@@ -683,8 +715,8 @@ static void reader_statuses(void)
     limits.body = 511;
     holds(opgp_reader_open(&limits, &reader) == OPGP_LIMITS && !reader.is_open, "a reader's limits");
     limits.body = 512;
-    limits.reserved = 1;
-    holds(opgp_reader_open(&limits, &reader) == OPGP_LIMITS && !reader.is_open, "a reader's reserved limit");
+    limits.policies = 4;
+    holds(opgp_reader_open(&limits, &reader) == OPGP_LIMITS && !reader.is_open, "a reader's policy that stands for nothing");
     opgp_usual_limits(&limits);
     holds(opgp_reader_open(&limits, &reader) == OPGP_DONE && reader.is_open, "a reader");
     holds(opgp_reader_take(&reader, &part) == OPGP_NO_ROW && opgp_take(&reader, &keyring) == OPGP_NO_ROW && !keyring, "no part yet");

@@ -1,6 +1,6 @@
 -- What the calls of the library say.
-use Rattle.std.specs.Prelude.{◌≡◌, ◌<◌, ◌⊎◌, ◌++◌, ◌==◌, if◌then◌else◌, ℕ, List, length, drop}
-use Rattle.std.specs.Prelude.{true, Err, Option, Some, None}
+use Rattle.std.specs.Prelude.{◌≡◌, ◌≢◌, ◌<◌, ◌↔◌, ◌⊎◌, ◌++◌, ◌==◌, if◌then◌else◌, ℕ, List, length, drop}
+use Rattle.std.specs.Prelude.{true, false, Err, Option, Some, None}
 use Rattle.opgp_octets.specs.declared.fault.Fault.{Fault}
 use Rattle.opgp_octets.specs.declared.limits.Limits.{Limits}
 use Rattle.opgp_ring.specs.Keyring.{KeyringValue}
@@ -44,6 +44,34 @@ AreSized rows bytes sizes = (sizes.rows ≡ length rows) × (sizes.bytes ≡ len
 abbrev pub HoldsTheSame : Ring → Ring → Type 0
 HoldsTheSame before after = (after.is_open ≡ before.is_open)
     × (before.is_open ≡ true → after.slot.held ≡ before.slot.held)
+
+-- A call puts two tables of the keyring that a handle holds: they begin with its rows and octets (0);
+-- or they are as they were, and too short (2), or memory ran out (3), or the handle holds nothing (5).
+-- The sizes say what is wanted.
+pub record PutsTables {A : Type 0} (rows_of : KeyringValue → List A)
+    (bytes_of : KeyringValue → List ℕ) (ring ring' : Ring) (rows rows' : List A)
+    (bytes bytes' : List ℕ) (sizes : Sizes) (status : ℕ) : Type 0 where
+  pub done : status ≡ 0 → IsFilled (rows_of ring.slot.held.keyring) rows rows'
+      × IsFilled (bytes_of ring.slot.held.keyring) bytes bytes'
+  pub room : status ≡ 2 → IsShort (rows_of ring.slot.held.keyring)
+      (bytes_of ring.slot.held.keyring) rows bytes
+  pub kept : status ≢ 0 → (rows' ≡ rows) × (bytes' ≡ bytes)
+  pub sized : (status ≡ 0) ⊎ (status ≡ 2) → AreSized (rows_of ring.slot.held.keyring)
+      (bytes_of ring.slot.held.keyring) sizes
+  pub closed : (status ≡ 5) ↔ (ring.is_open ≡ false)
+  pub holds : HoldsTheSame ring ring'
+  pub one_of : (status ≡ 0) ⊎ ((status ≡ 2) ⊎ ((status ≡ 3) ⊎ (status ≡ 5)))
+
+-- A call keeps what is made of the keyring that a handle holds in another handle (0), which else is
+-- as it was: memory ran out (3), or the handle holds nothing (5).
+pub record KeepsMade (made : KeyringValue → KeyringValue) (ring ring' into into' : Ring)
+    (status : ℕ) : Type 0 where
+  pub done : status ≡ 0 → (into'.is_open ≡ true)
+      × (into'.slot.held.keyring ≡ made ring.slot.held.keyring)
+  pub kept : status ≢ 0 → into' ≡ into
+  pub closed : (status ≡ 5) ↔ (ring.is_open ≡ false)
+  pub holds : HoldsTheSame ring ring'
+  pub one_of : (status ≡ 0) ⊎ ((status ≡ 3) ⊎ (status ≡ 5))
 
 -- any number but 0 asks for armor
 abbrev pub out_of : ℕ → Out

@@ -21,7 +21,8 @@ ghost use Rattle.opgp_merge.specs.Merged.{merged_of};
 ghost use Rattle.opgp_ring.specs.Joining.{nth_of};
 ghost use Rattle.opgp_ring.specs.Keyring.{flat};
 ghost use Rattle.opgp_ring.specs.Normal.{normal_of};
-ghost use Rattle.opgp_c.specs.Calls.{Answers, AreSized, HoldsTheSame, IsFilled, IsShort, Refuses};
+ghost use Rattle.opgp_c.specs.Calls.{Answers, HoldsTheSame, IsFilled, KeepsMade, PutsTables};
+ghost use Rattle.opgp_c.specs.Calls.{Refuses};
 ghost use Rattle.opgp_c.specs.Calls.{name_by, out_of};
 ghost use Rattle.opgp_c.specs.Readings.{HasEnded, Holds, HoldsPart, IsEnded, IsGoing, IsRefused};
 ghost use Rattle.opgp_c.specs.Readings.{StaysWhat, begun, waiting_in};
@@ -48,14 +49,14 @@ mod tables;
 mod text;
 
 use crate::calls::{put_octets, put_text, read_ring};
-use crate::making::{keep, keep_joined, keep_merged, keep_normal, keep_nth};
+use crate::making::{Merged, Normal, keep, keep_joined, keep_made, keep_nth};
 use crate::reader::Reader;
 use crate::reading::{begin, end, push_piece, take_part, tell_end};
 use crate::reading_slot::Reading;
 use crate::ring::Ring;
 use crate::sizes::Sizes;
 use crate::status::{DONE, LIMITS, MEMORY, NO_ROW};
-use crate::tables::{put_jobs, put_keys, put_packets, put_row_octets, put_subpackets};
+use crate::tables::{put_row_octets, put_table};
 use opgp_flat::{
     FaultRow, GivenLimits, JobRow, KeyRow, NumberTable, PacketRow, SubpacketRow, short_line,
 };
@@ -177,26 +178,10 @@ pub extern "C" fn opgp_ring_packets(
     bytes: &mut [u8],
     sizes: &mut Sizes,
 ) -> u32
-    ensures done { result ≡ 0
-        → IsFilled (packet_rows ring.old.slot.held.keyring) rows.old rows.new
-        × IsFilled (packet_bytes ring.old.slot.held.keyring) bytes.old bytes.new }
-    ensures room { result ≡ 2 → IsShort (packet_rows ring.old.slot.held.keyring)
-        (packet_bytes ring.old.slot.held.keyring) rows.old bytes.old }
-    ensures kept { result ≢ 0 → (rows.new ≡ rows.old) × (bytes.new ≡ bytes.old) }
-    ensures sizes { (result ≡ 0) ⊎ (result ≡ 2)
-        → AreSized (packet_rows ring.old.slot.held.keyring)
-        (packet_bytes ring.old.slot.held.keyring) sizes.new }
-    ensures closed { (result ≡ 5) ↔ (ring.old.is_open ≡ false) }
-    ensures ring { HoldsTheSame ring.old ring.new }
-    ensures status { (result ≡ 0) ⊎ ((result ≡ 2) ⊎ ((result ≡ 3) ⊎ (result ≡ 5))) }
+    ensures { PutsTables packet_rows packet_bytes ring.old ring.new rows.old rows.new bytes.old bytes.new
+        sizes.new result }
 {
-    let held = match ring.take(alloc) {
-        Ok(held) => held,
-        Err(status) => return status,
-    };
-    let status = put_packets(alloc, &held.keyring, rows, bytes, sizes);
-    ring.give(held);
-    status
+    put_table(alloc, ring, rows, bytes, sizes)
 }
 
 /// Fills the tables with the keys of a keyring, in order, and the octets of their material.
@@ -210,26 +195,10 @@ pub extern "C" fn opgp_ring_keys(
     bytes: &mut [u8],
     sizes: &mut Sizes,
 ) -> u32
-    ensures done { result ≡ 0
-        → IsFilled (key_rows ring.old.slot.held.keyring) rows.old rows.new
-        × IsFilled (key_bytes ring.old.slot.held.keyring) bytes.old bytes.new }
-    ensures room { result ≡ 2 → IsShort (key_rows ring.old.slot.held.keyring)
-        (key_bytes ring.old.slot.held.keyring) rows.old bytes.old }
-    ensures kept { result ≢ 0 → (rows.new ≡ rows.old) × (bytes.new ≡ bytes.old) }
-    ensures sizes { (result ≡ 0) ⊎ (result ≡ 2)
-        → AreSized (key_rows ring.old.slot.held.keyring) (key_bytes ring.old.slot.held.keyring)
-        sizes.new }
-    ensures closed { (result ≡ 5) ↔ (ring.old.is_open ≡ false) }
-    ensures ring { HoldsTheSame ring.old ring.new }
-    ensures status { (result ≡ 0) ⊎ ((result ≡ 2) ⊎ ((result ≡ 3) ⊎ (result ≡ 5))) }
+    ensures { PutsTables key_rows key_bytes ring.old ring.new rows.old rows.new bytes.old bytes.new
+        sizes.new result }
 {
-    let held = match ring.take(alloc) {
-        Ok(held) => held,
-        Err(status) => return status,
-    };
-    let status = put_keys(alloc, &held.keyring, rows, bytes, sizes);
-    ring.give(held);
-    status
+    put_table(alloc, ring, rows, bytes, sizes)
 }
 
 /// Fills the tables with the signatures of a keyring, in the order of its report, and the octets
@@ -244,26 +213,10 @@ pub extern "C" fn opgp_ring_jobs(
     bytes: &mut [u8],
     sizes: &mut Sizes,
 ) -> u32
-    ensures done { result ≡ 0
-        → IsFilled (job_rows ring.old.slot.held.keyring) rows.old rows.new
-        × IsFilled (job_bytes ring.old.slot.held.keyring) bytes.old bytes.new }
-    ensures room { result ≡ 2 → IsShort (job_rows ring.old.slot.held.keyring)
-        (job_bytes ring.old.slot.held.keyring) rows.old bytes.old }
-    ensures kept { result ≢ 0 → (rows.new ≡ rows.old) × (bytes.new ≡ bytes.old) }
-    ensures sizes { (result ≡ 0) ⊎ (result ≡ 2)
-        → AreSized (job_rows ring.old.slot.held.keyring) (job_bytes ring.old.slot.held.keyring)
-        sizes.new }
-    ensures closed { (result ≡ 5) ↔ (ring.old.is_open ≡ false) }
-    ensures ring { HoldsTheSame ring.old ring.new }
-    ensures status { (result ≡ 0) ⊎ ((result ≡ 2) ⊎ ((result ≡ 3) ⊎ (result ≡ 5))) }
+    ensures { PutsTables job_rows job_bytes ring.old ring.new rows.old rows.new bytes.old bytes.new
+        sizes.new result }
 {
-    let held = match ring.take(alloc) {
-        Ok(held) => held,
-        Err(status) => return status,
-    };
-    let status = put_jobs(alloc, &held.keyring, rows, bytes, sizes);
-    ring.give(held);
-    status
+    put_table(alloc, ring, rows, bytes, sizes)
 }
 
 /// Fills the tables with the subpackets of a keyring's signatures, those of each in the order of the
@@ -278,26 +231,10 @@ pub extern "C" fn opgp_ring_subpackets(
     bytes: &mut [u8],
     sizes: &mut Sizes,
 ) -> u32
-    ensures done { result ≡ 0
-        → IsFilled (subpacket_rows ring.old.slot.held.keyring) rows.old rows.new
-        × IsFilled (subpacket_bytes ring.old.slot.held.keyring) bytes.old bytes.new }
-    ensures room { result ≡ 2 → IsShort (subpacket_rows ring.old.slot.held.keyring)
-        (subpacket_bytes ring.old.slot.held.keyring) rows.old bytes.old }
-    ensures kept { result ≢ 0 → (rows.new ≡ rows.old) × (bytes.new ≡ bytes.old) }
-    ensures sizes { (result ≡ 0) ⊎ (result ≡ 2)
-        → AreSized (subpacket_rows ring.old.slot.held.keyring) (subpacket_bytes ring.old.slot.held.keyring)
-        sizes.new }
-    ensures closed { (result ≡ 5) ↔ (ring.old.is_open ≡ false) }
-    ensures ring { HoldsTheSame ring.old ring.new }
-    ensures status { (result ≡ 0) ⊎ ((result ≡ 2) ⊎ ((result ≡ 3) ⊎ (result ≡ 5))) }
+    ensures { PutsTables subpacket_rows subpacket_bytes ring.old ring.new rows.old rows.new bytes.old bytes.new
+        sizes.new result }
 {
-    let held = match ring.take(alloc) {
-        Ok(held) => held,
-        Err(status) => return status,
-    };
-    let status = put_subpackets(alloc, &held.keyring, rows, bytes, sizes);
-    ring.give(held);
-    status
+    put_table(alloc, ring, rows, bytes, sizes)
 }
 
 /// Puts the octets that the signature of a row hashes (RFC 9580, 5.2.4), by the row's number in the
@@ -375,20 +312,9 @@ pub extern "C" fn opgp_ring_write(
 /// handle holds nothing. The handle holds what it held.
 #[unsafe(no_mangle)]
 pub extern "C" fn opgp_ring_normalise(alloc: Global, ring: &mut Ring, into: &mut Ring) -> u32
-    ensures done { result ≡ 0 → (into.new.is_open ≡ true)
-        × (into.new.slot.held.keyring ≡ normal_of ring.old.slot.held.keyring) }
-    ensures kept { result ≢ 0 → into.new ≡ into.old }
-    ensures closed { (result ≡ 5) ↔ (ring.old.is_open ≡ false) }
-    ensures ring { HoldsTheSame ring.old ring.new }
-    ensures status { (result ≡ 0) ⊎ ((result ≡ 3) ⊎ (result ≡ 5)) }
+    ensures { KeepsMade normal_of ring.old ring.new into.old into.new result }
 {
-    let held = match ring.take(alloc) {
-        Ok(held) => held,
-        Err(status) => return status,
-    };
-    let status = keep_normal(alloc, &held.keyring, into);
-    ring.give(held);
-    status
+    keep_made::<Normal>(alloc, ring, into)
 }
 
 /// Keeps a keyring merged: certificates of the same primary key become one, and equal packets of a
@@ -397,20 +323,9 @@ pub extern "C" fn opgp_ring_normalise(alloc: Global, ring: &mut Ring, into: &mut
 /// The handles and the statuses are those of [`opgp_ring_normalise`].
 #[unsafe(no_mangle)]
 pub extern "C" fn opgp_ring_merge(alloc: Global, ring: &mut Ring, into: &mut Ring) -> u32
-    ensures done { result ≡ 0 → (into.new.is_open ≡ true)
-        × (into.new.slot.held.keyring ≡ merged_of ring.old.slot.held.keyring) }
-    ensures kept { result ≢ 0 → into.new ≡ into.old }
-    ensures closed { (result ≡ 5) ↔ (ring.old.is_open ≡ false) }
-    ensures ring { HoldsTheSame ring.old ring.new }
-    ensures status { (result ≡ 0) ⊎ ((result ≡ 3) ⊎ (result ≡ 5)) }
+    ensures { KeepsMade merged_of ring.old ring.new into.old into.new result }
 {
-    let held = match ring.take(alloc) {
-        Ok(held) => held,
-        Err(status) => return status,
-    };
-    let status = keep_merged(alloc, &held.keyring, into);
-    ring.give(held);
-    status
+    keep_made::<Merged>(alloc, ring, into)
 }
 
 /// Keeps the certificate of this number, counted from 0, as a keyring.

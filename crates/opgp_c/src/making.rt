@@ -3,8 +3,9 @@
 ghost use Rattle.std.specs.Prelude.{◌≡◌, ◌≢◌, ◌⊎◌, ◌++◌, true, Some, None, IfOk};
 ghost use Rattle.opgp_merge.specs.Merged.{merged_of};
 ghost use Rattle.opgp_ring.specs.Joining.{nth_of};
-ghost use Rattle.opgp_ring.specs.Keyring.{flat};
+ghost use Rattle.opgp_ring.specs.Keyring.{KeyringValue, flat};
 ghost use Rattle.opgp_ring.specs.Normal.{normal_of};
+ghost use Rattle.opgp_c.specs.Calls.{KeepsMade};
 
 use crate::ring::Ring;
 use crate::slot::Held;
@@ -30,37 +31,51 @@ pub(crate) fn keep(alloc: Global, into: &mut Ring, keyring: Keyring) -> u32
     }
 }
 
-/// Keeps the keyring in the current format.
-pub(crate) fn keep_normal(alloc: Global, keyring: &Keyring, into: &mut Ring) -> u32
-    ensures done { result ≡ 0 → (into.new.is_open ≡ true)
-        × (into.new.slot.held.keyring ≡ normal_of keyring.now) }
-    ensures kept { result ≢ 0 → into.new ≡ into.old }
-    ensures status { (result ≡ 0) ⊎ (result ≡ 3) }
-{
-    match keyring.copy(alloc) {
-        Ok(copy) => keep(alloc, into, normalise(copy)),
-        Err(_) => MEMORY,
+/// What is made of a keyring.
+pub(crate) trait Making {
+    ghost made: { KeyringValue → KeyringValue };
+
+    /// Makes it. Fails only when out of memory.
+    fn make(alloc: Global, keyring: &Keyring) -> Result<Keyring, OutOfMemory>
+        ensures { IfOk result (λ r. r ≡ made keyring.now) };
+}
+
+/// The keyring in the current format.
+pub(crate) struct Normal;
+
+impl Making for Normal {
+    ghost made = { normal_of };
+
+    fn make(alloc: Global, keyring: &Keyring) -> Result<Keyring, OutOfMemory> {
+        Ok(normalise(keyring.copy(alloc)?))
     }
 }
 
 /// The keyring merged.
-fn merged(alloc: Global, keyring: &Keyring) -> Result<Keyring, OutOfMemory>
-    ensures { IfOk result (λ r. r ≡ merged_of keyring.now) }
-{
-    merge(keyring.copy(alloc)?)
+pub(crate) struct Merged;
+
+impl Making for Merged {
+    ghost made = { merged_of };
+
+    fn make(alloc: Global, keyring: &Keyring) -> Result<Keyring, OutOfMemory> {
+        merge(keyring.copy(alloc)?)
+    }
 }
 
-/// Keeps the keyring merged.
-pub(crate) fn keep_merged(alloc: Global, keyring: &Keyring, into: &mut Ring) -> u32
-    ensures done { result ≡ 0 → (into.new.is_open ≡ true)
-        × (into.new.slot.held.keyring ≡ merged_of keyring.now) }
-    ensures kept { result ≢ 0 → into.new ≡ into.old }
-    ensures status { (result ≡ 0) ⊎ (result ≡ 3) }
+/// Keeps in another handle what is made of the keyring that a handle holds.
+pub(crate) fn keep_made<M: Making>(alloc: Global, ring: &mut Ring, into: &mut Ring) -> u32
+    ensures { KeepsMade M.made ring.old ring.new into.old into.new result }
 {
-    match merged(alloc, keyring) {
+    let held = match ring.take(alloc) {
+        Ok(held) => held,
+        Err(status) => return status,
+    };
+    let status = match M::make(alloc, &held.keyring) {
         Ok(made) => keep(alloc, into, made),
         Err(_) => MEMORY,
-    }
+    };
+    ring.give(held);
+    status
 }
 
 /// Keeps the certificate of this number as a keyring.

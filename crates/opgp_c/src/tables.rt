@@ -1,6 +1,6 @@
 //! The tables of a keyring, put into those of a caller.
 
-ghost use Rattle.std.specs.Prelude.{◌≡◌, ◌≢◌, ◌⊎◌, ◌<◌, length, Some, None};
+ghost use Rattle.std.specs.Prelude.{◌≡◌, ◌≢◌, ◌⊎◌, ◌<◌, ℕ, List, length, IfOk, Some, None};
 ghost use Rattle.std.specs.List.{slice_get};
 ghost use Rattle.opgp_flat.specs.Jobs.{job_bytes, job_rows};
 ghost use Rattle.opgp_flat.specs.Keys.{key_bytes, key_rows};
@@ -9,104 +9,110 @@ ghost use Rattle.opgp_flat.specs.Subpackets.{subpacket_bytes, subpacket_rows};
 ghost use Rattle.opgp_hash.specs.Hashed.{hashed};
 ghost use Rattle.opgp_hash.specs.QuestionValue.{QuestionValue};
 ghost use Rattle.opgp_report.specs.Asked.{asked_of, question_in};
-ghost use Rattle.opgp_c.specs.Calls.{AreSized, IsFilled, IsShort};
+ghost use Rattle.opgp_ring.specs.Keyring.{KeyringValue};
+ghost use Rattle.opgp_c.specs.Calls.{AreSized, IsFilled, IsShort, PutsTables};
 
 use crate::calls::{put_both, put_octets};
+use crate::ring::Ring;
 use crate::sizes::Sizes;
 use crate::status::{MEMORY, NO_ROW};
 use opgp_flat::{
     JobRow, KeyRow, PacketRow, SubpacketRow, jobs, keys, packets, row_octets, subpackets,
 };
+use opgp_octets::OutOfMemory;
 use opgp_ring::Keyring;
 use std::alloc::Global;
 
-/// Puts the packets of a keyring.
-pub(crate) fn put_packets(
-    alloc: Global,
-    keyring: &Keyring,
-    rows: &mut [PacketRow],
-    bytes: &mut [u8],
-    sizes: &mut Sizes,
-) -> u32
-    ensures done { result ≡ 0 → IsFilled (packet_rows keyring.now) rows.old rows.new
-        × IsFilled (packet_bytes keyring.now) bytes.old bytes.new }
-    ensures room { result ≡ 2
-        → IsShort (packet_rows keyring.now) (packet_bytes keyring.now) rows.old bytes.old }
-    ensures kept { result ≢ 0 → (rows.new ≡ rows.old) × (bytes.new ≡ bytes.old) }
-    ensures sizes { result ≢ 3
-        → AreSized (packet_rows keyring.now) (packet_bytes keyring.now) sizes.new }
-    ensures status { (result ≡ 0) ⊎ ((result ≡ 2) ⊎ (result ≡ 3)) }
-{
-    match packets(alloc, keyring) {
-        Ok((found, octets)) => put_both(&found, &octets, rows, bytes, sizes),
-        Err(_) => MEMORY,
+/// The rows of a table of a keyring.
+pub(crate) trait Row: Copy + Sized {
+    // The rows of a keyring, and the octets that they point into.
+    ghost rows: { KeyringValue → List Self };
+
+    ghost bytes: { KeyringValue → List ℕ };
+
+    /// Both. Fails only when out of memory.
+    fn both(alloc: Global, keyring: &Keyring) -> Result<(Vec<Self>, Vec<u8>), OutOfMemory>
+        ensures { IfOk result (λ x. (x.0.items ≡ rows keyring.now)
+            × (x.1.items ≡ bytes keyring.now)) };
+}
+
+impl Row for PacketRow {
+    ghost rows = { packet_rows };
+
+    ghost bytes = { packet_bytes };
+
+    fn both(alloc: Global, keyring: &Keyring) -> Result<(Vec<PacketRow>, Vec<u8>), OutOfMemory> {
+        packets(alloc, keyring)
     }
 }
 
-/// Puts the keys of a keyring.
-pub(crate) fn put_keys(
-    alloc: Global,
-    keyring: &Keyring,
-    rows: &mut [KeyRow],
-    bytes: &mut [u8],
-    sizes: &mut Sizes,
-) -> u32
-    ensures done { result ≡ 0 → IsFilled (key_rows keyring.now) rows.old rows.new
-        × IsFilled (key_bytes keyring.now) bytes.old bytes.new }
-    ensures room { result ≡ 2
-        → IsShort (key_rows keyring.now) (key_bytes keyring.now) rows.old bytes.old }
-    ensures kept { result ≢ 0 → (rows.new ≡ rows.old) × (bytes.new ≡ bytes.old) }
-    ensures sizes { result ≢ 3
-        → AreSized (key_rows keyring.now) (key_bytes keyring.now) sizes.new }
-    ensures status { (result ≡ 0) ⊎ ((result ≡ 2) ⊎ (result ≡ 3)) }
-{
-    match keys(alloc, keyring) {
-        Ok((found, octets)) => put_both(&found, &octets, rows, bytes, sizes),
-        Err(_) => MEMORY,
+impl Row for KeyRow {
+    ghost rows = { key_rows };
+
+    ghost bytes = { key_bytes };
+
+    fn both(alloc: Global, keyring: &Keyring) -> Result<(Vec<KeyRow>, Vec<u8>), OutOfMemory> {
+        keys(alloc, keyring)
     }
 }
 
-/// Puts the jobs of a keyring.
-pub(crate) fn put_jobs(
-    alloc: Global,
-    keyring: &Keyring,
-    rows: &mut [JobRow],
-    bytes: &mut [u8],
-    sizes: &mut Sizes,
-) -> u32
-    ensures done { result ≡ 0 → IsFilled (job_rows keyring.now) rows.old rows.new
-        × IsFilled (job_bytes keyring.now) bytes.old bytes.new }
-    ensures room { result ≡ 2
-        → IsShort (job_rows keyring.now) (job_bytes keyring.now) rows.old bytes.old }
-    ensures kept { result ≢ 0 → (rows.new ≡ rows.old) × (bytes.new ≡ bytes.old) }
-    ensures sizes { result ≢ 3
-        → AreSized (job_rows keyring.now) (job_bytes keyring.now) sizes.new }
-    ensures status { (result ≡ 0) ⊎ ((result ≡ 2) ⊎ (result ≡ 3)) }
-{
-    match jobs(alloc, keyring) {
-        Ok((found, octets)) => put_both(&found, &octets, rows, bytes, sizes),
-        Err(_) => MEMORY,
+impl Row for JobRow {
+    ghost rows = { job_rows };
+
+    ghost bytes = { job_bytes };
+
+    fn both(alloc: Global, keyring: &Keyring) -> Result<(Vec<JobRow>, Vec<u8>), OutOfMemory> {
+        jobs(alloc, keyring)
     }
 }
 
-/// Puts the subpackets of a keyring's signatures.
-pub(crate) fn put_subpackets(
+impl Row for SubpacketRow {
+    ghost rows = { subpacket_rows };
+
+    ghost bytes = { subpacket_bytes };
+
+    fn both(alloc: Global, keyring: &Keyring) -> Result<(Vec<SubpacketRow>, Vec<u8>), OutOfMemory> {
+        subpackets(alloc, keyring)
+    }
+}
+
+/// Puts a table of what a handle holds.
+pub(crate) fn put_table<T: Row>(
     alloc: Global,
-    keyring: &Keyring,
-    rows: &mut [SubpacketRow],
+    ring: &mut Ring,
+    rows: &mut [T],
     bytes: &mut [u8],
     sizes: &mut Sizes,
 ) -> u32
-    ensures done { result ≡ 0 → IsFilled (subpacket_rows keyring.now) rows.old rows.new
-        × IsFilled (subpacket_bytes keyring.now) bytes.old bytes.new }
+    ensures { PutsTables T.rows T.bytes ring.old ring.new rows.old rows.new bytes.old bytes.new
+        sizes.new result }
+{
+    let held = match ring.take(alloc) {
+        Ok(held) => held,
+        Err(status) => return status,
+    };
+    let status = put_rows(alloc, &held.keyring, rows, bytes, sizes);
+    ring.give(held);
+    status
+}
+
+/// Puts a table of a keyring.
+fn put_rows<T: Row>(
+    alloc: Global,
+    keyring: &Keyring,
+    rows: &mut [T],
+    bytes: &mut [u8],
+    sizes: &mut Sizes,
+) -> u32
+    ensures done { result ≡ 0 → IsFilled (T.rows keyring.now) rows.old rows.new
+        × IsFilled (T.bytes keyring.now) bytes.old bytes.new }
     ensures room { result ≡ 2
-        → IsShort (subpacket_rows keyring.now) (subpacket_bytes keyring.now) rows.old bytes.old }
+        → IsShort (T.rows keyring.now) (T.bytes keyring.now) rows.old bytes.old }
     ensures kept { result ≢ 0 → (rows.new ≡ rows.old) × (bytes.new ≡ bytes.old) }
-    ensures sizes { result ≢ 3
-        → AreSized (subpacket_rows keyring.now) (subpacket_bytes keyring.now) sizes.new }
+    ensures sizes { result ≢ 3 → AreSized (T.rows keyring.now) (T.bytes keyring.now) sizes.new }
     ensures status { (result ≡ 0) ⊎ ((result ≡ 2) ⊎ (result ≡ 3)) }
 {
-    match subpackets(alloc, keyring) {
+    match T::both(alloc, keyring) {
         Ok((found, octets)) => put_both(&found, &octets, rows, bytes, sizes),
         Err(_) => MEMORY,
     }

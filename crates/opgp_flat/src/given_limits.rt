@@ -1,9 +1,10 @@
 //! Limits as a caller gives them.
 
 ghost use Rattle.std.specs.Prelude.{◌≡◌, ◌↔◌, IsSome, IfSome};
-ghost use Rattle.opgp_flat.specs.GivenLimits.{AreThese, MayBeGiven, usual_limits};
+ghost use Rattle.opgp_flat.specs.GivenLimits.{AreThese, MayBeGiven, malformed_by, outside_by};
+ghost use Rattle.opgp_flat.specs.GivenLimits.{usual_limits};
 
-use opgp_octets::Limits;
+use opgp_octets::{Limits, Malformed, Outside};
 
 /// Limits that may be out of their ranges.
 #[repr(C)]
@@ -19,20 +20,23 @@ pub struct GivenLimits {
     pub input: u64,
     /// The greatest number of partial lengths of one packet.
     pub pieces: u64,
-    /// 0.
-    pub reserved: u64,
+    /// 0, or the sum of what is wanted: 1, that lines outside of armored blocks are refused unless they
+    /// are blank; 2, that malformed signatures are kept.
+    pub policies: u64,
 }
 
 impl GivenLimits {
-    /// These limits, or None if one is out of its range or the reserved number isn't 0.
+    /// These limits, or None if one is out of its range or the policies are none of 0 to 3.
     pub fn limits(&self) -> Option<Limits>
         ensures these { IfSome result (λ l. AreThese l self.now) }
         ensures allowed { IsSome result ↔ MayBeGiven self.now }
     {
-        if self.reserved != 0 {
+        if self.policies > 3 {
             return None;
         }
-        Limits::new(self.line, self.body, self.cert, self.input, self.pieces)
+        let limits = Limits::new(self.line, self.body, self.cert, self.input, self.pieces)?;
+        let limits = limits.with_outside(outside_by(self.policies));
+        Some(limits.with_malformed(malformed_by(self.policies)))
     }
 
     /// The usual limits.
@@ -46,7 +50,25 @@ impl GivenLimits {
             cert: limits.cert(),
             input: limits.input(),
             pieces: limits.pieces(),
-            reserved: 0,
+            policies: 0,
         }
+    }
+}
+
+fn outside_by(policies: u64) -> Outside
+    ensures { result ≡ outside_by policies }
+{
+    match policies {
+        1 | 3 => Outside::Refuse,
+        _ => Outside::Skip,
+    }
+}
+
+fn malformed_by(policies: u64) -> Malformed
+    ensures { result ≡ malformed_by policies }
+{
+    match policies {
+        2 | 3 => Malformed::Keep,
+        _ => Malformed::Refuse,
     }
 }

@@ -9,8 +9,8 @@ import re
 
 ALPHABET = b"ABCDEFGHIJKLMNOPQRSTUVWXYZabcdefghijklmnopqrstuvwxyz0123456789+/"
 LABELS = (b"MESSAGE", b"PUBLIC KEY BLOCK", b"PRIVATE KEY BLOCK", b"SIGNATURE")
-Limits = collections.namedtuple("Limits", "line body cert pieces outside")
-USUAL = Limits(8192, 1 << 24, 1 << 26, 1 << 20, "skip")
+Limits = collections.namedtuple("Limits", "line body cert pieces outside malformed")
+USUAL = Limits(8192, 1 << 24, 1 << 26, 1 << 20, "skip", "refuse")
 
 
 class Refused(Exception):
@@ -348,6 +348,16 @@ class Signature:
         signature_material(it, self.algorithm, self.version == 6)
 
 
+def as_kept(body):
+    """A signature packet's body, read; one that is malformed is opaque."""
+    try:
+        return Signature(body)
+    except Unfit:
+        it = Signature(b"\0")
+        it.body = body
+        return it
+
+
 def literal_fields(body):
     """The format, the name, the date and the content."""
     it = Fields(body)
@@ -366,8 +376,10 @@ CHECKS = {
 }
 
 
-def check_bodies(packets):
+def check_bodies(packets, limits):
     for block, at, kind, _, body, _ in packets:
+        if kind == 2 and limits.malformed == "keep":
+            continue
         try:
             CHECKS.get(kind, len)(body)
         except Unfit as fault:
@@ -557,7 +569,7 @@ def listed(kind, body):
     if kind == 17:
         return f"uat {len(subpackets_of(body, 0, False))}"
     if kind == 2:
-        it = Signature(body)
+        it = as_kept(body)
         return f"sig v{it.version} type {it.kind:02X} alg {it.algorithm} hash {it.hash}" if it.version else f"sig opaque {len(body)}"
     return f"pkt {kind} {len(body)}"
 
@@ -571,7 +583,7 @@ def shown(packets, values):
             octet, name, date, content = literal_fields(body)
             yield f"  lit format {quoted(octet)} name {quoted(name)} date {number(date)} length {len(content)}"
         if kind == 2:
-            it = Signature(body)
+            it = as_kept(body)
             for area, subpackets in (("hashed", it.hashed), ("unhashed", it.unhashed)):
                 for octet, n, octets in subpackets:
                     line = f"  {area} kind {octet & 127} critical {octet >> 7} length {n} {meaning(octet & 127, octets)}"
@@ -724,7 +736,7 @@ def reported(packets, certificates):
                 signature = packets[index][4]
                 where = f"cert {c} part {k - 1 if k else '-'} hang {h} nested"
                 rows.append((f"{where} -", *found(signature, place, primary, body, keys)))
-                it = Signature(signature)
+                it = as_kept(signature)
                 if place == 14 and it.version in (4, 6) and it.kind == 0x18:
                     inside = [octets for octet, _, octets in (*it.hashed, *it.unhashed) if octet & 127 == 32]
                     for e, octets in enumerate(inside):
@@ -775,7 +787,7 @@ def answer(command, octets, row=0, limits=USUAL, bare=False):
         binary = not octets or octets[0] >= 128
         blocks = [(wanted, octets)] if binary else dearmored(octets, limits)
         packets = framed(blocks, limits)
-        check_bodies(packets)
+        check_bodies(packets, limits)
         if command == "literal":
             return hashed(list(hashed_of_a_literal(*signed(blocks, packets))), row)
         lead, certificates = compose(blocks, packets, limits) if command not in ("show", "values") else ([], [])

@@ -6,7 +6,7 @@ use crate::frame::add_form;
 use crate::given::Given;
 use crate::octets::limits_of;
 use opgp_frame::{Deframe, Placed, write_packet};
-use opgp_octets::Limits;
+use opgp_octets::{Limits, Malformed};
 use opgp_ring::{
     BlockOf, Certificate, Component, Content, Head, Keyring, Member, check_bodies, compose,
     flatten, join, normalise, nth,
@@ -224,6 +224,7 @@ fn add_content(content: &Content, answer: &mut Answer) -> Result<(), End> {
         Content::UserId(id) => answer.named("uid", id.body_len()),
         Content::Attribute(attribute) => answer.named("uat", attribute.body_len()),
         Content::Signature(signature) => answer.named("sig", signature.body_len()),
+        Content::Malformed(body) => answer.named("malformed", body.len() as u64),
         Content::Filler(kind, body) => {
             answer.named("filler", u64::from(*kind))?;
             answer.number(body.len() as u64)
@@ -274,7 +275,7 @@ fn add_block(block: &BlockOf, answer: &mut Answer) -> Result<(), End> {
 
 /// `check_bodies [LABEL OCTETS]..`: the first fault of the bodies of blocks.
 fn bodies_checked(alloc: Global, given: &Given, answer: &mut Answer) -> Result<(), End> {
-    match check_bodies(&blocks_of(alloc, given)?) {
+    match check_bodies(&blocks_of(alloc, given)?, Malformed::Refuse) {
         Some(fault) => answer.fault(&fault),
         None => answer.word("whole"),
     }

@@ -5,7 +5,7 @@ use Rattle.std.specs.Result.{MatchResult}
 use Rattle.std.proofs.lemmas.List.{length-append}
 use Rattle.opgp_octets.specs.declared.fault.Fault.{Fault}
 use Rattle.opgp_octets.specs.declared.limits.Limits.{Limits}
-use Rattle.opgp_octets.specs.Limits.{input_limit}
+use Rattle.opgp_octets.specs.Limits.{input_limit, malformed_of}
 use Rattle.opgp_armor.specs.Rules.{LineRule, line_rule}
 use Rattle.opgp_armor.specs.Armored.{Armored, Block}
 use Rattle.opgp_frame.specs.declared.packet.Placed.{Placed}
@@ -79,6 +79,7 @@ pub are_read : HasNoMoreOctets → (wanted : Wanted) (mode : Mode) (limits : Lim
 are_read law wanted mode limits input bs items within h f = record { labelled = framed_label limits wanted 0 bs items f; ends = end_fits law wanted mode limits input bs items within h f }
 
 -- what was gathered of a signed literal
-pub signed_is : (items : List Item) (result : Result SignedLiteral Fault) → end_pos items < 2 ^ 64 → MatchResult result (λ l. IsSignedOf items (signed_packets l)) (IsSignedFaultBy (told_end items) items) → AreSigned items (shown signed_packets result)
-signed_is items (Ok l) ends h = h
-signed_is items (Err f) ends h = subst (λ (end : ℕ). IsSignedFaultBy end items f) (told_is (end_pos items) ends) h
+pub signed_is : (limits : Limits) (items : List Item) (result : Result SignedLiteral Fault) → end_pos items < 2 ^ 64 → MatchResult result (λ l. IsSignedOf (malformed_of limits) items (signed_packets l)) (IsSignedFaultBy (malformed_of limits) (told_end items) items)
+    → AreSigned limits items (shown signed_packets result)
+signed_is limits items (Ok l) ends h = h
+signed_is limits items (Err f) ends h = subst (λ (end : ℕ). IsSignedFaultBy (malformed_of limits) end items f) (told_is (end_pos items) ends) h

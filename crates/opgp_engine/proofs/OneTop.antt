@@ -1,6 +1,8 @@
 -- A top has one answer at most.
 use Rattle.std.proofs.Common.{◌≡◌, ℕ, Bool, List, [], ◌∷◌, ◌++◌, All, map, refl, sym, ap, subst, ◌∙◌, inl, Ok, Err}
 use Rattle.std.proofs.lemmas.List.Elements.{All-head, All-tail}
+use Rattle.opgp_octets.specs.declared.malformed.Malformed.{Malformed}
+use Rattle.opgp_octets.specs.Limits.{malformed_of}
 use Rattle.opgp_octets.specs.declared.fault.Fault.{Fault}
 use Rattle.opgp_octets.specs.declared.limits.Limits.{Limits}
 use Rattle.opgp_frame.specs.declared.packet.Placed.{Placed}
@@ -60,28 +62,28 @@ one_blocks (a ∷ xs) (b ∷ ys) e =
     let r = one_run a.packets b.packets xs ys rest in
     ap (λ (x : BlockValue). x ∷ xs) (same_block a b number fits r.0) ∙ ap (λ (l : List BlockValue). b ∷ l) (one_blocks xs ys r.1)
 
-sound_at : (before : List Placed) (at : Placed) (after : List Placed) → All IsSound (before ++ at ∷ after) → IsSound at
-sound_at [] at after a = All-head IsSound at after a
-sound_at (p ∷ before) at after a = sound_at before at after (All-tail IsSound p (before ++ at ∷ after) a)
+sound_at : (policy : Malformed) (before : List Placed) (at : Placed) (after : List Placed) → All (IsSound policy) (before ++ at ∷ after) → IsSound policy at
+sound_at policy [] at after a = All-head (IsSound policy) at after a
+sound_at policy (p ∷ before) at after a = sound_at policy before at after (All-tail (IsSound policy) p (before ++ at ∷ after) a)
 
-sound_or_fault : (ps : List Placed) (f : Fault) → All IsSound ps → IsFirstBodyFault ps f → ⊥
-sound_or_fault ps f a b = sound_at b.before b.at b.after (subst (All IsSound) b.whole a) b.why b.here
+sound_or_fault : (policy : Malformed) (ps : List Placed) (f : Fault) → All (IsSound policy) ps → IsFirstBodyFault policy ps f → ⊥
+sound_or_fault policy ps f a b = sound_at policy b.before b.at b.after (subst (All (IsSound policy)) b.whole a) b.why b.here
 
-pub one_packets : RingIsOne → Limits → IsOne ArePackets
+pub one_packets : RingIsOne → (limits : Limits) → IsOne (ArePackets limits)
 one_packets w limits items (Ok a) (Ok b) h k = ap Ok (one_blocks a b (h.0 ∙ sym k.0))
-one_packets w limits items (Ok a) (Err f) h k = absurd (sound_or_fault (placed_in items) f h.1 k)
-one_packets w limits items (Err f) (Ok a) h k = absurd (sound_or_fault (placed_in items) f k.1 h)
+one_packets w limits items (Ok a) (Err f) h k = absurd (sound_or_fault (malformed_of limits) (placed_in items) f h.1 k)
+one_packets w limits items (Err f) (Ok a) h k = absurd (sound_or_fault (malformed_of limits) (placed_in items) f k.1 h)
 one_packets w limits items (Err f) (Err g) h k = ap Err (w.fault limits items f g (inl h) (inl k))
 
 -- ---- signed literals
 -- what composition promises of its definitions
 pub record SignedIsOne : Type 0 where
-  pub literal : (items : List Item) (ps qs : List PacketValue) → IsSignedOf items ps → IsSignedOf items qs → ps ≡ qs
-  pub fault : (items : List Item) (f g : Fault) → IsSignedFault items f → IsSignedFault items g → f ≡ g
-  pub no_fault : (items : List Item) (ps : List PacketValue) (f : Fault) → IsSignedOf items ps → IsSignedFault items f → ⊥
+  pub literal : (policy : Malformed) (items : List Item) (ps qs : List PacketValue) → IsSignedOf policy items ps → IsSignedOf policy items qs → ps ≡ qs
+  pub fault : (policy : Malformed) (items : List Item) (f g : Fault) → IsSignedFault policy items f → IsSignedFault policy items g → f ≡ g
+  pub no_fault : (policy : Malformed) (items : List Item) (ps : List PacketValue) (f : Fault) → IsSignedOf policy items ps → IsSignedFault policy items f → ⊥
 
-pub one_signed : SignedIsOne → IsOne AreSigned
-one_signed w items (Ok a) (Ok b) h k = ap Ok (w.literal items a b h k)
-one_signed w items (Ok a) (Err f) h k = absurd (w.no_fault items a f h k)
-one_signed w items (Err f) (Ok a) h k = absurd (w.no_fault items a f k h)
-one_signed w items (Err f) (Err g) h k = ap Err (w.fault items f g h k)
+pub one_signed : SignedIsOne → (limits : Limits) → IsOne (AreSigned limits)
+one_signed w limits items (Ok a) (Ok b) h k = ap Ok (w.literal (malformed_of limits) items a b h k)
+one_signed w limits items (Ok a) (Err f) h k = absurd (w.no_fault (malformed_of limits) items a f h k)
+one_signed w limits items (Err f) (Ok a) h k = absurd (w.no_fault (malformed_of limits) items a f k h)
+one_signed w limits items (Err f) (Err g) h k = ap Err (w.fault (malformed_of limits) items f g h k)

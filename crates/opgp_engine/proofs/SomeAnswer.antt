@@ -3,10 +3,11 @@ use Rattle.std.proofs.Common.{◌≡◌, ◌∙◌, ap, ℕ, ◌+◌, ◌⊎◌,
 use Rattle.std.proofs.lemmas.Bool.{cases_lt}
 use Rattle.std.specs.List.{All, AllByRecursion}
 use Rattle.std.proofs.lemmas.List.Elements.{All-append, All-nil, All-cons}
+use Rattle.opgp_octets.specs.declared.malformed.Malformed.{Malformed}
 use Rattle.opgp_octets.specs.Octets.{IsOctets}
 use Rattle.opgp_octets.specs.declared.fault.Fault.{Fault}
 use Rattle.opgp_octets.specs.declared.limits.Limits.{Limits}
-use Rattle.opgp_octets.specs.Limits.{input_limit}
+use Rattle.opgp_octets.specs.Limits.{input_limit, malformed_of}
 use Rattle.opgp_armor.specs.Rules.{line_rule}
 use Rattle.opgp_armor.specs.Armored.{Block}
 use Rattle.opgp_frame.specs.declared.packet.Placed.{Placed}
@@ -98,10 +99,10 @@ some_ring law limits blocks items framed octets = elim (law limits items octets)
 
 -- what the composition of signed literals promises
 abbrev pub SomeSigned : Type 0
-SomeSigned = (items : List Item) → All HasOctets items → ((ps : List PacketValue) × IsSignedOf items ps) ⊎ ((f : Fault) × IsSignedFault items f)
+SomeSigned = (policy : Malformed) (items : List Item) → All HasOctets items → ((ps : List PacketValue) × IsSignedOf policy items ps) ⊎ ((f : Fault) × IsSignedFault policy items f)
 
-pub some_signed : SomeSigned → (limits : Limits) → IsSome limits message_label AreSigned
-some_signed law limits blocks items framed octets = elim (law items octets) [
+pub some_signed : SomeSigned → (limits : Limits) → IsSome limits message_label (AreSigned limits)
+some_signed law limits blocks items framed octets = elim (law (malformed_of limits) items octets) [
   | inl r ↦ (Ok r.0, r.1)
   | inr f ↦ (Err f.0, f.1)
 ]
@@ -114,8 +115,8 @@ blocks_of limits wanted n (b ∷ bs) items (packets, more, framed, rest, is) =
     (record { number = n; fits = wanted b.label; packets = packets } ∷ blocks, ap (λ (l : List Item). block_items n (wanted b.label) packets ++ l) whole ∙ sym is)
 
 -- Bodies have a first fault or are sound, as they do in a signed literal and its faults.
-sound_or_fault : SomeSigned → (items : List Item) → All HasOctets items → All IsSound (placed_in items) ⊎ ((f : Fault) × IsFirstBodyFault (placed_in items) f)
-sound_or_fault law items octets = elim (law items octets) [
+sound_or_fault : SomeSigned → (policy : Malformed) (items : List Item) → All HasOctets items → All (IsSound policy) (placed_in items) ⊎ ((f : Fault) × IsFirstBodyFault policy (placed_in items) f)
+sound_or_fault law policy items octets = elim (law policy items octets) [
   | inl r ↦ inl r.1.sound
   | inr f ↦ elim f.1 [
     | inl body ↦ inr (f.0, body)
@@ -123,10 +124,10 @@ sound_or_fault law items octets = elim (law items octets) [
   ]
 ]
 
-pub some_packets : SomeSigned → (limits : Limits) → IsSome limits any_label ArePackets
+pub some_packets : SomeSigned → (limits : Limits) → IsSome limits any_label (ArePackets limits)
 some_packets law limits blocks items framed octets =
     let (values, whole) = blocks_of limits any_label 0 blocks items framed in
-    elim (sound_or_fault law items octets) [
+    elim (sound_or_fault law (malformed_of limits) items octets) [
       | inl sound ↦ (Ok values, (whole, sound))
       | inr f ↦ (Err f.0, f.1)
     ]

@@ -1,6 +1,8 @@
 -- The packets of an input, as they are.
 use Rattle.std.specs.Prelude.{◌≡◌, ℕ, Bool, true, List, [], ◌∷◌, ◌++◌, All, map, Option, Ok, Err}
 use Rattle.std.specs.Global.{Vec}
+use Rattle.opgp_octets.specs.declared.limits.Limits.{Limits}
+use Rattle.opgp_octets.specs.Limits.{malformed_of}
 use Rattle.opgp_armor.specs.declared.label.Label.{Label}
 use Rattle.opgp_frame.specs.declared.packet.Placed.{Placed}
 use Rattle.opgp_ring.specs.declared.block_of.BlockOf.{BlockOf}
@@ -31,6 +33,7 @@ any_label label = true
 
 -- The labels and packets are those of the blocks, and no body has a fault; or this is the fault of
 -- the first body that has one.
-abbrev pub ArePackets : List Item → Outcome (List BlockValue) → Type 0
-ArePackets items (Ok blocks) = (items_in blocks ≡ items) × All IsSound (placed_in items)
-ArePackets items (Err fault) = IsFirstBodyFault (placed_in items) fault
+abbrev pub ArePackets : Limits → List Item → Outcome (List BlockValue) → Type 0
+ArePackets limits items (Ok blocks) =
+    (items_in blocks ≡ items) × All (IsSound (malformed_of limits)) (placed_in items)
+ArePackets limits items (Err fault) = IsFirstBodyFault (malformed_of limits) (placed_in items) fault

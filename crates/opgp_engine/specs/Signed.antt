@@ -1,5 +1,7 @@
 -- The signed literal of an input (RFC 9580, 10.3).
 use Rattle.std.specs.Prelude.{Bool, true, false, List, Option, Some, None, Ok, Err}
+use Rattle.opgp_octets.specs.declared.limits.Limits.{Limits}
+use Rattle.opgp_octets.specs.Limits.{malformed_of}
 use Rattle.opgp_armor.specs.declared.label.Label.{Label}
 use Rattle.opgp_armor.specs.declared.label.Label.TheVariants as label
 use Rattle.opgp_frame.specs.Packet.{PacketValue}
@@ -17,6 +19,6 @@ message_label (Some label.Signature) = false
 
 -- the labels and packets are those of the signed literal with these packets; or this is their
 -- fault: that of the first body that has one, else the first in the order
-abbrev pub AreSigned : List Item → Outcome (List PacketValue) → Type 0
-AreSigned items (Ok ps) = IsSignedOf items ps
-AreSigned items (Err f) = IsSignedFault items f
+abbrev pub AreSigned : Limits → List Item → Outcome (List PacketValue) → Type 0
+AreSigned limits items (Ok ps) = IsSignedOf (malformed_of limits) items ps
+AreSigned limits items (Err f) = IsSignedFault (malformed_of limits) items f

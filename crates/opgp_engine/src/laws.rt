@@ -75,8 +75,9 @@ pub fn packets_are_written_again()
 /// Octets, mode and limits have at most one result as packets: one list of blocks, or one fault.
 pub fn one_list_of_packets()
     ensures { (mode : Mode) (limits : Limits) (input : List ℕ) → IsOctets input
-        → (a b : Outcome (List BlockValue)) → AnswerOf any_label ArePackets mode limits input a
-        → AnswerOf any_label ArePackets mode limits input b → a ≡ b }
+        → (a b : Outcome (List BlockValue))
+        → AnswerOf any_label (ArePackets limits) mode limits input a
+        → AnswerOf any_label (ArePackets limits) mode limits input b → a ≡ b }
 {
     layers_are_one();
     ring::one_keyring();
@@ -88,8 +89,8 @@ pub fn one_list_of_packets()
 pub fn one_signed_literal()
     ensures { (mode : Mode) (limits : Limits) (input : List ℕ) → IsOctets input
         → (a b : Outcome (List PacketValue))
-        → AnswerOf message_label AreSigned mode limits input a
-        → AnswerOf message_label AreSigned mode limits input b → a ≡ b }
+        → AnswerOf message_label (AreSigned limits) mode limits input a
+        → AnswerOf message_label (AreSigned limits) mode limits input b → a ≡ b }
 {
     layers_are_one();
     ring::one_signed_literal();
@@ -100,7 +101,8 @@ pub fn one_signed_literal()
 /// All octets have a result as packets: one list of blocks, or one fault.
 pub fn some_list_of_packets()
     ensures { (mode : Mode) (limits : Limits) (input : List ℕ) → IsOctets input
-        → (a : Outcome (List BlockValue)) × AnswerOf any_label ArePackets mode limits input a }
+        → (a : Outcome (List BlockValue))
+        × AnswerOf any_label (ArePackets limits) mode limits input a }
 {
     layers_answer();
     ring::some_signed_answer();
@@ -110,7 +112,7 @@ pub fn some_list_of_packets()
 pub fn some_signed_literal()
     ensures { (mode : Mode) (limits : Limits) (input : List ℕ) → IsOctets input
         → (a : Outcome (List PacketValue))
-        × AnswerOf message_label AreSigned mode limits input a }
+        × AnswerOf message_label (AreSigned limits) mode limits input a }
 {
     layers_answer();
     ring::some_signed_answer();

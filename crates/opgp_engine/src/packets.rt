@@ -2,6 +2,7 @@
 
 ghost use Rattle.std.specs.Prelude.{◌≡◌, ◌∷◌, [], true, List, OnOk, IfOk};
 ghost use Rattle.opgp_octets.specs.declared.limits.Limits.{Limits};
+ghost use Rattle.opgp_octets.specs.Limits.{malformed_of};
 ghost use Rattle.opgp_ring.specs.Block.{items_of};
 ghost use Rattle.opgp_ring.specs.Composition.{Item};
 ghost use Rattle.opgp_engine.specs.Packets.{ArePackets, any_label, block_values};
@@ -11,7 +12,7 @@ ghost use Rattle.opgp_engine.specs.Receiver.{from_label};
 use crate::receiver::Receiver;
 use opgp_armor::Label;
 use opgp_frame::Placed;
-use opgp_octets::{Fault, OutOfMemory};
+use opgp_octets::{Fault, Malformed, OutOfMemory};
 use opgp_ring::{BlockOf, check_bodies};
 use std::alloc::Global;
 
@@ -19,16 +20,20 @@ use std::alloc::Global;
 #[derive(Drop)]
 pub struct PacketBlocks {
     alloc: Global,
+    malformed: Malformed,
     blocks: Vec<BlockOf>,
 }
 
 impl PacketBlocks {
-    /// No blocks yet: it was given nothing. Allocates nothing; additions do, from `alloc`.
-    pub fn new(alloc: Global) -> PacketBlocks
-        ensures { (limits : Limits) → ⟦<PacketBlocks as Receiver>⟧.fed limits result [] }
+    /// No blocks yet, by this policy for malformed signatures: it was given nothing. Allocates nothing;
+    /// additions do, from `alloc`.
+    pub fn new(alloc: Global, malformed: Malformed) -> PacketBlocks
+        ensures { (limits : Limits) → malformed_of limits ≡ malformed
+            → ⟦<PacketBlocks as Receiver>⟧.fed limits result [] }
     {
         PacketBlocks {
             alloc,
+            malformed,
             blocks: Vec::new(alloc),
         }
     }
@@ -39,9 +44,10 @@ impl Receiver for PacketBlocks {
 
     ghost wanted = { any_label };
 
-    ghost fed = { λ _ t items. items_of t.blocks.items ≡ from_label items };
+    ghost fed = { λ limits t items. (t.malformed ≡ malformed_of limits)
+        × (items_of t.blocks.items ≡ from_label items) };
 
-    ghost says = { λ _ items r. ArePackets items (shown block_values r) };
+    ghost says = { λ limits items r. ArePackets limits items (shown block_values r) };
 
     fn wants(_label: Option<Label>) -> bool {
         true
@@ -68,7 +74,7 @@ impl Receiver for PacketBlocks {
     }
 
     fn finish(self) -> Result<Result<Vec<BlockOf>, Fault>, OutOfMemory> {
-        match check_bodies(&self.blocks) {
+        match check_bodies(&self.blocks, self.malformed) {
             None => Ok(Ok(self.blocks)),
             Some(fault) => Ok(Err(fault)),
         }

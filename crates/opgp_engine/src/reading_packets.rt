@@ -27,7 +27,9 @@ pub fn read_packets<R: Source>(
 ) -> Result<Vec<BlockOf>, ReadError>
     requires { R.has_failed reader.old ≡ false }
     ensures { ReadsAs R.left R.has_failed reader.old reader.new limits.now (λ octets answer.
-        AnswerOf any_label ArePackets mode limits.now octets (shown block_values answer)) result }
+        AnswerOf any_label (ArePackets limits.now) mode limits.now octets
+        (shown block_values answer)) result }
 {
-    read_with(alloc, reader, mode, limits, PacketBlocks::new(alloc))
+    let top = PacketBlocks::new(alloc, limits.malformed());
+    read_with(alloc, reader, mode, limits, top)
 }

@@ -27,8 +27,9 @@ pub fn read_signed<R: Source>(
 ) -> Result<SignedLiteral, ReadError>
     requires { R.has_failed reader.old ≡ false }
     ensures { ReadsAs R.left R.has_failed reader.old reader.new limits.now (λ octets answer.
-        AnswerOf message_label AreSigned mode limits.now octets
+        AnswerOf message_label (AreSigned limits.now) mode limits.now octets
         (shown signed_packets answer)) result }
 {
-    read_with(alloc, reader, mode, limits, SignedGathering::new(alloc))
+    let top = SignedGathering::new(alloc, limits.malformed());
+    read_with(alloc, reader, mode, limits, top)
 }

@@ -2,6 +2,7 @@
 
 ghost use Rattle.std.specs.Prelude.{◌≡◌, ◌∷◌, [], true, List, OnOk, IfOk};
 ghost use Rattle.opgp_octets.specs.declared.limits.Limits.{Limits};
+ghost use Rattle.opgp_octets.specs.Limits.{malformed_of};
 ghost use Rattle.opgp_ring.specs.SignedGathering.{GathersSigned};
 ghost use Rattle.opgp_ring.specs.SignedLiteral.{signed_packets};
 ghost use Rattle.opgp_engine.specs.Reading.{shown};
@@ -18,9 +19,9 @@ impl Receiver for SignedGathering {
 
     ghost wanted = { message_label };
 
-    ghost fed = { λ _ t items. GathersSigned t items };
+    ghost fed = { λ limits t items. GathersSigned (malformed_of limits) t items };
 
-    ghost says = { λ _ items r. AreSigned items (shown signed_packets r) };
+    ghost says = { λ limits items r. AreSigned limits items (shown signed_packets r) };
 
     fn wants(label: Option<Label>) -> bool {
         match label {

@@ -142,16 +142,22 @@ fn visit_hangs<'a, V: Visitor<'a>>(
     let mut number = 0usize;
     let mut rest = hangs;
     'hangs: while let [hang, more @ ..] = rest {
-        if let Content::Signature(signature) = hang.content() {
-            let place = Place {
-                certificate,
-                component,
-                hang: number,
-                nested: None,
-            };
-            let view = signature.view();
-            visitor.meet(hasher, Site::Hung, place, &Ok(view))?;
-            visit_embedded(visitor, hasher, place, view)?;
+        let place = Place {
+            certificate,
+            component,
+            hang: number,
+            nested: None,
+        };
+        match hang.content() {
+            Content::Signature(signature) => {
+                let view = signature.view();
+                visitor.meet(hasher, Site::Hung, place, &Ok(view))?;
+                visit_embedded(visitor, hasher, place, view)?;
+            }
+            Content::Malformed(body) => {
+                visitor.meet(hasher, Site::Hung, place, &SigView::parse_body(body))?;
+            }
+            _ => {}
         }
         number += 1;
         rest = more;

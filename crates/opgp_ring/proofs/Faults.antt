@@ -1,6 +1,7 @@
 -- Items that are a keyring have no fault.
 use Rattle.std.proofs.Common.{◌≡◌, ℕ, Bool, true, false, ◌&&◌, List, [], ◌∷◌, ◌++◌, All, sym, subst, ◌∙◌, append_assoc}
 use Rattle.std.proofs.lemmas.List.Elements.{All-head, All-tail}
+use Rattle.opgp_octets.specs.Limits.{malformed_of}
 use Rattle.opgp_octets.specs.declared.limits.Limits.{Limits}
 use Rattle.opgp_octets.specs.declared.fault.Fault.{Fault}
 use Rattle.opgp_frame.specs.Packet.{PacketValue}
@@ -16,9 +17,9 @@ pub middle : {X : Type 0} (P : X → Type 0) (before : List X) (x : X) (after : 
 middle P [] x after a = All-head P x after a
 middle P (y ∷ before) x after a = middle P before x after (All-tail P y (before ++ x ∷ after) a)
 
-pub no_body_fault : (limits : Limits) (given : List Item) (r : KeyringValue) (f : Fault) → IsKeyringOf limits given r → IsFirstBodyFault (placed_in given) f → ⊥
+pub no_body_fault : (limits : Limits) (given : List Item) (r : KeyringValue) (f : Fault) → IsKeyringOf limits given r → IsFirstBodyFault (malformed_of limits) (placed_in given) f → ⊥
 no_body_fault limits given r f k b =
-    let sound : IsSound b.at = middle IsSound b.before b.at b.after (subst (All IsSound) b.whole k.sound) in
+    let sound : IsSound (malformed_of limits) b.at = middle (IsSound (malformed_of limits)) b.before b.at b.after (subst (All (IsSound (malformed_of limits))) b.whole k.sound) in
     sound b.why b.here
 
 and_right : (a b : Bool) → (a && b) ≡ true → b ≡ true

@@ -2,8 +2,9 @@
 use Rattle.std.proofs.Common.{◌≡◌, ℕ, ◌+◌, ◌≤◌, ◌<◌, Bool, true, false, not, ◌&&◌, List, [], ◌∷◌, ◌++◌, length, All, if◌then◌else◌, map, refl, sym, ap, subst, ◌∙◌, append_assoc, append-nil, arith}
 use Rattle.std.proofs.lemmas.List.Elements.{All-push, All-nil}
 use Rattle.std.proofs.lemmas.List.{map-append}
+use Rattle.opgp_octets.specs.declared.malformed.Malformed.{Malformed}
 use Rattle.opgp_octets.specs.declared.limits.Limits.{Limits}
-use Rattle.opgp_octets.specs.Limits.{cert_limit}
+use Rattle.opgp_octets.specs.Limits.{cert_limit, malformed_of}
 use Rattle.opgp_octets.specs.declared.fault.Fault.{Fault}
 use Rattle.opgp_octets.specs.declared.fault.BodyFault.{BodyFault}
 use Rattle.opgp_octets.specs.declared.fault.Reason.TheVariants.{NoPrimary, NotInKeyring, CertTooLong}
@@ -55,8 +56,8 @@ order_fault_stays limits given more f o = record {
   here = o.here;
 }
 
-pub body_fault_stays : (given more : List Placed) (f : Fault) → IsFirstBodyFault given f → IsFirstBodyFault (given ++ more) f
-body_fault_stays given more f b = record {
+pub body_fault_stays : (policy : Malformed) (given more : List Placed) (f : Fault) → IsFirstBodyFault policy given f → IsFirstBodyFault policy (given ++ more) f
+body_fault_stays policy given more f b = record {
   before = b.before;
   at = b.at;
   after = b.after ++ more;
@@ -74,15 +75,15 @@ placed_push given p = placed_in-append given (of_packet p ∷ [])
 pub packets_push : (given : List Item) (p : Placed) → packets_in (given ++ of_packet p ∷ []) ≡ packets_in given ++ p.packet ∷ []
 packets_push given p = packets_in-append given (of_packet p ∷ [])
 
-pub body_fault_comes : (given : List Item) (p : Placed) (why : BodyFault) → All IsSound (placed_in given) → IsOctets p.packet.body → HasFault p.packet why
-    → IsFirstBodyFault (placed_in (given ++ of_packet p ∷ [])) (placed_fault p why)
-body_fault_comes given p why sound octets here = record { before = placed_in given; at = p; after = []; why = why; whole = placed_push given p; sound = sound; octets = octets; here = here; is = refl }
+pub body_fault_comes : (policy : Malformed) (given : List Item) (p : Placed) (why : BodyFault) → All (IsSound policy) (placed_in given) → IsOctets p.packet.body → HasFault policy p.packet why
+    → IsFirstBodyFault policy (placed_in (given ++ of_packet p ∷ [])) (placed_fault p why)
+body_fault_comes policy given p why sound octets here = record { before = placed_in given; at = p; after = []; why = why; whole = placed_push given p; sound = sound; octets = octets; here = here; is = refl }
 
-pub body_fault_behind : (given : List Item) (p : Placed) (f : Fault) → IsFirstBodyFault (placed_in given) f → IsFirstBodyFault (placed_in (given ++ of_packet p ∷ [])) f
-body_fault_behind given p f b = subst (λ (l : List Placed). IsFirstBodyFault l f) (sym (placed_push given p)) (body_fault_stays (placed_in given) (p ∷ []) f b)
+pub body_fault_behind : (policy : Malformed) (given : List Item) (p : Placed) (f : Fault) → IsFirstBodyFault policy (placed_in given) f → IsFirstBodyFault policy (placed_in (given ++ of_packet p ∷ [])) f
+body_fault_behind policy given p f b = subst (λ (l : List Placed). IsFirstBodyFault policy l f) (sym (placed_push given p)) (body_fault_stays policy (placed_in given) (p ∷ []) f b)
 
-pub sound_push : (given : List Item) (p : Placed) → All IsSound (placed_in given) → HasNoFault p.packet → All IsSound (placed_in (given ++ of_packet p ∷ []))
-sound_push given p sound e = subst (All IsSound) (sym (placed_push given p)) (All-push IsSound (placed_in given) p sound e)
+pub sound_push : (policy : Malformed) (given : List Item) (p : Placed) → All (IsSound policy) (placed_in given) → HasNoFault policy p.packet → All (IsSound policy) (placed_in (given ++ of_packet p ∷ []))
+sound_push policy given p sound e = subst (All (IsSound policy)) (sym (placed_push given p)) (All-push (IsSound policy) (placed_in given) p sound e)
 
 pub order_fault_comes : (limits : Limits) (given : List Item) (i : Item) (r : KeyringValue) (f : Fault) → IsKeyringOf limits given r → IsFaultAt limits (packets_in given) i f → IsOrderFault limits (given ++ i ∷ []) f
 order_fault_comes limits given i r f k here = record { before = given; at = i; after = []; whole = refl; keyring = (r, k.composes); labels = k.labels; here = here }
@@ -116,11 +117,11 @@ long_fault limits ps p stands free long = (
 -- ---- one more packet of the keyring
 
 -- the items with one more packet are those of this keyring
-pub kept : (limits : Limits) (given : List Item) (p : Placed) (r s : KeyringValue) → IsKeyringOf limits given r → HasNoFault p.packet → IsKeyring s → flat s ≡ flat r ++ p.packet ∷ [] → FitsLimits limits s
+pub kept : (limits : Limits) (given : List Item) (p : Placed) (r s : KeyringValue) → IsKeyringOf limits given r → HasNoFault (malformed_of limits) p.packet → IsKeyring s → flat s ≡ flat r ++ p.packet ∷ [] → FitsLimits limits s
     → IsKeyringOf limits (given ++ of_packet p ∷ []) s
 kept limits given p r s k sound is whole fits = record {
   labels = labels_fit-append given (of_packet p ∷ []) ∙ and_true (labels_fit given) ∙ k.labels;
-  sound = sound_push given p k.sound sound;
+  sound = sound_push (malformed_of limits) given p k.sound sound;
   composes = record { keyring = is; whole = whole ∙ ap (λ (l : List PacketValue). l ++ p.packet ∷ []) k.composes.whole ∙ sym (packets_push given p); fits = fits };
 }
 
@@ -132,7 +133,7 @@ too_long limits given p r s k is whole long = passes_limit limits (packets_in gi
 -- ---- the steps
 
 -- a filler before the first primary key
-pub leads : (limits : Limits) (lead : List PacketValue) (given : List Item) (parts : List PartValue) (p : Placed) → IsLeading limits lead given parts → HasNoFault p.packet → IsFiller p.packet
+pub leads : (limits : Limits) (lead : List PacketValue) (given : List Item) (parts : List PartValue) (p : Placed) → IsLeading limits lead given parts → HasNoFault (malformed_of limits) p.packet → IsFiller p.packet
     → octets_of lead + length (spelling p.packet) ≤ cert_limit limits → IsLeading limits (lead ++ p.packet ∷ []) (given ++ of_packet p ∷ []) parts
 leads limits lead given parts p s sound filler short =
     let is : IsKeyring (keyring (lead ++ p.packet ∷ []) []) = lead_is lead p.packet s.stands.composes.keyring filler in
@@ -146,7 +147,7 @@ leads_too_long limits lead given parts p s filler long =
     (λ (f : FitsLimits limits (keyring (lead ++ p.packet ∷ []) [])). absurd (omega (arith, octets_of-push lead p.packet, long, f.lead)))
 
 -- a certificate with one more packet
-pub grows : (limits : Limits) (c d : CertificateValue) (given : List Item) (parts : List PartValue) (p : Placed) → IsGrowing limits c given parts → HasNoFault p.packet
+pub grows : (limits : Limits) (c d : CertificateValue) (given : List Item) (parts : List PartValue) (p : Placed) → IsGrowing limits c given parts → HasNoFault (malformed_of limits) p.packet
     → certificate_packets d ≡ certificate_packets c ++ p.packet ∷ [] → IsCertificate d → octets_of (certificate_packets c) + length (spelling p.packet) ≤ cert_limit limits
     → IsGrowing limits d (given ++ of_packet p ∷ []) parts
 grows limits c d given parts p s sound whole is short =
@@ -182,7 +183,7 @@ unfolding octets_of
 begun_octets p = ap (length {A = ℕ}) (append-nil (spelling p))
 
 -- the first certificate, behind the lead
-pub begins_first : (limits : Limits) (lead : List PacketValue) (given : List Item) (parts : List PartValue) (p : Placed) → IsLeading limits lead given parts → HasNoFault p.packet → IsPrimary p.packet
+pub begins_first : (limits : Limits) (lead : List PacketValue) (given : List Item) (parts : List PartValue) (p : Placed) → IsLeading limits lead given parts → HasNoFault (malformed_of limits) p.packet → IsPrimary p.packet
     → length (spelling p.packet) ≤ cert_limit limits → IsGrowing limits (begun p.packet) (given ++ of_packet p ∷ []) (parts ++ lead_parts lead)
 begins_first limits lead given parts p s sound primary short =
     let k = s.stands.composes in
@@ -198,7 +199,7 @@ begins_first limits lead given parts p s sound primary short =
     }
 
 -- a further certificate
-pub begins_next : (limits : Limits) (b : CertificateValue) (given : List Item) (parts : List PartValue) (p : Placed) → IsGrowing limits b given parts → HasNoFault p.packet → IsPrimary p.packet
+pub begins_next : (limits : Limits) (b : CertificateValue) (given : List Item) (parts : List PartValue) (p : Placed) → IsGrowing limits b given parts → HasNoFault (malformed_of limits) p.packet → IsPrimary p.packet
     → length (spelling p.packet) ≤ cert_limit limits → IsGrowing limits (begun p.packet) (given ++ of_packet p ∷ []) (parts ++ of_certificate b ∷ [])
 begins_next limits b given parts p s sound primary short =
     let k = s.stands.composes in

@@ -1,6 +1,7 @@
 -- What a composer's state says is what it was fed.
 use Rattle.std.proofs.Common.{◌≡◌, Bool, true, false, ◌&&◌, All, inl, inr, List, [], ◌∷◌, ◌++◌, Some, None, length, refl, sym, ap, subst, ◌∙◌, append_assoc, append-nil, length-append, arith}
 use Rattle.std.proofs.lemmas.List.Elements.{All-cons, All-head, All-nil, All-tail}
+use Rattle.opgp_octets.specs.Limits.{malformed_of}
 use Rattle.opgp_octets.specs.declared.limits.Limits.{Limits}
 use Rattle.opgp_octets.specs.declared.fault.Fault.{Fault}
 use Rattle.opgp_frame.specs.Packet.{PacketValue}
@@ -152,7 +153,7 @@ composed_before : (limits : Limits) (xs ys : List Item) (r : KeyringValue) → I
 composed_before limits xs ys r k =
     let before = prefix limits (packets_in xs) (packets_in ys) (r, subst (λ (ps : List PacketValue). Composes limits ps r) (packets_in-append xs ys) k.composes) in (
       before.0,
-      record { labels = and_left (labels_fit xs) (labels_fit ys) (sym (labels_fit-append xs ys) ∙ k.labels); sound = All-front IsSound (placed_in xs) (placed_in ys) (subst (All IsSound) (placed_in-append xs ys) k.sound); composes = before.1 },
+      record { labels = and_left (labels_fit xs) (labels_fit ys) (sym (labels_fit-append xs ys) ∙ k.labels); sound = All-front (IsSound (malformed_of limits)) (placed_in xs) (placed_in ys) (subst (All (IsSound (malformed_of limits))) (placed_in-append xs ys) k.sound); composes = before.1 },
     )
 
 whole_out : (limits : Limits) (given front back : List Item) (parts : List PartValue) (ring r : KeyringValue) → given ≡ front ++ back → IsKeyringOf limits front ring → EndsKeyrings limits front back → IsAllButLast parts (parts_of ring)

@@ -1,5 +1,7 @@
 -- Items have one fault.
 use Rattle.std.proofs.Common.{◌≡◌, ℕ, Bool, true, inl, inr, List, [], ◌∷◌, ◌++◌, All, refl, sym, ap, subst, ◌∙◌, append_assoc}
+use Rattle.opgp_octets.specs.Limits.{malformed_of}
+use Rattle.opgp_octets.specs.declared.malformed.Malformed.{Malformed}
 use Rattle.opgp_octets.specs.declared.limits.Limits.{Limits}
 use Rattle.opgp_octets.specs.declared.fault.Fault.{Fault}
 use Rattle.opgp_octets.specs.declared.fault.BodyFault.{BodyFault}
@@ -60,26 +62,26 @@ order_by limits items f g o q (behind more e) =
 one_order_fault : (limits : Limits) (items : List Item) (f g : Fault) → IsOrderFault limits items f → IsOrderFault limits items g → f ≡ g
 one_order_fault limits items f g o q = order_by limits items f g o q (two o.before q.before o.after q.after o.at q.at (sym o.whole ∙ q.whole))
 
-sound_fails : (ps : List Placed) (p : Placed) (more : List Placed) (why : BodyFault) → All IsSound (ps ++ p ∷ more) → HasFault p.packet why → ⊥
-sound_fails ps p more why a here = let s : HasNoFault p.packet = middle IsSound ps p more a in s why here
+sound_fails : (policy : Malformed) (ps : List Placed) (p : Placed) (more : List Placed) (why : BodyFault) → All (IsSound policy) (ps ++ p ∷ more) → HasFault policy p.packet why → ⊥
+sound_fails policy ps p more why a here = let s : HasNoFault policy p.packet = middle (IsSound policy) ps p more a in s why here
 
 -- a body has one fault
 abbrev pub OneBodyFault : Type 0
-OneBodyFault = (kind : PacketType) (o : List ℕ) (f g : BodyFault) → IsOctets o → HasBodyFault kind o f → HasBodyFault kind o g → f ≡ g
+OneBodyFault = (policy : Malformed) (kind : PacketType) (o : List ℕ) (f g : BodyFault) → IsOctets o → HasBodyFault policy kind o f → HasBodyFault policy kind o g → f ≡ g
 
-pub body_by : (one : OneBodyFault) (ps : List Placed) (f g : Fault) (b : IsFirstBodyFault ps f) (q : IsFirstBodyFault ps g) → Two b.before q.before b.at q.at → f ≡ g
-body_by one ps f g b q (same xs at) =
-    let here : HasFault q.at.packet b.why = subst (λ (p : Placed). HasFault p.packet b.why) at b.here in
-    let why : b.why ≡ q.why = one (packet_type_of q.at.packet.kind) q.at.packet.body b.why q.why q.octets here q.here in
+pub body_by : (policy : Malformed) (one : OneBodyFault) (ps : List Placed) (f g : Fault) (b : IsFirstBodyFault policy ps f) (q : IsFirstBodyFault policy ps g) → Two b.before q.before b.at q.at → f ≡ g
+body_by policy one ps f g b q (same xs at) =
+    let here : HasFault policy q.at.packet b.why = subst (λ (p : Placed). HasFault policy p.packet b.why) at b.here in
+    let why : b.why ≡ q.why = one policy (packet_type_of q.at.packet.kind) q.at.packet.body b.why q.why q.octets here q.here in
     b.is ∙ ap (λ (p : Placed). placed_fault p b.why) at ∙ ap (placed_fault q.at) why ∙ sym q.is
-body_by one ps f g b q (before more e) = absurd (sound_fails b.before b.at more b.why (subst (All IsSound) e q.sound) b.here)
-body_by one ps f g b q (behind more e) = absurd (sound_fails q.before q.at more q.why (subst (All IsSound) e b.sound) q.here)
+body_by policy one ps f g b q (before more e) = absurd (sound_fails policy b.before b.at more b.why (subst (All (IsSound policy)) e q.sound) b.here)
+body_by policy one ps f g b q (behind more e) = absurd (sound_fails policy q.before q.at more q.why (subst (All (IsSound policy)) e b.sound) q.here)
 
-pub none_sound : (ps : List Placed) (f : Fault) → All IsSound ps → IsFirstBodyFault ps f → ⊥
-none_sound ps f a b = sound_fails b.before b.at b.after b.why (subst (All IsSound) b.whole a) b.here
+pub none_sound : (policy : Malformed) (ps : List Placed) (f : Fault) → All (IsSound policy) ps → IsFirstBodyFault policy ps f → ⊥
+none_sound policy ps f a b = sound_fails policy b.before b.at b.after b.why (subst (All (IsSound policy)) b.whole a) b.here
 
 pub one_fault : (one : OneBodyFault) (limits : Limits) (items : List Item) (f g : Fault) → IsFault limits items f → IsFault limits items g → f ≡ g
-one_fault one limits items f g (inl b) (inl q) = body_by one (placed_in items) f g b q (two b.before q.before b.after q.after b.at q.at (sym b.whole ∙ q.whole))
-one_fault one limits items f g (inl b) (inr o) = absurd (none_sound (placed_in items) f o.0 b)
-one_fault one limits items f g (inr o) (inl b) = absurd (none_sound (placed_in items) g o.0 b)
+one_fault one limits items f g (inl b) (inl q) = body_by (malformed_of limits) one (placed_in items) f g b q (two b.before q.before b.after q.after b.at q.at (sym b.whole ∙ q.whole))
+one_fault one limits items f g (inl b) (inr o) = absurd (none_sound (malformed_of limits) (placed_in items) f o.0 b)
+one_fault one limits items f g (inr o) (inl b) = absurd (none_sound (malformed_of limits) (placed_in items) g o.0 b)
 one_fault one limits items f g (inr o) (inr q) = one_order_fault limits items f g o.1 q.1

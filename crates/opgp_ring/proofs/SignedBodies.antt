@@ -1,14 +1,17 @@
 -- The bodies of a signed literal's packets, by their types.
-use Rattle.std.proofs.Common.{◌≡◌, ℕ, suc, zero, ◌+◌, ◌<◌, Bool, true, false, not, ◌==◌, cond, List, [], ◌∷◌, ◌++◌, map, replicate, length, take, drop, get_or, refl, sym, ap, subst, ◌∙◌, arith, length-append}
+use Rattle.std.proofs.Common.{◌≡◌, ℕ, suc, zero, ◌+◌, ◌<◌, All, Bool, true, false, not, ◌==◌, cond, List, [], ◌∷◌, ◌++◌, map, replicate, length, take, drop, get_or, refl, sym, ap, subst, ◌∙◌, arith, length-append}
 use Rattle.std.specs.List.{filter}
 use Rattle.std.proofs.lemmas.Bool.{eqb-true, eq-eqb, ne_eqb}
 use Rattle.std.proofs.lemmas.List.{map-append, take_more}
-use Rattle.std.proofs.lemmas.List.Elements.{filter-append}
+use Rattle.std.proofs.lemmas.List.Elements.{All-cons, All-head, All-nil, All-tail, filter-append}
+use Rattle.opgp_octets.specs.declared.malformed.Malformed.{Malformed}
 use Rattle.opgp_frame.specs.Packet.{PacketValue}
 use Rattle.opgp_octets.specs.PacketType.{packet_type_of}
 use Rattle.opgp_octets.specs.declared.fault.BodyFault.{BodyFault}
+use Rattle.opgp_octets.specs.declared.packet_type.PacketType.{PacketType}
+use Rattle.opgp_octets.specs.declared.packet_type.PacketType.TheVariants.{Signature, PublicKey, PublicSubkey, LiteralData, UserAttribute}
+use Rattle.opgp_octets.specs.declared.malformed.Malformed.TheVariants.{Keep}
 use Rattle.opgp_packet.specs.LiteralBody.{LiteralFault}
-use Rattle.opgp_packet.specs.SignatureBody.{SignatureFault}
 use Rattle.opgp_ring.specs.PacketBody.{HasBodyFault}
 use Rattle.opgp_ring.specs.Bodies.{HasNoFault}
 use Rattle.opgp_ring.specs.Keyring.{is_filler}
@@ -78,10 +81,22 @@ first_here kind i ps p h e is none =
 
 -- ---- bodies that are sound
 
-pub sound_literal : (p : PacketValue) (o : List ℕ) (f : BodyFault) → HasNoFault p → p.kind ≡ 11 → o ≡ p.body → LiteralFault o f → ⊥
+pub sound_literal : (p : PacketValue) (o : List ℕ) (f : BodyFault) → HasNoFault Keep p → p.kind ≡ 11 → o ≡ p.body → LiteralFault o f → ⊥
 unfolding packet_type_of
-sound_literal p o f sound kind body fault = sound f (subst (λ (k : ℕ). HasBodyFault (packet_type_of k) p.body f) (sym kind) (subst (λ (l : List ℕ). LiteralFault l f) body fault))
+sound_literal p o f sound kind body fault = sound f (subst (λ (k : ℕ). HasBodyFault Keep (packet_type_of k) p.body f) (sym kind) (subst (λ (l : List ℕ). LiteralFault l f) body fault))
 
-pub sound_signature : (p : PacketValue) (o : List ℕ) (f : BodyFault) → HasNoFault p → p.kind ≡ 2 → o ≡ p.body → SignatureFault o f → ⊥
-unfolding packet_type_of
-sound_signature p o f sound kind body fault = sound f (subst (λ (k : ℕ). HasBodyFault (packet_type_of k) p.body f) (sym kind) (subst (λ (l : List ℕ). SignatureFault l f) body fault))
+-- what is a fault where malformed signatures are kept is one by any policy
+kept_fault : (policy : Malformed) (kind : PacketType) (o : List ℕ) (f : BodyFault) → HasBodyFault Keep kind o f → HasBodyFault policy kind o f
+kept_fault policy Signature o f h = absurd (let never = h.0 in cc)
+kept_fault policy PublicKey o f h = h
+kept_fault policy PublicSubkey o f h = h
+kept_fault policy LiteralData o f h = h
+kept_fault policy UserAttribute o f h = h
+kept_fault policy other o f h = absurd h
+
+sound_kept : (policy : Malformed) (p : PacketValue) → HasNoFault policy p → HasNoFault Keep p
+sound_kept policy p sound = λ f h. sound f (kept_fault policy (packet_type_of p.kind) p.body f h)
+
+pub all_kept : (policy : Malformed) (ps : List PacketValue) → All (HasNoFault policy) ps → All (HasNoFault Keep) ps
+all_kept policy [] a = All-nil (HasNoFault Keep)
+all_kept policy (p ∷ ps) a = All-cons (HasNoFault Keep) p ps (sound_kept policy p (All-head (HasNoFault policy) p ps a)) (all_kept policy ps (All-tail (HasNoFault policy) p ps a))

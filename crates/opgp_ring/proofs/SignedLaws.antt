@@ -4,6 +4,7 @@ use Rattle.std.specs.List.{AllByRecursion}
 use Rattle.std.proofs.lemmas.Bool.{eqb-true, eqb-false}
 use Rattle.std.proofs.lemmas.List.{replicate_more}
 use Rattle.std.proofs.lemmas.List.Elements.{All-nil, recursion_from_All}
+use Rattle.opgp_octets.specs.declared.malformed.Malformed.{Malformed}
 use Rattle.opgp_octets.specs.declared.fault.Fault.{Fault}
 use Rattle.opgp_octets.specs.declared.fault.Reason.TheVariants.{BlockLabel, NotASignedLiteral}
 use Rattle.opgp_octets.specs.PacketType.{packet_type_of}
@@ -67,21 +68,21 @@ one_order items f g (inl o) (inr q) = absurd (stop_fails items f q.begins q.labe
 one_order items f g (inr o) (inl q) = absurd (stop_fails items g o.begins o.labels q)
 one_order items f g (inr o) (inr q) = o.is ∙ sym q.is
 
-pub one_signed_fault : (one : OneBodyFault) (items : List Item) (f g : Fault) → IsSignedFault items f → IsSignedFault items g → f ≡ g
-one_signed_fault one items f g (inl b) (inl q) = body_by one (placed_in items) f g b q (two b.before q.before b.after q.after b.at q.at (sym b.whole ∙ q.whole))
-one_signed_fault one items f g (inl b) (inr o) = absurd (none_sound (placed_in items) f o.0 b)
-one_signed_fault one items f g (inr o) (inl b) = absurd (none_sound (placed_in items) g o.0 b)
-one_signed_fault one items f g (inr o) (inr q) = one_order items f g o.1 q.1
+pub one_signed_fault : (policy : Malformed) (one : OneBodyFault) (items : List Item) (f g : Fault) → IsSignedFault policy items f → IsSignedFault policy items g → f ≡ g
+one_signed_fault policy one items f g (inl b) (inl q) = body_by policy one (placed_in items) f g b q (two b.before q.before b.after q.after b.at q.at (sym b.whole ∙ q.whole))
+one_signed_fault policy one items f g (inl b) (inr o) = absurd (none_sound policy (placed_in items) f o.0 b)
+one_signed_fault policy one items f g (inr o) (inl b) = absurd (none_sound policy (placed_in items) g o.0 b)
+one_signed_fault policy one items f g (inr o) (inr q) = one_order items f g o.1 q.1
 
 -- ---- no fault
 
-order_fails : (items : List Item) (ps : List PacketValue) (f : Fault) → IsSignedOf items ps → StopsAt items f ⊎ EndsEarly (end_pos items) items f → ⊥
-order_fails items ps f k (inl o) = stop_fails items f (whole_begins (packets_in items) (subst IsSigned k.flat k.signed)) k.labels o
-order_fails items ps f k (inr e) = e.lacks (subst IsSigned k.flat k.signed)
+order_fails : (policy : Malformed) (items : List Item) (ps : List PacketValue) (f : Fault) → IsSignedOf policy items ps → StopsAt items f ⊎ EndsEarly (end_pos items) items f → ⊥
+order_fails policy items ps f k (inl o) = stop_fails items f (whole_begins (packets_in items) (subst IsSigned k.flat k.signed)) k.labels o
+order_fails policy items ps f k (inr e) = e.lacks (subst IsSigned k.flat k.signed)
 
-pub no_signed_fault : (items : List Item) (ps : List PacketValue) (f : Fault) → IsSignedOf items ps → IsSignedFault items f → ⊥
-no_signed_fault items ps f k (inl b) = none_sound (placed_in items) f k.sound b
-no_signed_fault items ps f k (inr o) = order_fails items ps f k o.1
+pub no_signed_fault : (policy : Malformed) (items : List Item) (ps : List PacketValue) (f : Fault) → IsSignedOf policy items ps → IsSignedFault policy items f → ⊥
+no_signed_fault policy items ps f k (inl b) = none_sound policy (placed_in items) f k.sound b
+no_signed_fault policy items ps f k (inr o) = order_fails policy items ps f k o.1
 
 -- ---- some answer
 
@@ -138,56 +139,56 @@ next : (s : Shape) (ps : List PacketValue) (p : PacketValue) → Stands s ps →
 next s ps p t = elim (bool_cases (is_filler p.kind)) [ inl e ↦ inl (s, skips s ps p e t) | inr e ↦ no_filler s ps p e t ]
 
 -- what items have come to
-abbrev Reached : List Item → Type 0
-Reached items = (s : SignedState) × IsSignedIn s items (packets_in items)
+abbrev Reached : Malformed → List Item → Type 0
+Reached policy items = (s : SignedState) × IsSignedIn policy s items (packets_in items)
 
-open_packet : (shape : Shape) (given : List Item) (p : Placed) → IsOpen shape given (packets_in given) → HasNoFault p.packet → Reached (given ++ of_packet p ∷ [])
-open_packet shape given p o sound =
+open_packet : (policy : Malformed) (shape : Shape) (given : List Item) (p : Placed) → IsOpen policy shape given (packets_in given) → HasNoFault policy p.packet → Reached policy (given ++ of_packet p ∷ [])
+open_packet policy shape given p o sound =
     elim (next shape (packets_in given) p.packet o.stands) [
-      | inl (s, t) ↦ (Open s, followed shape s given (packets_in given) (packets_in (given ++ of_packet p ∷ [])) p o sound t (packets_push given p))
-      | inr none ↦ (Disordered (fault_at NotASignedLiteral p.block p.pos), refused shape given (packets_in given) (of_packet p) (fault_at NotASignedLiteral p.block p.pos) o sound (stopped shape given (packets_in given) p o none))
+      | inl (s, t) ↦ (Open s, followed policy shape s given (packets_in given) (packets_in (given ++ of_packet p ∷ [])) p o sound t (packets_push given p))
+      | inr none ↦ (Disordered (fault_at NotASignedLiteral p.block p.pos), refused policy shape given (packets_in given) (of_packet p) (fault_at NotASignedLiteral p.block p.pos) o sound (stopped policy shape given (packets_in given) p o none))
     ]
 
-label_step : (s : SignedState) (given : List Item) (block : ℕ) (fits : Bool) → IsSignedIn s given (packets_in given) → Reached (given ++ of_label block fits ∷ [])
-label_step s given block true is =
-    (s, subst (IsSignedIn s (given ++ of_label block true ∷ [])) (sym (packets_in-append given (of_label block true ∷ []) ∙ append-nil (packets_in given))) (labelled s given (packets_in given) block is))
-label_step (Open shape) given block false o =
-    (Disordered (fault_at BlockLabel block 0), refused shape given (packets_in given) (of_label block false) (fault_at BlockLabel block 0) o tt (refl, refl))
-label_step (Disordered f) given block false is = (Disordered f, stays_behind (Disordered f) given (packets_in given) (of_label block false) tt refl is)
-label_step (Broken f) given block false is = (Broken f, stays_behind (Broken f) given (packets_in given) (of_label block false) tt refl is)
+label_step : (policy : Malformed) (s : SignedState) (given : List Item) (block : ℕ) (fits : Bool) → IsSignedIn policy s given (packets_in given) → Reached policy (given ++ of_label block fits ∷ [])
+label_step policy s given block true is =
+    (s, subst (IsSignedIn policy s (given ++ of_label block true ∷ [])) (sym (packets_in-append given (of_label block true ∷ []) ∙ append-nil (packets_in given))) (labelled policy s given (packets_in given) block is))
+label_step policy (Open shape) given block false o =
+    (Disordered (fault_at BlockLabel block 0), refused policy shape given (packets_in given) (of_label block false) (fault_at BlockLabel block 0) o tt (refl, refl))
+label_step policy (Disordered f) given block false is = (Disordered f, stays_behind policy (Disordered f) given (packets_in given) (of_label block false) tt refl is)
+label_step policy (Broken f) given block false is = (Broken f, stays_behind policy (Broken f) given (packets_in given) (of_label block false) tt refl is)
 
-packet_step : (laws : Laws) (s : SignedState) (given : List Item) (p : Placed) → HasOctets (of_packet p) → IsSignedIn s given (packets_in given) → Reached (given ++ of_packet p ∷ [])
-packet_step laws (Open shape) given p octets o =
-    elim (decided laws (packet_type_of p.packet.kind) p.packet.body octets) [ inl w ↦ (Broken (placed_fault p w.0), body_fault_comes given p w.0 o.sound octets w.1) | inr n ↦ open_packet shape given p o n ]
-packet_step laws (Disordered f) given p octets is =
-    elim (decided laws (packet_type_of p.packet.kind) p.packet.body octets) [
-      | inl w ↦ (Broken (placed_fault p w.0), body_fault_comes given p w.0 is.0 octets w.1)
-      | inr n ↦ (Disordered f, stays_behind (Disordered f) given (packets_in given) (of_packet p) n refl is)
+packet_step : (policy : Malformed) (laws : Laws) (s : SignedState) (given : List Item) (p : Placed) → HasOctets (of_packet p) → IsSignedIn policy s given (packets_in given) → Reached policy (given ++ of_packet p ∷ [])
+packet_step policy laws (Open shape) given p octets o =
+    elim (decided policy laws (packet_type_of p.packet.kind) p.packet.body octets) [ inl w ↦ (Broken (placed_fault p w.0), body_fault_comes policy given p w.0 o.sound octets w.1) | inr n ↦ open_packet policy shape given p o n ]
+packet_step policy laws (Disordered f) given p octets is =
+    elim (decided policy laws (packet_type_of p.packet.kind) p.packet.body octets) [
+      | inl w ↦ (Broken (placed_fault p w.0), body_fault_comes policy given p w.0 is.0 octets w.1)
+      | inr n ↦ (Disordered f, stays_behind policy (Disordered f) given (packets_in given) (of_packet p) n refl is)
     ]
-packet_step laws (Broken f) given p octets is = (Broken f, broken (Broken f) given (packets_in given) p f refl is)
+packet_step policy laws (Broken f) given p octets is = (Broken f, broken policy (Broken f) given (packets_in given) p f refl is)
 
-step : (laws : Laws) (given : List Item) (i : Item) → HasOctets i → Reached given → Reached (given ++ i ∷ [])
-step laws given (of_label block fits) o (s, is) = label_step s given block fits is
-step laws given (of_packet p) o (s, is) = packet_step laws s given p o is
+step : (policy : Malformed) (laws : Laws) (given : List Item) (i : Item) → HasOctets i → Reached policy given → Reached policy (given ++ i ∷ [])
+step policy laws given (of_label block fits) o (s, is) = label_step policy s given block fits is
+step policy laws given (of_packet p) o (s, is) = packet_step policy laws s given p o is
 
-steps : (laws : Laws) (given more : List Item) → Reached given → AllByRecursion HasOctets more → Reached (given ++ more)
-steps laws given [] r o = subst Reached (sym (append-nil given)) r
-steps laws given (i ∷ more) r o = subst Reached (append_assoc given (i ∷ []) more) (steps laws (given ++ i ∷ []) more (step laws given i o.0 r) o.1)
+steps : (policy : Malformed) (laws : Laws) (given more : List Item) → Reached policy given → AllByRecursion HasOctets more → Reached policy (given ++ more)
+steps policy laws given [] r o = subst (Reached policy) (sym (append-nil given)) r
+steps policy laws given (i ∷ more) r o = subst (Reached policy) (append_assoc given (i ∷ []) more) (steps policy laws (given ++ i ∷ []) more (step policy laws given i o.0 r) o.1)
 
-starts : Reached []
-starts = (Open (Opening 0), record { labels = refl; sound = All-nil IsSound; flat = refl; stands = refl })
+starts : (policy : Malformed) → Reached policy []
+starts policy = (Open (Opening 0), record { labels = refl; sound = All-nil (IsSound policy); flat = refl; stands = refl })
 
-abbrev pub Answer : List Item → Type 0
-Answer items = ((ps : List PacketValue) × IsSignedOf items ps) ⊎ ((f : Fault) × IsSignedFault items f)
+abbrev pub Answer : Malformed → List Item → Type 0
+Answer policy items = ((ps : List PacketValue) × IsSignedOf policy items ps) ⊎ ((f : Fault) × IsSignedFault policy items f)
 
-ended : (items : List Item) (s : SignedState) → IsSignedIn s items (packets_in items) → Answer items
-ended items (Open shape) o =
+ended : (policy : Malformed) (items : List Item) (s : SignedState) → IsSignedIn policy s items (packets_in items) → Answer policy items
+ended policy items (Open shape) o =
     elim (bool_cases (is_whole shape)) [
-      | inl e ↦ inl (packets_in items, closed shape items (packets_in items) e o)
-      | inr e ↦ inr (fault_at NotASignedLiteral (end_block items) (end_pos items), early shape items (packets_in items) (end_block items) (end_pos items) (end_pos items) e o refl refl)
+      | inl e ↦ inl (packets_in items, closed policy shape items (packets_in items) e o)
+      | inr e ↦ inr (fault_at NotASignedLiteral (end_block items) (end_pos items), early policy shape items (packets_in items) (end_block items) (end_pos items) (end_pos items) e o refl refl)
     ]
-ended items (Disordered f) is = inr (f, inr (is.0, inl is.1))
-ended items (Broken f) is = inr (f, inl is)
+ended policy items (Disordered f) is = inr (f, inr (is.0, inl is.1))
+ended policy items (Broken f) is = inr (f, inl is)
 
-pub some_signed_answer : (laws : Laws) (items : List Item) → All HasOctets items → Answer items
-some_signed_answer laws items o = let r = steps laws [] items starts (recursion_from_All HasOctets items o) in ended items r.0 r.1
+pub some_signed_answer : (policy : Malformed) (laws : Laws) (items : List Item) → All HasOctets items → Answer policy items
+some_signed_answer policy laws items o = let r = steps policy laws [] items (starts policy) (recursion_from_All HasOctets items o) in ended policy items r.0 r.1

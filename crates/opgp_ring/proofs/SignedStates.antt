@@ -2,6 +2,7 @@
 use Rattle.std.proofs.Common.{◌≡◌, ℕ, ◌+◌, ◌-◌, ◌^◌, min, Bool, true, false, inr, List, [], ◌∷◌, ◌++◌, All, length, map, refl, sym, ap, subst, ◌∙◌, append_assoc, append-nil}
 use Rattle.std.proofs.lemmas.List.{map-append}
 use Rattle.std.proofs.lemmas.List.Elements.{All-append, All-cons, All-head, All-nil, All-tail}
+use Rattle.opgp_octets.specs.declared.malformed.Malformed.{Malformed}
 use Rattle.opgp_octets.specs.declared.fault.Fault.{Fault}
 use Rattle.opgp_octets.specs.declared.fault.Reason.TheVariants.{NotASignedLiteral}
 use Rattle.opgp_frame.specs.declared.packet.Placed.{Placed}
@@ -41,14 +42,14 @@ end_is given i = ap (last_of 0) (map-append end_of given (i ∷ [])) ∙ last_of
 
 -- ---- the order
 
-open_begins : (shape : Shape) (given : List Item) (kept : List PacketValue) → IsOpen shape given kept → BeginsSigned (packets_in given)
-open_begins shape given kept o = subst BeginsSigned o.flat (begins shape kept o.stands)
+open_begins : (policy : Malformed) (shape : Shape) (given : List Item) (kept : List PacketValue) → IsOpen policy shape given kept → BeginsSigned (packets_in given)
+open_begins policy shape given kept o = subst BeginsSigned o.flat (begins shape kept o.stands)
 
-pub refused : (shape : Shape) (given : List Item) (kept : List PacketValue) (i : Item) (f : Fault) → IsOpen shape given kept → IsSoundItem i → IsSignedFaultAt (packets_in given) i f
-    → All IsSound (placed_in (given ++ i ∷ [])) × StopsAt (given ++ i ∷ []) f
-refused shape given kept i f o sound here = (
-  sound_items given i o.sound sound,
-  record { before = given; at = i; after = []; whole = refl; begins = open_begins shape given kept o; labels = o.labels; here = here },
+pub refused : (policy : Malformed) (shape : Shape) (given : List Item) (kept : List PacketValue) (i : Item) (f : Fault) → IsOpen policy shape given kept → IsSoundItem policy i → IsSignedFaultAt (packets_in given) i f
+    → All (IsSound policy) (placed_in (given ++ i ∷ [])) × StopsAt (given ++ i ∷ []) f
+refused policy shape given kept i f o sound here = (
+  sound_items policy given i o.sound sound,
+  record { before = given; at = i; after = []; whole = refl; begins = open_begins policy shape given kept o; labels = o.labels; here = here },
 )
 
 pub stop_stays : (given more : List Item) (f : Fault) → StopsAt given f → StopsAt (given ++ more) f
@@ -63,51 +64,51 @@ stop_stays given more f o = record {
 }
 
 -- behind a fault nothing changes
-pub behind : (s : SignedState) (given : List Item) (kept : List PacketValue) (i : Item) → IsSoundItem i → is_open s ≡ false → IsSignedIn s given kept → IsSignedIn s (given ++ i ∷ []) kept
-behind (Open shape) given kept i sound e is = absurd cc
-behind (Disordered f) given kept i sound e is = (sound_items given i is.0 sound, stop_stays given (i ∷ []) f is.1)
-behind (Broken f) given kept i sound e is = body_fault_after given i f is
+pub behind : (policy : Malformed) (s : SignedState) (given : List Item) (kept : List PacketValue) (i : Item) → IsSoundItem policy i → is_open s ≡ false → IsSignedIn policy s given kept → IsSignedIn policy s (given ++ i ∷ []) kept
+behind policy (Open shape) given kept i sound e is = absurd cc
+behind policy (Disordered f) given kept i sound e is = (sound_items policy given i is.0 sound, stop_stays given (i ∷ []) f is.1)
+behind policy (Broken f) given kept i sound e is = body_fault_after policy given i f is
 
 -- a label that is the wanted one
-pub labelled : (s : SignedState) (given : List Item) (kept : List PacketValue) (block : ℕ) → IsSignedIn s given kept → IsSignedIn s (given ++ of_label block true ∷ []) kept
-labelled (Open shape) given kept block o = record {
+pub labelled : (policy : Malformed) (s : SignedState) (given : List Item) (kept : List PacketValue) (block : ℕ) → IsSignedIn policy s given kept → IsSignedIn policy s (given ++ of_label block true ∷ []) kept
+labelled policy (Open shape) given kept block o = record {
   labels = labels_fit-append given (of_label block true ∷ []) ∙ and_true (labels_fit given) ∙ o.labels;
-  sound = sound_items given (of_label block true) o.sound tt;
+  sound = sound_items policy given (of_label block true) o.sound tt;
   flat = o.flat ∙ sym (packets_in-append given (of_label block true ∷ []) ∙ append-nil (packets_in given));
   stands = o.stands;
 }
-labelled (Disordered f) given kept block is = behind (Disordered f) given kept (of_label block true) tt refl is
-labelled (Broken f) given kept block is = behind (Broken f) given kept (of_label block true) tt refl is
+labelled policy (Disordered f) given kept block is = behind policy (Disordered f) given kept (of_label block true) tt refl is
+labelled policy (Broken f) given kept block is = behind policy (Broken f) given kept (of_label block true) tt refl is
 
 -- a packet that fits
-pub followed : (shape next : Shape) (given : List Item) (kept more : List PacketValue) (p : Placed) → IsOpen shape given kept → IsSound p → Stands next (kept ++ p.packet ∷ []) → more ≡ kept ++ p.packet ∷ [] → IsOpen next (given ++ of_packet p ∷ []) more
-followed shape next given kept more p o sound stands items = record {
+pub followed : (policy : Malformed) (shape next : Shape) (given : List Item) (kept more : List PacketValue) (p : Placed) → IsOpen policy shape given kept → IsSound policy p → Stands next (kept ++ p.packet ∷ []) → more ≡ kept ++ p.packet ∷ [] → IsOpen policy next (given ++ of_packet p ∷ []) more
+followed policy shape next given kept more p o sound stands items = record {
   labels = labels_fit-append given (of_packet p ∷ []) ∙ and_true (labels_fit given) ∙ o.labels;
-  sound = sound_push given p o.sound sound;
+  sound = sound_push policy given p o.sound sound;
   flat = items ∙ ap (λ (l : List PacketValue). l ++ p.packet ∷ []) o.flat ∙ sym (packets_push given p);
   stands = subst (Stands next) (sym items) stands;
 }
 
 -- and one that doesn't
-pub stopped : (shape : Shape) (given : List Item) (kept : List PacketValue) (p : Placed) → IsOpen shape given kept → (BeginsSigned (kept ++ p.packet ∷ []) → ⊥)
+pub stopped : (policy : Malformed) (shape : Shape) (given : List Item) (kept : List PacketValue) (p : Placed) → IsOpen policy shape given kept → (BeginsSigned (kept ++ p.packet ∷ []) → ⊥)
     → IsSignedFaultAt (packets_in given) (of_packet p) (fault_at NotASignedLiteral p.block p.pos)
-stopped shape given kept p o none = (subst (λ (l : List PacketValue). BeginsSigned (l ++ p.packet ∷ []) → ⊥) o.flat none, refl)
+stopped policy shape given kept p o none = (subst (λ (l : List PacketValue). BeginsSigned (l ++ p.packet ∷ []) → ⊥) o.flat none, refl)
 
 -- ---- bodies
 
-pub sound_before : (s : SignedState) (given : List Item) (kept : List PacketValue) → ((f : Fault) → s ≡ Broken f → ⊥) → IsSignedIn s given kept → All IsSound (placed_in given)
-sound_before (Open shape) given kept none o = o.sound
-sound_before (Disordered f) given kept none is = is.0
-sound_before (Broken f) given kept none is = absurd (none f refl)
+pub sound_before : (policy : Malformed) (s : SignedState) (given : List Item) (kept : List PacketValue) → ((f : Fault) → s ≡ Broken f → ⊥) → IsSignedIn policy s given kept → All (IsSound policy) (placed_in given)
+sound_before policy (Open shape) given kept none o = o.sound
+sound_before policy (Disordered f) given kept none is = is.0
+sound_before policy (Broken f) given kept none is = absurd (none f refl)
 
-pub breaks : (given : List Item) (p : Placed) (f : Fault) → All IsSound (placed_in given) → IsFirstBodyFault (p ∷ []) f → IsFirstBodyFault (placed_in (given ++ of_packet p ∷ [])) f
-breaks given p f sound b = record {
+pub breaks : (policy : Malformed) (given : List Item) (p : Placed) (f : Fault) → All (IsSound policy) (placed_in given) → IsFirstBodyFault policy (p ∷ []) f → IsFirstBodyFault policy (placed_in (given ++ of_packet p ∷ [])) f
+breaks policy given p f sound b = record {
   before = placed_in given ++ b.before;
   at = b.at;
   after = b.after;
   why = b.why;
   whole = placed_push given p ∙ ap (λ (l : List Placed). placed_in given ++ l) b.whole ∙ sym (append_assoc (placed_in given) b.before (b.at ∷ b.after));
-  sound = All-append IsSound (placed_in given) b.before sound b.sound;
+  sound = All-append (IsSound policy) (placed_in given) b.before sound b.sound;
   octets = b.octets;
   here = b.here;
   is = b.is;
@@ -115,23 +116,23 @@ breaks given p f sound b = record {
 
 -- ---- the end
 
-sound_packets : (items : List Item) → All IsSound (placed_in items) → All HasNoFault (packets_in items)
-sound_packets [] a = All-nil HasNoFault
-sound_packets (of_label block fits ∷ items) a = sound_packets items a
-sound_packets (of_packet p ∷ items) a = All-cons HasNoFault p.packet (packets_in items) (All-head IsSound p (placed_in items) a) (sound_packets items (All-tail IsSound p (placed_in items) a))
+sound_packets : (policy : Malformed) (items : List Item) → All (IsSound policy) (placed_in items) → All (HasNoFault policy) (packets_in items)
+sound_packets policy [] a = All-nil (HasNoFault policy)
+sound_packets policy (of_label block fits ∷ items) a = sound_packets policy items a
+sound_packets policy (of_packet p ∷ items) a = All-cons (HasNoFault policy) p.packet (packets_in items) (All-head (IsSound policy) p (placed_in items) a) (sound_packets policy items (All-tail (IsSound policy) p (placed_in items) a))
 
-pub kept_sound : (shape : Shape) (items : List Item) (kept : List PacketValue) → IsOpen shape items kept → All HasNoFault kept
-kept_sound shape items kept o = subst (All HasNoFault) (sym o.flat) (sound_packets items o.sound)
+pub kept_sound : (policy : Malformed) (shape : Shape) (items : List Item) (kept : List PacketValue) → IsOpen policy shape items kept → All (HasNoFault policy) kept
+kept_sound policy shape items kept o = subst (All (HasNoFault policy)) (sym o.flat) (sound_packets policy items o.sound)
 
-pub closed : (shape : Shape) (items : List Item) (kept : List PacketValue) → is_whole shape ≡ true → IsOpen shape items kept → IsSignedOf items kept
-closed shape items kept e o = record { labels = o.labels; sound = o.sound; flat = o.flat; signed = whole shape kept o.stands e }
+pub closed : (policy : Malformed) (shape : Shape) (items : List Item) (kept : List PacketValue) → is_whole shape ≡ true → IsOpen policy shape items kept → IsSignedOf policy items kept
+closed policy shape items kept e o = record { labels = o.labels; sound = o.sound; flat = o.flat; signed = whole shape kept o.stands e }
 
-pub early : (shape : Shape) (items : List Item) (kept : List PacketValue) (block pos end : ℕ) → is_whole shape ≡ false → IsOpen shape items kept → block ≡ end_block items → pos ≡ end → IsSignedFaultBy end items (fault_at NotASignedLiteral block pos)
-early shape items kept block pos end e o number place =
+pub early : (policy : Malformed) (shape : Shape) (items : List Item) (kept : List PacketValue) (block pos end : ℕ) → is_whole shape ≡ false → IsOpen policy shape items kept → block ≡ end_block items → pos ≡ end → IsSignedFaultBy policy end items (fault_at NotASignedLiteral block pos)
+early policy shape items kept block pos end e o number place =
     inr (
       o.sound,
       inr (record {
-        begins = open_begins shape items kept o;
+        begins = open_begins policy shape items kept o;
         labels = o.labels;
         lacks = subst (λ (l : List PacketValue). IsSigned l → ⊥) o.flat (lacks shape kept o.stands e);
         is = ap (λ (n : ℕ). fault_at NotASignedLiteral n pos) number ∙ ap (λ (n : ℕ). fault_at NotASignedLiteral (end_block items) n) place;
@@ -143,14 +144,14 @@ not_open (Open shape) none = absurd (none shape refl)
 not_open (Disordered f) none = refl
 not_open (Broken f) none = refl
 
-pub broken : (s : SignedState) (given : List Item) (kept : List PacketValue) (p : Placed) (f : Fault) → s ≡ Broken f → IsSignedIn s given kept → IsSignedIn s (given ++ of_packet p ∷ []) kept
-broken (Open shape) given kept p f e is = absurd cc
-broken (Disordered g) given kept p f e is = absurd cc
-broken (Broken g) given kept p f e is = body_fault_behind given p g is
+pub broken : (policy : Malformed) (s : SignedState) (given : List Item) (kept : List PacketValue) (p : Placed) (f : Fault) → s ≡ Broken f → IsSignedIn policy s given kept → IsSignedIn policy s (given ++ of_packet p ∷ []) kept
+broken policy (Open shape) given kept p f e is = absurd cc
+broken policy (Disordered g) given kept p f e is = absurd cc
+broken policy (Broken g) given kept p f e is = body_fault_behind policy given p g is
 
 -- a packet behind a fault
-pub passed_over : (s : SignedState) (given : List Item) (kept : List PacketValue) (p : Placed) → ((shape : Shape) → s ≡ Open shape → ⊥) → IsSound p → IsSignedIn s given kept → IsSignedIn s (given ++ of_packet p ∷ []) kept
-passed_over s given kept p none sound is = behind s given kept (of_packet p) sound (not_open s none) is
+pub passed_over : (policy : Malformed) (s : SignedState) (given : List Item) (kept : List PacketValue) (p : Placed) → ((shape : Shape) → s ≡ Open shape → ⊥) → IsSound policy p → IsSignedIn policy s given kept → IsSignedIn policy s (given ++ of_packet p ∷ []) kept
+passed_over policy s given kept p none sound is = behind policy s given kept (of_packet p) sound (not_open s none) is
 
 -- the end is counted as 64 bits tell it
 pub end_known : (given : List Item) (p : Placed) (octets end : ℕ) → octets ≡ length (spelling p.packet) → end ≡ min (p.pos + octets) (2 ^ 64 - 1) → end ≡ told_end (given ++ of_packet p ∷ [])

@@ -3,8 +3,10 @@ use Rattle.std.proofs.Common.{◌≡◌, ℕ, ◌≤◌, Bool, true, false, not,
 use Rattle.std.specs.List.{AllByRecursion}
 use Rattle.std.proofs.lemmas.Bool.{cases_lt}
 use Rattle.std.proofs.lemmas.List.Elements.{All-nil, All-cons, All-head, All-tail, recursion_from_All}
+use Rattle.opgp_octets.specs.declared.malformed.Malformed.{Malformed}
+use Rattle.opgp_octets.specs.declared.malformed.Malformed.TheVariants.{Refuse, Keep}
 use Rattle.opgp_octets.specs.declared.limits.Limits.{Limits}
-use Rattle.opgp_octets.specs.Limits.{cert_limit}
+use Rattle.opgp_octets.specs.Limits.{cert_limit, malformed_of}
 use Rattle.opgp_octets.specs.Octets.{IsOctets}
 use Rattle.opgp_octets.specs.PacketType.{packet_type_of}
 use Rattle.opgp_octets.specs.declared.fault.Fault.{Fault}
@@ -42,14 +44,18 @@ pub record Laws : Type 0 where
 by_fields : (laws : Laws) (grammar : Grammar) (o : List ℕ) → IsOctets o → ((f : BodyFault) × FirstFault (length o) grammar o f) ⊎ ((f : BodyFault) → FirstFault (length o) grammar o f → ⊥)
 by_fields laws grammar o octets = elim (laws.fields grammar o octets) [ inl b ↦ inr (λ f h. laws.no_field grammar b.0 o f octets b.1 h) | inr w ↦ inl w ]
 
+of_signature : (policy : Malformed) (laws : Laws) (o : List ℕ) → IsOctets o → ((f : BodyFault) × HasBodyFault policy Signature o f) ⊎ ((f : BodyFault) → HasBodyFault policy Signature o f → ⊥)
+of_signature Refuse laws o octets = elim (laws.signature o octets) [ inl b ↦ inr (λ f h. laws.no_signature b.0 o f octets b.1 h.1) | inr w ↦ inl (w.0, (refl, w.1)) ]
+of_signature Keep laws o octets = inr (λ f h. let never = h.0 in cc)
+
 -- a body has a fault or none
-pub decided : (laws : Laws) (kind : PacketType) (o : List ℕ) → IsOctets o → ((f : BodyFault) × HasBodyFault kind o f) ⊎ ((f : BodyFault) → HasBodyFault kind o f → ⊥)
-decided laws Signature o octets = elim (laws.signature o octets) [ inl b ↦ inr (λ f h. laws.no_signature b.0 o f octets b.1 h) | inr w ↦ inl w ]
-decided laws PublicKey o octets = by_fields laws key o octets
-decided laws PublicSubkey o octets = by_fields laws key o octets
-decided laws LiteralData o octets = by_fields laws literal o octets
-decided laws UserAttribute o octets = by_fields laws attribute o octets
-decided laws other o octets = inr (λ f h. h)
+pub decided : (policy : Malformed) (laws : Laws) (kind : PacketType) (o : List ℕ) → IsOctets o → ((f : BodyFault) × HasBodyFault policy kind o f) ⊎ ((f : BodyFault) → HasBodyFault policy kind o f → ⊥)
+decided policy laws Signature o octets = of_signature policy laws o octets
+decided policy laws PublicKey o octets = by_fields laws key o octets
+decided policy laws PublicSubkey o octets = by_fields laws key o octets
+decided policy laws LiteralData o octets = by_fields laws literal o octets
+decided policy laws UserAttribute o octets = by_fields laws attribute o octets
+decided policy laws other o octets = inr (λ f h. h)
 
 -- ---- a keyring with one more packet, if there is one
 
@@ -73,10 +79,10 @@ fits limits s =
 abbrev pub Answer : Limits → List Item → Type 0
 Answer limits items = ((r : KeyringValue) × IsKeyringOf limits items r) ⊎ ((f : Fault) × IsFault limits items f)
 
-refused_at : (limits : Limits) (given : List Item) (p : Placed) (r : KeyringValue) (f : Fault) → IsKeyringOf limits given r → HasNoFault p.packet → IsFaultAt limits (packets_in given) (of_packet p) f → Answer limits (given ++ of_packet p ∷ [])
-refused_at limits given p r f k sound here = inr (f, inr (sound_push given p k.sound sound, order_fault_comes limits given (of_packet p) r f k here))
+refused_at : (limits : Limits) (given : List Item) (p : Placed) (r : KeyringValue) (f : Fault) → IsKeyringOf limits given r → HasNoFault (malformed_of limits) p.packet → IsFaultAt limits (packets_in given) (of_packet p) f → Answer limits (given ++ of_packet p ∷ [])
+refused_at limits given p r f k sound here = inr (f, inr (sound_push (malformed_of limits) given p k.sound sound, order_fault_comes limits given (of_packet p) r f k here))
 
-from_longer : (limits : Limits) (given : List Item) (p : Placed) (r : KeyringValue) → IsKeyringOf limits given r → HasNoFault p.packet → stands_in_keyring p.packet.kind ≡ true → (needs_primary p.packet.kind && not (has_primary (packets_in given))) ≡ false
+from_longer : (limits : Limits) (given : List Item) (p : Placed) (r : KeyringValue) → IsKeyringOf limits given r → HasNoFault (malformed_of limits) p.packet → stands_in_keyring p.packet.kind ≡ true → (needs_primary p.packet.kind && not (has_primary (packets_in given))) ≡ false
     → Longer r p.packet → Answer limits (given ++ of_packet p ∷ [])
 from_longer limits given p r k sound stands free l =
     elim (fits limits l.more) [
@@ -93,7 +99,7 @@ both true false e = (refl, refl)
 both true true e = absurd cc
 both false b e = absurd cc
 
-stands_step : (limits : Limits) (given : List Item) (p : Placed) (r : KeyringValue) → IsKeyringOf limits given r → HasNoFault p.packet → stands_in_keyring p.packet.kind ≡ true → Answer limits (given ++ of_packet p ∷ [])
+stands_step : (limits : Limits) (given : List Item) (p : Placed) (r : KeyringValue) → IsKeyringOf limits given r → HasNoFault (malformed_of limits) p.packet → stands_in_keyring p.packet.kind ≡ true → Answer limits (given ++ of_packet p ∷ [])
 stands_step limits given p r k sound stands =
     let ps : List PacketValue = packets_in given in
     elim (bool_cases (needs_primary p.packet.kind && not (has_primary ps))) [
@@ -101,7 +107,7 @@ stands_step limits given p r k sound stands =
       | inr free ↦ from_longer limits given p r k sound stands free (longer r ps p.packet k.composes.keyring k.composes.whole stands free)
     ]
 
-packet_step : (limits : Limits) (given : List Item) (p : Placed) (r : KeyringValue) → IsKeyringOf limits given r → HasNoFault p.packet → Answer limits (given ++ of_packet p ∷ [])
+packet_step : (limits : Limits) (given : List Item) (p : Placed) (r : KeyringValue) → IsKeyringOf limits given r → HasNoFault (malformed_of limits) p.packet → Answer limits (given ++ of_packet p ∷ [])
 packet_step limits given p r k sound =
     elim (bool_cases (stands_in_keyring p.packet.kind)) [
       | inl stands ↦ stands_step limits given p r k sound stands
@@ -111,19 +117,19 @@ packet_step limits given p r k sound =
 step : (laws : Laws) (limits : Limits) (given : List Item) (i : Item) → HasOctets i → Answer limits given → Answer limits (given ++ i ∷ [])
 step laws limits given (of_label block true) o (inl (r, k)) = inl (r, label_push limits given block r k)
 step laws limits given (of_label block false) o (inl (r, k)) =
-    inr (fault_at BlockLabel block 0, inr (sound_items given (of_label block false) k.sound tt, order_fault_comes limits given (of_label block false) r (fault_at BlockLabel block 0) k (refl, refl)))
-step laws limits given (of_label block fits) o (inr (f, inl b)) = inr (f, inl (body_fault_after given (of_label block fits) f b))
-step laws limits given (of_label block fits) o (inr (f, inr (s, q))) = inr (f, inr (sound_items given (of_label block fits) s tt, order_fault_stays limits given (of_label block fits ∷ []) f q))
+    inr (fault_at BlockLabel block 0, inr (sound_items (malformed_of limits) given (of_label block false) k.sound tt, order_fault_comes limits given (of_label block false) r (fault_at BlockLabel block 0) k (refl, refl)))
+step laws limits given (of_label block fits) o (inr (f, inl b)) = inr (f, inl (body_fault_after (malformed_of limits) given (of_label block fits) f b))
+step laws limits given (of_label block fits) o (inr (f, inr (s, q))) = inr (f, inr (sound_items (malformed_of limits) given (of_label block fits) s tt, order_fault_stays limits given (of_label block fits ∷ []) f q))
 step laws limits given (of_packet p) o (inl (r, k)) =
-    elim (decided laws (packet_type_of p.packet.kind) p.packet.body o) [
-      | inl w ↦ inr (placed_fault p w.0, inl (body_fault_comes given p w.0 k.sound o w.1))
+    elim (decided (malformed_of limits) laws (packet_type_of p.packet.kind) p.packet.body o) [
+      | inl w ↦ inr (placed_fault p w.0, inl (body_fault_comes (malformed_of limits) given p w.0 k.sound o w.1))
       | inr n ↦ packet_step limits given p r k n
     ]
-step laws limits given (of_packet p) o (inr (f, inl b)) = inr (f, inl (body_fault_behind given p f b))
+step laws limits given (of_packet p) o (inr (f, inl b)) = inr (f, inl (body_fault_behind (malformed_of limits) given p f b))
 step laws limits given (of_packet p) o (inr (f, inr (s, q))) =
-    elim (decided laws (packet_type_of p.packet.kind) p.packet.body o) [
-      | inl w ↦ inr (placed_fault p w.0, inl (body_fault_comes given p w.0 s o w.1))
-      | inr n ↦ inr (f, inr (sound_push given p s n, order_fault_stays limits given (of_packet p ∷ []) f q))
+    elim (decided (malformed_of limits) laws (packet_type_of p.packet.kind) p.packet.body o) [
+      | inl w ↦ inr (placed_fault p w.0, inl (body_fault_comes (malformed_of limits) given p w.0 s o w.1))
+      | inr n ↦ inr (f, inr (sound_push (malformed_of limits) given p s n, order_fault_stays limits given (of_packet p ∷ []) f q))
     ]
 
 steps : (laws : Laws) (limits : Limits) (given more : List Item) → Answer limits given → AllByRecursion HasOctets more → Answer limits (given ++ more)

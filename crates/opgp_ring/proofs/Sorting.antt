@@ -1,6 +1,7 @@
 -- Which packets have bodies that are read, and which stand in no keyring.
 use Rattle.std.proofs.Common.{◌≡◌, ℕ, true, false, ◌||◌, ◌==◌, List, length, refl, sym, ap, subst, ◌∙◌}
 use Rattle.std.proofs.lemmas.Bool.{eqb-true}
+use Rattle.opgp_octets.specs.declared.malformed.Malformed.{Malformed}
 use Rattle.opgp_octets.specs.PacketType.{packet_type_of}
 use Rattle.opgp_octets.specs.declared.fault.BodyFault.{BodyFault}
 use Rattle.opgp_octets.specs.declared.packet_type.PacketType.{PacketType}
@@ -15,14 +16,14 @@ use Rattle.opgp_ring.specs.Keyring.{is_filler, is_head, is_hung, is_primary}
 use Rattle.opgp_ring.proofs.KindTests.{or_false}
 
 -- of other types nothing is read
-pub unread : (t : PacketType) (o : List ℕ) (f : BodyFault) → (t ≡ Signature → ⊥) → (t ≡ PublicKey → ⊥) → (t ≡ PublicSubkey → ⊥) → (t ≡ LiteralData → ⊥) → (t ≡ UserAttribute → ⊥)
-    → HasBodyFault t o f → ⊥
-unread Signature o f a b c d e h = a refl
-unread PublicKey o f a b c d e h = b refl
-unread PublicSubkey o f a b c d e h = c refl
-unread LiteralData o f a b c d e h = d refl
-unread UserAttribute o f a b c d e h = e refl
-unread other o f a b c d e h = h
+pub unread : (policy : Malformed) (t : PacketType) (o : List ℕ) (f : BodyFault) → (t ≡ Signature → ⊥) → (t ≡ PublicKey → ⊥) → (t ≡ PublicSubkey → ⊥) → (t ≡ LiteralData → ⊥) → (t ≡ UserAttribute → ⊥)
+    → HasBodyFault policy t o f → ⊥
+unread policy Signature o f a b c d e h = a refl
+unread policy PublicKey o f a b c d e h = b refl
+unread policy PublicSubkey o f a b c d e h = c refl
+unread policy LiteralData o f a b c d e h = d refl
+unread policy UserAttribute o f a b c d e h = e refl
+unread policy other o f a b c d e h = h
 
 -- the types of some numbers
 is_signature : packet_type_of 2 ≡ Signature
@@ -61,14 +62,14 @@ stray t k of signature key user_id subkey attribute filler =
 
 -- ---- what a body's type says of its faults
 
-pub typed : (p : PacketValue) (k : ℕ) (t : PacketType) (f : BodyFault) → k ≡ p.kind → t ≡ packet_type_of k → HasFault p f → HasBodyFault t p.body f
-typed p k t f same of h = subst (λ (x : PacketType). HasBodyFault x p.body f) (ap packet_type_of (sym same) ∙ sym of) h
+pub typed : (policy : Malformed) (p : PacketValue) (k : ℕ) (t : PacketType) (f : BodyFault) → k ≡ p.kind → t ≡ packet_type_of k → HasFault policy p f → HasBodyFault policy t p.body f
+typed policy p k t f same of h = subst (λ (x : PacketType). HasBodyFault policy x p.body f) (ap packet_type_of (sym same) ∙ sym of) h
 
 -- octets that are fields have no fault of them
 pub fields_sound : (law : (grammar : Grammar) (fields : List Field) (o : List ℕ) (f : BodyFault) → IsOctets o → Body grammar fields o → FirstFault (length o) grammar o f → ⊥)
     (grammar : Grammar) (fields : List Field) (o body : List ℕ) (f : BodyFault) → o ≡ body → IsOctets body → Body grammar fields o → FirstFault (length body) grammar body f → ⊥
 fields_sound law grammar fields o body f same octets found h = law grammar fields body f octets (subst (Body grammar fields) same found) h
 
-pub untyped : (p : PacketValue) (k : ℕ) (t : PacketType) (o : List ℕ) (f : BodyFault) → k ≡ p.kind → t ≡ packet_type_of k → o ≡ p.body → HasBodyFault t o f → HasFault p f
-untyped p k t o f same of body h =
-    subst (λ (x : PacketType). HasBodyFault x p.body f) (of ∙ ap packet_type_of same) (subst (λ (l : List ℕ). HasBodyFault t l f) body h)
+pub untyped : (policy : Malformed) (p : PacketValue) (k : ℕ) (t : PacketType) (o : List ℕ) (f : BodyFault) → k ≡ p.kind → t ≡ packet_type_of k → o ≡ p.body → HasBodyFault policy t o f → HasFault policy p f
+untyped policy p k t o f same of body h =
+    subst (λ (x : PacketType). HasBodyFault policy x p.body f) (of ∙ ap packet_type_of same) (subst (λ (l : List ℕ). HasBodyFault policy t l f) body h)

@@ -2,7 +2,7 @@
 use Rattle.std.proofs.Common.{◌≤◌, [], refl, arith}
 use Rattle.std.proofs.lemmas.List.Elements.{All-nil}
 use Rattle.opgp_octets.specs.declared.limits.Limits.{Limits}
-use Rattle.opgp_octets.specs.Limits.{cert_limit}
+use Rattle.opgp_octets.specs.Limits.{cert_limit, malformed_of}
 use Rattle.opgp_ring.specs.Bodies.{IsSound}
 use Rattle.opgp_ring.specs.Composed.{IsKeyringOf}
 use Rattle.opgp_ring.specs.Keyring.{IsFiller, IsCertificate, octets_of}
@@ -15,7 +15,7 @@ no_octets limits = omega arith
 pub starts : (limits : Limits) → IsKeyringOf limits [] (keyring [] [])
 starts limits = record {
   labels = refl;
-  sound = All-nil IsSound;
+  sound = All-nil (IsSound (malformed_of limits));
   composes = record {
     keyring = record { lead = All-nil IsFiller; certificates = All-nil IsCertificate };
     whole = refl;

@@ -1,7 +1,7 @@
 -- The steps of a composer, over its state.
 use Rattle.std.proofs.Common.{◌≡◌, ℕ, ◌+◌, ◌-◌, ◌≤◌, ◌<◌, Bool, true, false, not, ◌||◌, ◌&&◌, ◌==◌, List, [], ◌∷◌, ◌++◌, length, Option, Some, None, is_some, refl, sym, ap, subst, ◌∙◌, append-nil, arith, inl, inr}
 use Rattle.opgp_octets.specs.declared.limits.Limits.{Limits}
-use Rattle.opgp_octets.specs.Limits.{cert_limit}
+use Rattle.opgp_octets.specs.Limits.{cert_limit, malformed_of}
 use Rattle.opgp_octets.specs.declared.fault.Reason.TheVariants.{NoPrimary, CertTooLong}
 use Rattle.opgp_frame.specs.declared.packet.Placed.{Placed}
 use Rattle.opgp_frame.specs.Packet.{PacketValue, spelling}
@@ -95,24 +95,24 @@ primary_long limits s given parts p is e primary long =
 
 -- ---- what is kept
 
-pub lead_more : (limits : Limits) (s : State) (lead more : List PacketValue) (given : List Item) (parts : List PartValue) (p : Placed) → IsIn limits s given parts → s ≡ Leading lead → HasNoFault p.packet → IsFiller p.packet
+pub lead_more : (limits : Limits) (s : State) (lead more : List PacketValue) (given : List Item) (parts : List PartValue) (p : Placed) → IsIn limits s given parts → s ≡ Leading lead → HasNoFault (malformed_of limits) p.packet → IsFiller p.packet
     → octets_of lead + length (spelling p.packet) ≤ cert_limit limits → more ≡ lead ++ p.packet ∷ [] → IsLeading limits more (given ++ of_packet p ∷ []) parts
 lead_more limits s lead more given parts p is e sound filler short items =
     let k : IsLeading limits lead given parts = subst (λ (t : State). IsIn limits t given parts) e is in
     subst (λ (l : List PacketValue). IsLeading limits l (given ++ of_packet p ∷ []) parts) (sym items) (leads limits lead given parts p k sound filler short)
 
-pub certificate_more : (limits : Limits) (s : State) (c d : CertificateValue) (given : List Item) (parts : List PartValue) (p : Placed) → IsIn limits s given parts → s ≡ Growing c → HasNoFault p.packet
+pub certificate_more : (limits : Limits) (s : State) (c d : CertificateValue) (given : List Item) (parts : List PartValue) (p : Placed) → IsIn limits s given parts → s ≡ Growing c → HasNoFault (malformed_of limits) p.packet
     → certificate_packets d ≡ certificate_packets c ++ p.packet ∷ [] → IsCertificate d → octets_of (certificate_packets c) + length (spelling p.packet) ≤ cert_limit limits
     → IsGrowing limits d (given ++ of_packet p ∷ []) parts
 certificate_more limits s c d given parts p is e sound packets certificate short =
     grows limits c d given parts p (subst (λ (t : State). IsIn limits t given parts) e is) sound packets certificate short
 
-pub first_more : (limits : Limits) (s : State) (lead : List PacketValue) (given : List Item) (parts : List PartValue) (p : Placed) → IsIn limits s given parts → s ≡ Leading lead → HasNoFault p.packet → IsPrimary p.packet
+pub first_more : (limits : Limits) (s : State) (lead : List PacketValue) (given : List Item) (parts : List PartValue) (p : Placed) → IsIn limits s given parts → s ≡ Leading lead → HasNoFault (malformed_of limits) p.packet → IsPrimary p.packet
     → length (spelling p.packet) ≤ cert_limit limits → IsGrowing limits (begun p.packet) (given ++ of_packet p ∷ []) (parts ++ lead_parts lead)
 first_more limits s lead given parts p is e sound primary short =
     begins_first limits lead given parts p (subst (λ (t : State). IsIn limits t given parts) e is) sound primary short
 
-pub next_more : (limits : Limits) (s : State) (b : CertificateValue) (given : List Item) (parts : List PartValue) (p : Placed) → IsIn limits s given parts → s ≡ Growing b → HasNoFault p.packet → IsPrimary p.packet
+pub next_more : (limits : Limits) (s : State) (b : CertificateValue) (given : List Item) (parts : List PartValue) (p : Placed) → IsIn limits s given parts → s ≡ Growing b → HasNoFault (malformed_of limits) p.packet → IsPrimary p.packet
     → length (spelling p.packet) ≤ cert_limit limits → IsGrowing limits (begun p.packet) (given ++ of_packet p ∷ []) (parts ++ of_certificate b ∷ [])
 next_more limits s b given parts p is e sound primary short =
     begins_next limits b given parts p (subst (λ (t : State). IsIn limits t given parts) e is) sound primary short

@@ -2,6 +2,7 @@
 use Rattle.std.specs.Prelude.{◌≡◌, ℕ, ◌+◌, Bool, true, false, List, [], ◌∷◌, ◌++◌, All, ◌⊎◌}
 use Rattle.std.specs.Prelude.{Option, Some, None, is_some}
 use Rattle.opgp_octets.specs.declared.limits.Limits.{Limits}
+use Rattle.opgp_octets.specs.Limits.{malformed_of}
 use Rattle.opgp_octets.specs.declared.fault.Fault.{Fault}
 use Rattle.opgp_ring.specs.declared.composer.Composer.{Composer}
 use Rattle.opgp_ring.specs.Bodies.{IsSound, IsFirstBodyFault}
@@ -38,8 +39,9 @@ held_of c = open_octets c.state + ready_octets c.ready
 
 -- a fault in a body, or one in the order if no body has any
 abbrev pub IsFaultOf : Bool → Limits → List Item → Fault → Type 0
-IsFaultOf true limits given f = IsFirstBodyFault (placed_in given) f
-IsFaultOf false limits given f = All IsSound (placed_in given) × IsOrderFault limits given f
+IsFaultOf true limits given f = IsFirstBodyFault (malformed_of limits) (placed_in given) f
+IsFaultOf false limits given f =
+    All (IsSound (malformed_of limits)) (placed_in given) × IsOrderFault limits given f
 
 -- Within these limits the composer was given these items, and these parts were taken from it.
 pub record Fed (limits : Limits) (c : Composer) (given : List Item)

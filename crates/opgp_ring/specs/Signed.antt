@@ -6,6 +6,7 @@ use Rattle.std.specs.List.{filter}
 use Rattle.opgp_octets.specs.PacketType.{packet_type_number}
 use Rattle.opgp_octets.specs.declared.packet_type.PacketType.TheVariants as packet
 use Rattle.opgp_octets.specs.declared.fault.Fault.{Fault}
+use Rattle.opgp_octets.specs.declared.malformed.Malformed.{Malformed}
 use Rattle.opgp_octets.specs.declared.fault.Reason.TheVariants.{NotASignedLiteral, BlockLabel}
 use Rattle.opgp_frame.specs.Packet.{PacketValue, spelling}
 use Rattle.opgp_ring.specs.Bodies.{IsSound, IsFirstBodyFault}
@@ -89,15 +90,15 @@ pub record EndsEarly (end : ℕ) (items : List Item) (f : Fault) : Type 0 where
   pub lacks : IsSigned (packets_in items) → ⊥
   pub is : f ≡ fault_at NotASignedLiteral (end_block items) end
 
--- given where the last block ends: bodies come first, and a fault in the order is reported only if
--- no body has one
-abbrev pub IsSignedFaultBy : ℕ → List Item → Fault → Type 0
-IsSignedFaultBy end items f =
-    IsFirstBodyFault (placed_in items) f
-    ⊎ (All IsSound (placed_in items) × (StopsAt items f ⊎ EndsEarly end items f))
+-- Given where the last block ends: bodies come first, and a fault in the order is reported only if no
+-- body has one. The policy says what becomes of malformed signatures.
+abbrev pub IsSignedFaultBy : Malformed → ℕ → List Item → Fault → Type 0
+IsSignedFaultBy policy end items f =
+    IsFirstBodyFault policy (placed_in items) f
+    ⊎ (All (IsSound policy) (placed_in items) × (StopsAt items f ⊎ EndsEarly end items f))
 
-abbrev pub IsSignedFault : List Item → Fault → Type 0
-IsSignedFault items f = IsSignedFaultBy (end_pos items) items f
+abbrev pub IsSignedFault : Malformed → List Item → Fault → Type 0
+IsSignedFault policy items f = IsSignedFaultBy policy (end_pos items) items f
 
 -- the end as it is reported in 64 bits
 abbrev pub told_end : List Item → ℕ
@@ -105,9 +106,9 @@ told_end items = min (end_pos items) (2 ^ 64 - 1)
 
 -- all labels are the expected ones, no body has a fault, and the packets, all of them in order, are
 -- those of the signed literal
-pub record IsSignedOf (items : List Item) (ps : List PacketValue) : Type 0 where
+pub record IsSignedOf (policy : Malformed) (items : List Item) (ps : List PacketValue) : Type 0 where
   pub labels : labels_fit items ≡ true
-  pub sound : All IsSound (placed_in items)
+  pub sound : All (IsSound policy) (placed_in items)
   pub flat : ps ≡ packets_in items
   pub signed : IsSigned ps
 

@@ -1,5 +1,6 @@
 -- The state of the gathering of a signed literal, and what it says of the items given.
 use Rattle.std.specs.Prelude.{◌≡◌, ℕ, Bool, true, false, List, All}
+use Rattle.opgp_octets.specs.declared.malformed.Malformed.{Malformed}
 use Rattle.opgp_frame.specs.Packet.{PacketValue}
 use Rattle.opgp_ring.specs.declared.shape.Shape.{Shape}
 use Rattle.opgp_ring.specs.declared.signed_gathering.SignedState.{SignedState}
@@ -9,18 +10,21 @@ use Rattle.opgp_ring.specs.Composition.{Item, placed_in, packets_in, labels_fit}
 use Rattle.opgp_ring.specs.Shape.{Stands, opened}
 use Rattle.opgp_ring.specs.Signed.{StopsAt}
 
--- the items have no fault so far, the packets are kept, and they have come this far
-pub record IsOpen (shape : Shape) (items : List Item) (kept : List PacketValue) : Type 0 where
+-- By the policy for malformed signatures the items have no fault so far; the packets are kept, and
+-- they have come this far.
+pub record IsOpen (policy : Malformed) (shape : Shape) (items : List Item)
+    (kept : List PacketValue) : Type 0 where
   pub labels : labels_fit items ≡ true
-  pub sound : All IsSound (placed_in items)
+  pub sound : All (IsSound policy) (placed_in items)
   pub flat : kept ≡ packets_in items
   pub stands : Stands shape kept
 
 -- what a state says of the items given and of the packets kept
-abbrev pub IsSignedIn : SignedState → List Item → List PacketValue → Type 0
-IsSignedIn (state.Open shape) items kept = IsOpen shape items kept
-IsSignedIn (state.Disordered f) items kept = All IsSound (placed_in items) × StopsAt items f
-IsSignedIn (state.Broken f) items kept = IsFirstBodyFault (placed_in items) f
+abbrev pub IsSignedIn : Malformed → SignedState → List Item → List PacketValue → Type 0
+IsSignedIn policy (state.Open shape) items kept = IsOpen policy shape items kept
+IsSignedIn policy (state.Disordered f) items kept =
+    All (IsSound policy) (placed_in items) × StopsAt items f
+IsSignedIn policy (state.Broken f) items kept = IsFirstBodyFault policy (placed_in items) f
 
 -- how many one-pass signatures a state counts
 abbrev pub opened_in : SignedState → ℕ

@@ -7,18 +7,18 @@ ghost use Rattle.opgp_ring.specs.Block.{placed_of};
 use crate::block_of::BlockOf;
 use crate::packet_body::body_fault;
 use opgp_frame::Placed;
-use opgp_octets::{Fault, PacketType};
+use opgp_octets::{Fault, Malformed, PacketType};
 
 /// The fault of the first packet whose body has one, in order of blocks (RFC 9580, 5). Takes no
 /// memory.
 ///
-/// Keys, signatures, literals and user attributes can have one.
-pub fn check_bodies(blocks: &[BlockOf]) -> Option<Fault>
-    ensures { MatchOption result (All IsSound (placed_of blocks.now))
-        (IsFirstBodyFault (placed_of blocks.now)) }
+/// Keys, literals and user attributes can have one, and signatures where malformed ones are refused.
+pub fn check_bodies(blocks: &[BlockOf], malformed: Malformed) -> Option<Fault>
+    ensures { MatchOption result (All (IsSound malformed) (placed_of blocks.now))
+        (IsFirstBodyFault malformed (placed_of blocks.now)) }
 {
     for block in blocks {
-        if let Some(fault) = check_packets(&block.packets) {
+        if let Some(fault) = check_packets(&block.packets, malformed) {
             return Some(fault);
         }
     }
@@ -26,11 +26,12 @@ pub fn check_bodies(blocks: &[BlockOf]) -> Option<Fault>
 }
 
 /// The fault of the first packet whose body has one.
-pub(crate) fn check_packets(packets: &[Placed]) -> Option<Fault>
-    ensures { MatchOption result (All IsSound packets.now) (IsFirstBodyFault packets.now) }
+pub(crate) fn check_packets(packets: &[Placed], malformed: Malformed) -> Option<Fault>
+    ensures { MatchOption result (All (IsSound malformed) packets.now)
+        (IsFirstBodyFault malformed packets.now) }
 {
     for placed in packets {
-        if let Some(fault) = packet_fault(placed) {
+        if let Some(fault) = packet_fault(placed, malformed) {
             return Some(fault);
         }
     }
@@ -39,12 +40,12 @@ pub(crate) fn check_packets(packets: &[Placed]) -> Option<Fault>
 
 /// The fault of the packet's body, if it has one (RFC 9580, 5). Allocates nothing.
 ///
-/// Keys, signatures, literals and user attributes can have one.
-pub fn packet_fault(placed: &Placed) -> Option<Fault>
-    ensures { MatchOption result (IsSound placed.now) (IsPlacedFault placed.now) }
+/// Keys, literals and user attributes can have one, and signatures where malformed ones are refused.
+pub fn packet_fault(placed: &Placed, malformed: Malformed) -> Option<Fault>
+    ensures { MatchOption result (IsSound malformed placed.now) (IsPlacedFault malformed placed.now) }
 {
     let packet = &placed.packet;
-    match body_fault(PacketType::from(packet.kind()), packet.body()) {
+    match body_fault(PacketType::from(packet.kind()), packet.body(), malformed) {
         Some(fault) => Some(fault.placed(placed.block, placed.pos)),
         None => None,
     }

@@ -7,7 +7,7 @@ ghost use Rattle.opgp_octets.specs.declared.fault.Fault.{Fault};
 ghost use Rattle.opgp_octets.specs.declared.fault.Layer.TheVariants as layer;
 ghost use Rattle.opgp_octets.specs.declared.fault.Reason.TheVariants as reason;
 ghost use Rattle.opgp_octets.specs.declared.limits.Limits.{Limits};
-ghost use Rattle.opgp_octets.specs.Limits.{cert_limit, body_limit};
+ghost use Rattle.opgp_octets.specs.Limits.{cert_limit, body_limit, malformed_of};
 ghost use Rattle.opgp_octets.specs.Octets.{IsOctets};
 ghost use Rattle.opgp_frame.specs.Packet.{PacketValue, spelling};
 ghost use Rattle.opgp_ring.specs.Bodies.{HasFault, HasNoFault};
@@ -175,7 +175,7 @@ impl Composer {
         }
         let Placed { packet, block, pos } = placed;
         let octets = packet.spelled_len();
-        match sort(packet) {
+        match sort(packet, self.limits.malformed()) {
             Ok(sorted) => match self.add(sorted, octets, block, pos) {
                 Ok(()) => Ok(()),
                 Err(_) => {
@@ -248,7 +248,7 @@ impl Composer {
     /// Keeps a fault in the order of packets, if it is the first.
     fn refuse(&mut self, reason: Reason, block: u64, pos: u64)
         ensures fed { (limits : Limits) (given : List Item) (taken : List PartValue) (i : Item)
-            → Fed limits self.old given taken → IsSoundItem i
+            → Fed limits self.old given taken → IsSoundItem (malformed_of limits) i
             → (is_open self.old.state ≡ true
             → IsFaultAt limits (packets_in given) i (fault_at reason block pos))
             → Fed limits self.new (given ++ i ∷ []) taken }
@@ -274,7 +274,8 @@ impl Composer {
     /// Keeps a fault in a body, if it is the first.
     fn break_off(&mut self, fault: BodyFault, block: u64, pos: u64)
         requires { is_spent self.old ≡ false }
-        ensures fed { (p : PacketValue) → IsOctets p.body → HasFault p fault
+        ensures fed { (p : PacketValue) → IsOctets p.body
+            → HasFault (malformed_of (limits_of self.old)) p fault
             → TakesIn self.old self.new
             (of_packet (record { packet = p; block = block; pos = pos })) }
         ensures stays { StaysFaulty self.old self.new }
@@ -294,7 +295,7 @@ impl Composer {
         requires free { is_ready self.old ≡ false }
         requires unspent { is_spent self.old ≡ false }
         requires sorted { IsSorted sorted }
-        requires sound { HasNoFault (sorted_packet sorted) }
+        requires sound { HasNoFault (malformed_of (limits_of self.old)) (sorted_packet sorted) }
         requires octets { octets ≡ length (spelling (sorted_packet sorted)) }
         ensures fed { OnOk result (TakesIn self.old self.new
             (of_packet (record { packet = sorted_packet sorted; block = block; pos = pos }))) }
@@ -339,7 +340,7 @@ impl Composer {
         requires open { is_open self.old.state ≡ true }
         requires unspent { is_spent self.old ≡ false }
         requires primary { IsPrimary primary }
-        requires sound { HasNoFault primary }
+        requires sound { HasNoFault (malformed_of (limits_of self.old)) primary }
         requires octets { octets ≡ length (spelling primary) }
         ensures fed { TakesIn self.old self.new
             (of_packet (record { packet = primary; block = block; pos = pos })) }
@@ -377,7 +378,7 @@ impl Composer {
         requires behind { (is_head member.kind || is_hung member.kind) ≡ true }
         // Fillers may come before the first primary key.
         requires lead { has_begun self.old.state ≡ false → needs_primary member.kind ≡ true }
-        requires sound { HasNoFault member }
+        requires sound { HasNoFault (malformed_of (limits_of self.old)) member }
         requires octets { octets ≡ length (spelling member) }
         ensures fed { OnOk result (TakesIn self.old self.new
             (of_packet (record { packet = member; block = block; pos = pos }))) }
@@ -411,7 +412,7 @@ impl Composer {
         requires unspent { is_spent self.old ≡ false }
         requires lead { has_begun self.old.state ≡ false }
         requires filler { IsFiller filler }
-        requires sound { HasNoFault filler }
+        requires sound { HasNoFault (malformed_of (limits_of self.old)) filler }
         requires octets { octets ≡ length (spelling filler) }
         ensures fed { OnOk result (TakesIn self.old self.new
             (of_packet (record { packet = filler; block = block; pos = pos }))) }

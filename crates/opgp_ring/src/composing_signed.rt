@@ -9,7 +9,7 @@ ghost use Rattle.opgp_ring.specs.SignedLiteral.{signed_packets};
 use crate::block_of::BlockOf;
 use crate::signed_gathering::SignedGathering;
 use crate::signed_literal::SignedLiteral;
-use opgp_octets::{Fault, OutOfMemory};
+use opgp_octets::{Fault, Malformed, OutOfMemory};
 use std::alloc::Global;
 
 /// The signed literal of the packets of all blocks, in order (RFC 9580, 10.3), or the one fault:
@@ -25,21 +25,26 @@ use std::alloc::Global;
 pub fn compose_signed(
     alloc: Global,
     blocks: Vec<BlockOf>,
+    malformed: Malformed,
 ) -> Result<Result<SignedLiteral, Fault>, OutOfMemory>
     requires { end_pos (items_of blocks.items) < 2 ^ 64 }
     ensures { IfOk result (λ r. MatchResult r
-        (λ l. IsSignedOf (items_of blocks.items) (signed_packets l))
-        (IsSignedFault (items_of blocks.items))) }
+        (λ l. IsSignedOf malformed (items_of blocks.items) (signed_packets l))
+        (IsSignedFault malformed (items_of blocks.items))) }
 {
-    let gathering = gather(alloc, blocks)?;
+    let gathering = gather(alloc, blocks, malformed)?;
     Ok(gathering.finish())
 }
 
 /// The packets of all blocks.
-fn gather(alloc: Global, blocks: Vec<BlockOf>) -> Result<SignedGathering, OutOfMemory>
-    ensures { IfOk result (λ g. GathersSigned g (items_of blocks.items)) }
+fn gather(
+    alloc: Global,
+    blocks: Vec<BlockOf>,
+    malformed: Malformed,
+) -> Result<SignedGathering, OutOfMemory>
+    ensures { IfOk result (λ g. GathersSigned malformed g (items_of blocks.items)) }
 {
-    let mut gathering = SignedGathering::new(alloc);
+    let mut gathering = SignedGathering::new(alloc, malformed);
     for block in blocks {
         gathering.add_block(block)?;
     }

@@ -20,6 +20,8 @@ pub enum Content {
     Attribute(Attribute),
     /// A signature (5.2).
     Signature(Signature),
+    /// The body of a signature packet that is no signature's, where malformed ones are kept (5.2.5).
+    Malformed(Vec<u8>),
     /// A filler's type and body: a marker, trust or padding packet (5.8, 5.10, 5.14), or one of a
     /// type that isn't critical (4.3), which is kept in its place.
     Filler(u8, Vec<u8>),
@@ -35,7 +37,7 @@ impl Content {
             Content::Subkey(_) => PacketType::PublicSubkey.number(),
             Content::UserId(_) => PacketType::UserId.number(),
             Content::Attribute(_) => PacketType::UserAttribute.number(),
-            Content::Signature(_) => PacketType::Signature.number(),
+            Content::Signature(_) | Content::Malformed(_) => PacketType::Signature.number(),
             Content::Filler(kind, _) => *kind,
         }
     }
@@ -49,7 +51,7 @@ impl Content {
             Content::UserId(id) => id.body(),
             Content::Attribute(attribute) => attribute.body(),
             Content::Signature(signature) => signature.body(),
-            Content::Filler(_, body) => body,
+            Content::Malformed(body) | Content::Filler(_, body) => body,
         }
     }
 
@@ -65,6 +67,7 @@ impl Content {
             Content::UserId(id) => Content::UserId(id.copy(alloc)?),
             Content::Attribute(attribute) => Content::Attribute(attribute.copy(alloc)?),
             Content::Signature(signature) => Content::Signature(signature.copy(alloc)?),
+            Content::Malformed(body) => Content::Malformed(Vec::from_slice(alloc, body)?),
             Content::Filler(kind, body) => Content::Filler(*kind, Vec::from_slice(alloc, body)?),
         })
     }

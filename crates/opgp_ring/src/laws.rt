@@ -3,6 +3,7 @@
 ghost use Rattle.std.specs.Prelude.{◌≡◌, ◌⊎◌, ◌↔◌, All, ◌++◌, ◌∷◌, [], ℕ, List, Some, true, false};
 ghost use Rattle.opgp_octets.specs.declared.limits.Limits.{Limits};
 ghost use Rattle.opgp_octets.specs.Octets.{IsOctets};
+ghost use Rattle.opgp_octets.specs.declared.malformed.Malformed.{Malformed};
 ghost use Rattle.opgp_octets.specs.declared.fault.BodyFault.{BodyFault};
 ghost use Rattle.opgp_octets.specs.declared.fault.Fault.{Fault};
 ghost use Rattle.opgp_octets.specs.declared.fault.Reason.TheVariants.{CertTooLong};
@@ -46,8 +47,8 @@ pub fn prefixes_are_keyrings()
 
 /// A packet's body has one fault at most.
 pub fn one_body_fault()
-    ensures { (kind : PacketType) (o : List ℕ) (f g : BodyFault) → IsOctets o
-        → HasBodyFault kind o f → HasBodyFault kind o g → f ≡ g }
+    ensures { (policy : Malformed) (kind : PacketType) (o : List ℕ) (f g : BodyFault) → IsOctets o
+        → HasBodyFault policy kind o f → HasBodyFault policy kind o g → f ≡ g }
 {
     opgp_packet::field_laws::one_fault();
     opgp_packet::signature_laws::one_fault();
@@ -95,29 +96,29 @@ pub fn normalised_twice()
 
 /// Items are those of one signed literal at most.
 pub fn one_signed_literal()
-    ensures { (items : List Item) (ps qs : List PacketValue) → IsSignedOf items ps
-        → IsSignedOf items qs → ps ≡ qs }
+    ensures { (policy : Malformed) (items : List Item) (ps qs : List PacketValue)
+        → IsSignedOf policy items ps → IsSignedOf policy items qs → ps ≡ qs }
 {}
 
 /// Items of a signed literal have no fault as one.
 pub fn no_signed_fault()
-    ensures { (items : List Item) (ps : List PacketValue) (f : Fault) → IsSignedOf items ps
-        → IsSignedFault items f → ⊥ }
+    ensures { (policy : Malformed) (items : List Item) (ps : List PacketValue) (f : Fault)
+        → IsSignedOf policy items ps → IsSignedFault policy items f → ⊥ }
 {}
 
 /// Items have one fault at most as a signed literal.
 pub fn one_signed_fault()
-    ensures { (items : List Item) (f g : Fault) → IsSignedFault items f → IsSignedFault items g
-        → f ≡ g }
+    ensures { (policy : Malformed) (items : List Item) (f g : Fault) → IsSignedFault policy items f
+        → IsSignedFault policy items g → f ≡ g }
 {
     one_body_fault();
 }
 
 /// Items whose bodies are octets are those of a signed literal or have a fault as one.
 pub fn some_signed_answer()
-    ensures { (items : List Item) → All HasOctets items
-        → ((ps : List PacketValue) × IsSignedOf items ps)
-        ⊎ ((f : Fault) × IsSignedFault items f) }
+    ensures { (policy : Malformed) (items : List Item) → All HasOctets items
+        → ((ps : List PacketValue) × IsSignedOf policy items ps)
+        ⊎ ((f : Fault) × IsSignedFault policy items f) }
 {
     opgp_packet::field_laws::some_answer();
     opgp_packet::field_laws::no_fault();

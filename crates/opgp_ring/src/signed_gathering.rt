@@ -2,6 +2,7 @@
 
 ghost use Rattle.std.specs.Prelude.{◌≡◌, ◌≤◌, ◌++◌, ◌∷◌, [], List, length, true, false};
 ghost use Rattle.std.specs.Prelude.{MatchResult, OnOk};
+ghost use Rattle.opgp_octets.specs.declared.malformed.Malformed.{Malformed};
 ghost use Rattle.opgp_ring.specs.Bodies.{IsSound, IsFirstBodyFault};
 ghost use Rattle.opgp_ring.specs.Composed.{IsSoundItem};
 ghost use Rattle.opgp_ring.specs.Composition.{Item, of_label, of_packet, packets_in, fault_at};
@@ -13,7 +14,7 @@ use crate::checking::check_packets;
 use crate::shape::Shape;
 use crate::signed_literal::SignedLiteral;
 use opgp_frame::{Packet, Placed};
-use opgp_octets::{Fault, Layer, OutOfMemory, Reason};
+use opgp_octets::{Fault, Layer, Malformed, OutOfMemory, Reason};
 use std::alloc::Global;
 use std::slice;
 
@@ -31,6 +32,7 @@ enum SignedState {
 /// A signed literal in the making (RFC 9580, 10.3), of packets that come one at a time.
 #[derive(Drop)]
 pub struct SignedGathering {
+    malformed: Malformed,
     flat: Vec<Packet>,
     state: SignedState,
     block: u64,
@@ -44,11 +46,13 @@ impl SignedGathering {
     ghost use Rattle.opgp_ring.specs.SignedGathering.{GathersSigned};
     ghost use Rattle.opgp_ring.specs.SignedLiteral.{signed_packets};
 
-    /// An empty one. Allocates nothing; additions do, from `alloc`.
-    pub fn new(alloc: Global) -> SignedGathering
-        ensures { GathersSigned result [] }
+    /// An empty one, by this policy for malformed signatures. Allocates nothing; additions do, from
+    /// `alloc`.
+    pub fn new(alloc: Global, malformed: Malformed) -> SignedGathering
+        ensures { GathersSigned malformed result [] }
     {
         SignedGathering {
+            malformed,
             flat: Vec::new(alloc),
             state: SignedState::Open(Shape::Opening(0)),
             block: 0,
@@ -57,8 +61,9 @@ impl SignedGathering {
     }
 
     pub(crate) fn add_block(&mut self, block: BlockOf) -> Result<(), OutOfMemory>
-        ensures { OnOk result ((given : List Item) → GathersSigned self.old given
-            → GathersSigned self.new (given ++ block_items block)) }
+        ensures { OnOk result ((policy : Malformed) (given : List Item)
+            → GathersSigned policy self.old given
+            → GathersSigned policy self.new (given ++ block_items block)) }
     {
         let BlockOf {
             block,
@@ -74,8 +79,8 @@ impl SignedGathering {
 
     /// Begins a block of this number, whose label is the expected one or not. Allocates nothing.
     pub fn begin_block(&mut self, block: u64, label_fits: bool)
-        ensures { (given : List Item) → GathersSigned self.old given
-            → GathersSigned self.new (given ++ of_label block label_fits ∷ []) }
+        ensures { (policy : Malformed) (given : List Item) → GathersSigned policy self.old given
+            → GathersSigned policy self.new (given ++ of_label block label_fits ∷ []) }
     {
         self.block = block;
         self.end = 0;
@@ -87,11 +92,12 @@ impl SignedGathering {
     /// Adds the next packet of the block. Fails only when out of memory; the signed literal is lost
     /// then.
     pub fn add(&mut self, placed: Placed) -> Result<(), OutOfMemory>
-        ensures { OnOk result ((given : List Item) → GathersSigned self.old given
-            → GathersSigned self.new (given ++ of_packet placed ∷ [])) }
+        ensures { OnOk result ((policy : Malformed) (given : List Item)
+            → GathersSigned policy self.old given
+            → GathersSigned policy self.new (given ++ of_packet placed ∷ [])) }
     {
         self.end = placed.pos.saturating_add(placed.packet.spelled_len());
-        match check_packets(slice::from_ref(&placed)) {
+        match check_packets(slice::from_ref(&placed), self.malformed) {
             Some(fault) => {
                 drop(placed);
                 self.break_off(fault);
@@ -111,11 +117,13 @@ impl SignedGathering {
     /// The condition is that no addition failed. An end past 2^64 - 1 is reported as that place.
     /// Allocates nothing.
     pub fn finish(self) -> Result<SignedLiteral, Fault>
-        requires { (items : List Item) × GathersSigned self items }
-        ensures { (items : List Item) → GathersSigned self items → MatchResult result
-            (λ l. IsSignedOf items (signed_packets l)) (IsSignedFaultBy (told_end items) items) }
+        requires { (policy : Malformed) × ((items : List Item) × GathersSigned policy self items) }
+        ensures { (policy : Malformed) (items : List Item) → GathersSigned policy self items
+            → MatchResult result (λ l. IsSignedOf policy items (signed_packets l))
+            (IsSignedFaultBy policy (told_end items) items) }
     {
         let SignedGathering {
+            malformed: _,
             flat,
             state,
             block,
@@ -136,9 +144,11 @@ impl SignedGathering {
 
     /// Keeps a packet whose body has no fault, if a signed literal can begin so.
     fn keep(&mut self, placed: Placed) -> Result<(), OutOfMemory>
-        ensures state { OnOk result ((given : List Item) → IsSound placed
-            → IsSignedIn self.old.state given self.old.flat.items
-            → IsSignedIn self.new.state (given ++ of_packet placed ∷ []) self.new.flat.items) }
+        ensures state { OnOk result ((policy : Malformed) (given : List Item) → IsSound policy placed
+            → IsSignedIn policy self.old.state given self.old.flat.items
+            → IsSignedIn policy self.new.state (given ++ of_packet placed ∷ [])
+            self.new.flat.items) }
+        ensures malformed { self.new.malformed ≡ self.old.malformed }
         ensures block { self.new.block ≡ self.old.block }
         ensures end { self.new.end ≡ self.old.end }
     {
@@ -162,11 +172,12 @@ impl SignedGathering {
 
     /// Keeps a fault in the order of packets, if it is the first.
     fn refuse(&mut self, reason: Reason, block: u64, pos: u64)
-        ensures state { (given : List Item) (i : Item) → IsSoundItem i
+        ensures state { (policy : Malformed) (given : List Item) (i : Item) → IsSoundItem policy i
             → (is_open self.old.state ≡ true
             → IsSignedFaultAt (packets_in given) i (fault_at reason block pos))
-            → IsSignedIn self.old.state given self.old.flat.items
-            → IsSignedIn self.new.state (given ++ i ∷ []) self.new.flat.items }
+            → IsSignedIn policy self.old.state given self.old.flat.items
+            → IsSignedIn policy self.new.state (given ++ i ∷ []) self.new.flat.items }
+        ensures malformed { self.new.malformed ≡ self.old.malformed }
         ensures block { self.new.block ≡ self.old.block }
         ensures end { self.new.end ≡ self.old.end }
     {
@@ -183,9 +194,11 @@ impl SignedGathering {
 
     /// Keeps a fault in a body, if it is the first.
     fn break_off(&mut self, fault: Fault)
-        ensures state { (given : List Item) (p : Placed) → IsFirstBodyFault (p ∷ []) fault
-            → IsSignedIn self.old.state given self.old.flat.items
-            → IsSignedIn self.new.state (given ++ of_packet p ∷ []) self.new.flat.items }
+        ensures state { (policy : Malformed) (given : List Item) (p : Placed)
+            → IsFirstBodyFault policy (p ∷ []) fault
+            → IsSignedIn policy self.old.state given self.old.flat.items
+            → IsSignedIn policy self.new.state (given ++ of_packet p ∷ []) self.new.flat.items }
+        ensures malformed { self.new.malformed ≡ self.old.malformed }
         ensures block { self.new.block ≡ self.old.block }
         ensures end { self.new.end ≡ self.old.end }
     {

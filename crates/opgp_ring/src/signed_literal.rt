@@ -1,6 +1,7 @@
 //! A literal and the signatures on it.
 
 ghost use Rattle.std.specs.Prelude.{◌≡◌, ◌∷◌, [], List, length, All, IfOk};
+ghost use Rattle.opgp_octets.specs.declared.malformed.Malformed.TheVariants.{Keep};
 ghost use Rattle.opgp_packet.specs.Parsed.{body_octets};
 ghost use Rattle.opgp_ring.specs.Bodies.{HasNoFault};
 ghost use Rattle.opgp_ring.specs.Signed.{IsSigned, literal_bodies, signature_bodies};
@@ -17,7 +18,7 @@ use std::alloc::Global;
 #[derive(Drop)]
 pub struct SignedLiteral {
     flat: Vec<Packet>,
-    ghost sound: { All HasNoFault flat.items },
+    ghost sound: { All (HasNoFault Keep) flat.items },
     ghost one: { length (literal_bodies flat.items) ≡ 1 },
 }
 
@@ -26,7 +27,7 @@ impl SignedLiteral {
 
     pub(crate) fn new(flat: Vec<Packet>) -> SignedLiteral
         requires signed { IsSigned flat.items }
-        requires sound { All HasNoFault flat.items }
+        requires sound { All (HasNoFault Keep) flat.items }
         ensures { signed_packets result ≡ flat.items }
     {
         SignedLiteral { flat }
@@ -52,7 +53,8 @@ impl SignedLiteral {
         }
     }
 
-    /// The signatures after the literal, in order, without fillers. Allocates nothing.
+    /// The signatures after the literal, in order, without fillers; of a malformed one its fault.
+    /// Allocates nothing.
     pub fn signatures(&self) -> Signatures<'_>
         ensures { signatures_left result ≡ signature_bodies (signed_packets self.now) }
     {

@@ -3,7 +3,7 @@
 use crate::reading::{KEY, SIGNATURE};
 use opgp_frame::{Form, Packet, Placed};
 use opgp_merge::merge;
-use opgp_octets::{Fault, Layer, Limits, PushFault, Reason};
+use opgp_octets::{Fault, Layer, Limits, Malformed, PushFault, Reason};
 use opgp_report::{LeftOctets, Report, Reporting, check};
 use opgp_ring::{
     BlockOf, Certificate, Composer, Keyring, Ready, SignedLiteral, compose, compose_signed,
@@ -118,6 +118,11 @@ fn ring(rt: &impl Abort, alloc: Global, times: usize) -> Option<Keyring> {
             packets.push(packet(alloc, kind, body)?).ok()?;
         }
     }
+    ring_of(rt, alloc, packets)
+}
+
+/// The keyring of the packets, whose malformed signatures are kept; None where memory runs out.
+fn ring_of(rt: &impl Abort, alloc: Global, packets: Vec<Placed>) -> Option<Keyring> {
     let mut blocks = Vec::new(alloc);
     blocks
         .push(BlockOf {
@@ -126,11 +131,21 @@ fn ring(rt: &impl Abort, alloc: Global, times: usize) -> Option<Keyring> {
             packets,
         })
         .ok()?;
-    match compose(alloc, blocks, &Limits::usual()) {
+    let limits = Limits::usual().with_malformed(Malformed::Keep);
+    match compose(alloc, blocks, &limits) {
         Ok(Ok(ring)) => Some(ring),
         Ok(Err(_)) => panic!(rt; "refused"),
         Err(_) => None,
     }
+}
+
+/// The keyring of a key and a malformed signature; None where memory runs out.
+fn malformed(rt: &impl Abort, alloc: Global) -> Option<Keyring> {
+    let mut packets = Vec::new(alloc);
+    for (kind, body) in [(6, &KEY[2..]), (2, b"\x04".as_slice())] {
+        packets.push(packet(alloc, kind, body)?).ok()?;
+    }
+    ring_of(rt, alloc, packets)
 }
 
 /// A signed literal of `a`; None where memory runs out.
@@ -154,7 +169,7 @@ fn signed(rt: &impl Abort, alloc: Global) -> Option<SignedLiteral> {
     if !end_fits(&blocks) {
         panic!(rt; "past 2^64");
     }
-    match compose_signed(alloc, blocks) {
+    match compose_signed(alloc, blocks, Malformed::Refuse) {
         Ok(Ok(literal)) => Some(literal),
         Ok(Err(_)) => panic!(rt; "refused"),
         Err(_) => None,
@@ -200,6 +215,21 @@ fn refused_growth(rt: HostRuntime) {
             drop(copy);
         }
         drop(literal);
+    }
+}
+
+#[test]
+fn malformed_refused_growth(rt: HostRuntime) {
+    let alloc = rt.alloc();
+    if let Some(ring) = malformed(&rt, alloc) {
+        if let Ok(copy) = ring.copy(alloc) {
+            assert_eq!(rt; copy.certificates().len(), 1);
+            let hangs = copy.certificates()[0].hangs();
+            assert_eq!(rt; hangs.len(), 1);
+            assert_eq!(rt; hangs[0].body(), b"\x04".as_slice());
+            drop(copy);
+        }
+        drop(ring);
     }
 }
 

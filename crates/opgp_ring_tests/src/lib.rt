@@ -7,6 +7,8 @@ mod composer;
 #[cfg(test)]
 mod growth;
 #[cfg(test)]
+mod malformed;
+#[cfg(test)]
 mod merging;
 #[cfg(test)]
 mod reading;

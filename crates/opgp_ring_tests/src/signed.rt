@@ -1,19 +1,21 @@
 //! Signed literals composed of packets, and the faults where they are none.
 
 use crate::reading::{blocks_of, joined, packets_of, written};
-use opgp_octets::{Fault, fault_line};
+use opgp_octets::{Fault, Malformed, fault_line};
 use opgp_ring::{SignedLiteral, compose_signed, end_fits};
 use std::alloc::Global;
 use std::process::Abort;
 use std::test::Fail;
 
-// A one-pass signature, a literal of `a`, a signature of it, a literal at fault, and a packet of a
-// type that isn't critical.
+// A one-pass signature, a literal of `a`, a signature of it, a malformed one, a literal at fault, and a
+// packet of a type that isn't critical.
 const ONE_PASS: &[u8] = b"\xC4\x0D\x00\x00\x00\x00\x00\x00\x00\x00\x00\x00\x00\x00\x00";
 
 const LITERAL: &[u8] = b"\xCB\x07\x62\x00\x00\x00\x00\x00\x61";
 
 const SIGNATURE: &[u8] = b"\xC2\x0E\x04\x00\x16\x08\x00\x00\x00\x00\xAB\xCD\x00\x00\x00\x00";
+
+const MALFORMED: &[u8] = b"\xC2\x06\x04\x00\x16\x08\x00\x01";
 
 const SHORT_LITERAL: &[u8] = b"\xCB\x01\x62";
 
@@ -38,7 +40,7 @@ fn composed(
     if !end_fits(&blocks) {
         return Err("past 2^64".into());
     }
-    Ok(compose_signed(alloc, blocks)?)
+    Ok(compose_signed(alloc, blocks, Malformed::Refuse)?)
 }
 
 /// How many packets there are and how many signatures, and the content; or the fault.
@@ -97,12 +99,35 @@ fn one_block(rt: HostRuntime) -> Result<(), Fail> {
             &[SIGNATURE, SHORT_LITERAL],
             "body: Short block 0 at 16 inner 1",
         ),
+        (
+            &[ONE_PASS, LITERAL, MALFORMED],
+            "body: AreaShort block 0 at 24 inner 4",
+        ),
     ];
     for case in cases {
         let (parts, wanted) = *case;
         has_answer(&rt, rt.alloc(), &[(true, parts)], wanted)?;
     }
     Ok(())
+}
+
+#[test]
+fn a_malformed_signature_is_kept(rt: HostRuntime) -> Result<(), Fail> {
+    let alloc = rt.alloc();
+    let octets = joined(alloc, &[ONE_PASS, LITERAL, MALFORMED])?;
+    let blocks = blocks_of(alloc, &[(true, octets.as_slice())])?;
+    if !end_fits(&blocks) {
+        return Err("past 2^64".into());
+    }
+    match compose_signed(alloc, blocks, Malformed::Keep)? {
+        Ok(literal) => {
+            let mut left = literal.signatures();
+            assert!(rt; matches!(left.next(), Some(Err(_))));
+            assert!(rt; left.next().is_none());
+            Ok(())
+        }
+        Err(_) => Err("refused".into()),
+    }
 }
 
 #[test]

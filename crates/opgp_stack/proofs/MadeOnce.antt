@@ -26,14 +26,14 @@ SomeOf {A} wanted top = (mode : Mode) (limits : Limits) (input : List ℕ) → I
 
 -- what is promised of what input is read as
 pub record AnswersAreOne : Type 0 where
-  pub packets : OneOf any_label (λ limits. ArePackets)
+  pub packets : OneOf any_label ArePackets
   pub ring : OneOf key_label ComposesTo
-  pub signed : OneOf message_label (λ limits. AreSigned)
+  pub signed : OneOf message_label AreSigned
 
 pub record AnswersAreSome : Type 0 where
-  pub packets : SomeOf any_label (λ limits. ArePackets)
+  pub packets : SomeOf any_label ArePackets
   pub ring : SomeOf key_label ComposesTo
-  pub signed : SomeOf message_label (λ limits. AreSigned)
+  pub signed : SomeOf message_label AreSigned
 
 one_of : {A : Type 0} (Answers : Outcome A → Type 0) (make : Outcome A → Made) → ((x y : Outcome A) → Answers x → Answers y → x ≡ y) → (a b : Made)
     → ((x : Outcome A) × Answers x × (a ≡ make x)) → ((x : Outcome A) × Answers x × (b ≡ make x)) → a ≡ b
@@ -57,9 +57,9 @@ by_top P packets ring literal (action.Join out true) = ring _
 
 pub one_made : AnswersAreOne → (task : Task) (octets : List ℕ) → IsOctets octets → (a b : Made) → Makes task octets a → Makes task octets b → a ≡ b
 one_made w task octets each a b = by_top (λ makes. makes task octets a → makes task octets b → a ≡ b)
-    (λ make. one_of (λ x. AnswerOf any_label ArePackets task.mode task.limits octets x) (on_value make) (w.packets task.mode task.limits octets each) a b)
+    (λ make. one_of (λ x. AnswerOf any_label (ArePackets task.limits) task.mode task.limits octets x) (on_value make) (w.packets task.mode task.limits octets each) a b)
     (λ make. one_of (λ x. AnswerOf key_label (ComposesTo task.limits) task.mode task.limits octets x) (on_value make) (w.ring task.mode task.limits octets each) a b)
-    (λ make. one_of (λ x. AnswerOf message_label AreSigned task.mode task.limits octets x) (on_value make) (w.signed task.mode task.limits octets each) a b) task.action
+    (λ make. one_of (λ x. AnswerOf message_label (AreSigned task.limits) task.mode task.limits octets x) (on_value make) (w.signed task.mode task.limits octets each) a b) task.action
 
 pub some_made : AnswersAreSome → (task : Task) (octets : List ℕ) → IsOctets octets → (made : Made) × Makes task octets made
 some_made w task octets each = by_top (λ makes. (made : Made) × makes task octets made)

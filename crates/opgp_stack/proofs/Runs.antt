@@ -1,6 +1,7 @@
 -- How a run goes by what was read and made.
 use Rattle.std.proofs.Common.{◌≡◌, ◌⊎◌, inl, inr, ℕ, Bool, true, false, List, refl, sym, ap, subst, Option, Result, Ok, Err, IsErr}
 use Rattle.std.specs.Result.{IsErrAnd}
+use Rattle.opgp_octets.specs.Limits.{malformed_of}
 use Rattle.opgp_octets.specs.declared.fault.Fault.{Fault}
 use Rattle.opgp_frame.specs.declared.packet.Placed.{Placed}
 use Rattle.opgp_ring.specs.declared.signed_literal.SignedLiteral.{SignedLiteral}
@@ -26,13 +27,13 @@ use Rattle.opgp_engine.proofs.Pulling.{of_all}
 
 -- what the tops answer
 abbrev pub ShownOf : {A : Type 0} → (Placed → List ℕ) → (A → List ℕ → Type 0) → Task → List ℕ → Outcome A → Type 0
-ShownOf lines has task octets r = AnswerOf any_label (λ items. IsShown lines has (placed_in items)) task.mode task.limits octets r
+ShownOf lines has task octets r = AnswerOf any_label (λ items. IsShown (malformed_of task.limits) lines has (placed_in items)) task.mode task.limits octets r
 
 abbrev pub RingOf : Task → List ℕ → Outcome KeyringValue → Type 0
 RingOf task octets r = AnswerOf key_label (ComposesTo task.limits) task.mode task.limits octets r
 
 abbrev pub LiteralOf : Task → List ℕ → Outcome SignedLiteral → Type 0
-LiteralOf task octets r = AnswerOf message_label (λ items s. AreSigned items (shown signed_packets s)) task.mode task.limits octets r
+LiteralOf task octets r = AnswerOf message_label (λ items s. AreSigned task.limits items (shown signed_packets s)) task.mode task.limits octets r
 
 err_is : (r : Result Unit RunFault) (e : RunFault) → IsErr r → IsErrAnd r (λ y. y ≡ e) → r ≡ Err e
 err_is (Ok x) e h k = cc h

@@ -74,18 +74,22 @@ opaque_text n = codes "sig opaque " ++ decimal n ++ codes "\n"
 
 -- By version (RFC 9580, 5.2.2 and 5.2.3): in versions 4 and 6 the fields are version, type, algorithm,
 -- hash, ..; in version 3 version, a length, type, time, issuer, algorithm, hash, ..
-abbrev pub signature_text : Result SignatureValue BodyFault → List ℕ
-signature_text (Ok (of_three fields)) =
+abbrev pub signature_text : SignatureValue → List ℕ
+signature_text (of_three fields) =
     typed_text 3 (number_at fields 2) (number_at fields 5) (number_at fields 6)
-signature_text (Ok (of_four fields)) =
+signature_text (of_four fields) =
     typed_text 4 (number_at fields 1) (number_at fields 2) (number_at fields 3)
-signature_text (Ok (of_six fields)) =
+signature_text (of_six fields) =
     typed_text 6 (number_at fields 1) (number_at fields 2) (number_at fields 3)
-signature_text (Ok (of_other octets)) = opaque_text (length octets)
-signature_text (Err fault) = []
+signature_text (of_other octets) = opaque_text (length octets)
+
+-- of a body of this length, as it is read; one that is no signature's is opaque (5.2.5)
+abbrev pub read_text : ℕ → Result SignatureValue BodyFault → List ℕ
+read_text n (Ok v) = signature_text v
+read_text n (Err fault) = opaque_text n
 
 abbrev pub signature_line : List ℕ → List ℕ
-signature_line body = signature_text (signature_at body)
+signature_line body = read_text (length body) (signature_at body)
 
 -- `uid "<text>"`
 abbrev pub user_id_line : List ℕ → List ℕ

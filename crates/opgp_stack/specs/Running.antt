@@ -82,13 +82,13 @@ Asks {A} wanted top make task octets made = (answer : Outcome A)
 
 -- what is made of the packets, of the keyring, and of the signed literal
 abbrev pub OfPackets : (List BlockValue → Made) → Task → List ℕ → Made → Type 0
-OfPackets = Asks any_label (λ _. ArePackets)
+OfPackets = Asks any_label ArePackets
 
 abbrev pub OfRing : (KeyringValue → Made) → Task → List ℕ → Made → Type 0
 OfRing = Asks key_label ComposesTo
 
 abbrev pub OfLiteral : (List PacketValue → Made) → Task → List ℕ → Made → Type 0
-OfLiteral = Asks message_label (λ _. AreSigned)
+OfLiteral = Asks message_label AreSigned
 
 -- what each action makes of octets
 abbrev pub MakesBy : Action → Task → List ℕ → Made → Type 0

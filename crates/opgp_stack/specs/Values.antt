@@ -194,7 +194,7 @@ fields_line n body =
     else (if is_type packet.UserAttribute n
     then where_sound (body_at attribute body) (attribute_line body)
     else (if is_type packet.Signature n
-    then where_sound (signature_at body) (signature_line body) ++ valued_areas (signature_at body)
+    then (codes "  " ++ signature_line body) ++ valued_areas (signature_at body)
     else (if is_type packet.LiteralData n then literal_text (body_at literal body)
     else [])))))
 

@@ -43,9 +43,12 @@ pub(crate) fn question_of(message: &SignedLiteral, row: u64) -> Option<Question<
 {
     let mut signatures = message.signatures();
     let mut left = row;
-    'signatures: while let Some(signature) = signatures.next() {
+    'signatures: while let Some(read) = signatures.next() {
         if left == 0 {
-            return question_about(message, signature);
+            return match read {
+                Ok(signature) => question_about(message, signature),
+                Err(_) => None,
+            };
         }
         left -= 1;
     }

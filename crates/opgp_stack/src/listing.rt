@@ -1,6 +1,7 @@
 //! The lines of a keyring's listing, without an allocation.
 
-ghost use Rattle.std.specs.Prelude.{◌≡◌, ◌++◌, Ok, false, codes, length};
+ghost use Rattle.std.specs.Prelude.{◌≡◌, ◌++◌, false, codes, length};
+ghost use Rattle.opgp_octets.specs.Octets.{IsBodySized};
 ghost use Rattle.hex.specs.Hex.{encode_upper};
 ghost use Rattle.opgp_packet.specs.Parsed.{body_octets};
 ghost use Rattle.opgp_ring.specs.Packets.{IsLent, packets_left, part_packet};
@@ -162,7 +163,7 @@ fn add_typed<W: Sink>(
 }
 
 /// Adds the line of a signature that is kept as it is.
-fn add_opaque<W: Sink>(output: &mut Output<'_, W>, body: &[u8]) -> io::Result<()>
+pub(crate) fn add_opaque<W: Sink>(output: &mut Output<'_, W>, body: &[u8]) -> io::Result<()>
     requires { W.has_failed (sink_of output.old) ≡ false }
     ensures { Extends W.held W.has_failed output.old output.new result
         (opaque_text (length body.now)) }
@@ -181,13 +182,25 @@ pub(crate) fn add_signature<W: Sink>(
 ) -> io::Result<()>
     requires { W.has_failed (sink_of output.old) ≡ false }
     ensures { Extends W.held W.has_failed output.old output.new result
-        (signature_text (Ok (sig_view_value signature.entry))) }
+        (signature_text (sig_view_value signature.entry)) }
 {
     match signature {
         SigView::Three(view) => add_typed(output, 3, view.kind(), view.algorithm(), view.hash()),
         SigView::Four(view) => add_typed(output, 4, view.kind(), view.algorithm(), view.hash()),
         SigView::Six(view) => add_typed(output, 6, view.kind(), view.algorithm(), view.hash()),
         SigView::Other(view) => add_opaque(output, view.body()),
+    }
+}
+
+/// Adds the line of the body of a signature packet, which may be no signature's.
+pub(crate) fn add_body<W: Sink>(output: &mut Output<'_, W>, body: &[u8]) -> io::Result<()>
+    requires small { IsBodySized body.now }
+    requires sound { W.has_failed (sink_of output.old) ≡ false }
+    ensures { Extends W.held W.has_failed output.old output.new result (signature_line body.now) }
+{
+    match SigView::parse_body(body) {
+        Ok(signature) => add_signature(output, signature),
+        Err(_) => add_opaque(output, body),
     }
 }
 
@@ -218,6 +231,7 @@ fn add_line<W: Sink>(output: &mut Output<'_, W>, part: Part<'_>) -> io::Result<(
         Content::UserId(id) => add_user_id(output, id.octets()),
         Content::Attribute(attribute) => add_attribute(output, attribute.view()),
         Content::Signature(signature) => add_parsed(output, signature),
+        Content::Malformed(body) => add_body(output, body),
         Content::Filler(kind, body) => add_filler(output, *kind, body),
     }
 }

@@ -16,6 +16,7 @@ ghost use Rattle.opgp_stack.specs.KeyName.{name_octets};
 ghost use Rattle.opgp_stack.specs.OnePart.{HasNth, HasRow, found_question};
 ghost use Rattle.opgp_stack.specs.Parts.{HasText, OfKeyring};
 ghost use Rattle.opgp_stack.specs.Report.{HasReport, report_lines};
+ghost use Rattle.opgp_octets.specs.Limits.{malformed_of};
 ghost use Rattle.opgp_stack.specs.Shown.{IsShown};
 ghost use Rattle.opgp_stack.specs.Running.{IsMade, IsSpooled, Made, ReadsFor, RunsAs, RunsSpooled};
 ghost use Rattle.opgp_stack.specs.Running.{ended, found_made, one_text, question_made};
@@ -153,11 +154,12 @@ fn shown_of<R: Source, E: EachPacket, S: Spool + Drop>(
     requires sound { R.has_failed reader.old ≡ false }
     requires empty { IfSome spool (λ s. (S.serves ≡ true) × (S.tells ≡ true → S.holds s ≡ [])) }
     ensures { ReadsFor (λ answer. OfAll R.left R.has_failed reader.old reader.new task.now.limits
-        (λ octets. AnswerOf any_label (λ items. IsShown E.lines (DraftHas S.serves S.tells S.holds
-        S.has_failed) (placed_in items)) task.now.mode task.now.limits octets answer))
+        (λ octets. AnswerOf any_label (λ items. IsShown (malformed_of task.now.limits) E.lines
+        (DraftHas S.serves S.tells S.holds S.has_failed) (placed_in items)) task.now.mode
+        task.now.limits octets answer))
         (R.has_failed reader.new ≡ true) (R.has_failed reader.new ≡ false) result }
 {
-    let text: ShownText<E, S> = match ShownText::new(alloc, spool) {
+    let text: ShownText<E, S> = match ShownText::new(alloc, spool, task.limits.malformed()) {
         Ok(text) => text,
         Err(_) => return Err(RunFault::Memory),
     };
@@ -332,7 +334,12 @@ fn run_and<R: Source, W: Sink, S: Spool + Drop>(
             }
             Top::Literal => {
                 drop(spool);
-                let message = ask(alloc, task, reader, SignedGathering::new(alloc))?;
+                let message = ask(
+                    alloc,
+                    task,
+                    reader,
+                    SignedGathering::new(alloc, task.limits.malformed()),
+                )?;
                 let question = question_of(&message, row);
                 done(write_question(alloc, question, writer), message, after)
             }

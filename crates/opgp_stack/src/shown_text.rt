@@ -2,6 +2,7 @@
 
 ghost use Rattle.std.specs.Prelude.{◌≡◌, ◌++◌, ◌∷◌, [], ℕ, true, List, OnOk, IfOk, IfSome};
 ghost use Rattle.opgp_octets.specs.declared.limits.Limits.{Limits};
+ghost use Rattle.opgp_octets.specs.Limits.{malformed_of};
 ghost use Rattle.opgp_frame.specs.declared.packet.Placed.{Placed};
 ghost use Rattle.opgp_ring.specs.Composition.{placed_in};
 ghost use Rattle.opgp_engine.specs.Draft.{DraftHas};
@@ -15,7 +16,7 @@ use crate::valued::add_valued;
 use opgp_armor::Label;
 use opgp_engine::{Draft, Receiver, Spool, Text};
 use opgp_frame::Placed;
-use opgp_octets::{Fault, OutOfMemory};
+use opgp_octets::{Fault, Malformed, OutOfMemory};
 use opgp_ring::packet_fault;
 use opgp_stream::{Output, Sink};
 use std::alloc::Global;
@@ -88,21 +89,28 @@ impl Text for ValuedLines<'_> {
 /// is kept.
 #[derive(Drop)]
 pub(crate) struct ShownText<E, S> {
+    malformed: Malformed,
     draft: Draft<S>,
     fault: Option<Fault>,
     each: PhantomData<E>,
 }
 
 impl<E: EachPacket, S: Spool + Drop> ShownText<E, S> {
-    /// Nothing yet, to be held in this spool, which is empty, or in memory. Fails only when out of
-    /// memory.
-    pub(crate) fn new(alloc: Global, spool: Option<S>) -> Result<ShownText<E, S>, OutOfMemory>
+    /// Nothing yet, by this policy for malformed signatures, to be held in this spool, which is empty,
+    /// or in memory. Fails only when out of memory.
+    pub(crate) fn new(
+        alloc: Global,
+        spool: Option<S>,
+        malformed: Malformed,
+    ) -> Result<ShownText<E, S>, OutOfMemory>
         requires { IfSome spool (λ s. (S.serves ≡ true) × (S.tells ≡ true → S.holds s ≡ [])) }
-        ensures { IfOk result (λ t. ShowsSoFar E.lines t.fault
+        ensures policy { IfOk result (λ t. t.malformed ≡ malformed) }
+        ensures none { IfOk result (λ t. ShowsSoFar malformed E.lines t.fault
             (DraftHas S.serves S.tells S.holds S.has_failed t.draft) []) }
     {
         let draft = Draft::new(alloc, spool)?;
         Ok(ShownText {
+            malformed,
             draft,
             fault: None,
             each: PhantomData,
@@ -115,10 +123,11 @@ impl<E: EachPacket, S: Spool + Drop> Receiver for ShownText<E, S> {
 
     ghost wanted = { any_label };
 
-    ghost fed = { λ _ t items. ShowsSoFar E.lines t.fault
+    ghost fed = { λ limits t items. (t.malformed ≡ malformed_of limits)
+        × ShowsSoFar (malformed_of limits) E.lines t.fault
         (DraftHas S.serves S.tells S.holds S.has_failed t.draft) (placed_in items) };
 
-    ghost says = { λ _ items answer. IsShown E.lines
+    ghost says = { λ limits items answer. IsShown (malformed_of limits) E.lines
         (DraftHas S.serves S.tells S.holds S.has_failed) (placed_in items) answer };
 
     fn wants(_label: Option<Label>) -> bool {
@@ -134,7 +143,7 @@ impl<E: EachPacket, S: Spool + Drop> Receiver for ShownText<E, S> {
         if self.fault.is_some() {
             return Ok(());
         }
-        match packet_fault(&packet) {
+        match packet_fault(&packet, self.malformed) {
             Some(fault) => {
                 self.fault = Some(fault);
                 Ok(())

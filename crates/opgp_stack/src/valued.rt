@@ -18,7 +18,7 @@ ghost use Rattle.opgp_stack.specs.Values.{valued_area, valued_areas};
 ghost use Rattle.opgp_stack.specs.Values.{valued_line, valued_lines, where_sound};
 ghost use Rattle.opgp_stream.specs.Output.{Extends, sink_of};
 
-use crate::listing::{Role, add_attribute, add_key, add_signature, add_user_id};
+use crate::listing::{Role, add_attribute, add_key, add_opaque, add_signature, add_user_id};
 use crate::showing::{Area, add_header, add_subpacket};
 use crate::values::add_value;
 use opgp_frame::Placed;
@@ -91,16 +91,16 @@ fn add_signature_fields<W: Sink>(output: &mut Output<'_, W>, body: &[u8]) -> io:
     requires small { IsBodySized body.now }
     requires sound { W.has_failed (sink_of output.old) ≡ false }
     ensures { Extends W.held W.has_failed output.old output.new result
-        (where_sound (signature_at body.now) (signature_line body.now)
-        ++ valued_areas (signature_at body.now)) }
+        ((codes "  " ++ signature_line body.now) ++ valued_areas (signature_at body.now)) }
 {
-    let signature = match SigView::parse_body(body) {
-        Ok(signature) => signature,
-        Err(_) => return Ok(()),
-    };
     output.add(b"  ")?;
-    add_signature(output, signature)?;
-    add_subpackets(output, signature)
+    match SigView::parse_body(body) {
+        Ok(signature) => {
+            add_signature(output, signature)?;
+            add_subpackets(output, signature)
+        }
+        Err(_) => add_opaque(output, body),
+    }
 }
 
 /// Adds the line of a key.

@@ -13,8 +13,8 @@ ghost use Rattle.opgp_stack.specs.Values.{text_line, value_line};
 ghost use Rattle.opgp_stream.specs.Line.{word_text};
 ghost use Rattle.opgp_stream.specs.Output.{Extends, sink_of};
 
-use crate::listing::add_signature;
-use opgp_packet::{SigView, SubMeaning};
+use crate::listing::add_body;
+use opgp_packet::SubMeaning;
 use opgp_stream::{Output, Sink, Word};
 use std::io;
 
@@ -280,10 +280,7 @@ fn add_embedded<W: Sink>(output: &mut Output<'_, W>, body: &[u8]) -> io::Result<
         (codes " " ++ signature_line body.now) }
 {
     output.add(b" ")?;
-    match SigView::parse_body(body) {
-        Ok(view) => add_signature(output, view),
-        Err(_) => Ok(()),
-    }
+    add_body(output, body)
 }
 
 /// Adds the end of a subpacket's line: what it means; the octets are its data.

@@ -10,11 +10,11 @@ use Rattle.opgp_ring.proofs.checking.check_bodies.Goals as goal
 pub returns-in-Some : goal.returns-in-Some
 returns-in-Some c =
     let blocks = c.args.blocks.now in
-    first_block blocks c.loop-block.block-index c.block-item.result c.in-Some.fault (omega arith) c.block-item.is c.loop-block.invariant
-    (subst (λ (ps : List Placed). IsFirstBodyFault ps c.in-Some.fault) c.deref.ensures.value c.in-Some.ensures)
+    first_block c.args.malformed blocks c.loop-block.block-index c.block-item.result c.in-Some.fault (omega arith) c.block-item.is c.loop-block.invariant
+    (subst (λ (ps : List Placed). IsFirstBodyFault c.args.malformed ps c.in-Some.fault) c.deref.ensures.value c.in-Some.ensures)
 
 pub returns : goal.returns
 returns c =
     let blocks = c.args.blocks.now in
     let all : length blocks ≤ c.loop-block.block-index = omega arith in
-    All-same IsSound (placed_of blocks) (placed_of (take c.loop-block.block-index blocks)) (ap placed_of (sym (take_all c.loop-block.block-index blocks all))) c.loop-block.invariant
+    All-same (IsSound c.args.malformed) (placed_of blocks) (placed_of (take c.loop-block.block-index blocks)) (ap placed_of (sym (take_all c.loop-block.block-index blocks all))) c.loop-block.invariant

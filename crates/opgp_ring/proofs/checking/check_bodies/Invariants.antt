@@ -5,4 +5,4 @@ use Rattle.opgp_ring.proofs.checking.check_bodies.Given as goal
 
 -- the packets of the blocks so far are sound
 abbrev pub invariant-loop-block : goal.invariant-loop-block
-invariant-loop-block l = All IsSound (placed_of (take l.block-index l.blocks))
+invariant-loop-block l = All (IsSound l.malformed) (placed_of (take l.block-index l.blocks))

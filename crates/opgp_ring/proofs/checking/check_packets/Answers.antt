@@ -7,10 +7,10 @@ use Rattle.opgp_ring.proofs.checking.check_packets.Goals as goal
 
 pub returns-in-Some : goal.returns-in-Some
 returns-in-Some c =
-    first_at c.args.packets.now c.loop-placed.placed-index c.placed-item.result c.in-Some.fault (omega arith) c.placed-item.is c.loop-placed.invariant c.in-Some.ensures
+    first_at c.args.malformed c.args.packets.now c.loop-placed.placed-index c.placed-item.result c.in-Some.fault (omega arith) c.placed-item.is c.loop-placed.invariant c.in-Some.ensures
 
 pub returns : goal.returns
 returns c =
     let ps = c.args.packets.now in
     let all : length ps ≤ c.loop-placed.placed-index = omega arith in
-    All-same IsSound ps (take c.loop-placed.placed-index ps) (sym (take_all c.loop-placed.placed-index ps all)) c.loop-placed.invariant
+    All-same (IsSound c.args.malformed) ps (take c.loop-placed.placed-index ps) (sym (take_all c.loop-placed.placed-index ps all)) c.loop-placed.invariant

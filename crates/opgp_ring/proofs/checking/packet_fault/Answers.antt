@@ -7,6 +7,6 @@ returns-in-Some c =
     record {
       why = c.in-Some.fault;
       octets = c.kind.ensures.packet.octets;
-      here = untyped p.packet c.kind.result c.from.result c.body.result.now c.in-Some.fault c.kind.ensures.value c.from.ensures.0 c.body.ensures.value c.in-Some.ensures.fault;
+      here = untyped c.args.malformed p.packet c.kind.result c.from.result c.body.result.now c.in-Some.fault c.kind.ensures.value c.from.ensures.0 c.body.ensures.value c.in-Some.ensures.fault;
       is = c.placed.ensures;
     }

@@ -2,4 +2,4 @@ use Rattle.opgp_ring.proofs.SignedLaws.{one_signed_fault as unique}
 use Rattle.opgp_ring.proofs.laws.one_signed_fault.Goals as goal
 
 pub returns : goal.returns
-returns c = unique c.one_body_fault.ensures
+returns c = λ policy. unique policy c.one_body_fault.ensures

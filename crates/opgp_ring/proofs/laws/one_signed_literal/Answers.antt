@@ -2,4 +2,4 @@ use Rattle.std.proofs.Common.{sym, ◌∙◌}
 use Rattle.opgp_ring.proofs.laws.one_signed_literal.Goals as goal
 
 pub returns : goal.returns
-returns c items ps qs k l = k.flat ∙ sym l.flat
+returns c policy items ps qs k l = k.flat ∙ sym l.flat

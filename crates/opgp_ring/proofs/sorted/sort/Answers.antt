@@ -9,17 +9,17 @@ use Rattle.opgp_ring.proofs.sorted.sort.Goals as goal
 pub returns-in_ok-key-in-PublicKey-clause-sound : goal.returns-in_ok-key-in-PublicKey-clause-sound
 returns-in_ok-key-in-PublicKey-clause-sound c = λ f h.
     fields_sound c.no_fault.ensures key _ _ c.args.packet.body f c.into_parts-form-in-PublicKey.ensures.body c.kind.ensures.packet.octets c.in_ok-key-in-PublicKey.ensures.found
-    (typed c.args.packet c.kind.result _ f c.kind.ensures.value c.in-PublicKey.ensures.0 h)
+    (typed c.args.malformed c.args.packet c.kind.result _ f c.kind.ensures.value c.in-PublicKey.ensures.0 h)
 
 pub returns-in_ok-key-in-PublicSubkey-clause-sound : goal.returns-in_ok-key-in-PublicSubkey-clause-sound
 returns-in_ok-key-in-PublicSubkey-clause-sound c = λ f h.
     fields_sound c.no_fault.ensures key _ _ c.args.packet.body f c.into_parts-form-in-PublicSubkey.ensures.body c.kind.ensures.packet.octets c.in_ok-key-in-PublicSubkey.ensures.found
-    (typed c.args.packet c.kind.result _ f c.kind.ensures.value c.in-PublicSubkey.ensures.0 h)
+    (typed c.args.malformed c.args.packet c.kind.result _ f c.kind.ensures.value c.in-PublicSubkey.ensures.0 h)
 
 pub returns-in_ok-attribute-in-UserAttribute-clause-sound : goal.returns-in_ok-attribute-in-UserAttribute-clause-sound
 returns-in_ok-attribute-in-UserAttribute-clause-sound c = λ f h.
     fields_sound c.no_fault.ensures attribute _ _ c.args.packet.body f c.into_parts-form-in-UserAttribute.ensures.body c.kind.ensures.packet.octets c.in_ok-attribute-in-UserAttribute.ensures.found
-    (typed c.args.packet c.kind.result _ f c.kind.ensures.value c.in-UserAttribute.ensures.0 h)
+    (typed c.args.malformed c.args.packet c.kind.result _ f c.kind.ensures.value c.in-UserAttribute.ensures.0 h)
 
 pub returns-in_default-2 : goal.returns-in_default-2
 returns-in_default-2 c =
@@ -30,7 +30,7 @@ returns-in_default-2 c =
       packet = refl;
       sorted = stray c.from.result c.args.packet.kind of n.not-Signature n.not-PublicKey n.not-UserId n.not-PublicSubkey n.not-UserAttribute filler;
       form = c.kind.ensures.packet;
-      sound = λ f h. unread c.from.result c.args.packet.body f n.not-Signature n.not-PublicKey n.not-PublicSubkey n.not-LiteralData n.not-UserAttribute
-          (typed c.args.packet c.kind.result c.from.result f c.kind.ensures.value c.from.ensures.0 h);
+      sound = λ f h. unread c.args.malformed c.from.result c.args.packet.body f n.not-Signature n.not-PublicKey n.not-PublicSubkey n.not-LiteralData n.not-UserAttribute
+          (typed c.args.malformed c.args.packet c.kind.result c.from.result f c.kind.ensures.value c.from.ensures.0 h);
       fault = tt;
     }

@@ -70,12 +70,12 @@ returns-in_ok-report-in-Check g c =
     c.in_ok-report-in-Check.ensures c.done.ensures
 
 pub returns-in_err-message-in-Literal : goal.returns-in_err-message-in-Literal
-returns-in_err-message-in-Literal g c = stopped (LiteralOf c.args.task.now) _ (c.in-Octets.is ∙ ap (λ (t : Top). action.Octets c.in-Octets.row t) c.in-Literal.is) (λ fault. inl (refl, refl)) _ _ (λ octets fault h. (Err fault, answer_shown message_label AreSigned signed_packets c.args.task.now.mode c.args.task.now.limits octets (Err fault) h, refl)) c.in_err-message-in-Literal.ensures c.from_residual-in_err-message-in-Literal.ensures
+returns-in_err-message-in-Literal g c = stopped (LiteralOf c.args.task.now) _ (c.in-Octets.is ∙ ap (λ (t : Top). action.Octets c.in-Octets.row t) c.in-Literal.is) (λ fault. inl (refl, refl)) _ _ (λ octets fault h. (Err fault, answer_shown message_label (AreSigned c.args.task.now.limits) signed_packets c.args.task.now.mode c.args.task.now.limits octets (Err fault) h, refl)) c.in_err-message-in-Literal.ensures c.from_residual-in_err-message-in-Literal.ensures
 
 pub returns-in_ok-message-in-Literal : goal.returns-in_ok-message-in-Literal
 returns-in_ok-message-in-Literal g c =
     ran (LiteralOf c.args.task.now) _ (c.in-Octets.is ∙ ap (λ (t : Top). action.Octets c.in-Octets.row t) c.in-Literal.is) (λ fault. inl (refl, refl)) _ _ _ c.in_ok-message-in-Literal.message
-    (λ octets h. (question_made (question_in (slice_get (message_asked (signed_packets c.in_ok-message-in-Literal.message)) c.in-Octets.row)), (Ok (signed_packets c.in_ok-message-in-Literal.message), answer_shown message_label AreSigned signed_packets c.args.task.now.mode c.args.task.now.limits octets (Ok c.in_ok-message-in-Literal.message) h, refl), inl (rw c.question_of-question.ensures at c.write_question.ensures)))
+    (λ octets h. (question_made (question_in (slice_get (message_asked (signed_packets c.in_ok-message-in-Literal.message)) c.in-Octets.row)), (Ok (signed_packets c.in_ok-message-in-Literal.message), answer_shown message_label (AreSigned c.args.task.now.limits) signed_packets c.args.task.now.mode c.args.task.now.limits octets (Ok c.in_ok-message-in-Literal.message) h, refl), inl (rw c.question_of-question.ensures at c.write_question.ensures)))
     c.in_ok-message-in-Literal.ensures c.done-in-Literal.ensures
 
 pub returns-in_err-text-in-Write : goal.returns-in_err-text-in-Write

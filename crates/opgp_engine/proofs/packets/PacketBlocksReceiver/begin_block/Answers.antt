@@ -8,6 +8,8 @@ use Rattle.opgp_engine.proofs.packets.PacketBlocksReceiver.begin_block.Goals as 
 
 pub returns : goal.returns
 returns c limits given f =
-    let bs : List BlockOf = c.args.self.now.blocks.items in
-    ap items_of c.in_ok-push.ensures.items ∙ items_push bs _ ∙ ap (λ (l : List Placed). items_of bs ++ of_label c.args.block c.args.fits ∷ map of_packet l) c.new.ensures.items
-    ∙ ap (λ (l : List Item). l ++ of_label c.args.block c.args.fits ∷ []) f ∙ sym (from_label-label given c.args.block c.args.fits)
+    let bs : List BlockOf = c.args.self.now.blocks.items in (
+      f.0,
+      ap items_of c.in_ok-push.ensures.items ∙ items_push bs _ ∙ ap (λ (l : List Placed). items_of bs ++ of_label c.args.block c.args.fits ∷ map of_packet l) c.new.ensures.items
+          ∙ ap (λ (l : List Item). l ++ of_label c.args.block c.args.fits ∷ []) f.1 ∙ sym (from_label-label given c.args.block c.args.fits),
+    )

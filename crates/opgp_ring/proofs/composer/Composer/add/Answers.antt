@@ -1,6 +1,9 @@
 use Rattle.std.proofs.Common.{ap, sym, subst, ◌∙◌}
 use Rattle.std.specs.Prelude.{OnOk}
+use Rattle.opgp_octets.specs.declared.limits.Limits.{Limits}
+use Rattle.opgp_octets.specs.Limits.{malformed_of}
 use Rattle.opgp_frame.specs.Packet.{PacketValue}
+use Rattle.opgp_ring.specs.Bodies.{HasNoFault}
 use Rattle.opgp_ring.specs.Composition.{of_packet, packets_in}
 use Rattle.opgp_ring.specs.Fed.{TakesIn}
 use Rattle.opgp_ring.specs.Sorted.{sorted_packet}
@@ -12,11 +15,11 @@ use Rattle.opgp_ring.proofs.composer.Composer.add.Goals as goal
 
 pub returns-then-not-is_open-clause-fed : goal.returns-then-not-is_open-clause-fed
 returns-then-not-is_open-clause-fed c limits given taken f =
-    fed_of (record { limits_kept = f.limits_kept; state = behind limits c.args.self.now.state given _ (of_packet (record { packet = sorted_packet c.args.sorted; block = c.args.block; pos = c.args.pos })) (standing_of f).state c.requires.sound (sym c.if-not-is_open.ensures) })
+    fed_of (record { limits_kept = f.limits_kept; state = behind limits c.args.self.now.state given _ (of_packet (record { packet = sorted_packet c.args.sorted; block = c.args.block; pos = c.args.pos })) (standing_of f).state (subst (λ (l : Limits). HasNoFault (malformed_of l) (sorted_packet c.args.sorted)) f.limits_kept c.requires.sound) (sym c.if-not-is_open.ensures) })
 
 pub returns-in-Stray-clause-fed : goal.returns-in-Stray-clause-fed
 returns-in-Stray-clause-fed c limits given taken f =
-    c.refuse.ensures.fed limits given taken (of_packet (record { packet = sorted_packet c.args.sorted; block = c.args.block; pos = c.args.pos })) f c.requires.sound
+    c.refuse.ensures.fed limits given taken (of_packet (record { packet = sorted_packet c.args.sorted; block = c.args.block; pos = c.args.pos })) f (subst (λ (l : Limits). HasNoFault (malformed_of l) (sorted_packet c.args.sorted)) f.limits_kept c.requires.sound)
     (λ _. stray_fault limits (packets_in given) (record { packet = sorted_packet c.args.sorted; block = c.args.block; pos = c.args.pos }) (strayed c.args.sorted c.in-Stray.stray c.in-Stray.is c.requires.sorted))
 
 pub returns-in-Primary-clause-fed : goal.returns-in-Primary-clause-fed

@@ -1,5 +1,7 @@
 use Rattle.std.proofs.Common.{◌≡◌, ◌∷◌, [], List, ap, sym, subst, ◌∙◌, arith}
-use Rattle.opgp_octets.specs.Limits.{cert_limit}
+use Rattle.opgp_octets.specs.declared.limits.Limits.{Limits}
+use Rattle.opgp_octets.specs.Limits.{cert_limit, malformed_of}
+use Rattle.opgp_ring.specs.Bodies.{HasNoFault}
 use Rattle.opgp_ring.specs.Composed.{PartValue, of_certificate, lead_parts}
 use Rattle.opgp_ring.specs.Composition.{of_packet}
 use Rattle.opgp_ring.proofs.Standing.{IsIn}
@@ -13,7 +15,7 @@ use Rattle.opgp_ring.proofs.composer.Composer.begin.Goals as goal
 pub returns-then-octets-cert-clause-fed : goal.returns-then-octets-cert-clause-fed
 returns-then-octets-cert-clause-fed c limits given taken f =
     let limit : c.cert.result ≡ cert_limit limits = c.cert.ensures.value ∙ ap cert_limit f.limits_kept in
-    c.refuse.ensures.fed limits given taken (of_packet (record { packet = c.args.primary; block = c.args.block; pos = c.args.pos })) f c.requires.sound
+    c.refuse.ensures.fed limits given taken (of_packet (record { packet = c.args.primary; block = c.args.block; pos = c.args.pos })) f (subst (λ (l : Limits). HasNoFault (malformed_of l) c.args.primary) f.limits_kept c.requires.sound)
     (λ opened. primary_long limits c.args.self.now.state given _ (record { packet = c.args.primary; block = c.args.block; pos = c.args.pos }) (standing_of f).state opened c.requires.primary (omega (arith, limit, c.if-octets-cert.true, c.requires.octets)))
 
 pub invariant_of-self : goal.invariant_of-self
@@ -47,7 +49,7 @@ returns-in-Leading-clause-fed c limits given taken f =
     fed_of (record {
       limits_kept = f.limits_kept;
       state = rw (c.replace.ensures.after, c.new.ensures, parts)
-          (first_more limits s c.in-Leading.lead given taken (record { packet = c.args.primary; block = c.args.block; pos = c.args.pos }) is (sym c.in-Leading.ensures.value) c.requires.sound c.requires.primary (omega (arith, limit, c.if-octets-cert.false, c.requires.octets)));
+          (first_more limits s c.in-Leading.lead given taken (record { packet = c.args.primary; block = c.args.block; pos = c.args.pos }) is (sym c.in-Leading.ensures.value) (subst (λ (l : Limits). HasNoFault (malformed_of l) c.args.primary) f.limits_kept c.requires.sound) c.requires.primary (omega (arith, limit, c.if-octets-cert.false, c.requires.octets)));
     })
 
 pub returns-in-Growing-clause-fed : goal.returns-in-Growing-clause-fed
@@ -59,5 +61,5 @@ returns-in-Growing-clause-fed c limits given taken f =
     fed_of (record {
       limits_kept = f.limits_kept;
       state = rw (c.replace.ensures.after, c.new.ensures, parts)
-          (next_more limits s c.in-Growing.certificate given taken (record { packet = c.args.primary; block = c.args.block; pos = c.args.pos }) is (sym c.in-Growing.ensures.value) c.requires.sound c.requires.primary (omega (arith, limit, c.if-octets-cert.false, c.requires.octets)));
+          (next_more limits s c.in-Growing.certificate given taken (record { packet = c.args.primary; block = c.args.block; pos = c.args.pos }) is (sym c.in-Growing.ensures.value) (subst (λ (l : Limits). HasNoFault (malformed_of l) c.args.primary) f.limits_kept c.requires.sound) c.requires.primary (omega (arith, limit, c.if-octets-cert.false, c.requires.octets)));
     })

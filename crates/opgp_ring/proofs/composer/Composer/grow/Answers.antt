@@ -1,5 +1,7 @@
 use Rattle.std.proofs.Common.{◌≡◌, ◌+◌, ◌<◌, ◌≤◌, ◌++◌, ap, sym, subst, ◌∙◌, arith}
-use Rattle.opgp_octets.specs.Limits.{cert_limit}
+use Rattle.opgp_octets.specs.declared.limits.Limits.{Limits}
+use Rattle.opgp_octets.specs.Limits.{cert_limit, malformed_of}
+use Rattle.opgp_ring.specs.Bodies.{HasNoFault}
 use Rattle.opgp_ring.specs.Composition.{of_packet}
 use Rattle.opgp_ring.proofs.Standing.{IsIn}
 use Rattle.opgp_ring.specs.Keyring.{certificate_packets, octets_of}
@@ -11,7 +13,7 @@ use Rattle.opgp_ring.proofs.composer.Composer.grow.Goals as goal
 
 pub returns-in-Leading-clause-fed : goal.returns-in-Leading-clause-fed
 returns-in-Leading-clause-fed c limits given taken f =
-    c.refuse.ensures.fed limits given taken (of_packet (record { packet = c.args.member; block = c.args.block; pos = c.args.pos })) (fed_of (record { limits_kept = f.limits_kept; state = (standing_of f).state })) c.requires.sound
+    c.refuse.ensures.fed limits given taken (of_packet (record { packet = c.args.member; block = c.args.block; pos = c.args.pos })) (fed_of (record { limits_kept = f.limits_kept; state = (standing_of f).state })) (subst (λ (l : Limits). HasNoFault (malformed_of l) c.args.member) f.limits_kept c.requires.sound)
     (λ _. lead_lacks limits c.args.self.now.state c.in-Leading.field-0 given _ (record { packet = c.args.member; block = c.args.block; pos = c.args.pos }) (standing_of f).state c.in-Leading.is (c.requires.lead (ap has_begun c.in-Leading.is)))
 
 pub returns-in-Growing-clause-fed : goal.returns-in-Growing-clause-fed
@@ -21,7 +23,7 @@ returns-in-Growing-clause-fed c limits given taken f =
     let counted : octets_of (certificate_packets c.in-Growing.field-0) ≡ size = ap open_octets (sym c.in-Growing.is) ∙ c.args.self.now.counted in
     let short : size ≤ c.cert.result = omega (arith, c.args.self.now.short, c.cert.ensures.value) in
     let long : c.cert.result < size + c.args.octets = room_short c.cert.result size c.args.octets short c.if-octets-room.true in
-    c.refuse-in-Growing.ensures.fed limits given taken (of_packet (record { packet = c.args.member; block = c.args.block; pos = c.args.pos })) (fed_of (record { limits_kept = f.limits_kept; state = subst (λ (s : State). IsIn limits s given (taken ++ ready_parts c.args.self.now.ready)) c.in-Growing.is (standing_of f).state })) c.requires.sound
+    c.refuse-in-Growing.ensures.fed limits given taken (of_packet (record { packet = c.args.member; block = c.args.block; pos = c.args.pos })) (fed_of (record { limits_kept = f.limits_kept; state = subst (λ (s : State). IsIn limits s given (taken ++ ready_parts c.args.self.now.ready)) c.in-Growing.is (standing_of f).state })) (subst (λ (l : Limits). HasNoFault (malformed_of l) c.args.member) f.limits_kept c.requires.sound)
     (λ _. grown_long limits c.args.self.now.state c.in-Growing.field-0 given _ (record { packet = c.args.member; block = c.args.block; pos = c.args.pos }) (standing_of f).state c.in-Growing.is c.requires.behind (omega (arith, long, limit, counted, c.requires.octets)))
 
 pub returns-in_ok-add-in-Growing-2-clause-fed : goal.returns-in_ok-add-in-Growing-2-clause-fed
@@ -33,7 +35,7 @@ returns-in_ok-add-in-Growing-2-clause-fed c limits given taken f =
     let fits : size + c.args.octets ≤ c.cert.result = room_fits c.cert.result size c.args.octets short c.if-octets-room.false in
     fed_of (record {
       limits_kept = f.limits_kept;
-      state = certificate_more limits c.args.self.now.state c.in-Growing.field-0 c.add.new.self given _ (record { packet = c.args.member; block = c.args.block; pos = c.args.pos }) (standing_of f).state c.in-Growing.is c.requires.sound c.in_ok-add-in-Growing-2.ensures.ok c.in_ok-add-in-Growing-2.ensures.certificate (omega (arith, fits, limit, counted, c.requires.octets));
+      state = certificate_more limits c.args.self.now.state c.in-Growing.field-0 c.add.new.self given _ (record { packet = c.args.member; block = c.args.block; pos = c.args.pos }) (standing_of f).state c.in-Growing.is (subst (λ (l : Limits). HasNoFault (malformed_of l) c.args.member) f.limits_kept c.requires.sound) c.in_ok-add-in-Growing-2.ensures.ok c.in_ok-add-in-Growing-2.ensures.certificate (omega (arith, fits, limit, counted, c.requires.octets));
     })
 
 pub unreachable-requires : goal.unreachable-requires

@@ -1,5 +1,7 @@
 use Rattle.std.proofs.Common.{◌≡◌, ◌+◌, ◌<◌, ◌≤◌, ◌++◌, length, ap, sym, subst, ◌∙◌, arith}
-use Rattle.opgp_octets.specs.Limits.{cert_limit}
+use Rattle.opgp_octets.specs.declared.limits.Limits.{Limits}
+use Rattle.opgp_octets.specs.Limits.{cert_limit, malformed_of}
+use Rattle.opgp_ring.specs.Bodies.{HasNoFault}
 use Rattle.opgp_frame.specs.Packet.{spelling}
 use Rattle.opgp_ring.specs.Composition.{of_packet}
 use Rattle.opgp_ring.proofs.Standing.{IsIn}
@@ -18,7 +20,7 @@ returns-in-Leading-clause-fed c limits given taken f =
     let counted : octets_of c.in-Leading.field-0 ≡ size = ap open_octets (sym c.in-Leading.is) ∙ c.args.self.now.counted in
     let short : size ≤ c.cert.result = omega (arith, c.args.self.now.short, c.cert.ensures.value) in
     let long : c.cert.result < size + c.args.octets = room_short c.cert.result size c.args.octets short c.if-octets-room.true in
-    c.refuse.ensures.fed limits given taken (of_packet (record { packet = c.args.filler; block = c.args.block; pos = c.args.pos })) (fed_of (record { limits_kept = f.limits_kept; state = subst (λ (s : State). IsIn limits s given (taken ++ ready_parts c.args.self.now.ready)) c.in-Leading.is (standing_of f).state })) c.requires.sound
+    c.refuse.ensures.fed limits given taken (of_packet (record { packet = c.args.filler; block = c.args.block; pos = c.args.pos })) (fed_of (record { limits_kept = f.limits_kept; state = subst (λ (s : State). IsIn limits s given (taken ++ ready_parts c.args.self.now.ready)) c.in-Leading.is (standing_of f).state })) (subst (λ (l : Limits). HasNoFault (malformed_of l) c.args.filler) f.limits_kept c.requires.sound)
     (λ _. lead_long limits c.args.self.now.state c.in-Leading.field-0 given _ (record { packet = c.args.filler; block = c.args.block; pos = c.args.pos }) (standing_of f).state c.in-Leading.is c.requires.filler (omega (arith, long, limit, counted, c.requires.octets)))
 
 pub invariant_of-self-in-Leading-2 : goal.invariant_of-self-in-Leading-2
@@ -43,7 +45,7 @@ returns-in_ok-push-in-Leading-2-clause-fed c limits given taken f =
     let fits : size + c.args.octets ≤ c.cert.result = room_fits c.cert.result size c.args.octets short c.if-octets-room.false in
     fed_of (record {
       limits_kept = f.limits_kept;
-      state = lead_more limits c.args.self.now.state c.in-Leading.field-0 c.push.new.self given _ (record { packet = c.args.filler; block = c.args.block; pos = c.args.pos }) (standing_of f).state c.in-Leading.is c.requires.sound c.requires.filler (omega (arith, fits, limit, counted, c.requires.octets)) c.in_ok-push-in-Leading-2.ensures.ok;
+      state = lead_more limits c.args.self.now.state c.in-Leading.field-0 c.push.new.self given _ (record { packet = c.args.filler; block = c.args.block; pos = c.args.pos }) (standing_of f).state c.in-Leading.is (subst (λ (l : Limits). HasNoFault (malformed_of l) c.args.filler) f.limits_kept c.requires.sound) c.requires.filler (omega (arith, fits, limit, counted, c.requires.octets)) c.in_ok-push-in-Leading-2.ensures.ok;
     })
 
 pub unreachable-requires : goal.unreachable-requires

@@ -1,5 +1,7 @@
 use Rattle.std.proofs.Common.{is_some, refl, ap, ◌∙◌, subst}
+use Rattle.opgp_octets.specs.declared.malformed.Malformed.{Malformed}
 use Rattle.opgp_frame.specs.Packet.{PacketValue}
+use Rattle.opgp_ring.specs.Bodies.{HasFault}
 use Rattle.opgp_ring.specs.Composition.{of_packet}
 use Rattle.opgp_ring.specs.Fed.{TakesIn}
 use Rattle.opgp_ring.specs.declared.ready.Ready.{Ready}
@@ -31,8 +33,9 @@ pub returns-in-Err : goal.returns-in-Err
 returns-in-Err c =
     let old = c.args.self.now in
     let new = c.break_off.new.self in
+    let placed = c.args.placed in
     record {
-      fed = kept_one old new (of_packet c.args.placed) (c.break_off.ensures.fed c.args.placed.packet c.in-Err.ensures.form.octets c.in-Err.ensures.fault);
+      fed = kept_one old new (of_packet c.args.placed) (c.break_off.ensures.fed c.args.placed.packet c.in-Err.ensures.form.octets (subst (λ (m : Malformed). HasFault m placed.packet c.in-Err.fault) c.malformed.ensures c.in-Err.ensures.fault));
       quiet = λ faulty. ap (is_some {T = Ready}) c.break_off.ensures.ready ∙ c.requires;
       faulty = λ faulty. (refl, ap (is_some {T = Ready}) c.break_off.ensures.ready ∙ c.requires);
       stays = c.break_off.ensures.stays;

@@ -77,8 +77,8 @@ pub mod ring {
     pub use opgp_ring::{
         BlockOf, Certificate, Component, Composer, Content, Gathering, Head, Keeper, Keyring, Lead,
         Member, Packets, Part, Ready, Signatures, SignedGathering, SignedLiteral, body_fault,
-        check_bodies, compose, compose_signed, end_fits, flatten, join, laws, normalise, nth,
-        packet_fault,
+        check_bodies, check_bodies_by, compose, compose_signed, compose_signed_by, end_fits,
+        flatten, join, laws, normalise, nth, packet_fault,
     };
 }
 

@@ -6,7 +6,7 @@ use crate::frame::add_form;
 use crate::given::Given;
 use crate::octets::limits_of;
 use opgp_frame::{Deframe, Placed, write_packet};
-use opgp_octets::{Limits, Malformed};
+use opgp_octets::Limits;
 use opgp_ring::{
     BlockOf, Certificate, Component, Content, Head, Keyring, Member, check_bodies, compose,
     flatten, join, normalise, nth,
@@ -275,7 +275,7 @@ fn add_block(block: &BlockOf, answer: &mut Answer) -> Result<(), End> {
 
 /// `check_bodies [LABEL OCTETS]..`: the first fault of the bodies of blocks.
 fn bodies_checked(alloc: Global, given: &Given, answer: &mut Answer) -> Result<(), End> {
-    match check_bodies(&blocks_of(alloc, given)?, Malformed::Refuse) {
+    match check_bodies(&blocks_of(alloc, given)?) {
         Some(fault) => answer.fault(&fault),
         None => answer.word("whole"),
     }

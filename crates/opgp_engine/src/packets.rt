@@ -13,7 +13,7 @@ use crate::receiver::Receiver;
 use opgp_armor::Label;
 use opgp_frame::Placed;
 use opgp_octets::{Fault, Malformed, OutOfMemory};
-use opgp_ring::{BlockOf, check_bodies};
+use opgp_ring::{BlockOf, check_bodies_by};
 use std::alloc::Global;
 
 /// The blocks of an input with their packets. Any label is accepted.
@@ -74,7 +74,7 @@ impl Receiver for PacketBlocks {
     }
 
     fn finish(self) -> Result<Result<Vec<BlockOf>, Fault>, OutOfMemory> {
-        match check_bodies(&self.blocks, self.malformed) {
+        match check_bodies_by(&self.blocks, self.malformed) {
             None => Ok(Ok(self.blocks)),
             Some(fault) => Ok(Err(fault)),
         }

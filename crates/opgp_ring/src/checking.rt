@@ -1,6 +1,7 @@
 //! The faults of packets' bodies.
 
 ghost use Rattle.std.specs.Prelude.{All, MatchOption};
+ghost use Rattle.opgp_octets.specs.declared.malformed.Malformed.TheVariants.{Refuse};
 ghost use Rattle.opgp_ring.specs.Bodies.{IsSound, IsFirstBodyFault, IsPlacedFault};
 ghost use Rattle.opgp_ring.specs.Block.{placed_of};
 
@@ -12,8 +13,16 @@ use opgp_octets::{Fault, Malformed, PacketType};
 /// The fault of the first packet whose body has one, in order of blocks (RFC 9580, 5). Takes no
 /// memory.
 ///
-/// Keys, literals and user attributes can have one, and signatures where malformed ones are refused.
-pub fn check_bodies(blocks: &[BlockOf], malformed: Malformed) -> Option<Fault>
+/// Keys, signatures, literals and user attributes can have one.
+pub fn check_bodies(blocks: &[BlockOf]) -> Option<Fault>
+    ensures { MatchOption result (All (IsSound Refuse) (placed_of blocks.now))
+        (IsFirstBodyFault Refuse (placed_of blocks.now)) }
+{
+    check_bodies_by(blocks, Malformed::Refuse)
+}
+
+/// The same, by this policy for malformed signatures: where they are kept, no signature has a fault.
+pub fn check_bodies_by(blocks: &[BlockOf], malformed: Malformed) -> Option<Fault>
     ensures { MatchOption result (All (IsSound malformed) (placed_of blocks.now))
         (IsFirstBodyFault malformed (placed_of blocks.now)) }
 {

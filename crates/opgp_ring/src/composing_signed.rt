@@ -1,6 +1,7 @@
 //! Composing a signed literal from blocks of packets.
 
 ghost use Rattle.std.specs.Prelude.{◌<◌, ◌^◌, IfOk, MatchResult};
+ghost use Rattle.opgp_octets.specs.declared.malformed.Malformed.TheVariants.{Refuse};
 ghost use Rattle.opgp_ring.specs.Block.{items_of};
 ghost use Rattle.opgp_ring.specs.Signed.{IsSignedFault, IsSignedOf, end_pos};
 ghost use Rattle.opgp_ring.specs.SignedGathering.{GathersSigned};
@@ -23,6 +24,21 @@ use std::alloc::Global;
 ///
 /// Fails only when out of memory.
 pub fn compose_signed(
+    alloc: Global,
+    blocks: Vec<BlockOf>,
+) -> Result<Result<SignedLiteral, Fault>, OutOfMemory>
+    requires { end_pos (items_of blocks.items) < 2 ^ 64 }
+    ensures { IfOk result (λ r. MatchResult r
+        (λ l. IsSignedOf Refuse (items_of blocks.items) (signed_packets l))
+        (IsSignedFault Refuse (items_of blocks.items))) }
+{
+    compose_signed_by(alloc, blocks, Malformed::Refuse)
+}
+
+/// The same, by this policy for malformed signatures. The condition is that of [`compose_signed`].
+///
+/// Fails only when out of memory.
+pub fn compose_signed_by(
     alloc: Global,
     blocks: Vec<BlockOf>,
     malformed: Malformed,

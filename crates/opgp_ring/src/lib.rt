@@ -33,11 +33,11 @@ mod sorted;
 
 pub use block_of::BlockOf;
 pub use certificate::Certificate;
-pub use checking::{check_bodies, packet_fault};
+pub use checking::{check_bodies, check_bodies_by, packet_fault};
 pub use component::Component;
 pub use composer::Composer;
 pub use composing::compose;
-pub use composing_signed::compose_signed;
+pub use composing_signed::{compose_signed, compose_signed_by};
 pub use content::Content;
 pub use ending::end_fits;
 pub use flattening::flatten;

@@ -169,7 +169,7 @@ fn signed(rt: &impl Abort, alloc: Global) -> Option<SignedLiteral> {
     if !end_fits(&blocks) {
         panic!(rt; "past 2^64");
     }
-    match compose_signed(alloc, blocks, Malformed::Refuse) {
+    match compose_signed(alloc, blocks) {
         Ok(Ok(literal)) => Some(literal),
         Ok(Err(_)) => panic!(rt; "refused"),
         Err(_) => None,

@@ -2,7 +2,7 @@
 
 use crate::reading::{blocks_of, joined, packets_of, written};
 use opgp_octets::{Fault, Malformed, fault_line};
-use opgp_ring::{SignedLiteral, compose_signed, end_fits};
+use opgp_ring::{SignedLiteral, compose_signed, compose_signed_by, end_fits};
 use std::alloc::Global;
 use std::process::Abort;
 use std::test::Fail;
@@ -40,7 +40,7 @@ fn composed(
     if !end_fits(&blocks) {
         return Err("past 2^64".into());
     }
-    Ok(compose_signed(alloc, blocks, Malformed::Refuse)?)
+    Ok(compose_signed(alloc, blocks)?)
 }
 
 /// How many packets there are and how many signatures, and the content; or the fault.
@@ -119,7 +119,7 @@ fn a_malformed_signature_is_kept(rt: HostRuntime) -> Result<(), Fail> {
     if !end_fits(&blocks) {
         return Err("past 2^64".into());
     }
-    match compose_signed(alloc, blocks, Malformed::Keep)? {
+    match compose_signed_by(alloc, blocks, Malformed::Keep)? {
         Ok(literal) => {
             let mut left = literal.signatures();
             assert!(rt; matches!(left.next(), Some(Err(_))));

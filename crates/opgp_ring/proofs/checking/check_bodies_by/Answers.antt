@@ -5,7 +5,7 @@ use Rattle.opgp_frame.specs.declared.packet.Placed.{Placed}
 use Rattle.opgp_ring.specs.Block.{placed_of}
 use Rattle.opgp_ring.specs.Bodies.{IsSound, IsFirstBodyFault}
 use Rattle.opgp_ring.proofs.FirstBodyFaults.{first_block}
-use Rattle.opgp_ring.proofs.checking.check_bodies.Goals as goal
+use Rattle.opgp_ring.proofs.checking.check_bodies_by.Goals as goal
 
 pub returns-in-Some : goal.returns-in-Some
 returns-in-Some c =

@@ -1,7 +1,7 @@
 use Rattle.std.proofs.Common.{All, take}
 use Rattle.opgp_ring.specs.Bodies.{IsSound}
 use Rattle.opgp_ring.specs.Block.{placed_of}
-use Rattle.opgp_ring.proofs.checking.check_bodies.Given as goal
+use Rattle.opgp_ring.proofs.checking.check_bodies_by.Given as goal
 
 -- the packets of the blocks so far are sound
 abbrev pub invariant-loop-block : goal.invariant-loop-block

@@ -9,8 +9,8 @@ import re
 
 ALPHABET = b"ABCDEFGHIJKLMNOPQRSTUVWXYZabcdefghijklmnopqrstuvwxyz0123456789+/"
 LABELS = (b"MESSAGE", b"PUBLIC KEY BLOCK", b"PRIVATE KEY BLOCK", b"SIGNATURE")
-Limits = collections.namedtuple("Limits", "line body cert pieces outside")
-USUAL = Limits(8192, 1 << 24, 1 << 26, 1 << 20, "skip")
+Limits = collections.namedtuple("Limits", "line body cert pieces outside malformed")
+USUAL = Limits(8192, 1 << 24, 1 << 26, 1 << 20, "skip", "refuse")
 
 
 class Refused(Exception):
@@ -328,7 +328,7 @@ class Signature:
         self.body, self.version = body, it.take(1)[0]
         self.hashed = self.unhashed = ()
         if self.version == 3 and three_fits(body):
-            self.kind, self.algorithm, self.hash = body[2], body[15], body[16]
+            self.kind, self.algorithm, self.hash, self.left = body[2], body[15], body[16], body[17:19]
             return
         if self.version not in (4, 6):
             self.version = 0
@@ -346,6 +346,14 @@ class Signature:
                 raise Unfit("SaltSize", begin)
             self.salt = it.take(size, begin)
         signature_material(it, self.algorithm, self.version == 6)
+
+
+def kept_signature(body):
+    """The signature of a packet that was read: one whose body isn't a signature's was kept, and is opaque."""
+    try:
+        return Signature(body)
+    except Unfit:
+        return Signature(b"\0")
 
 
 def literal_fields(body):
@@ -366,8 +374,10 @@ CHECKS = {
 }
 
 
-def check_bodies(packets):
+def check_bodies(packets, limits):
     for block, at, kind, _, body, _ in packets:
+        if kind == 2 and limits.malformed == "keep":
+            continue
         try:
             CHECKS.get(kind, len)(body)
         except Unfit as fault:
@@ -548,7 +558,23 @@ def key_id(body):
     return fingerprint(body)[:8] if body[0] == 6 else fingerprint(body)[-8:]
 
 
-def listed(kind, body):
+def issuer_of(it):
+    """The fingerprint or the key ID that a signature names, or no octets."""
+    if it.version == 3:
+        return it.body[7:15]
+    prints = [octets[1:] for octet, _, octets in it.hashed if octet & 127 == 33 and meaning(33, octets) == "typed"]
+    ids = [octets for octet, _, octets in (*it.hashed, *it.unhashed) if octet & 127 == 16 and len(octets) == 8]
+    return (prints + ids + [b""])[0]
+
+
+def stated(it):
+    """What the line of a signature goes on with in list --values."""
+    times = [it.body[3:7]] if it.version == 3 else [octets for octet, _, octets in it.hashed if octet & 127 == 2 and len(octets) == 4]
+    created = number(times[0]) if times else "-"
+    return f" left {it.left.hex().upper()} created {created} issuer {issuer_of(it).hex().upper() or '-'}"
+
+
+def listed(kind, body, values=False):
     if kind in (6, 14):
         names = f"{fingerprint(body).hex().upper()} {key_id(body).hex().upper()}"
         return f"{'pub' if kind == 6 else 'sub'} v{body[0]} alg {body[5]} created {number(body[1:5])} {names}"
@@ -557,8 +583,9 @@ def listed(kind, body):
     if kind == 17:
         return f"uat {len(subpackets_of(body, 0, False))}"
     if kind == 2:
-        it = Signature(body)
-        return f"sig v{it.version} type {it.kind:02X} alg {it.algorithm} hash {it.hash}" if it.version else f"sig opaque {len(body)}"
+        it = kept_signature(body)
+        line = f"sig v{it.version} type {it.kind:02X} alg {it.algorithm} hash {it.hash}" if it.version else f"sig opaque {len(body)}"
+        return line + stated(it) if values and it.version else line
     return f"pkt {kind} {len(body)}"
 
 
@@ -571,7 +598,7 @@ def shown(packets, values):
             octet, name, date, content = literal_fields(body)
             yield f"  lit format {quoted(octet)} name {quoted(name)} date {number(date)} length {len(content)}"
         if kind == 2:
-            it = Signature(body)
+            it = kept_signature(body)
             for area, subpackets in (("hashed", it.hashed), ("unhashed", it.unhashed)):
                 for octet, n, octets in subpackets:
                     line = f"  {area} kind {octet & 127} critical {octet >> 7} length {n} {meaning(octet & 127, octets)}"
@@ -724,7 +751,7 @@ def reported(packets, certificates):
                 signature = packets[index][4]
                 where = f"cert {c} part {k - 1 if k else '-'} hang {h} nested"
                 rows.append((f"{where} -", *found(signature, place, primary, body, keys)))
-                it = Signature(signature)
+                it = kept_signature(signature)
                 if place == 14 and it.version in (4, 6) and it.kind == 0x18:
                     inside = [octets for octet, _, octets in (*it.hashed, *it.unhashed) if octet & 127 == 32]
                     for e, octets in enumerate(inside):
@@ -760,6 +787,12 @@ def hashed(rows, n):
     return 0, rows[n], b""
 
 
+def all_hashed(rows):
+    """The octets of each row that asks something, behind a line."""
+    texts = [f"row {n} length {len(it)}\n".encode() + it for n, it in enumerate(rows) if it is not None]
+    return 0, b"".join(texts), b""
+
+
 def hashed_of_a_literal(literal, signatures):
     """Of each signature of a signed literal the octets that it hashes, or None."""
     for body in signatures:
@@ -768,28 +801,30 @@ def hashed_of_a_literal(literal, signatures):
 
 
 def answer(command, octets, row=0, limits=USUAL, bare=False):
-    """The status, the standard output and the standard error. The commands are list, show, values (show --values), check, octets,
-    literal (octets --of literal), and those of written()."""
+    """The status, the standard output and the standard error. The commands are list, stated (list --values), show, values (show
+    --values), check, octets, all (octets --all), literal (octets --of literal), and those of written()."""
     wanted = b"MESSAGE" if command == "literal" else b"PUBLIC KEY BLOCK"
     try:
         binary = not octets or octets[0] >= 128
         blocks = [(wanted, octets)] if binary else dearmored(octets, limits)
         packets = framed(blocks, limits)
-        check_bodies(packets)
+        check_bodies(packets, limits)
         if command == "literal":
             return hashed(list(hashed_of_a_literal(*signed(blocks, packets))), row)
         lead, certificates = compose(blocks, packets, limits) if command not in ("show", "values") else ([], [])
     except Refused as refused:
         return 1, b"", refused.args[0]
-    if command not in ("list", "show", "values", "check", "octets"):
+    if command not in ("list", "stated", "show", "values", "check", "octets", "all"):
         return written(command, blocks, packets, lead, certificates, row, bare)
     if command in ("show", "values"):
         lines = shown(packets, command == "values")
-    elif command == "list":
-        lines = (listed(*it[2:5:2]) for it in packets)
+    elif command in ("list", "stated"):
+        lines = (listed(*it[2:5:2], command == "stated") for it in packets)
     else:
         rows = reported(packets, certificates)
         if command == "octets":
             return hashed([it[2] for it in rows], row)
+        if command == "all":
+            return all_hashed([it[2] for it in rows])
         lines = (f"row {n} {where} : {line}" for n, (where, line, _) in enumerate(rows))
     return 0, "".join(f"{it}\n" for it in lines).encode(), b""

@@ -1,7 +1,7 @@
 # Completion of opgp for bash.
 _opgp() {
     local word=${COMP_WORDS[COMP_CWORD]} before=${COMP_WORDS[COMP_CWORD - 1]} words
-    local limits="--mode --outside --line --body --cert --input --pieces --progress --spool --help"
+    local limits="--mode --outside --malformed --line --body --cert --input --pieces --progress --spool --help"
     # Bash takes --out=binary for three words.
     if [ "$word" = = ]; then
         word=
@@ -14,6 +14,7 @@ _opgp() {
         case $before in
             --mode) words="auto armor binary" ;;
             --outside) words="skip refuse" ;;
+            --malformed) words="refuse keep" ;;
             --out) words="armor binary" ;;
             --of) words="ring literal" ;;
             --row | --nth | --key | --line | --body | --cert | --input | --pieces)
@@ -26,9 +27,9 @@ _opgp() {
                 ;;
             *)
                 case ${COMP_WORDS[1]} in
-                    show) words="--values $limits" ;;
-                    list | check) words=$limits ;;
-                    octets) words="--row --of $limits" ;;
+                    show | list) words="--values $limits" ;;
+                    check) words=$limits ;;
+                    octets) words="--row --all --of $limits" ;;
                     write | normalise) words="--out $limits" ;;
                     split) words="--out --nth --key $limits" ;;
                     join) words="--out --merge $limits" ;;

@@ -6,7 +6,7 @@ _opgp() {
         'show:lists every packet and every subpacket'
         'list:lists the packets of a keyring'
         'check:lists the signatures of a keyring'
-        'octets:writes the octets that one signature hashes'
+        'octets:writes the octets that signatures hash'
         'write:writes a keyring, its framing kept'
         'normalise:writes a keyring in the current format'
         'split:writes each certificate apart, or some of them'
@@ -16,6 +16,7 @@ _opgp() {
     limits=(
         '--mode=[how the input is read]:mode:(auto armor binary)'
         '--outside=[what becomes of lines outside of armored blocks]:policy:(skip refuse)'
+        '--malformed=[what becomes of malformed signatures]:policy:(refuse keep)'
         '--line=[the most octets of an armored line]:number:'
         '--body=[the most octets of a packet'"'"'s body]:number:'
         '--cert=[the most octets of a certificate]:number:'
@@ -32,8 +33,9 @@ _opgp() {
     fi
     case $words[2] in
         show) shift words; ((CURRENT--)); _arguments $limits '--values[shows the fields of each packet, and what each subpacket means]' ;;
-        list | check) shift words; ((CURRENT--)); _arguments $limits ;;
-        octets) shift words; ((CURRENT--)); _arguments $limits '--row=[the number of the row]:number:' '--of=[what the input is read as]:top:(ring literal)' ;;
+        list) shift words; ((CURRENT--)); _arguments $limits '--values[shows the left 16 bits, the creation time and the issuer of each signature]' ;;
+        check) shift words; ((CURRENT--)); _arguments $limits ;;
+        octets) shift words; ((CURRENT--)); _arguments $limits '--row=[the number of the row]:number:' '--all[writes those of every row, each behind a line of its own]' '--of=[what the input is read as]:top:(ring literal)' ;;
         write | normalise) shift words; ((CURRENT--)); _arguments $limits $out ;;
         split) shift words; ((CURRENT--)); _arguments $limits $out '--nth=[the number of the certificate]:number:' '--key=[the fingerprint or key ID of a key]:key:' ;;
         join) shift words; ((CURRENT--)); _arguments $limits $out '--merge[makes certificates of one primary key one]' ;;

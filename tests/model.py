@@ -328,7 +328,7 @@ class Signature:
         self.body, self.version = body, it.take(1)[0]
         self.hashed = self.unhashed = ()
         if self.version == 3 and three_fits(body):
-            self.kind, self.algorithm, self.hash = body[2], body[15], body[16]
+            self.kind, self.algorithm, self.hash, self.left = body[2], body[15], body[16], body[17:19]
             return
         if self.version not in (4, 6):
             self.version = 0
@@ -348,7 +348,7 @@ class Signature:
         signature_material(it, self.algorithm, self.version == 6)
 
 
-def as_kept(body):
+def kept_signature(body):
     """A signature packet's body, read; one that is malformed is opaque."""
     try:
         return Signature(body)
@@ -560,7 +560,23 @@ def key_id(body):
     return fingerprint(body)[:8] if body[0] == 6 else fingerprint(body)[-8:]
 
 
-def listed(kind, body):
+def issuer_of(it):
+    """The fingerprint or the key ID that a signature names, or no octets."""
+    if it.version == 3:
+        return it.body[7:15]
+    prints = [octets[1:] for octet, _, octets in it.hashed if octet & 127 == 33 and meaning(33, octets) == "typed"]
+    ids = [octets for octet, _, octets in (*it.hashed, *it.unhashed) if octet & 127 == 16 and len(octets) == 8]
+    return (prints + ids + [b""])[0]
+
+
+def stated(it):
+    """What the line of a signature goes on with in list --values."""
+    times = [it.body[3:7]] if it.version == 3 else [octets for octet, _, octets in it.hashed if octet & 127 == 2 and len(octets) == 4]
+    created = number(times[0]) if times else "-"
+    return f" left {it.left.hex().upper()} created {created} issuer {issuer_of(it).hex().upper() or '-'}"
+
+
+def listed(kind, body, values=False):
     if kind in (6, 14):
         names = f"{fingerprint(body).hex().upper()} {key_id(body).hex().upper()}"
         return f"{'pub' if kind == 6 else 'sub'} v{body[0]} alg {body[5]} created {number(body[1:5])} {names}"
@@ -569,8 +585,9 @@ def listed(kind, body):
     if kind == 17:
         return f"uat {len(subpackets_of(body, 0, False))}"
     if kind == 2:
-        it = as_kept(body)
-        return f"sig v{it.version} type {it.kind:02X} alg {it.algorithm} hash {it.hash}" if it.version else f"sig opaque {len(body)}"
+        it = kept_signature(body)
+        line = f"sig v{it.version} type {it.kind:02X} alg {it.algorithm} hash {it.hash}" if it.version else f"sig opaque {len(body)}"
+        return line + stated(it) if values and it.version else line
     return f"pkt {kind} {len(body)}"
 
 
@@ -583,7 +600,7 @@ def shown(packets, values):
             octet, name, date, content = literal_fields(body)
             yield f"  lit format {quoted(octet)} name {quoted(name)} date {number(date)} length {len(content)}"
         if kind == 2:
-            it = as_kept(body)
+            it = kept_signature(body)
             for area, subpackets in (("hashed", it.hashed), ("unhashed", it.unhashed)):
                 for octet, n, octets in subpackets:
                     line = f"  {area} kind {octet & 127} critical {octet >> 7} length {n} {meaning(octet & 127, octets)}"
@@ -736,7 +753,7 @@ def reported(packets, certificates):
                 signature = packets[index][4]
                 where = f"cert {c} part {k - 1 if k else '-'} hang {h} nested"
                 rows.append((f"{where} -", *found(signature, place, primary, body, keys)))
-                it = as_kept(signature)
+                it = kept_signature(signature)
                 if place == 14 and it.version in (4, 6) and it.kind == 0x18:
                     inside = [octets for octet, _, octets in (*it.hashed, *it.unhashed) if octet & 127 == 32]
                     for e, octets in enumerate(inside):
@@ -772,6 +789,12 @@ def hashed(rows, n):
     return 0, rows[n], b""
 
 
+def all_hashed(rows):
+    """The octets of each row that asks something, behind a line."""
+    texts = [f"row {n} length {len(it)}\n".encode() + it for n, it in enumerate(rows) if it is not None]
+    return 0, b"".join(texts), b""
+
+
 def hashed_of_a_literal(literal, signatures):
     """Of each signature of a signed literal the octets that it hashes, or None."""
     for body in signatures:
@@ -780,8 +803,8 @@ def hashed_of_a_literal(literal, signatures):
 
 
 def answer(command, octets, row=0, limits=USUAL, bare=False):
-    """The status, the standard output and the standard error. The commands are list, show, values (show --values), check, octets,
-    literal (octets --of literal), and those of written()."""
+    """The status, the standard output and the standard error. The commands are list, stated (list --values), show, values (show
+    --values), check, octets, all (octets --all), literal (octets --of literal), and those of written()."""
     wanted = b"MESSAGE" if command == "literal" else b"PUBLIC KEY BLOCK"
     try:
         binary = not octets or octets[0] >= 128
@@ -793,15 +816,17 @@ def answer(command, octets, row=0, limits=USUAL, bare=False):
         lead, certificates = compose(blocks, packets, limits) if command not in ("show", "values") else ([], [])
     except Refused as refused:
         return 1, b"", refused.args[0]
-    if command not in ("list", "show", "values", "check", "octets"):
+    if command not in ("list", "stated", "show", "values", "check", "octets", "all"):
         return written(command, blocks, packets, lead, certificates, row, bare)
     if command in ("show", "values"):
         lines = shown(packets, command == "values")
-    elif command == "list":
-        lines = (listed(*it[2:5:2]) for it in packets)
+    elif command in ("list", "stated"):
+        lines = (listed(*it[2:5:2], command == "stated") for it in packets)
     else:
         rows = reported(packets, certificates)
         if command == "octets":
             return hashed([it[2] for it in rows], row)
+        if command == "all":
+            return all_hashed([it[2] for it in rows])
         lines = (f"row {n} {where} : {line}" for n, (where, line, _) in enumerate(rows))
     return 0, "".join(f"{it}\n" for it in lines).encode(), b""

@@ -1,3 +1,5 @@
+mod AllRows
+mod GoingOn
 mod KeptOf
 mod KeyLines
 pub mod KeyTexts

@@ -80,6 +80,11 @@ asked_push cs c =
 asked_alone : (c : CertificateValue) → asked_of (record { lead = []; certificates = c ∷ [] }) ≡ certificate_asked c
 asked_alone c = ring_asks (record { lead = []; certificates = c ∷ [] }) ∙ append-nil (certificate_asked c)
 
+-- the rows of one certificate more
+pub all_pushed : (parts : List PartValue) (c : CertificateValue) → asked_among (certificates_in parts) ++ asked_of (record { lead = []; certificates = c ∷ [] }) ≡ asked_among (certificates_in (parts ++ of_certificate c ∷ []))
+all_pushed parts c =
+    ap (λ (l : List Asked). asked_among (certificates_in parts) ++ l) (asked_alone c) ∙ sym (ap asked_among (certificate_push parts c) ∙ asked_push (certificates_in parts) c)
+
 count_asked : (c : CertificateValue) → length (certificate_asked c) ≡ length (certificate_standing 0 c)
 count_asked c = ap (λ (l : List Asked). length l) (sym (certificate_asks 0 c)) ∙ length-map (certificate_standing 0 c) asked_by
 

@@ -44,9 +44,11 @@ by_top : (P : (Task → List ℕ → Made → Type 0) → Type 0) → ((make : L
 by_top P packets ring literal action.Show = packets _
 by_top P packets ring literal action.ShowValues = packets _
 by_top P packets ring literal action.List = ring _
+by_top P packets ring literal action.ListValues = ring _
 by_top P packets ring literal action.Check = ring _
 by_top P packets ring literal (action.Octets row top.Ring) = ring _
 by_top P packets ring literal (action.Octets row top.Literal) = literal _
+by_top P packets ring literal action.OctetsAll = ring _
 by_top P packets ring literal (action.Write out) = ring _
 by_top P packets ring literal (action.Normalise out) = ring _
 by_top P packets ring literal (action.Split out None) = ring _

@@ -11,7 +11,8 @@ use Rattle.opgp_ring.specs.Parts.{normal_part, part_packets}
 use Rattle.opgp_engine.specs.declared.out.Out.{Out}
 use Rattle.opgp_engine.specs.Writing.{certificates_text, packets_text}
 use Rattle.opgp_stack.specs.Listing.{listing, packet_line}
-use Rattle.opgp_stack.specs.Parts.{certificate_text, normal_octets, part_lines, part_octets}
+use Rattle.opgp_stack.specs.Parts.{certificate_text, normal_octets, part_lines, part_octets, part_valued_lines}
+use Rattle.opgp_stack.specs.ValuedListing.{valued_listing, valued_packet_line}
 
 -- a part more
 pub text_push : (text : PartValue → List ℕ) (parts : List PartValue) (part : PartValue) → flat_map text parts ++ text part ≡ flat_map text (parts ++ part ∷ [])
@@ -36,6 +37,9 @@ flat_text f r =
 
 pub lines_text : (r : KeyringValue) → flat_map part_lines (parts_of r) ≡ listing (flat r)
 lines_text r = flat_text packet_line r
+
+pub valued_lines_text : (r : KeyringValue) → flat_map part_valued_lines (parts_of r) ≡ valued_listing (flat r)
+valued_lines_text r = flat_text valued_packet_line r
 
 pub packets_text_of : (r : KeyringValue) → flat_map part_octets (parts_of r) ≡ packets_octets (flat r)
 packets_text_of r = flat_text spelling r

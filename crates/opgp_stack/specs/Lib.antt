@@ -1,3 +1,4 @@
+pub mod AllOctets
 pub mod ByKey
 pub mod Faults
 pub mod Hashing
@@ -13,3 +14,4 @@ pub mod Running
 pub mod Showing
 pub mod Shown
 pub mod Values
+pub mod ValuedListing

@@ -63,10 +63,13 @@ key_line word body = let fields = key_fields_in body in
     key_text word (number_at fields 0) (number_at fields 1) (number_at fields 2) body
 
 -- `sig v<version> type <T> alg <n> hash <n>`, the type in two hexadecimal digits
-abbrev pub typed_text : ℕ → ℕ → ℕ → ℕ → List ℕ
-typed_text version kind algorithm hash =
+abbrev pub typed_start : ℕ → ℕ → ℕ → ℕ → List ℕ
+typed_start version kind algorithm hash =
     codes "sig v" ++ decimal version ++ codes " type " ++ encode_upper (kind ∷ [])
-    ++ codes " alg " ++ decimal algorithm ++ codes " hash " ++ decimal hash ++ codes "\n"
+    ++ codes " alg " ++ decimal algorithm ++ codes " hash " ++ decimal hash
+
+abbrev pub typed_text : ℕ → ℕ → ℕ → ℕ → List ℕ
+typed_text version kind algorithm hash = typed_start version kind algorithm hash ++ codes "\n"
 
 -- `sig opaque <length>`
 abbrev pub opaque_text : ℕ → List ℕ

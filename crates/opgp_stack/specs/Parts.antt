@@ -11,10 +11,15 @@ use Rattle.opgp_engine.specs.declared.out.Out.{Out}
 use Rattle.opgp_engine.specs.Reading.{Outcome}
 use Rattle.opgp_engine.specs.Writing.{packets_text}
 use Rattle.opgp_stack.specs.Listing.{listing}
+use Rattle.opgp_stack.specs.ValuedListing.{valued_listing}
 
 -- the lines of its listing
 abbrev pub part_lines : PartValue → List ℕ
 part_lines part = listing (part_packets part)
+
+-- those with values
+abbrev pub part_valued_lines : PartValue → List ℕ
+part_valued_lines part = valued_listing (part_packets part)
 
 -- its packets, as they are and in the current format
 abbrev pub part_octets : PartValue → List ℕ

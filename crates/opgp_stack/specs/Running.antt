@@ -25,6 +25,7 @@ use Rattle.opgp_stack.specs.declared.task.Action.TheVariants as action
 use Rattle.opgp_engine.specs.declared.out.Out.{Out}
 use Rattle.opgp_stack.specs.declared.task.Top.TheVariants as top
 use Rattle.opgp_stack.specs.declared.task.Task.{Task}
+use Rattle.opgp_stack.specs.AllOctets.{octets_rows}
 use Rattle.opgp_stack.specs.Hashing.{message_asked}
 use Rattle.opgp_engine.specs.Draft.{IsDrafted}
 use Rattle.opgp_engine.specs.Keyrings.{ComposesTo, key_label}
@@ -35,6 +36,7 @@ use Rattle.opgp_engine.specs.Pulled.{OfAll}
 use Rattle.opgp_engine.specs.Reading.{AnswerOf, Outcome, Wanted}
 use Rattle.opgp_stack.specs.Report.{report_lines}
 use Rattle.opgp_stack.specs.Showing.{shown_blocks}
+use Rattle.opgp_stack.specs.ValuedListing.{valued_listing}
 use Rattle.opgp_stack.specs.Values.{valued_blocks}
 use Rattle.opgp_engine.specs.Signed.{AreSigned, message_label}
 use Rattle.opgp_engine.specs.Writing.{certificates_text, packets_text}
@@ -95,11 +97,13 @@ abbrev pub MakesBy : Action → Task → List ℕ → Made → Type 0
 MakesBy action.Show = OfPackets (λ blocks. Text (shown_blocks blocks))
 MakesBy action.ShowValues = OfPackets (λ blocks. Text (valued_blocks blocks))
 MakesBy action.List = OfRing (λ r. Text (listing (flat r)))
+MakesBy action.ListValues = OfRing (λ r. Text (valued_listing (flat r)))
 MakesBy action.Check = OfRing (λ r. Text (report_lines 0 (report_of says_left r)))
 MakesBy (action.Octets row top.Ring) =
     OfRing (λ r. question_made (question_in (slice_get (asked_of r) row)))
 MakesBy (action.Octets row top.Literal) =
     OfLiteral (λ packets. question_made (question_in (slice_get (message_asked packets) row)))
+MakesBy action.OctetsAll = OfRing (λ r. Text (octets_rows (asked_of r)))
 MakesBy (action.Write out) = OfRing (λ r. Text (packets_text out (flat r)))
 MakesBy (action.Normalise out) = OfRing (λ r. Text (packets_text out (flat (normal_of r))))
 MakesBy (action.Split out None) = OfRing (λ r. Text (certificates_text out r.certificates))

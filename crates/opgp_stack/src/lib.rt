@@ -2,6 +2,7 @@
 //! and writing stand here too.
 #![tactic(auto)]
 
+mod all_octets;
 mod by_key;
 mod hashing;
 mod key_name;
@@ -18,6 +19,7 @@ mod showing;
 mod shown_text;
 mod task;
 mod valued;
+mod valued_listing;
 mod values;
 mod writing_listing;
 mod writing_report;

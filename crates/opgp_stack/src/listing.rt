@@ -215,7 +215,7 @@ fn add_parsed<W: Sink>(output: &mut Output<'_, W>, signature: &Signature) -> io:
 }
 
 /// Adds the line of a packet.
-fn add_line<W: Sink>(output: &mut Output<'_, W>, part: Part<'_>) -> io::Result<()>
+pub(crate) fn add_line<W: Sink>(output: &mut Output<'_, W>, part: Part<'_>) -> io::Result<()>
     requires lent { IsLent part }
     requires sound { W.has_failed (sink_of output.old) ≡ false }
     ensures { Extends W.held W.has_failed output.old output.new result

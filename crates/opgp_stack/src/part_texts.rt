@@ -11,7 +11,9 @@ ghost use Rattle.opgp_frame.specs.Packet.{packets_octets};
 ghost use Rattle.opgp_ring.specs.Keyring.{certificate_packets};
 ghost use Rattle.opgp_engine.specs.Writing.{packets_text};
 ghost use Rattle.opgp_stack.specs.Parts.{certificate_text, normal_octets, part_lines, part_octets};
+ghost use Rattle.opgp_stack.specs.Parts.{part_valued_lines};
 
+use crate::valued_listing::ValuedListingText;
 use crate::writing_listing::ListingText;
 use opgp_engine::{Draft, Out, PacketsText, Spool};
 use opgp_octets::OutOfMemory;
@@ -41,6 +43,19 @@ impl EachPart for Lines {
     fn add<S: Spool + Drop>(draft: &mut Draft<S>, part: Ready) -> Result<(), OutOfMemory> {
         let packets = part.packets();
         draft.add(ListingText { packets })
+    }
+}
+
+/// A line for each packet, with values.
+#[derive(Clone, Copy)]
+pub(crate) struct ValuedLines;
+
+impl EachPart for ValuedLines {
+    ghost text = { part_valued_lines };
+
+    fn add<S: Spool + Drop>(draft: &mut Draft<S>, part: Ready) -> Result<(), OutOfMemory> {
+        let packets = part.packets();
+        draft.add(ValuedListingText { packets })
     }
 }
 

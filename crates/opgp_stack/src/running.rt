@@ -11,6 +11,7 @@ ghost use Rattle.opgp_engine.specs.Packets.{any_label};
 ghost use Rattle.opgp_engine.specs.Pulled.{OfAll};
 ghost use Rattle.opgp_engine.specs.Reading.{AnswerOf};
 ghost use Rattle.opgp_engine.specs.Writing.{octets_text};
+ghost use Rattle.opgp_stack.specs.AllOctets.{HasAllOctets};
 ghost use Rattle.opgp_stack.specs.ByKey.{NamedIn};
 ghost use Rattle.opgp_stack.specs.KeyName.{name_octets};
 ghost use Rattle.opgp_stack.specs.OnePart.{HasNth, HasRow, found_question};
@@ -21,12 +22,13 @@ ghost use Rattle.opgp_stack.specs.Shown.{IsShown};
 ghost use Rattle.opgp_stack.specs.Running.{IsMade, IsSpooled, Made, ReadsFor, RunsAs, RunsSpooled};
 ghost use Rattle.opgp_stack.specs.Running.{ended, found_made, one_text, question_made};
 
+use crate::all_octets::AllOctets;
 use crate::by_key::{NamedCertificates, Sought};
 use crate::hashing::{question_of, write_question};
 use crate::key_name::KeyName;
 use crate::one_part::{NthCertificate, Number, RowFound};
 use crate::part_texts::{
-    ArmoredAlone, AsTheyAre, BareAlone, EachPart, Lines, Normalised, PartTexts,
+    ArmoredAlone, AsTheyAre, BareAlone, EachPart, Lines, Normalised, PartTexts, ValuedLines,
 };
 use crate::row_keeper::RowKeeper;
 use crate::run_fault::RunFault;
@@ -249,6 +251,32 @@ fn row_of<R: Source, N: Number>(
     }
 }
 
+/// Reads a keyring, and returns what is written of the octets that its signatures hash. No
+/// certificate is kept.
+fn all_octets_of<R: Source, S: Spool + Drop>(
+    alloc: Global,
+    task: &Task,
+    spool: Option<S>,
+    reader: &mut R,
+) -> Result<Draft<S>, RunFault>
+    requires sound { R.has_failed reader.old ≡ false }
+    requires empty { IfSome spool (λ s. (S.serves ≡ true) × (S.tells ≡ true → S.holds s ≡ [])) }
+    ensures { ReadsFor (λ answer. OfAll R.left R.has_failed reader.old reader.new task.now.limits
+        (λ octets. AnswerOf key_label (OfKeyring (HasAllOctets
+        (DraftHas S.serves S.tells S.holds S.has_failed)) task.now.limits) task.now.mode
+        task.now.limits octets answer)) (R.has_failed reader.new ≡ true)
+        (R.has_failed reader.new ≡ false) result }
+{
+    let top: AllOctets<S> = match AllOctets::new(alloc, spool) {
+        Ok(top) => top,
+        Err(_) => return Err(RunFault::Memory),
+    };
+    match ask(alloc, task, reader, Gathering::new(alloc, task.limits, top)) {
+        Ok(kept) => Ok(kept.into_draft()),
+        Err(fault) => Err(fault),
+    }
+}
+
 /// Reads a keyring, and returns its report. No certificate is kept once its rows are made.
 fn rows_of<R: Source>(alloc: Global, task: &Task, reader: &mut R) -> Result<Report, RunFault>
     requires { R.has_failed reader.old ≡ false }
@@ -321,6 +349,10 @@ fn run_and<R: Source, W: Sink, S: Spool + Drop>(
             let text = text_of::<R, Lines, S>(alloc, task, spool, reader)?;
             write_draft(text, Out::Binary, writer)
         }
+        Action::ListValues => {
+            let text = text_of::<R, ValuedLines, S>(alloc, task, spool, reader)?;
+            write_draft(text, Out::Binary, writer)
+        }
         Action::Check => {
             drop(spool);
             let report = rows_of(alloc, task, reader)?;
@@ -344,6 +376,10 @@ fn run_and<R: Source, W: Sink, S: Spool + Drop>(
                 done(write_question(alloc, question, writer), message, after)
             }
         },
+        Action::OctetsAll => {
+            let text = all_octets_of::<R, S>(alloc, task, spool, reader)?;
+            write_draft(text, Out::Binary, writer)
+        }
         Action::Write { out } => {
             let text = text_of::<R, AsTheyAre, S>(alloc, task, spool, reader)?;
             write_draft(text, out, writer)

@@ -22,6 +22,9 @@ pub enum Action {
     ShowValues,
     /// A line for each packet of the keyring.
     List,
+    /// The same, where the line of a signature also has the left 16 bits of its hash, its creation
+    /// time, and the issuer that it names.
+    ListValues,
     /// A line for each signature of a certificate, with what can be said of its digest.
     Check,
     /// The octets that one signature hashes.
@@ -31,6 +34,9 @@ pub enum Action {
         /// What the input is read as.
         top: Top,
     },
+    /// The octets that each signature of a certificate hashes, behind a line with its row's number
+    /// and their length.
+    OctetsAll,
     /// The keyring with its framing kept.
     Write {
         /// How it is written.

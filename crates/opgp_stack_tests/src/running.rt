@@ -7,10 +7,12 @@ use opgp_stack::{Action, KeyName, Mode, Out, RunFault, Task, Watched, run};
 use std::alloc::Global;
 use std::test::Fail;
 
-pub const ACTIONS: [Action; 14] = [
+pub const ACTIONS: [Action; 16] = [
     Action::Show,
     Action::ShowValues,
     Action::List,
+    Action::ListValues,
+    Action::OctetsAll,
     Action::Write { out: Out::Armor },
     Action::Write { out: Out::Binary },
     Action::Normalise { out: Out::Armor },

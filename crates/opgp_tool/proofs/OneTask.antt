@@ -46,8 +46,10 @@ abbrev name_of : Action → Text
 name_of action.Show = codes "show"
 name_of action.ShowValues = codes "show"
 name_of action.List = codes "list"
+name_of action.ListValues = codes "list"
 name_of action.Check = codes "check"
 name_of (action.Octets row top) = codes "octets"
+name_of action.OctetsAll = codes "octets"
 name_of (action.Write out) = codes "write"
 name_of (action.Normalise out) = codes "normalise"
 name_of (action.Split out nth) = codes "split"
@@ -57,9 +59,11 @@ name_of (action.Join out merge) = codes "join"
 named : (name : Text) (options : List Row) (a : Action) → IsAction name options a → name ≡ name_of a
 named name options action.Show said = said.0
 named name options action.ShowValues said = said.0
-named name options action.List said = said
+named name options action.List said = said.0
+named name options action.ListValues said = said.0
 named name options action.Check said = said
 named name options (action.Octets row top) said = said.0
+named name options action.OctetsAll said = said.0
 named name options (action.Write out) said = said.0
 named name options (action.Normalise out) said = said.0
 named name options (action.Split out nth) said = said.0
@@ -73,9 +77,15 @@ one_action name options action.ShowValues action.ShowValues a b = refl
 one_action name options action.Show action.ShowValues a b = absurd (cc (a.1, b.1))
 one_action name options action.ShowValues action.Show a b = absurd (cc (a.1, b.1))
 one_action name options action.List action.List a b = refl
+one_action name options action.ListValues action.ListValues a b = refl
+one_action name options action.List action.ListValues a b = absurd (cc (a.1, b.1))
+one_action name options action.ListValues action.List a b = absurd (cc (a.1, b.1))
 one_action name options action.Check action.Check a b = refl
 one_action name options (action.Octets row top) (action.Octets more other) a b =
     let rows : row ≡ more = one_number options _ row more a.1 b.1 in cc (rows, a.2, b.2)
+one_action name options action.OctetsAll action.OctetsAll a b = refl
+one_action name options (action.Octets row top) action.OctetsAll a b = absurd (cc (a.3, b.1))
+one_action name options action.OctetsAll (action.Octets row top) a b = absurd (cc (a.1, b.3))
 one_action name options (action.Write out) (action.Write other) a b = cc (a.1, b.1)
 one_action name options (action.Normalise out) (action.Normalise other) a b = cc (a.1, b.1)
 one_action name options (action.Split out nth) (action.Split other m) a b =
@@ -93,7 +103,7 @@ one_limits : (options : List Row) (a b : Limits) → HasLimits options a → Has
 one_limits options a b m n = same_limits a b (one_number options _ _ _ m.line n.line)
     (one_number options _ _ _ m.body n.body) (one_number options _ _ _ m.cert n.cert)
     (one_number options _ _ _ m.input n.input) (one_number options _ _ _ m.pieces n.pieces)
-    (m.outside ∙ sym n.outside)
+    (m.outside ∙ sym n.outside) (m.malformed ∙ sym n.malformed)
 
 abbrev task_with : Mode → Limits → Action → Task
 task_with mode limits action = record { mode = mode; limits = limits; action = action }

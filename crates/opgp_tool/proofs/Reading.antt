@@ -8,9 +8,10 @@ use Rattle.clap.specs.Words.{Row, Text, first_of, one_of}
 use Rattle.clap.specs.Matches.{ReadsOne}
 use Rattle.opgp_stack.specs.declared.task.Action.{Action}
 use Rattle.opgp_stack.specs.declared.task.Action.TheVariants as action
+use Rattle.opgp_stack.specs.declared.task.Top.TheVariants as top
 use Rattle.opgp_stack.specs.KeyText.{IsKeyText}
 use Rattle.opgp_stack.specs.declared.key_name.KeyName.{KeyName}
-use Rattle.opgp_tool.specs.Words.{HasKey, HasNumber, IsAction, IsNth}
+use Rattle.opgp_tool.specs.Words.{HasKey, HasNumber, IsAction, IsNth, is_given, top_of}
 
 module _ (E : Type 0) (Gives : List ℕ → Result ℕ E → Type 0)
     (parses : (t : List ℕ) (r : Result ℕ E) → Gives t r → ParsesUnsigned 64 10 t r)
@@ -41,21 +42,6 @@ pub where_none : {A P : Type 0} (o : Option A) → o ≡ None → IfNone o P →
 where_none None is holds = holds
 where_none (Some a) is holds = absurd (cc is)
 
--- octets without a row are no action
-pub no_action_without_row : (options : List Row) (name : Text) → name ≡ codes "octets"
-    → ((n : ℕ) → HasNumber options (codes "row") n → ⊥)
-    → (a : Action) → IsAction name options a → ⊥
-no_action_without_row options name is none action.Show said = absurd (cc (is, said.0))
-no_action_without_row options name is none action.ShowValues said = absurd (cc (is, said.0))
-no_action_without_row options name is none action.List said = absurd (cc (is, said))
-no_action_without_row options name is none action.Check said = absurd (cc (is, said))
-no_action_without_row options name is none (action.Octets row top) said = none row said.1
-no_action_without_row options name is none (action.Write out) said = absurd (cc (is, said.0))
-no_action_without_row options name is none (action.Normalise out) said = absurd (cc (is, said.0))
-no_action_without_row options name is none (action.Split out nth) said = absurd (cc (is, said.0))
-no_action_without_row options name is none (action.SplitKey out key) said = absurd (cc (is, said.0))
-no_action_without_row options name is none (action.Join out merge) said = absurd (cc (is, said.0))
-
 -- a split whose number isn't one is no action
 pub no_nth : (options : List Row) (word : Text)
     → ((n : ℕ) → HasNumber options (codes "nth") n → ⊥)
@@ -75,9 +61,11 @@ pub no_split : (options : List Row) → ((nth : Option ℕ) → IsNth options nt
     → (a : Action) → IsAction (codes "split") options a → ⊥
 no_split options whole by_key action.Show said = absurd (apart (ap is_split said.0))
 no_split options whole by_key action.ShowValues said = absurd (apart (ap is_split said.0))
-no_split options whole by_key action.List said = absurd (apart (ap is_split said))
+no_split options whole by_key action.List said = absurd (apart (ap is_split said.0))
+no_split options whole by_key action.ListValues said = absurd (apart (ap is_split said.0))
 no_split options whole by_key action.Check said = absurd (apart (ap is_split said))
 no_split options whole by_key (action.Octets row top) said = absurd (apart (ap is_split said.0))
+no_split options whole by_key action.OctetsAll said = absurd (apart (ap is_split said.0))
 no_split options whole by_key (action.Write out) said = absurd (apart (ap is_split said.0))
 no_split options whole by_key (action.Normalise out) said = absurd (apart (ap is_split said.0))
 no_split options whole by_key (action.Split out nth) said = whole nth said.2 said.3
@@ -97,3 +85,23 @@ pub no_numbered_split : (options : List Row) → first_of (codes "key") options 
     → ((nth : Option ℕ) → IsNth options nth → ⊥) → (a : Action) → IsAction (codes "split") options a → ⊥
 no_numbered_split options lacks none = no_split options (λ nth is no_key. none nth is)
     (λ key has no_nth. none-some has.0 (sym lacks ∙ has.1))
+
+abbrev is_octets : Text → Bool
+is_octets name = bytes_eq name (codes "octets")
+
+-- options of octets that say neither one row nor all of a keyring are no action
+pub no_octets : (options : List Row) → ((row : ℕ) → HasNumber options (codes "row") row → is_given (first_of (codes "all") options) ≡ false → ⊥)
+    → (is_given (first_of (codes "all") options) ≡ true → top_of (first_of (codes "of") options) ≡ top.Ring → first_of (codes "row") options ≡ None → ⊥)
+    → (a : Action) → IsAction (codes "octets") options a → ⊥
+no_octets options one all action.Show said = absurd (apart (ap is_octets said.0))
+no_octets options one all action.ShowValues said = absurd (apart (ap is_octets said.0))
+no_octets options one all action.List said = absurd (apart (ap is_octets said.0))
+no_octets options one all action.ListValues said = absurd (apart (ap is_octets said.0))
+no_octets options one all action.Check said = absurd (apart (ap is_octets said))
+no_octets options one all (action.Octets row top) said = one row said.1 said.3
+no_octets options one all action.OctetsAll said = all said.1 said.2 said.3
+no_octets options one all (action.Write out) said = absurd (apart (ap is_octets said.0))
+no_octets options one all (action.Normalise out) said = absurd (apart (ap is_octets said.0))
+no_octets options one all (action.Split out nth) said = absurd (apart (ap is_octets said.0))
+no_octets options one all (action.SplitKey out key) said = absurd (apart (ap is_octets said.0))
+no_octets options one all (action.Join out merge) said = absurd (apart (ap is_octets said.0))

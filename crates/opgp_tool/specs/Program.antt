@@ -48,6 +48,9 @@ mode_rule modes = choice_rule (codes "mode") modes (codes "auto")
 abbrev pub outside_rule : Choice → Rule
 outside_rule policies = choice_rule (codes "outside") policies (codes "skip")
 
+abbrev pub malformed_rule : Choice → Rule
+malformed_rule policies = choice_rule (codes "malformed") policies (codes "refuse")
+
 abbrev pub out_rule : Choice → Rule
 out_rule outs = choice_rule (codes "out") outs (codes "armor")
 
@@ -70,7 +73,7 @@ abbrev pub pieces_rule : Rule
 pieces_rule = limit_rule (codes "pieces") pieces_range (codes "1048576")
 
 abbrev pub row_rule : Rule
-row_rule = record (number_rule (codes "row")) { required = true }
+row_rule = number_rule (codes "row")
 
 abbrev pub nth_rule : Rule
 nth_rule = number_rule (codes "nth")
@@ -85,6 +88,9 @@ merge_rule = flag_rule (codes "merge")
 abbrev pub values_rule : Rule
 values_rule = flag_rule (codes "values")
 
+abbrev pub all_rule : Rule
+all_rule = flag_rule (codes "all")
+
 abbrev pub progress_rule : Rule
 progress_rule = flag_rule (codes "progress")
 
@@ -98,12 +104,15 @@ spool_rule = text_rule (codes "spool")
 abbrev pub key_rule : Rule
 key_rule = text_rule (codes "key")
 
--- the values of `--mode`, `--outside`, `--out` and `--of`
+-- the values of `--mode`, `--outside`, `--malformed`, `--out` and `--of`
 abbrev pub AreModes : Choice → Type 0
 AreModes modes = words_in modes ≡ codes "auto" ∷ codes "armor" ∷ codes "binary" ∷ []
 
 abbrev pub ArePolicies : Choice → Type 0
 ArePolicies policies = words_in policies ≡ codes "skip" ∷ codes "refuse" ∷ []
+
+abbrev pub AreSignaturePolicies : Choice → Type 0
+AreSignaturePolicies policies = words_in policies ≡ codes "refuse" ∷ codes "keep" ∷ []
 
 abbrev pub AreOuts : Choice → Type 0
 AreOuts outs = words_in outs ≡ codes "armor" ∷ codes "binary" ∷ []
@@ -116,21 +125,24 @@ abbrev pub with_limits : App → App
 with_limits app = with_rule (with_rule (with_rule (with_rule (with_rule app line_rule) body_rule)
     cert_rule) input_rule) pieces_rule
 
--- the values of the two options of every command that take one of some words
+-- the values of the three options of every command that take one of some words
 pub record Choices : Type 0 where
   pub modes : Choice
   pub policies : Choice
+  pub signature_policies : Choice
 
 pub record AreChoices (choices : Choices) : Type 0 where
   pub modes : AreModes choices.modes
   pub policies : ArePolicies choices.policies
+  pub signature_policies : AreSignaturePolicies choices.signature_policies
 
--- the command of this name takes the mode, the policy for lines outside, the limits, `--progress`,
--- `--spool`, and these options
+-- the command of this name takes the mode, the policies for lines outside and for malformed
+-- signatures, the limits, `--progress`, `--spool`, and these options
 abbrev pub command_shape : Text → Choices → List Rule → Shape
 command_shape name choices more = record (new_shape name) {
-  rules = mode_rule choices.modes ∷ outside_rule choices.policies ∷ line_rule ∷ body_rule
-      ∷ cert_rule ∷ input_rule ∷ pieces_rule ∷ progress_rule ∷ spool_rule ∷ more;
+  rules = mode_rule choices.modes ∷ outside_rule choices.policies ∷ malformed_rule choices.signature_policies
+      ∷ line_rule ∷ body_rule ∷ cert_rule ∷ input_rule ∷ pieces_rule ∷ progress_rule ∷ spool_rule
+      ∷ more;
 }
 
 pub record IsCommand (name : Text) (more : List Rule) (c : Command) : Type 0 where
@@ -151,16 +163,17 @@ bare_program = record {
   subs = [];
 }
 
--- the eight commands, in order, each with its own values for `--mode`, `--outside`, `--of` and `--out`
+-- the eight commands, in order, each with its own values for `--mode`, `--outside`, `--malformed`,
+-- `--of` and `--out`
 abbrev pub program_of : (show list check octets write normalise split join : Choices)
     → (tops write_outs normalise_outs split_outs join_outs : Choice) → App
 program_of show list check octets write normalise split join tops
     write_outs normalise_outs split_outs join_outs = record {
       top = record (new_shape (codes "opgp")) { subcommand_required = true; is_leaf = false };
       subs = command_shape (codes "show") show (values_rule ∷ [])
-          ∷ command_shape (codes "list") list []
+          ∷ command_shape (codes "list") list (values_rule ∷ [])
           ∷ command_shape (codes "check") check []
-          ∷ command_shape (codes "octets") octets (row_rule ∷ of_rule tops ∷ [])
+          ∷ command_shape (codes "octets") octets (row_rule ∷ of_rule tops ∷ all_rule ∷ [])
           ∷ command_shape (codes "write") write (out_rule write_outs ∷ [])
           ∷ command_shape (codes "normalise") normalise (out_rule normalise_outs ∷ [])
           ∷ command_shape (codes "split") split

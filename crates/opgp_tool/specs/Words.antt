@@ -6,7 +6,9 @@ use Rattle.std.specs.Str.Parse.{IsNumeral, digits_value, without_leading_plus}
 use Rattle.clap.specs.Words.{Row, Text, first_of, one_of}
 use Rattle.opgp_octets.specs.declared.limits.Limits.{Limits}
 use Rattle.opgp_octets.specs.Limits.{line_limit, body_limit, cert_limit, input_limit, pieces_limit}
-use Rattle.opgp_octets.specs.Limits.{outside_of as policy_of}
+use Rattle.opgp_octets.specs.Limits.{outside_of as policy_of, malformed_of as signature_policy_of}
+use Rattle.opgp_octets.specs.declared.malformed.Malformed.{Malformed}
+use Rattle.opgp_octets.specs.declared.malformed.Malformed.TheVariants as malformed
 use Rattle.opgp_octets.specs.declared.outside.Outside.{Outside}
 use Rattle.opgp_octets.specs.declared.outside.Outside.TheVariants as outside
 use Rattle.opgp_engine.specs.declared.mode.Mode.{Mode}
@@ -44,6 +46,12 @@ outside_of None = outside.Skip
 outside_of (Some word) =
     if bytes_eq word (codes "refuse") then outside.Refuse else outside.Skip
 
+-- `--malformed`: `keep`, or else `refuse`
+abbrev pub malformed_of : Option Text → Malformed
+malformed_of None = malformed.Refuse
+malformed_of (Some word) =
+    if bytes_eq word (codes "keep") then malformed.Keep else malformed.Refuse
+
 -- `--out`: `binary`, or else `armor`
 abbrev pub out_of : Option Text → Out
 out_of None = out.Armor
@@ -69,7 +77,8 @@ abbrev pub is_given : Option Text → Bool
 is_given None = false
 is_given (Some word) = bytes_eq word (codes "true")
 
--- each limit is the number of the option of its name, and the policy is that of `--outside`
+-- each limit is the number of the option of its name, and the policies are those of `--outside` and
+-- `--malformed`
 pub record HasLimits (options : List Row) (limits : Limits) : Type 0 where
   pub line : HasNumber options (codes "line") (line_limit limits)
   pub body : HasNumber options (codes "body") (body_limit limits)
@@ -77,6 +86,8 @@ pub record HasLimits (options : List Row) (limits : Limits) : Type 0 where
   pub input : HasNumber options (codes "input") (input_limit limits)
   pub pieces : HasNumber options (codes "pieces") (pieces_limit limits)
   pub outside : policy_of limits ≡ outside_of (first_of (codes "outside") options)
+  pub malformed : signature_policy_of limits
+      ≡ malformed_of (first_of (codes "malformed") options)
 
 -- the action of the command of this name with these options
 abbrev pub IsAction : Text → List Row → Action → Type 0
@@ -84,10 +95,18 @@ IsAction name options action.Show = (name ≡ codes "show")
     × (is_given (first_of (codes "values") options) ≡ false)
 IsAction name options action.ShowValues = (name ≡ codes "show")
     × (is_given (first_of (codes "values") options) ≡ true)
-IsAction name options action.List = name ≡ codes "list"
+IsAction name options action.List = (name ≡ codes "list")
+    × (is_given (first_of (codes "values") options) ≡ false)
+IsAction name options action.ListValues = (name ≡ codes "list")
+    × (is_given (first_of (codes "values") options) ≡ true)
 IsAction name options action.Check = name ≡ codes "check"
 IsAction name options (action.Octets row top) = (name ≡ codes "octets")
     × HasNumber options (codes "row") row × (top ≡ top_of (first_of (codes "of") options))
+    × (is_given (first_of (codes "all") options) ≡ false)
+IsAction name options action.OctetsAll = (name ≡ codes "octets")
+    × (is_given (first_of (codes "all") options) ≡ true)
+    × (top_of (first_of (codes "of") options) ≡ top.Ring)
+    × (first_of (codes "row") options ≡ None)
 IsAction name options (action.Write out) = (name ≡ codes "write")
     × (out ≡ out_of (first_of (codes "out") options))
 IsAction name options (action.Normalise out) = (name ≡ codes "normalise")

@@ -2,10 +2,10 @@
 
 ghost use Rattle.std.specs.Prelude.{◌≡◌, true, false, IfOk, IsOkAnd, [], ◌∷◌, codes};
 ghost use Rattle.clap.specs.Words.{rule_of, app_of, shape_of, with_rule, with_subcommand};
-ghost use Rattle.opgp_tool.specs.Program.{Choice, AreModes, ArePolicies, AreOuts, AreTops};
-ghost use Rattle.opgp_tool.specs.Program.{mode_rule, outside_rule, out_rule};
+ghost use Rattle.opgp_tool.specs.Program.{Choice, AreModes, ArePolicies, AreSignaturePolicies, AreOuts, AreTops};
+ghost use Rattle.opgp_tool.specs.Program.{mode_rule, outside_rule, malformed_rule, out_rule};
 ghost use Rattle.opgp_tool.specs.Program.{of_rule, limit_rule, row_rule, nth_rule, flag_rule, merge_rule, key_rule};
-ghost use Rattle.opgp_tool.specs.Program.{text_rule, values_rule, with_limits};
+ghost use Rattle.opgp_tool.specs.Program.{text_rule, values_rule, all_rule, with_limits};
 ghost use Rattle.opgp_tool.specs.Program.{IsCommand, IsProgram, bare_program};
 
 use crate::help::{
@@ -20,6 +20,8 @@ use std::alloc::Global;
 static MODES: [&str; 3] = ["auto", "armor", "binary"];
 
 static POLICIES: [&str; 2] = ["skip", "refuse"];
+
+static SIGNATURE_POLICIES: [&str; 2] = ["refuse", "keep"];
 
 static OUTS: [&str; 2] = ["armor", "binary"];
 
@@ -51,6 +53,20 @@ fn outside_option<'a>(alloc: Global) -> Arg<'a>
         .value_parser(POLICIES.as_slice())
         .default_value("skip")
         .help("What becomes of lines outside of armored blocks")
+}
+
+/// `--malformed`: what becomes of malformed signatures.
+fn malformed_option<'a>(alloc: Global) -> Arg<'a>
+    ensures rule { (words : Choice) × AreSignaturePolicies words × (rule_of result ≡ malformed_rule words) }
+    ensures own { result.global ≡ false }
+{
+    Arg::new(alloc, "malformed")
+        .long("malformed")
+        .value_name("POLICY")
+        .action(ArgAction::Set)
+        .value_parser(SIGNATURE_POLICIES.as_slice())
+        .default_value("refuse")
+        .help("What becomes of malformed signatures")
 }
 
 /// `--out`: how keyrings are written.
@@ -122,7 +138,7 @@ fn with_limits<'a>(alloc: Global, command: Command<'a>) -> Result<Command<'a>, O
     with_option(command, pieces)
 }
 
-/// `--row`: any `u64`, and required.
+/// `--row`: any `u64`.
 fn row_option<'a>(alloc: Global) -> Arg<'a>
     ensures rule { rule_of result ≡ row_rule }
     ensures own { result.global ≡ false }
@@ -130,7 +146,6 @@ fn row_option<'a>(alloc: Global) -> Arg<'a>
     Arg::new(alloc, "row")
         .long("row")
         .value_name("N")
-        .required(true)
         .action(ArgAction::Set)
         .value_parser(clap::value_parser!(u64))
         .help("The number of the signature's row, from 0")
@@ -206,6 +221,7 @@ fn new_command<'a>(
     let command = Command::new(alloc, name).about(about).after_help(more);
     let command = with_option(command, mode_option(alloc))?;
     let command = with_option(command, outside_option(alloc))?;
+    let command = with_option(command, malformed_option(alloc))?;
     let command = with_limits(alloc, command)?;
     let help = "Shows on standard error how much was read";
     let command = with_option(command, flag_option(alloc, "progress", help))?;
@@ -222,14 +238,25 @@ fn show_command<'a>(alloc: Global) -> Result<Command<'a>, OutOfMemory>
     with_option(command, flag_option(alloc, "values", help))
 }
 
+fn list_command<'a>(alloc: Global) -> Result<Command<'a>, OutOfMemory>
+    ensures { IfOk result (IsCommand (codes "list") (values_rule ∷ [])) }
+{
+    let about = "Lists the packets of a keyring";
+    let command = new_command(alloc, "list", about, LIST_HELP)?;
+    let help = "Shows the left 16 bits, the creation time and the issuer of each signature";
+    with_option(command, flag_option(alloc, "values", help))
+}
+
 fn octets_command<'a>(alloc: Global) -> Result<Command<'a>, OutOfMemory>
     ensures { IfOk result (λ c. (tops : Choice) × AreTops tops
-        × IsCommand (codes "octets") (row_rule ∷ of_rule tops ∷ []) c) }
+        × IsCommand (codes "octets") (row_rule ∷ of_rule tops ∷ all_rule ∷ []) c) }
 {
-    let about = "Writes the octets that one signature hashes";
+    let about = "Writes the octets that signatures hash";
     let command = new_command(alloc, "octets", about, OCTETS_HELP)?;
     let command = with_option(command, row_option(alloc))?;
-    with_option(command, of_option(alloc))
+    let command = with_option(command, of_option(alloc))?;
+    let help = "Writes those of every row, each behind a line of its own";
+    with_option(command, flag_option(alloc, "all", help))
 }
 
 /// A command that writes keyrings.
@@ -283,8 +310,7 @@ pub fn program<'a>(alloc: Global) -> Result<Command<'a>, OutOfMemory>
 {
     let tool = bare_program(alloc)?;
     let tool = with_command(tool, show_command(alloc))?;
-    let about = "Lists the packets of a keyring";
-    let tool = with_command(tool, new_command(alloc, "list", about, LIST_HELP))?;
+    let tool = with_command(tool, list_command(alloc))?;
     let about = "Lists the signatures of a keyring";
     let tool = with_command(tool, new_command(alloc, "check", about, CHECK_HELP))?;
     let tool = with_command(tool, octets_command(alloc))?;

@@ -16,9 +16,11 @@ Example: opgp show --values < KEYRING | grep key-expires";
 
 pub const LIST_HELP: &str = "A line for each packet: pub and sub with algorithm, creation time, \
 fingerprint and
-key ID, uid with its text, uat and sig, and pkt for any other packet.
+key ID, uid with its text, uat and sig, and pkt for any other packet. With --values the line
+of a signature goes on with the left 16 bits of its hash, the time when it was made, and the
+fingerprint or key ID of its issuer, as it states them.
 
-Example: opgp list < KEYRING";
+Example: opgp list --values < KEYRING | grep '^sig'";
 
 pub const CHECK_HELP: &str = "A line for each signature says where it is, which key it names \
 as its issuer, and the first
@@ -30,6 +32,8 @@ Example: opgp check < KEYRING | grep bad";
 pub const OCTETS_HELP: &str = "The row is that of check, or with --of literal the number of a \
 signature after the
 literal of a signed message. The octets are written as they are hashed, without armor.
+With --all those of every signature that is hashed follow each other, each behind a line with
+the number of its row and their length.
 
 Example: opgp octets --row 0 < KEYRING | sha512sum";
 

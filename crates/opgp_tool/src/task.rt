@@ -7,7 +7,7 @@ ghost use Rattle.clap.specs.declared.error.kind.ErrorKind.TheVariants.{OutOfMemo
 ghost use Rattle.opgp_stack.specs.declared.task.Action.{Action};
 ghost use Rattle.opgp_stack.specs.declared.task.Task.{Task};
 ghost use Rattle.opgp_octets.specs.declared.limits.Limits.{Limits};
-ghost use Rattle.opgp_tool.specs.Words.{mode_of, outside_of, out_of, top_of, is_given};
+ghost use Rattle.opgp_tool.specs.Words.{mode_of, outside_of, malformed_of, out_of, top_of, is_given};
 ghost use Rattle.opgp_tool.specs.Words.{HasNumber, HasLimits};
 ghost use Rattle.opgp_tool.specs.Words.{Asked, IsAction, IsNth, IsRequest, IsTask, asked_by};
 ghost use Rattle.opgp_tool.specs.Program.{IsProgram, SaysNone, SaysTask};
@@ -16,7 +16,7 @@ ghost use Rattle.opgp_tool.specs.declared.task.Usage.TheVariants.{Memory};
 use crate::command::program;
 use clap::error::ErrorKind;
 use clap::{ArgMatches, Error};
-use opgp_octets::{Limits, OutOfMemory, Outside};
+use opgp_octets::{Limits, Malformed, OutOfMemory, Outside};
 use opgp_stack::{Action, KeyName, Mode, Out, Task, Top};
 use std::alloc::Global;
 use std::convert::AsStr;
@@ -68,6 +68,16 @@ fn outside_of(matches: &ArgMatches) -> Outside
     match word_of(matches, "outside") {
         Some("refuse") => Outside::Refuse,
         _ => Outside::Skip,
+    }
+}
+
+fn malformed_of(matches: &ArgMatches) -> Malformed
+    ensures { result
+        ≡ malformed_of (first_of (codes "malformed") (rows_of (found_of matches.now))) }
+{
+    match word_of(matches, "malformed") {
+        Some("keep") => Malformed::Keep,
+        _ => Malformed::Refuse,
     }
 }
 
@@ -130,7 +140,8 @@ fn limits_of(matches: &ArgMatches) -> Option<Limits>
     let input = number_of(matches, "input")?;
     let pieces = number_of(matches, "pieces")?;
     let limits = Limits::new(line, body, cert, input, pieces)?;
-    Some(limits.with_outside(outside_of(matches)))
+    let limits = limits.with_outside(outside_of(matches));
+    Some(limits.with_malformed(malformed_of(matches)))
 }
 
 /// What `split` writes: every certificate, that of a number, or those with a key.
@@ -156,6 +167,26 @@ fn split_of(matches: &ArgMatches) -> Option<Action>
     }
 }
 
+/// What `octets` writes: the octets of one row, or of all rows of a keyring.
+fn octets_of(matches: &ArgMatches) -> Option<Action>
+    ensures some { IfSome result (IsAction (codes "octets") (rows_of (found_of matches.now))) }
+    ensures none { IfNone result ((action : Action)
+        → IsAction (codes "octets") (rows_of (found_of matches.now)) action → ⊥) }
+{
+    let top = top_of(matches);
+    if !is_given(matches, "all") {
+        let row = number_of(matches, "row")?;
+        return Some(Action::Octets { row, top });
+    }
+    if word_of(matches, "row").is_some() {
+        return None;
+    }
+    match top {
+        Top::Ring => Some(Action::OctetsAll),
+        Top::Literal => None,
+    }
+}
+
 fn action_of(name: &str, matches: &ArgMatches) -> Option<Action>
     ensures some { IfSome result (IsAction name.now (rows_of (found_of matches.now))) }
     ensures none { IfNone result ((action : Action)
@@ -167,12 +198,13 @@ fn action_of(name: &str, matches: &ArgMatches) -> Option<Action>
         } else {
             Action::Show
         }),
-        "list" => Some(Action::List),
-        "check" => Some(Action::Check),
-        "octets" => Some(Action::Octets {
-            row: number_of(matches, "row")?,
-            top: top_of(matches),
+        "list" => Some(if is_given(matches, "values") {
+            Action::ListValues
+        } else {
+            Action::List
         }),
+        "check" => Some(Action::Check),
+        "octets" => octets_of(matches),
         "write" => Some(Action::Write {
             out: out_of(matches),
         }),
@@ -246,9 +278,23 @@ fn is_about_a_file(text: &str) -> bool {
 /// What to print where `clap` accepts words that name no task.
 fn no_task(alloc: Global, matches: &ArgMatches) -> Usage {
     match matches.subcommand() {
+        Some(("octets", options)) => no_octets(alloc, options),
         Some((_, options)) => no_split(alloc, options),
         None => no_split(alloc, matches),
     }
+}
+
+/// What to print where the options of `octets` name no task: `clap` doesn't judge options that exclude
+/// each other, nor that one of two is wanted.
+fn no_octets(alloc: Global, options: &ArgMatches) -> Usage {
+    let text = if !is_given(options, "all") {
+        "error: the following required arguments were not provided:\n  <--row <N>|--all>"
+    } else if word_of(options, "row").is_some() {
+        "error: the argument '--row <N>' cannot be used with '--all'"
+    } else {
+        "error: the argument '--of literal' cannot be used with '--all'"
+    };
+    with_advice(String::from_str(alloc, text))
 }
 
 /// What to print where the options of `split` name no task: `clap` judges neither the text of `--key`

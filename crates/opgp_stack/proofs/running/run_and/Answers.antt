@@ -16,6 +16,7 @@ use Rattle.opgp_engine.specs.Draft.{DraftHas}
 use Rattle.opgp_engine.specs.Signed.{AreSigned, message_label}
 use Rattle.opgp_engine.specs.Writing.{certificates_text, octets_text, packets_text}
 use Rattle.opgp_engine.proofs.Pulling.{answer_shown}
+use Rattle.opgp_stack.specs.AllOctets.{HasAllOctets}
 use Rattle.opgp_stack.specs.ByKey.{NamedIn}
 use Rattle.opgp_stack.specs.Hashing.{message_asked}
 use Rattle.opgp_stack.specs.KeyName.{name_octets}
@@ -25,10 +26,12 @@ use Rattle.opgp_stack.specs.Report.{HasReport, report_lines}
 use Rattle.opgp_stack.specs.Running.{IsMade, IsSpooled, Made, Text, one_text, question_made}
 use Rattle.opgp_stack.specs.Showing.{packet_lines}
 use Rattle.opgp_stack.specs.Values.{valued_lines}
-use Rattle.opgp_stack.specs.Parts.{HasText, certificate_text, normal_octets, part_lines, part_octets}
+use Rattle.opgp_stack.specs.Parts.{HasText, certificate_text, normal_octets, part_lines, part_octets, part_valued_lines}
+use Rattle.opgp_stack.specs.ValuedListing.{valued_listing}
+use Rattle.opgp_stack.proofs.AllRows.{octets_made}
 use Rattle.opgp_stack.proofs.KeptOf.{KeyringOf, made_of, refused_of, text_made}
 use Rattle.opgp_stack.proofs.Named.{named_made_of}
-use Rattle.opgp_stack.proofs.PartTexts.{alone_text, lines_text, normal_text, packets_text_of}
+use Rattle.opgp_stack.proofs.PartTexts.{alone_text, lines_text, normal_text, packets_text_of, valued_lines_text}
 use Rattle.opgp_stack.proofs.Runs.{LiteralOf, RingOf, ShownOf, ran, stopped}
 use Rattle.opgp_stack.proofs.ShownTexts.{made_of_packets, refused_packets}
 use Rattle.opgp_stack.proofs.running.run_and.Goals as goal
@@ -59,6 +62,24 @@ returns-in_ok-text-in-List g c =
     ran (KeyringOf (HasText (DraftHas g.S.Spool.serves g.S.Spool.tells g.S.Spool.holds g.S.Spool.has_failed) part_lines) c.args.task.now) _ c.in-List.is (λ fault. inl (refl, refl)) _ _ _ c.in_ok-text-in-List.text
     (text_made (DraftHas g.S.Spool.serves g.S.Spool.tells g.S.Spool.holds g.S.Spool.has_failed) part_lines (λ r. listing (flat r)) (λ o. o) lines_text (λ (made : Made). IsMade g.W.Sink.held g.W.Sink.has_failed c.args.writer.now c.write_draft-in-List.new.writer c.write_draft-in-List.result made ⊎ IsSpooled g.S.Spool.serves g.S.Spool.tells g.W.Sink.held g.W.Sink.has_failed c.args.writer.now c.write_draft-in-List.new.writer c.write_draft-in-List.result made) c.in_ok-text-in-List.text (λ octets h. inr (c.write_draft-in-List.ensures octets h)) c.args.task.now)
     c.in_ok-text-in-List.ensures refl
+
+pub returns-in_err-text-in-ListValues : goal.returns-in_err-text-in-ListValues
+returns-in_err-text-in-ListValues g c = stopped (KeyringOf (HasText (DraftHas g.S.Spool.serves g.S.Spool.tells g.S.Spool.holds g.S.Spool.has_failed) part_valued_lines) c.args.task.now) _ c.in-ListValues.is (λ fault. inl (refl, refl)) _ _ (refused_of (HasText (DraftHas g.S.Spool.serves g.S.Spool.tells g.S.Spool.holds g.S.Spool.has_failed) part_valued_lines) _ c.args.task.now) c.in_err-text-in-ListValues.ensures c.from_residual-in_err-text-in-ListValues.ensures
+
+pub returns-in_ok-text-in-ListValues : goal.returns-in_ok-text-in-ListValues
+returns-in_ok-text-in-ListValues g c =
+    ran (KeyringOf (HasText (DraftHas g.S.Spool.serves g.S.Spool.tells g.S.Spool.holds g.S.Spool.has_failed) part_valued_lines) c.args.task.now) _ c.in-ListValues.is (λ fault. inl (refl, refl)) _ _ _ c.in_ok-text-in-ListValues.text
+    (text_made (DraftHas g.S.Spool.serves g.S.Spool.tells g.S.Spool.holds g.S.Spool.has_failed) part_valued_lines (λ r. valued_listing (flat r)) (λ o. o) valued_lines_text (λ (made : Made). IsMade g.W.Sink.held g.W.Sink.has_failed c.args.writer.now c.write_draft-in-ListValues.new.writer c.write_draft-in-ListValues.result made ⊎ IsSpooled g.S.Spool.serves g.S.Spool.tells g.W.Sink.held g.W.Sink.has_failed c.args.writer.now c.write_draft-in-ListValues.new.writer c.write_draft-in-ListValues.result made) c.in_ok-text-in-ListValues.text (λ octets h. inr (c.write_draft-in-ListValues.ensures octets h)) c.args.task.now)
+    c.in_ok-text-in-ListValues.ensures refl
+
+pub returns-in_err-text-in-OctetsAll : goal.returns-in_err-text-in-OctetsAll
+returns-in_err-text-in-OctetsAll g c = stopped (KeyringOf (HasAllOctets (DraftHas g.S.Spool.serves g.S.Spool.tells g.S.Spool.holds g.S.Spool.has_failed)) c.args.task.now) _ c.in-OctetsAll.is (λ fault. inl (refl, refl)) _ _ (refused_of (HasAllOctets (DraftHas g.S.Spool.serves g.S.Spool.tells g.S.Spool.holds g.S.Spool.has_failed)) _ c.args.task.now) c.in_err-text-in-OctetsAll.ensures c.from_residual-in_err-text-in-OctetsAll.ensures
+
+pub returns-in_ok-text-in-OctetsAll : goal.returns-in_ok-text-in-OctetsAll
+returns-in_ok-text-in-OctetsAll g c =
+    ran (KeyringOf (HasAllOctets (DraftHas g.S.Spool.serves g.S.Spool.tells g.S.Spool.holds g.S.Spool.has_failed)) c.args.task.now) _ c.in-OctetsAll.is (λ fault. inl (refl, refl)) _ _ _ c.in_ok-text-in-OctetsAll.text
+    (octets_made (DraftHas g.S.Spool.serves g.S.Spool.tells g.S.Spool.holds g.S.Spool.has_failed) (λ (made : Made). IsMade g.W.Sink.held g.W.Sink.has_failed c.args.writer.now c.write_draft-in-OctetsAll.new.writer c.write_draft-in-OctetsAll.result made ⊎ IsSpooled g.S.Spool.serves g.S.Spool.tells g.W.Sink.held g.W.Sink.has_failed c.args.writer.now c.write_draft-in-OctetsAll.new.writer c.write_draft-in-OctetsAll.result made) c.in_ok-text-in-OctetsAll.text (λ octets h. inr (c.write_draft-in-OctetsAll.ensures octets h)) c.args.task.now)
+    c.in_ok-text-in-OctetsAll.ensures refl
 
 pub returns-in_err-report-in-Check : goal.returns-in_err-report-in-Check
 returns-in_err-report-in-Check g c = stopped (KeyringOf HasReport c.args.task.now) _ c.in-Check.is (λ fault. inl (refl, refl)) _ _ (refused_of HasReport _ c.args.task.now) c.in_err-report-in-Check.ensures c.from_residual-in_err-report-in-Check.ensures

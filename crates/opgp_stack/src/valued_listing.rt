@@ -1,0 +1,238 @@
+//! The lines of a keyring's listing with values, without an allocation.
+
+ghost use Rattle.std.specs.Prelude.{◌≡◌, ◌++◌, Ok, codes, false};
+ghost use Rattle.hex.specs.Hex.{encode_upper};
+ghost use Rattle.opgp_packet.specs.Signature.{signature_octets};
+ghost use Rattle.opgp_packet.specs.SignatureBody.{signature_at};
+ghost use Rattle.opgp_packet.specs.SigView.{sig_view_value};
+ghost use Rattle.opgp_packet.specs.SubView.{sub_shown};
+ghost use Rattle.opgp_packet.specs.Subs.{subs_to_come};
+ghost use Rattle.opgp_report.specs.IssuerName.{name_value};
+ghost use Rattle.opgp_report.specs.Signer.{first_some};
+ghost use Rattle.opgp_ring.specs.Packets.{IsLent, packets_left, part_packet};
+ghost use Rattle.opgp_stack.specs.Listing.{signature_line, signature_text, typed_start};
+ghost use Rattle.opgp_stack.specs.ValuedListing.{created_in, created_words, issuer_words, left_words};
+ghost use Rattle.opgp_stack.specs.ValuedListing.{valued_listing, valued_packet_line, value_words};
+ghost use Rattle.opgp_stack.specs.ValuedListing.{with_values};
+ghost use Rattle.opgp_stream.specs.Output.{Extends, sink_of};
+
+use crate::listing::{add_line, add_signature};
+use opgp_engine::Text;
+use opgp_hash::KeyId;
+use opgp_octets::SubpacketKind;
+use opgp_packet::{SigView, Signature, SubView, Subs};
+use opgp_report::{IssuerName, issuer_named};
+use opgp_ring::{Content, Packets, Part};
+use opgp_stream::{Output, Sink, Word};
+use std::io;
+
+/// The creation time that a subpacket states, in seconds since 1970, if the kind is 2 and there are
+/// 4 octets (RFC 9580, 5.2.3.11).
+fn created_in(subpacket: SubView<'_>) -> Option<u32>
+    ensures { result ≡ created_in (sub_shown subpacket.entry) }
+{
+    if subpacket.kind() != SubpacketKind::Created.number() {
+        return None;
+    }
+    match subpacket.octets() {
+        [a, b, c, d] => Some(u32::from_be_bytes([*a, *b, *c, *d])),
+        _ => None,
+    }
+}
+
+/// The first creation time in an area.
+fn first_created(subpackets: Subs<'_>) -> Option<u32>
+    ensures { result ≡ first_some created_in (subs_to_come subpackets.entry) }
+{
+    for subpacket in subpackets {
+        if let Some(created) = created_in(subpacket) {
+            return Some(created);
+        }
+    }
+    None
+}
+
+/// Adds the left 16 bits of a hash.
+fn add_left<W: Sink>(output: &mut Output<'_, W>, left: &[u8]) -> io::Result<()>
+    requires { W.has_failed (sink_of output.old) ≡ false }
+    ensures { Extends W.held W.has_failed output.old output.new result (left_words left.now) }
+{
+    output.add_words(&[Word::Text(b" left "), Word::Hex(left)])
+}
+
+/// Adds a creation time, or `-` for none.
+fn add_created<W: Sink>(output: &mut Output<'_, W>, created: Option<u32>) -> io::Result<()>
+    requires { W.has_failed (sink_of output.old) ≡ false }
+    ensures { Extends W.held W.has_failed output.old output.new result (created_words created) }
+{
+    match created {
+        Some(time) => { output.add_words(&[Word::Text(b" created "), Word::Decimal(time as u64)]) }
+        None => output.add(b" created -"),
+    }
+}
+
+/// Adds the octets of the name of an issuer, and the line's end.
+fn add_named<W: Sink>(output: &mut Output<'_, W>, octets: &[u8]) -> io::Result<()>
+    requires { W.has_failed (sink_of output.old) ≡ false }
+    ensures { Extends W.held W.has_failed output.old output.new result
+        (codes " issuer " ++ encode_upper octets.now ++ codes "\n") }
+{
+    output.add_words(&[
+        Word::Text(b" issuer "),
+        Word::Hex(octets),
+        Word::Text(b"\n"),
+    ])
+}
+
+/// Adds the name of an issuer, or `-` for none, and the line's end.
+fn add_issuer<W: Sink>(output: &mut Output<'_, W>, name: IssuerName) -> io::Result<()>
+    requires { W.has_failed (sink_of output.old) ≡ false }
+    ensures { Extends W.held W.has_failed output.old output.new result
+        (issuer_words (name_value name)) }
+{
+    match name {
+        IssuerName::Print(print) => add_named(output, print.octets()),
+        IssuerName::Id(id) => {
+            let KeyId(octets) = id;
+            add_named(output, &octets)
+        }
+        IssuerName::Unnamed => output.add(b" issuer -\n"),
+    }
+}
+
+/// Adds what the line of a parsed signature has without values.
+fn add_typed_start<W: Sink>(
+    output: &mut Output<'_, W>,
+    version: u8,
+    kind: u8,
+    algorithm: u8,
+    hash: u8,
+) -> io::Result<()>
+    requires { W.has_failed (sink_of output.old) ≡ false }
+    ensures { Extends W.held W.has_failed output.old output.new result
+        (typed_start version kind algorithm hash) }
+{
+    output.add_words(&[
+        Word::Text(b"sig v"),
+        Word::Decimal(version as u64),
+        Word::Text(b" type "),
+        Word::Hex(&[kind]),
+        Word::Text(b" alg "),
+        Word::Decimal(algorithm as u64),
+        Word::Text(b" hash "),
+        Word::Decimal(hash as u64),
+    ])
+}
+
+/// Adds the line of a parsed signature, with its values.
+fn add_typed_values<W: Sink>(
+    output: &mut Output<'_, W>,
+    version: u8,
+    kind: u8,
+    algorithm: u8,
+    hash: u8,
+    left: &[u8],
+    created: Option<u32>,
+    issuer: IssuerName,
+) -> io::Result<()>
+    requires { W.has_failed (sink_of output.old) ≡ false }
+    ensures { Extends W.held W.has_failed output.old output.new result
+        (typed_start version kind algorithm hash
+        ++ value_words left.now created (name_value issuer)) }
+{
+    add_typed_start(output, version, kind, algorithm, hash)?;
+    add_left(output, left)?;
+    add_created(output, created)?;
+    add_issuer(output, issuer)
+}
+
+/// Adds the line of a signature, with its values unless it is kept as it is.
+fn add_valued_signature<W: Sink>(
+    output: &mut Output<'_, W>,
+    signature: SigView<'_>,
+) -> io::Result<()>
+    requires { W.has_failed (sink_of output.old) ≡ false }
+    ensures { Extends W.held W.has_failed output.old output.new result
+        (with_values (Ok (sig_view_value signature.entry))
+        (signature_text (Ok (sig_view_value signature.entry)))) }
+{
+    match signature {
+        SigView::Three(view) => {
+            let (kind, algorithm, hash) = (view.kind(), view.algorithm(), view.hash());
+            let issuer = IssuerName::Id(KeyId(view.issuer()));
+            let created = Some(view.created());
+            let left = view.left();
+            add_typed_values(output, 3, kind, algorithm, hash, &left, created, issuer)
+        }
+        SigView::Four(view) => {
+            let (kind, algorithm, hash) = (view.kind(), view.algorithm(), view.hash());
+            let issuer = issuer_named(signature);
+            let created = first_created(view.hashed());
+            let left = view.left();
+            add_typed_values(output, 4, kind, algorithm, hash, &left, created, issuer)
+        }
+        SigView::Six(view) => {
+            let (kind, algorithm, hash) = (view.kind(), view.algorithm(), view.hash());
+            let issuer = issuer_named(signature);
+            let created = first_created(view.hashed());
+            let left = view.left();
+            add_typed_values(output, 6, kind, algorithm, hash, &left, created, issuer)
+        }
+        SigView::Other(_) => add_signature(output, signature),
+    }
+}
+
+/// Adds the line of a signature of a keyring.
+fn add_valued_parsed<W: Sink>(output: &mut Output<'_, W>, signature: &Signature) -> io::Result<()>
+    requires { W.has_failed (sink_of output.old) ≡ false }
+    ensures { Extends W.held W.has_failed output.old output.new result
+        (with_values (signature_at (signature_octets signature.now))
+        (signature_line (signature_octets signature.now))) }
+{
+    opgp_packet::signature_laws::written_signature();
+    add_valued_signature(output, signature.view())
+}
+
+/// Adds the line of a packet.
+fn add_valued_line<W: Sink>(output: &mut Output<'_, W>, part: Part<'_>) -> io::Result<()>
+    requires lent { IsLent part }
+    requires sound { W.has_failed (sink_of output.old) ≡ false }
+    ensures { Extends W.held W.has_failed output.old output.new result
+        (valued_packet_line (part_packet part.entry)) }
+{
+    if let Part::Member(member) = part {
+        if let Content::Signature(signature) = member.content() {
+            return add_valued_parsed(output, signature);
+        }
+    }
+    add_line(output, part)
+}
+
+/// Adds the lines of all packets that are left.
+fn add_valued_listing<W: Sink>(
+    output: &mut Output<'_, W>,
+    mut packets: Packets<'_>,
+) -> io::Result<()>
+    requires { W.has_failed (sink_of output.old) ≡ false }
+    ensures { Extends W.held W.has_failed output.old output.new result
+        (valued_listing (packets_left packets.entry)) }
+{
+    'packets: while let Some(part) = packets.next() {
+        add_valued_line(output, part)?;
+    }
+    Ok(())
+}
+
+/// A line for each packet, with values.
+#[derive(Clone, Copy)]
+pub(crate) struct ValuedListingText<'a> {
+    pub(crate) packets: Packets<'a>,
+}
+
+impl Text for ValuedListingText<'_> {
+    ghost octets = { λ text. valued_listing (packets_left text.packets) };
+
+    fn add<W: Sink>(self, output: &mut Output<'_, W>) -> io::Result<()> {
+        add_valued_listing(output, self.packets)
+    }
+}

@@ -154,7 +154,7 @@ fn add_valued_signature<W: Sink>(
     requires { W.has_failed (sink_of output.old) ≡ false }
     ensures { Extends W.held W.has_failed output.old output.new result
         (with_values (Ok (sig_view_value signature.entry))
-        (signature_text (Ok (sig_view_value signature.entry)))) }
+        (signature_text (sig_view_value signature.entry))) }
 {
     match signature {
         SigView::Three(view) => {

@@ -491,6 +491,13 @@ static void rooms(void)
     holds(opgp_ring_merge(&ring, &into) == OPGP_DONE && opgp_ring_packets(&into, &packet, 0, &byte, 0, &sizes) == OPGP_DONE,
           "an empty keyring merged, in place of another");
     holds(opgp_ring_certificate(&other, UINT64_MAX, &into) == OPGP_NO_ROW, "no certificate of the last number");
+    const uint8_t first[] = {0xE8, 0}, second[] = {0xE9, 0};
+    opgp_packet both[2];
+    holds(opgp_ring_open(first, sizeof first, &limits, &ring, &fault) == OPGP_DONE
+              && opgp_ring_open(second, sizeof second, &limits, &other, &fault) == OPGP_DONE
+              && opgp_ring_join(&ring, &other, &into) == OPGP_DONE
+              && opgp_ring_packets(&into, both, 2, &byte, 0, &sizes) == OPGP_DONE && both[0].kind == 40 && both[1].kind == 41,
+          "two keyrings in their order");
     opgp_ring_close(other);
     opgp_ring_close(into);
     opgp_ring_close(ring);

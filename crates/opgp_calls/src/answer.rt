@@ -1,14 +1,15 @@
 //! The answer to a line.
 
-use crate::end::End;
 use opgp_octets::{Fault, write_hexadecimal};
 use std::alloc::Global;
 use std::fmt::Display;
 
-/// The words of an answer, each with a space before it but for the first.
+/// The words of an answer, each with a space before it but for the first. Where memory is refused to
+/// it, it is no answer any more, and the calls that add to it needn't ask.
 #[derive(Drop)]
 pub(crate) struct Answer {
     text: String,
+    refused: bool,
 }
 
 impl Answer {
@@ -16,80 +17,101 @@ impl Answer {
     pub(crate) fn new(alloc: Global) -> Answer {
         Answer {
             text: String::new(alloc),
+            refused: false,
         }
     }
 
-    /// The line.
+    /// The line: `memory` where it ran out of that.
     pub(crate) fn text(&self) -> &str {
-        self.text.as_str()
+        if self.refused {
+            "memory"
+        } else {
+            self.text.as_str()
+        }
+    }
+
+    /// Adds a text as it is.
+    fn add(&mut self, text: &str) {
+        if self.text.push_str(text).is_err() {
+            self.refused = true;
+        }
     }
 
     /// Adds a word.
-    pub(crate) fn word(&mut self, word: &str) -> Result<(), End> {
+    pub(crate) fn word(&mut self, word: &str) {
         if !self.text.is_empty() {
-            self.text.push(' ')?;
+            self.add(" ");
         }
-        self.text.push_str(word)?;
-        Ok(())
+        self.add(word);
     }
 
     /// Adds a number.
-    pub(crate) fn number(&mut self, number: u64) -> Result<(), End> {
-        self.word("")?;
-        write!(self.text, "{number}")?;
-        Ok(())
+    pub(crate) fn number(&mut self, number: u64) {
+        self.shown(&number);
+    }
+
+    /// Adds a number below 256.
+    pub(crate) fn small(&mut self, number: u8) {
+        self.number(u64::from(number));
     }
 
     /// Adds a name and a number.
-    pub(crate) fn named(&mut self, name: &str, number: u64) -> Result<(), End> {
-        self.word(name)?;
-        self.number(number)
+    pub(crate) fn named(&mut self, name: &str, number: u64) {
+        self.word(name);
+        self.number(number);
     }
 
     /// Adds `yes` or `no`.
-    pub(crate) fn truth(&mut self, truth: bool) -> Result<(), End> {
-        self.word(if truth { "yes" } else { "no" })
+    pub(crate) fn truth(&mut self, truth: bool) {
+        self.word(if truth { "yes" } else { "no" });
     }
 
     /// Adds a value as it is displayed.
-    pub(crate) fn shown<T: Display>(&mut self, value: &T) -> Result<(), End> {
-        self.word("")?;
-        write!(self.text, "{value}")?;
-        Ok(())
+    pub(crate) fn shown<T: Display>(&mut self, value: &T) {
+        self.word("");
+        if write!(self.text, "{value}").is_err() {
+            self.refused = true;
+        }
     }
 
     /// Adds octets in hexadecimal, `-` for none.
-    pub(crate) fn octets(&mut self, octets: &[u8]) -> Result<(), End> {
-        self.word(if octets.is_empty() { "-" } else { "" })?;
-        self.text.reserve(octets.len().saturating_mul(2))?;
-        for piece in octets.chunks(32) {
-            self.digits(piece)?;
+    pub(crate) fn octets(&mut self, octets: &[u8]) {
+        self.word(if octets.is_empty() { "-" } else { "" });
+        if self.text.reserve(octets.len().saturating_mul(2)).is_err() {
+            self.refused = true;
+            return;
         }
-        Ok(())
+        for piece in octets.chunks(32) {
+            self.digits(piece);
+        }
     }
 
     /// Adds the digits of at most 32 octets.
-    fn digits(&mut self, piece: &[u8]) -> Result<(), End> {
+    fn digits(&mut self, piece: &[u8]) {
         let mut digits = [0; 64];
         if piece.len() <= 32 {
-            self.text
-                .push_str(write_hexadecimal(piece, &mut digits[..2 * piece.len()]))?;
+            self.add(write_hexadecimal(piece, &mut digits[..2 * piece.len()]));
         }
-        Ok(())
+    }
+
+    /// Adds a name and octets.
+    pub(crate) fn named_octets(&mut self, name: &str, octets: &[u8]) {
+        self.word(name);
+        self.octets(octets);
     }
 
     /// Adds a fault: its layer, reason, block, place, and place in the packet.
-    pub(crate) fn fault(&mut self, fault: &Fault) -> Result<(), End> {
-        self.word("fault")?;
-        self.word(fault.layer.name())?;
-        self.word(fault.reason.name())?;
-        self.number(fault.block)?;
-        self.number(fault.pos)?;
-        self.number(fault.inner)
+    pub(crate) fn fault(&mut self, fault: &Fault) {
+        self.word("fault");
+        self.word(fault.layer.name());
+        self.word(fault.reason.name());
+        self.number(fault.block);
+        self.number(fault.pos);
+        self.number(fault.inner);
     }
 
     /// Adds `end`, or a fault.
-    pub(crate) fn ended(&mut self, end: Result<(), Fault>) -> Result<(), End> {
+    pub(crate) fn ended(&mut self, end: Result<(), Fault>) {
         match end {
             Ok(()) => self.word("end"),
             Err(fault) => self.fault(&fault),

@@ -1,7 +1,6 @@
 //! Why a line has no answer.
 
 use opgp_octets::{OutOfMemory, PushFault};
-use std::alloc::AllocFailed;
 
 /// Why a line has no answer.
 #[derive(Clone, Copy)]

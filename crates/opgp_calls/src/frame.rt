@@ -1,5 +1,7 @@
 //! The calls of `opgp_frame`.
 
+ghost use Rattle.std.specs.Prelude.{◌≤◌, IfOk, length};
+
 use crate::answer::Answer;
 use crate::end::End;
 use crate::given::Given;
@@ -10,28 +12,27 @@ use opgp_frame::{
 };
 use std::alloc::Global;
 
-/// The answer to a call of this crate; false where it has none of the name.
+/// The answer to a call of this crate; None where it has none of the name.
 pub(crate) fn answered(
     alloc: Global,
     name: &str,
     given: &Given,
     answer: &mut Answer,
-) -> Result<bool, End> {
-    match name {
-        "deframe" => deframe(alloc, given, answer)?,
-        "packet" => packet(alloc, given, answer)?,
-        "packet_copy" => packet_copy(alloc, given, answer)?,
-        "placed_copy" => placed_copy(alloc, given, answer)?,
-        "packet_parts" => packet_parts(alloc, given, answer)?,
-        "packet_behind" => packet_behind(alloc, given, answer)?,
-        "reframe" => reframed(alloc, given, answer)?,
-        "spelling" => spelling(alloc, given, answer)?,
-        "pieces" => pieces(alloc, given, answer)?,
-        "form_copy" => form_copy(alloc, given, answer)?,
-        "shortest_form" => shortest_form(given, answer)?,
-        _ => return Ok(false),
-    }
-    Ok(true)
+) -> Option<Result<(), End>> {
+    Some(match name {
+        "deframe" => deframe(alloc, given, answer),
+        "packet" => packet(alloc, given, answer),
+        "packet_copy" => packet_copy(alloc, given, answer),
+        "placed_copy" => placed_copy(alloc, given, answer),
+        "packet_parts" => packet_parts(alloc, given, answer),
+        "packet_behind" => packet_behind(alloc, given, answer),
+        "reframe" => reframed(alloc, given, answer),
+        "spelling" => spelling(alloc, given, answer),
+        "pieces" => pieces(alloc, given, answer),
+        "form_copy" => form_copy(alloc, given, answer),
+        "shortest_form" => shortest_form(given, answer),
+        _ => return None,
+    })
 }
 
 /// `deframe LIMITS.. BLOCK SIZE OCTETS..`: pushes of so many octets.
@@ -39,8 +40,19 @@ fn deframe(alloc: Global, given: &Given, answer: &mut Answer) -> Result<(), End>
     let limits = limits_of(given)?;
     let block = given.number(5)?;
     let size = given.long(6)?.max(1);
-    let mut reader = Deframe::new(alloc, block, limits);
-    push_all(alloc, &mut reader, given.all_octets(), size, answer)?;
+    let reader = Deframe::new(alloc, block, limits);
+    pushed(alloc, reader, given.all_octets(), size, answer)
+}
+
+/// Adds the packets of octets that are pushed so many at a time, and how they end.
+fn pushed(
+    alloc: Global,
+    mut reader: Deframe,
+    words: &[Vec<u8>],
+    size: u32,
+    answer: &mut Answer,
+) -> Result<(), End> {
+    push_all(alloc, &mut reader, words, size, answer)?;
     add_end(reader, answer)
 }
 
@@ -57,7 +69,8 @@ fn push_all(
             push(alloc, reader, piece, answer)?;
         }
     }
-    answer.named("given", reader.given())
+    answer.named("given", reader.given());
+    Ok(())
 }
 
 /// Adds how the packets end.
@@ -65,7 +78,8 @@ fn add_end(reader: Deframe, answer: &mut Answer) -> Result<(), End> {
     if reader.ready() {
         return Err(End::Bad("packets that were taken"));
     }
-    answer.ended(reader.finish())
+    answer.ended(reader.finish());
+    Ok(())
 }
 
 /// Pushes octets, and adds the packets.
@@ -75,10 +89,7 @@ fn push(alloc: Global, reader: &mut Deframe, piece: &[u8], answer: &mut Answer) 
         if rest.is_empty() {
             break;
         }
-        if reader.ready() || reader.given() > 1 << 40 || rest.len() > 1 << 40 {
-            return Err(End::Bad("fewer octets"));
-        }
-        let count = reader.push(rest)?;
+        let count = push_some(reader, rest)?;
         rest = &rest[count..];
         if let Some(placed) = reader.take() {
             add_placed(alloc, &placed, answer)?;
@@ -87,26 +98,42 @@ fn push(alloc: Global, reader: &mut Deframe, piece: &[u8], answer: &mut Answer) 
     Ok(())
 }
 
+/// Pushes octets until a packet is ready, and answers how many were taken.
+pub(crate) fn push_some(reader: &mut Deframe, rest: &[u8]) -> Result<usize, End>
+    ensures { IfOk result (λ n. n ≤ length rest.now) }
+{
+    if reader.ready() || reader.given() > 1 << 40 || rest.len() > 1 << 40 {
+        return Err(End::Bad("fewer octets"));
+    }
+    Ok(reader.push(rest)?)
+}
+
 /// Adds a packet: its place, block, header and octets.
 fn add_placed(alloc: Global, placed: &Placed, answer: &mut Answer) -> Result<(), End> {
-    answer.named("at", placed.pos)?;
-    answer.number(placed.block)?;
+    answer.named("at", placed.pos);
+    answer.number(placed.block);
     add_packet(alloc, &placed.packet, answer)
 }
 
 /// Adds a packet: its type, its form, how long its body and it are, and its octets.
 fn add_packet(alloc: Global, packet: &Packet, answer: &mut Answer) -> Result<(), End> {
-    answer.number(u64::from(packet.kind()))?;
-    add_form(packet.form(), answer)?;
-    answer.number(packet.body().len() as u64)?;
-    answer.number(packet.spelled_len())?;
+    answer.small(packet.kind());
+    add_form(packet.form(), answer);
+    answer.number(packet.body().len() as u64);
+    answer.number(packet.spelled_len());
+    add_written(alloc, packet, answer)
+}
+
+/// Adds the octets of a packet.
+fn add_written(alloc: Global, packet: &Packet, answer: &mut Answer) -> Result<(), End> {
     let mut written = Vec::new(alloc);
     write_packet(packet, &mut written)?;
-    answer.octets(written.as_slice())
+    answer.octets(written.as_slice());
+    Ok(())
 }
 
 /// Adds the name of a form and the exponents of its pieces.
-pub(crate) fn add_form(form: &Form, answer: &mut Answer) -> Result<(), End> {
+pub(crate) fn add_form(form: &Form, answer: &mut Answer) {
     match form {
         Form::OldOne => answer.word("old1"),
         Form::OldTwo => answer.word("old2"),
@@ -119,13 +146,13 @@ pub(crate) fn add_form(form: &Form, answer: &mut Answer) -> Result<(), End> {
 }
 
 /// Adds the form of a last length and the exponents of the pieces before it.
-fn add_pieces(pieces: &Pieces, answer: &mut Answer) -> Result<(), End> {
+fn add_pieces(pieces: &Pieces, answer: &mut Answer) {
     answer.word(match pieces.last() {
         LastForm::One => "partial1",
         LastForm::Two => "partial2",
         LastForm::Five => "partial5",
-    })?;
-    answer.octets(pieces.exponents())
+    });
+    answer.octets(pieces.exponents());
 }
 
 /// A form of this name, with the exponents that there are if it is partial.
@@ -178,64 +205,93 @@ fn packet_of(alloc: Global, given: &Given) -> Result<Option<Packet>, End> {
     }
 }
 
+/// Adds that there is no such packet.
+fn none(answer: &mut Answer) -> Result<(), End> {
+    answer.word("none");
+    Ok(())
+}
+
 /// `packet FORM EXPONENTS TYPE BODY`: a packet of these parts, or that there is none.
 fn packet(alloc: Global, given: &Given, answer: &mut Answer) -> Result<(), End> {
     match packet_of(alloc, given)? {
         Some(packet) => add_packet(alloc, &packet, answer),
-        None => answer.word("none"),
+        None => none(answer),
     }
 }
 
 /// `packet_copy FORM EXPONENTS TYPE BODY`: a copy of a packet.
 fn packet_copy(alloc: Global, given: &Given, answer: &mut Answer) -> Result<(), End> {
     match packet_of(alloc, given)? {
-        Some(packet) => add_packet(alloc, &packet.copy(alloc)?, answer),
-        None => answer.word("none"),
+        Some(packet) => add_copy(alloc, &packet, answer),
+        None => none(answer),
     }
+}
+
+/// Adds a copy of a packet.
+fn add_copy(alloc: Global, packet: &Packet, answer: &mut Answer) -> Result<(), End> {
+    let copy = packet.copy(alloc)?;
+    add_packet(alloc, &copy, answer)
 }
 
 /// `placed_copy FORM EXPONENTS TYPE BODY BLOCK PLACE`: a copy of a packet in a place.
 fn placed_copy(alloc: Global, given: &Given, answer: &mut Answer) -> Result<(), End> {
     let (block, pos) = (given.number(1)?, given.number(2)?);
     match packet_of(alloc, given)? {
-        Some(packet) => {
-            let placed = Placed { packet, block, pos };
-            add_placed(alloc, &placed.copy(alloc)?, answer)
-        }
-        None => answer.word("none"),
+        Some(packet) => add_placed_copy(alloc, &Placed { packet, block, pos }, answer),
+        None => none(answer),
     }
+}
+
+/// Adds a copy of a packet in a place.
+fn add_placed_copy(alloc: Global, placed: &Placed, answer: &mut Answer) -> Result<(), End> {
+    let copy = placed.copy(alloc)?;
+    add_placed(alloc, &copy, answer)
 }
 
 /// `packet_parts FORM EXPONENTS TYPE BODY`: what a packet is taken apart into.
 fn packet_parts(alloc: Global, given: &Given, answer: &mut Answer) -> Result<(), End> {
     match packet_of(alloc, given)? {
-        Some(packet) => {
-            let (form, kind, body) = packet.into_parts();
-            answer.number(u64::from(kind))?;
-            add_form(&form, answer)?;
-            answer.octets(body.as_slice())
-        }
+        Some(packet) => add_parts(packet, answer),
         None => answer.word("none"),
     }
+    Ok(())
+}
+
+/// Adds what a packet is taken apart into.
+fn add_parts(packet: Packet, answer: &mut Answer) {
+    let (form, kind, body) = packet.into_parts();
+    answer.small(kind);
+    add_form(&form, answer);
+    answer.octets(body.as_slice());
 }
 
 /// `packet_behind FORM EXPONENTS TYPE BODY OCTETS`: a packet written behind octets.
 fn packet_behind(alloc: Global, given: &Given, answer: &mut Answer) -> Result<(), End> {
+    let before = given.octets(2)?;
     match packet_of(alloc, given)? {
-        Some(packet) => {
-            let mut out = Vec::from_slice(alloc, given.octets(2)?)?;
-            write_parts(packet.form(), packet.kind(), packet.body(), &mut out)?;
-            answer.octets(out.as_slice())
-        }
-        None => answer.word("none"),
+        Some(packet) => add_behind(alloc, before, &packet, answer),
+        None => none(answer),
     }
+}
+
+/// Adds a packet, written behind octets.
+fn add_behind(
+    alloc: Global,
+    before: &[u8],
+    packet: &Packet,
+    answer: &mut Answer,
+) -> Result<(), End> {
+    let mut out = Vec::from_slice(alloc, before)?;
+    write_parts(packet.form(), packet.kind(), packet.body(), &mut out)?;
+    answer.octets(out.as_slice());
+    Ok(())
 }
 
 /// `reframe FORM EXPONENTS TYPE BODY`: a packet in the current format.
 fn reframed(alloc: Global, given: &Given, answer: &mut Answer) -> Result<(), End> {
     match packet_of(alloc, given)? {
         Some(packet) => add_packet(alloc, &reframe(packet), answer),
-        None => answer.word("none"),
+        None => none(answer),
     }
 }
 
@@ -246,34 +302,39 @@ fn spelling(alloc: Global, given: &Given, answer: &mut Answer) -> Result<(), End
             add_spelling(
                 Spelling::new(packet.form(), packet.kind(), packet.body()),
                 answer,
-            )
+            );
         }
         None => answer.word("none"),
     }
+    Ok(())
 }
 
 /// Adds the headers of a packet, each with the size of its part, and whether nothing comes after
 /// them.
-fn add_spelling(mut spelling: Spelling, answer: &mut Answer) -> Result<(), End> {
+fn add_spelling(mut spelling: Spelling, answer: &mut Answer) {
     for _ in 0..u64::MAX {
         let Some((header, part)) = spelling.next() else {
             break;
         };
-        answer.octets(header.as_slice())?;
-        answer.number(part.len() as u64)?;
+        answer.octets(header.as_slice());
+        answer.number(part.len() as u64);
     }
-    answer.truth(spelling.next().is_none())
+    answer.truth(spelling.next().is_none());
 }
 
 /// `pieces FORM EXPONENTS`: pieces and a copy of them, or that there are none.
 fn pieces(alloc: Global, given: &Given, answer: &mut Answer) -> Result<(), End> {
     match form_of(alloc, given)? {
-        Some(Form::Partial(pieces)) => {
-            add_pieces(&pieces, answer)?;
-            add_pieces(&pieces.copy(alloc)?, answer)
-        }
-        _ => answer.word("none"),
+        Some(Form::Partial(pieces)) => add_pieces_twice(alloc, &pieces, answer),
+        _ => none(answer),
     }
+}
+
+/// Adds pieces and a copy of them.
+fn add_pieces_twice(alloc: Global, pieces: &Pieces, answer: &mut Answer) -> Result<(), End> {
+    add_pieces(pieces, answer);
+    add_pieces(&pieces.copy(alloc)?, answer);
+    Ok(())
 }
 
 /// `form_copy FORM EXPONENTS`: a copy of a form.
@@ -282,12 +343,14 @@ fn form_copy(alloc: Global, given: &Given, answer: &mut Answer) -> Result<(), En
         Some(form) => add_form(&form.copy(alloc)?, answer),
         None => answer.word("none"),
     }
+    Ok(())
 }
 
 /// `shortest_form SIZE`: the shortest form of a body of so many octets, and how long its packet is.
 fn shortest_form(given: &Given, answer: &mut Answer) -> Result<(), End> {
     let size = given.long(0)?;
     let form = Form::shortest(size);
-    add_form(&form, answer)?;
-    answer.number(spelled_len_of(&form, u64::from(size)))
+    add_form(&form, answer);
+    answer.number(spelled_len_of(&form, u64::from(size)));
+    Ok(())
 }

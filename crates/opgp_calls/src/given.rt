@@ -48,6 +48,11 @@ impl<'a> Given<'a> {
         }
     }
 
+    /// All names.
+    pub(crate) fn names(&self) -> &[&'a str] {
+        self.names.as_slice()
+    }
+
     /// A number.
     pub(crate) fn number(&self, at: usize) -> Result<u64, End> {
         match self.numbers.get(at) {

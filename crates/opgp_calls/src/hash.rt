@@ -9,23 +9,22 @@ use opgp_hash::{Digest, Fingerprint, KeyId, fingerprint, fingerprint_of_view, ke
 use opgp_packet::{Key, KeyView};
 use std::alloc::Global;
 
-/// The answer to a call of this crate; false where it has none of the name.
+/// The answer to a call of this crate; None where it has none of the name.
 pub(crate) fn answered(
     alloc: Global,
     name: &str,
     given: &Given,
     answer: &mut Answer,
-) -> Result<bool, End> {
+) -> Option<Result<(), End>> {
     let octets = match given.octets(0) {
         Ok(octets) if octets.len() <= 4_294_967_295 => octets,
-        _ => return Ok(false),
+        _ => return None,
     };
-    match name {
-        "key_names" => key_names(alloc, octets, answer)?,
-        "digest" => digest(octets, answer)?,
-        _ => return Ok(false),
-    }
-    Ok(true)
+    Some(match name {
+        "key_names" => key_names(alloc, octets, answer),
+        "digest" => digest(octets, answer),
+        _ => return None,
+    })
 }
 
 /// `key_names BODY`: the fingerprint and the key ID of a key, of a view and of a value.
@@ -33,44 +32,52 @@ fn key_names(alloc: Global, body: &[u8], answer: &mut Answer) -> Result<(), End>
     requires { IsBodySized body.now }
 {
     let Ok(view) = KeyView::parse_body(body) else {
-        return answer.word("refused");
+        answer.word("refused");
+        return Ok(());
     };
-    add_print(&fingerprint_of_view(view), answer)?;
-    add_names(&view.copy(alloc)?, answer)
+    add_print(&fingerprint_of_view(view), answer);
+    add_names(&view.copy(alloc)?, answer);
+    Ok(())
 }
 
 /// Adds the fingerprint and the key ID of a key.
-fn add_names(key: &Key, answer: &mut Answer) -> Result<(), End> {
-    add_print(&fingerprint(key), answer)?;
-    add_id(&key_id(key), answer)
+fn add_names(key: &Key, answer: &mut Answer) {
+    add_print(&fingerprint(key), answer);
+    add_id(&key_id(key), answer);
 }
 
 /// Adds a fingerprint: its version, octets and digits, and its key ID.
-fn add_print(print: &Fingerprint, answer: &mut Answer) -> Result<(), End> {
-    answer.number(u64::from(print.version()))?;
-    answer.octets(print.octets())?;
-    answer.shown(print)?;
-    answer.word(print.write_digits(&mut [0; 64]))?;
-    add_id(&print.key_id(), answer)
+fn add_print(print: &Fingerprint, answer: &mut Answer) {
+    answer.small(print.version());
+    answer.octets(print.octets());
+    answer.shown(print);
+    answer.word(print.write_digits(&mut [0; 64]));
+    add_id(&print.key_id(), answer);
 }
 
 /// Adds a key ID: its octets and its digits.
-fn add_id(id: &KeyId, answer: &mut Answer) -> Result<(), End> {
-    answer.octets(&id.0)?;
-    answer.shown(id)?;
-    answer.word(id.write_digits(&mut [0; 16]))
+fn add_id(id: &KeyId, answer: &mut Answer) {
+    answer.octets(&id.0);
+    answer.shown(id);
+    answer.word(id.write_digits(&mut [0; 16]));
 }
 
-/// `digest OCTETS`: a digest of 20 or 32 octets: its octets and its digits.
+/// `digest OCTETS`: a digest of 20 or 32 octets.
 fn digest(octets: &[u8], answer: &mut Answer) -> Result<(), End> {
-    let digest = if let Ok(octets) = <[u8; 20]>::try_from(octets) {
-        Digest::Sha1(octets)
-    } else if let Ok(octets) = <[u8; 32]>::try_from(octets) {
-        Digest::Sha256(octets)
-    } else {
-        return Err(End::Bad("20 or 32 octets"));
-    };
-    answer.octets(digest.octets())?;
-    answer.shown(&digest)?;
-    answer.word(digest.write_digits(&mut [0; 128]))
+    if let Ok(octets) = <[u8; 20]>::try_from(octets) {
+        add_digest(&Digest::Sha1(octets), answer);
+        return Ok(());
+    }
+    if let Ok(octets) = <[u8; 32]>::try_from(octets) {
+        add_digest(&Digest::Sha256(octets), answer);
+        return Ok(());
+    }
+    Err(End::Bad("20 or 32 octets"))
+}
+
+/// Adds a digest: its octets and its digits.
+fn add_digest(digest: &Digest, answer: &mut Answer) {
+    answer.octets(digest.octets());
+    answer.shown(digest);
+    answer.word(digest.write_digits(&mut [0; 128]));
 }

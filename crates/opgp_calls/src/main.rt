@@ -4,6 +4,7 @@
 
 mod answer;
 mod armor;
+mod composer;
 mod end;
 mod frame;
 mod given;
@@ -14,6 +15,8 @@ mod meaning;
 mod numbers;
 mod octets;
 mod packet;
+mod parts;
+mod report;
 mod ring;
 mod signature;
 
@@ -57,17 +60,45 @@ fn answered(alloc: Global, line: &str, answer: &mut Answer) -> Result<(), End> {
         None => (line, ""),
     };
     let given = Given::of(alloc, words)?;
-    let known = numbers::answered(name, &given, answer)?
-        || octets::answered(alloc, name, &given, answer)?
-        || armor::answered(alloc, name, &given, answer)?
-        || frame::answered(alloc, name, &given, answer)?
-        || packet::answered(alloc, name, &given, answer)?
-        || signature::answered(alloc, name, &given, answer)?
-        || hash::answered(alloc, name, &given, answer)?
-        || ring::answered(alloc, name, &given, answer)?;
-    if known {
-        Ok(())
-    } else {
-        Err(End::Bad("the name of a call"))
+    match called(alloc, name, &given, answer) {
+        Some(ended) => ended,
+        None => Err(End::Bad("the name of a call")),
     }
+}
+
+/// The answer to the call of this name; None where there is none of the name.
+fn called(
+    alloc: Global,
+    name: &str,
+    given: &Given,
+    answer: &mut Answer,
+) -> Option<Result<(), End>> {
+    if let Some(ended) = numbers::answered(name, given, answer) {
+        return Some(ended);
+    }
+    if let Some(ended) = octets::answered(alloc, name, given, answer) {
+        return Some(ended);
+    }
+    if let Some(ended) = armor::answered(alloc, name, given, answer) {
+        return Some(ended);
+    }
+    if let Some(ended) = frame::answered(alloc, name, given, answer) {
+        return Some(ended);
+    }
+    if let Some(ended) = packet::answered(alloc, name, given, answer) {
+        return Some(ended);
+    }
+    if let Some(ended) = signature::answered(alloc, name, given, answer) {
+        return Some(ended);
+    }
+    if let Some(ended) = hash::answered(alloc, name, given, answer) {
+        return Some(ended);
+    }
+    if let Some(ended) = ring::answered(alloc, name, given, answer) {
+        return Some(ended);
+    }
+    if let Some(ended) = composer::answered(alloc, name, given, answer) {
+        return Some(ended);
+    }
+    report::answered(alloc, name, given, answer)
 }

@@ -6,7 +6,7 @@ use crate::answer::Answer;
 use crate::end::End;
 use crate::given::Given;
 use crate::material::add_material;
-use crate::octets::add_sub_len_of;
+use crate::octets::add_sub_len;
 use opgp_octets::{BodyFault, ParseFault};
 use opgp_packet::{
     Attribute, AttributeView, Body, Key, KeyView, Literal, LiteralView, Parsed, UserId, Walk,
@@ -20,88 +20,87 @@ const MOST: usize = 4_294_967_295;
 /// What the written bodies stand behind.
 const BEFORE: &[u8] = b"so far";
 
-/// The answer to a call of this crate; false where it has none of the name.
+/// The answer to a call of this crate; None where it has none of the name.
 pub(crate) fn answered(
     alloc: Global,
     name: &str,
     given: &Given,
     answer: &mut Answer,
-) -> Result<bool, End> {
+) -> Option<Result<(), End>> {
     let body = match given.octets(0) {
         Ok(body) if body.len() <= MOST => body,
-        _ => return Ok(false),
+        _ => return None,
     };
-    match name {
-        "key" => key(alloc, body, answer)?,
-        "key_fields" => key_fields(alloc, body, answer)?,
-        "attribute" => attribute(alloc, body, answer)?,
-        "attribute_subpackets" => attribute_subpackets(alloc, body, answer)?,
-        "literal" => literal(alloc, body, answer)?,
-        "literal_fields" => literal_fields(alloc, body, answer)?,
-        "user_id" => user_id(alloc, body, answer)?,
-        "area" => add_refusal(fault_in_area(body, body.len()), answer)?,
-        _ => return Ok(false),
-    }
-    Ok(true)
+    Some(match name {
+        "key" => key(alloc, body, answer),
+        "key_fields" => key_fields(alloc, body, answer),
+        "attribute" => attribute(alloc, body, answer),
+        "attribute_subpackets" => attribute_subpackets(alloc, body, answer),
+        "literal" => literal(alloc, body, answer),
+        "literal_fields" => literal_fields(alloc, body, answer),
+        "user_id" => user_id(alloc, body, answer),
+        "area" => {
+            add_refusal(fault_in_area(body, body.len()), answer);
+            Ok(())
+        }
+        _ => return None,
+    })
 }
 
 /// Adds a fault of a body, or that there is none.
-fn add_refusal(fault: Option<BodyFault>, answer: &mut Answer) -> Result<(), End> {
+fn add_refusal(fault: Option<BodyFault>, answer: &mut Answer) {
     match fault {
-        Some(fault) => answer.named(fault.reason.name(), fault.inner),
+        Some(fault) => add_fault(fault, answer),
         None => answer.word("whole"),
     }
+}
+
+/// Adds a fault of a body.
+pub(crate) fn add_fault(fault: BodyFault, answer: &mut Answer) {
+    answer.named(fault.reason.name(), fault.inner);
 }
 
 /// `key BODY`: a key's body, or its fault, in each way to read it.
 fn key(alloc: Global, body: &[u8], answer: &mut Answer) -> Result<(), End>
     requires { IsBodySized body.now }
 {
-    add_refusal(Key::check_body(body), answer)?;
-    add_view(KeyView::parse_body(body), answer)?;
+    add_refusal(Key::check_body(body), answer);
+    add_view(KeyView::parse_body(body), answer);
     add_parsed(alloc, Key::parse_body(alloc, body), answer)?;
-    add_kept(alloc, Key::from_body(Vec::from_slice(alloc, body)?), answer)
+    let body = Vec::from_slice(alloc, body)?;
+    add_kept(alloc, Key::from_body(body), answer)
 }
 
 /// `attribute BODY`: the same of an attribute.
 fn attribute(alloc: Global, body: &[u8], answer: &mut Answer) -> Result<(), End>
     requires { IsBodySized body.now }
 {
-    add_refusal(Attribute::check_body(body), answer)?;
-    add_view(AttributeView::parse_body(body), answer)?;
+    add_refusal(Attribute::check_body(body), answer);
+    add_view(AttributeView::parse_body(body), answer);
     add_parsed(alloc, Attribute::parse_body(alloc, body), answer)?;
-    add_kept(
-        alloc,
-        Attribute::from_body(Vec::from_slice(alloc, body)?),
-        answer,
-    )
+    let body = Vec::from_slice(alloc, body)?;
+    add_kept(alloc, Attribute::from_body(body), answer)
 }
 
 /// `literal BODY`: the same of a literal.
 fn literal(alloc: Global, body: &[u8], answer: &mut Answer) -> Result<(), End>
     requires { IsBodySized body.now }
 {
-    add_refusal(Literal::check_body(body), answer)?;
-    add_view(LiteralView::parse_body(body), answer)?;
+    add_refusal(Literal::check_body(body), answer);
+    add_view(LiteralView::parse_body(body), answer);
     add_parsed(alloc, Literal::parse_body(alloc, body), answer)?;
-    add_kept(
-        alloc,
-        Literal::from_body(Vec::from_slice(alloc, body)?),
-        answer,
-    )
+    let body = Vec::from_slice(alloc, body)?;
+    add_kept(alloc, Literal::from_body(body), answer)
 }
 
 /// Adds what a view has, or its fault.
-fn add_view<F: Body + Drop>(
-    view: Result<Parsed<&[u8], F>, BodyFault>,
-    answer: &mut Answer,
-) -> Result<(), End> {
+fn add_view<F: Body + Drop>(view: Result<Parsed<&[u8], F>, BodyFault>, answer: &mut Answer) {
     match view {
         Ok(view) => {
-            answer.octets(view.body())?;
-            answer.number(view.body_len())
+            answer.octets(view.body());
+            answer.number(view.body_len());
         }
-        Err(fault) => answer.named(fault.reason.name(), fault.inner),
+        Err(fault) => add_fault(fault, answer),
     }
 }
 
@@ -113,7 +112,10 @@ fn add_parsed<F: Body + Drop>(
 ) -> Result<(), End> {
     match parsed {
         Ok(value) => add_value(alloc, &value, answer),
-        Err(ParseFault::Body(fault)) => answer.named(fault.reason.name(), fault.inner),
+        Err(ParseFault::Body(fault)) => {
+            add_fault(fault, answer);
+            Ok(())
+        }
         Err(ParseFault::Memory) => Err(End::Memory),
     }
 }
@@ -124,10 +126,11 @@ fn add_value<F: Body + Drop>(
     value: &Parsed<Vec<u8>, F>,
     answer: &mut Answer,
 ) -> Result<(), End> {
-    answer.octets(value.body())?;
-    answer.number(value.body_len())?;
-    answer.octets(value.copy(alloc)?.body())?;
-    answer.octets(Parsed::of(alloc, value.view())?.body())
+    answer.octets(value.body());
+    answer.number(value.body_len());
+    answer.octets(value.copy(alloc)?.body());
+    answer.octets(Parsed::of(alloc, value.view())?.body());
+    Ok(())
 }
 
 /// Adds a body, written behind octets and then given back, or its fault.
@@ -137,14 +140,25 @@ fn add_kept<F: Body + Drop>(
     answer: &mut Answer,
 ) -> Result<(), End> {
     match kept {
-        Ok(value) => {
-            let mut out = Vec::from_slice(alloc, BEFORE)?;
-            value.write_body(&mut out)?;
-            answer.octets(out.as_slice())?;
-            answer.octets(value.into_body().as_slice())
+        Ok(value) => add_behind(alloc, value, answer),
+        Err(fault) => {
+            add_fault(fault, answer);
+            Ok(())
         }
-        Err(fault) => answer.named(fault.reason.name(), fault.inner),
     }
+}
+
+/// Adds a body, written behind octets and then given back.
+fn add_behind<F: Body + Drop>(
+    alloc: Global,
+    value: Parsed<Vec<u8>, F>,
+    answer: &mut Answer,
+) -> Result<(), End> {
+    let mut out = Vec::from_slice(alloc, BEFORE)?;
+    value.write_body(&mut out)?;
+    answer.octets(out.as_slice());
+    answer.octets(value.into_body().as_slice());
+    Ok(())
 }
 
 /// `key_fields BODY`: the fields of a key, as a view has them and as a value has them.
@@ -152,21 +166,23 @@ fn key_fields(alloc: Global, body: &[u8], answer: &mut Answer) -> Result<(), End
     requires { IsBodySized body.now }
 {
     let Ok(view) = KeyView::parse_body(body) else {
-        return answer.word("refused");
+        answer.word("refused");
+        return Ok(());
     };
-    answer.number(u64::from(view.version()))?;
-    answer.number(u64::from(view.created()))?;
-    answer.number(u64::from(view.algorithm()))?;
-    add_material(view.material(), answer)?;
-    add_key(&view.copy(alloc)?, answer)
+    answer.small(view.version());
+    answer.number(u64::from(view.created()));
+    answer.small(view.algorithm());
+    add_material(view.material(), answer);
+    add_key(&view.copy(alloc)?, answer);
+    Ok(())
 }
 
 /// Adds the fields of a key.
-fn add_key(key: &Key, answer: &mut Answer) -> Result<(), End> {
-    answer.number(u64::from(key.version()))?;
-    answer.number(u64::from(key.created()))?;
-    answer.number(u64::from(key.algorithm()))?;
-    add_material(key.material(), answer)
+fn add_key(key: &Key, answer: &mut Answer) {
+    answer.small(key.version());
+    answer.number(u64::from(key.created()));
+    answer.small(key.algorithm());
+    add_material(key.material(), answer);
 }
 
 /// `attribute_subpackets BODY`: the subpackets of an attribute, as a view has them and as a value has
@@ -175,20 +191,22 @@ fn attribute_subpackets(alloc: Global, body: &[u8], answer: &mut Answer) -> Resu
     requires { IsBodySized body.now }
 {
     let Ok(view) = AttributeView::parse_body(body) else {
-        return answer.word("refused");
+        answer.word("refused");
+        return Ok(());
     };
-    add_subpackets(view.subpackets(), answer)?;
-    add_subpackets(view.copy(alloc)?.subpackets(), answer)
+    add_subpackets(view.subpackets(), answer);
+    add_subpackets(view.copy(alloc)?.subpackets(), answer);
+    Ok(())
 }
 
 /// Adds subpackets: the form and the number of the length, the kind, the octets.
-fn add_subpackets(subpackets: Walk<'_>, answer: &mut Answer) -> Result<(), End> {
+fn add_subpackets(subpackets: Walk<'_>, answer: &mut Answer) {
     for subpacket in subpackets {
-        add_sub_len_of(subpacket.len(), answer)?;
-        answer.number(u64::from(subpacket.kind()))?;
-        answer.octets(subpacket.octets())?;
+        add_sub_len(subpacket.len(), answer);
+        answer.small(subpacket.kind());
+        answer.octets(subpacket.octets());
     }
-    answer.word("end")
+    answer.word("end");
 }
 
 /// `literal_fields BODY`: the fields of a literal, as a view has them and as a value has them.
@@ -196,21 +214,23 @@ fn literal_fields(alloc: Global, body: &[u8], answer: &mut Answer) -> Result<(),
     requires { IsBodySized body.now }
 {
     let Ok(view) = LiteralView::parse_body(body) else {
-        return answer.word("refused");
+        answer.word("refused");
+        return Ok(());
     };
-    answer.number(u64::from(view.format()))?;
-    answer.octets(view.name())?;
-    answer.number(u64::from(view.date()))?;
-    answer.octets(view.content())?;
-    add_literal(&view.copy(alloc)?, answer)
+    answer.small(view.format());
+    answer.octets(view.name());
+    answer.number(u64::from(view.date()));
+    answer.octets(view.content());
+    add_literal(&view.copy(alloc)?, answer);
+    Ok(())
 }
 
 /// Adds the fields of a literal.
-fn add_literal(literal: &Literal, answer: &mut Answer) -> Result<(), End> {
-    answer.number(u64::from(literal.format()))?;
-    answer.octets(literal.name())?;
-    answer.number(u64::from(literal.date()))?;
-    answer.octets(literal.content())
+fn add_literal(literal: &Literal, answer: &mut Answer) {
+    answer.small(literal.format());
+    answer.octets(literal.name());
+    answer.number(u64::from(literal.date()));
+    answer.octets(literal.content());
 }
 
 /// `user_id BODY`: the octets of a user ID, of a copy, written behind octets, and given back.
@@ -222,16 +242,18 @@ fn user_id(alloc: Global, body: &[u8], answer: &mut Answer) -> Result<(), End>
         Err(_) => return Err(End::Memory),
     }
     let kept = UserId::from_body(Vec::from_slice(alloc, body)?);
-    answer.octets(kept.into_body().as_slice())
+    answer.octets(kept.into_body().as_slice());
+    Ok(())
 }
 
 /// Adds the octets of a user ID, of a copy, and written behind octets.
 fn add_user_id(alloc: Global, user_id: &UserId, answer: &mut Answer) -> Result<(), End> {
-    answer.octets(user_id.octets())?;
-    answer.octets(user_id.body())?;
-    answer.number(user_id.body_len())?;
-    answer.octets(user_id.copy(alloc)?.octets())?;
+    answer.octets(user_id.octets());
+    answer.octets(user_id.body());
+    answer.number(user_id.body_len());
+    answer.octets(user_id.copy(alloc)?.octets());
     let mut out = Vec::from_slice(alloc, BEFORE)?;
     user_id.write_body(&mut out)?;
-    answer.octets(out.as_slice())
+    answer.octets(out.as_slice());
+    Ok(())
 }

@@ -1,54 +1,59 @@
-//! The calls of `opgp_ring`.
+//! The calls of `opgp_ring` that take whole keyrings, and that of `opgp_merge`.
 
 use crate::answer::Answer;
 use crate::end::End;
-use crate::frame::add_form;
+use crate::frame::push_some;
 use crate::given::Given;
 use crate::octets::limits_of;
-use opgp_frame::{Deframe, Placed, write_packet};
-use opgp_octets::Limits;
-use opgp_ring::{
-    BlockOf, Certificate, Component, Content, Head, Keyring, Member, check_bodies, compose,
-    flatten, join, normalise, nth,
-};
+use crate::parts::{add_part_copies, add_parts};
+use opgp_frame::{Deframe, Packet, Placed, write_packet};
+use opgp_merge::merge;
+use opgp_octets::{Limits, OutOfMemory};
+use opgp_ring::{BlockOf, Keyring, check_bodies, compose, flatten, join, normalise, nth};
 use std::alloc::Global;
 
-/// The answer to a call of this crate; false where it has none of the name.
+/// The answer to a call of these; None where there is none of the name.
 pub(crate) fn answered(
     alloc: Global,
     name: &str,
     given: &Given,
     answer: &mut Answer,
-) -> Result<bool, End> {
-    match name {
-        "compose" => composed(alloc, given, answer)?,
-        "ring" => ring(alloc, given, answer)?,
-        "ring_copy" => ring_copy(alloc, given, answer)?,
-        "ring_parts" => ring_parts(alloc, given, answer)?,
-        "ring_part_copies" => ring_part_copies(alloc, given, answer)?,
-        "normalise" => normalised(alloc, given, answer)?,
-        "join" => joined(alloc, given, answer)?,
-        "nth" => one(alloc, given, answer)?,
-        "block_copy" => block_copy(alloc, given, answer)?,
-        "check_bodies" => bodies_checked(alloc, given, answer)?,
-        _ => return Ok(false),
-    }
-    Ok(true)
+) -> Option<Result<(), End>> {
+    Some(match name {
+        "compose" => composed(alloc, given, answer),
+        "ring" => ring(alloc, given, answer),
+        "ring_copy" => ring_copy(alloc, given, answer),
+        "ring_parts" => ring_parts(alloc, given, answer),
+        "ring_part_copies" => ring_part_copies(alloc, given, answer),
+        "normalise" => normalised(alloc, given, answer),
+        "join" => joined(alloc, given, answer),
+        "merge" => merged(alloc, given, answer),
+        "nth" => one(alloc, given, answer),
+        "block_copy" => block_copy(alloc, given, answer),
+        "check_bodies" => bodies_checked(alloc, given, answer),
+        _ => return None,
+    })
 }
 
 /// The packets of a block's octets.
 fn packets_of(alloc: Global, block: u64, octets: &[u8]) -> Result<Vec<Placed>, End> {
     let mut reader = Deframe::new(alloc, block, Limits::usual());
     let mut packets = Vec::new(alloc);
+    read_all(&mut reader, octets, &mut packets)?;
+    if reader.ready() || reader.finish().is_err() {
+        return Err(End::Bad("packets"));
+    }
+    Ok(packets)
+}
+
+/// Reads packets, one after the other.
+fn read_all(reader: &mut Deframe, octets: &[u8], packets: &mut Vec<Placed>) -> Result<(), End> {
     let mut rest = octets;
     for _ in 0..=octets.len() {
         if rest.is_empty() {
             break;
         }
-        if reader.ready() || reader.given() > 1 << 40 || rest.len() > 1 << 40 {
-            return Err(End::Bad("fewer octets"));
-        }
-        let count = reader.push(rest)?;
+        let count = push_some(reader, rest)?;
         rest = &rest[count..];
         if let Some(placed) = reader.take() {
             if packets.push(placed).is_err() {
@@ -56,21 +61,24 @@ fn packets_of(alloc: Global, block: u64, octets: &[u8]) -> Result<Vec<Placed>, E
             }
         }
     }
-    if reader.ready() || reader.finish().is_err() {
-        return Err(End::Bad("packets"));
-    }
-    Ok(packets)
+    Ok(())
 }
 
-/// The blocks of all octets, the label of each of which fits where its name is `fits`.
-fn blocks_of(alloc: Global, given: &Given) -> Result<Vec<BlockOf>, End> {
+/// The block of octets, whose label fits where its name is `fits`.
+fn block_of(alloc: Global, number: u64, name: &str, octets: &[u8]) -> Result<BlockOf, End> {
+    Ok(BlockOf {
+        block: number,
+        label_fits: name == "fits",
+        packets: packets_of(alloc, number, octets)?,
+    })
+}
+
+/// The blocks of all octets, each of which has a name.
+pub(crate) fn blocks_of(alloc: Global, given: &Given) -> Result<Vec<BlockOf>, End> {
     let mut blocks = Vec::new(alloc);
     for (number, octets) in given.all_octets().iter().enumerate() {
-        let block = BlockOf {
-            block: number as u64,
-            label_fits: given.name(number)? == "fits",
-            packets: packets_of(alloc, number as u64, octets.as_slice())?,
-        };
+        let name = given.name(number)?;
+        let block = block_of(alloc, number as u64, name, octets.as_slice())?;
         if blocks.push(block).is_err() {
             return Err(End::Memory);
         }
@@ -83,34 +91,44 @@ fn composed(alloc: Global, given: &Given, answer: &mut Answer) -> Result<(), End
     let limits = limits_of(given)?;
     match compose(alloc, blocks_of(alloc, given)?, &limits)? {
         Ok(ring) => add_ring(alloc, &ring, answer),
-        Err(fault) => answer.fault(&fault),
+        Err(fault) => {
+            answer.fault(&fault);
+            Ok(())
+        }
     }
 }
 
 /// Adds a keyring: how many packets come before how many certificates, and its octets.
 fn add_ring(alloc: Global, ring: &Keyring, answer: &mut Answer) -> Result<(), End> {
-    answer.named("lead", ring.lead().len() as u64)?;
-    answer.named("certificates", ring.certificates().len() as u64)?;
+    answer.named("lead", ring.lead().len() as u64);
+    answer.named("certificates", ring.certificates().len() as u64);
     let packets = flatten(alloc, ring)?;
-    let mut out = Vec::new(alloc);
-    for packet in &packets {
-        write_packet(packet, &mut out)?;
-    }
-    answer.octets(out.as_slice())
+    add_packets(alloc, packets.as_slice(), answer)
 }
 
-/// The keyring of octets.
-fn ring_of(alloc: Global, octets: &[u8]) -> Result<Keyring, End> {
+/// Adds the octets of packets.
+fn add_packets(alloc: Global, packets: &[Packet], answer: &mut Answer) -> Result<(), End> {
+    let mut out = Vec::new(alloc);
+    for packet in packets {
+        write_packet(packet, &mut out)?;
+    }
+    answer.octets(out.as_slice());
+    Ok(())
+}
+
+/// The block of octets, alone.
+fn one_block(alloc: Global, octets: &[u8]) -> Result<Vec<BlockOf>, End> {
+    let block = block_of(alloc, 0, "fits", octets)?;
     let mut blocks = Vec::new(alloc);
-    let block = BlockOf {
-        block: 0,
-        label_fits: true,
-        packets: packets_of(alloc, 0, octets)?,
-    };
     if blocks.push(block).is_err() {
         return Err(End::Memory);
     }
-    match compose(alloc, blocks, &Limits::usual())? {
+    Ok(blocks)
+}
+
+/// The keyring of octets.
+pub(crate) fn ring_of(alloc: Global, octets: &[u8]) -> Result<Keyring, End> {
+    match compose(alloc, one_block(alloc, octets)?, &Limits::usual())? {
         Ok(ring) => Ok(ring),
         Err(_) => Err(End::Bad("a keyring")),
     }
@@ -124,8 +142,8 @@ fn ring(alloc: Global, given: &Given, answer: &mut Answer) -> Result<(), End> {
 
 /// `ring_copy OCTETS`: a copy of it.
 fn ring_copy(alloc: Global, given: &Given, answer: &mut Answer) -> Result<(), End> {
-    let ring = ring_of(alloc, given.octets(0)?)?;
-    add_ring(alloc, &ring.copy(alloc)?, answer)
+    let copy = ring_of(alloc, given.octets(0)?)?.copy(alloc)?;
+    add_ring(alloc, &copy, answer)
 }
 
 /// `normalise OCTETS`: the keyring in the current format, and that again.
@@ -138,145 +156,87 @@ fn normalised(alloc: Global, given: &Given, answer: &mut Answer) -> Result<(), E
 /// `join OCTETS OCTETS`: two keyrings, joined.
 fn joined(alloc: Global, given: &Given, answer: &mut Answer) -> Result<(), End> {
     let (first, second) = (given.octets(0)?, given.octets(1)?);
-    let first = ring_of(alloc, first)?;
-    let ring = join(first, ring_of(alloc, second)?)?;
+    let ring = both(alloc, ring_of(alloc, first)?, second)?;
     add_ring(alloc, &ring, answer)
+}
+
+/// A keyring, and that of octets.
+fn both(alloc: Global, first: Keyring, second: &[u8]) -> Result<Keyring, End> {
+    let second = ring_of(alloc, second)?;
+    Ok(join(first, second)?)
+}
+
+/// `merge OCTETS`: a keyring whose equal parts are joined, and that again.
+fn merged(alloc: Global, given: &Given, answer: &mut Answer) -> Result<(), End> {
+    let ring = merge(ring_of(alloc, given.octets(0)?)?)?;
+    add_ring(alloc, &ring, answer)?;
+    let again = merge(ring)?;
+    add_ring(alloc, &again, answer)
 }
 
 /// `nth NUMBER OCTETS`: a keyring with one of its certificates, or that there is none.
 fn one(alloc: Global, given: &Given, answer: &mut Answer) -> Result<(), End> {
     let number = given.long(0)? as usize;
-    let ring = ring_of(alloc, given.octets(0)?)?;
-    match nth(alloc, &ring, number)? {
+    match nth_of(alloc, given.octets(0)?, number)? {
         Some(ring) => add_ring(alloc, &ring, answer),
-        None => answer.word("none"),
+        None => {
+            answer.word("none");
+            Ok(())
+        }
     }
+}
+
+/// The certificate of this number, of the keyring of octets.
+fn nth_of(alloc: Global, octets: &[u8], number: usize) -> Result<Option<Keyring>, End> {
+    let ring = ring_of(alloc, octets)?;
+    Ok(nth(alloc, &ring, number)?)
 }
 
 /// `ring_parts OCTETS`: the packets before the first certificate of a keyring, and its certificates.
 fn ring_parts(alloc: Global, given: &Given, answer: &mut Answer) -> Result<(), End> {
     let ring = ring_of(alloc, given.octets(0)?)?;
-    for packet in ring.lead() {
-        answer.named("lead", u64::from(packet.kind()))?;
-    }
-    for certificate in ring.certificates() {
-        add_certificate(certificate, answer)?;
-    }
-    answer.word("end")
-}
-
-/// Adds a certificate: its primary key, what hangs on that, its components.
-fn add_certificate(certificate: &Certificate, answer: &mut Answer) -> Result<(), End> {
-    answer.named("certificate", u64::from(certificate.key().created()))?;
-    add_member(certificate.primary(), answer)?;
-    add_hangs(certificate.hangs(), answer)?;
-    for component in certificate.components() {
-        add_component(component, answer)?;
-    }
+    add_parts(&ring, answer);
     Ok(())
-}
-
-/// Adds a component: its head, and what hangs on that.
-fn add_component(component: &Component, answer: &mut Answer) -> Result<(), End> {
-    add_head(component.head().head(), answer)?;
-    add_member(component.head(), answer)?;
-    add_hangs(component.hangs(), answer)
-}
-
-/// Adds what a component begins with: a user ID, how many subpackets an attribute has, or the
-/// algorithm of a subkey.
-fn add_head(head: Head<'_>, answer: &mut Answer) -> Result<(), End> {
-    match head {
-        Head::UserId(id) => {
-            answer.word("name")?;
-            answer.octets(id.octets())
-        }
-        Head::Attribute(attribute) => {
-            answer.named("attribute", attribute.subpackets().count() as u64)
-        }
-        Head::Subkey(key) => answer.named("subkey", u64::from(key.algorithm())),
-    }
-}
-
-/// Adds packets that hang on another.
-fn add_hangs(hangs: &[Member], answer: &mut Answer) -> Result<(), End> {
-    for member in hangs {
-        answer.word("hangs")?;
-        add_member(member, answer)?;
-    }
-    Ok(())
-}
-
-/// Adds a packet: its type, its form, how long it is, what it has been read as, its body.
-fn add_member(member: &Member, answer: &mut Answer) -> Result<(), End> {
-    answer.number(u64::from(member.kind()))?;
-    add_form(member.form(), answer)?;
-    answer.number(member.spelled_len())?;
-    add_content(member.content(), answer)?;
-    answer.octets(member.body())
-}
-
-/// Adds what a packet has been read as, and how long its body is.
-fn add_content(content: &Content, answer: &mut Answer) -> Result<(), End> {
-    match content {
-        Content::Primary(key) => answer.named("primary", key.body_len()),
-        Content::Subkey(key) => answer.named("sub", key.body_len()),
-        Content::UserId(id) => answer.named("uid", id.body_len()),
-        Content::Attribute(attribute) => answer.named("uat", attribute.body_len()),
-        Content::Signature(signature) => answer.named("sig", signature.body_len()),
-        Content::Malformed(body) => answer.named("malformed", body.len() as u64),
-        Content::Filler(kind, body) => {
-            answer.named("filler", u64::from(*kind))?;
-            answer.number(body.len() as u64)
-        }
-    }
 }
 
 /// `ring_part_copies OCTETS`: copies of its certificates, of their primary keys and components.
 fn ring_part_copies(alloc: Global, given: &Given, answer: &mut Answer) -> Result<(), End> {
     let ring = ring_of(alloc, given.octets(0)?)?;
-    for certificate in ring.certificates() {
-        add_certificate_copies(alloc, certificate, answer)?;
-    }
-    answer.word("end")
-}
-
-/// Adds copies of a certificate, of its primary key and of its components.
-fn add_certificate_copies(
-    alloc: Global,
-    certificate: &Certificate,
-    answer: &mut Answer,
-) -> Result<(), End> {
-    add_certificate(&certificate.copy(alloc)?, answer)?;
-    add_member(&certificate.primary().copy(alloc)?, answer)?;
-    for component in certificate.components() {
-        add_component(&component.copy(alloc)?, answer)?;
-    }
-    Ok(())
+    add_part_copies(alloc, &ring, answer)
 }
 
 /// `block_copy [LABEL OCTETS]..`: copies of blocks.
 fn block_copy(alloc: Global, given: &Given, answer: &mut Answer) -> Result<(), End> {
-    for block in &blocks_of(alloc, given)? {
-        add_block(&block.copy(alloc)?, answer)?;
+    let blocks = blocks_of(alloc, given)?;
+    for block in &blocks {
+        add_block_copy(alloc, block, answer)?;
     }
-    answer.word("end")
+    answer.word("end");
+    Ok(())
+}
+
+/// Adds a copy of a block.
+fn add_block_copy(alloc: Global, block: &BlockOf, answer: &mut Answer) -> Result<(), OutOfMemory> {
+    let copy = block.copy(alloc)?;
+    add_block(&copy, answer);
+    Ok(())
 }
 
 /// Adds a block: its number, whether its label fits, how many packets it has and where they are.
-fn add_block(block: &BlockOf, answer: &mut Answer) -> Result<(), End> {
-    answer.named("block", block.block)?;
-    answer.truth(block.label_fits)?;
+fn add_block(block: &BlockOf, answer: &mut Answer) {
+    answer.named("block", block.block);
+    answer.truth(block.label_fits);
     for placed in &block.packets {
-        answer.named("at", placed.pos)?;
+        answer.named("at", placed.pos);
     }
-    Ok(())
 }
 
 /// `check_bodies [LABEL OCTETS]..`: the first fault of the bodies of blocks.
 fn bodies_checked(alloc: Global, given: &Given, answer: &mut Answer) -> Result<(), End> {
-    match check_bodies(&blocks_of(alloc, given)?) {
+    let blocks = blocks_of(alloc, given)?;
+    match check_bodies(&blocks) {
         Some(fault) => answer.fault(&fault),
         None => answer.word("whole"),
     }
+    Ok(())
 }

@@ -7,29 +7,35 @@ use crate::end::End;
 use crate::given::Given;
 use crate::material::add_signed;
 use crate::meaning::add_meaning;
-use crate::octets::add_sub_len_of;
+use crate::octets::add_sub_len;
+use crate::packet::add_fault;
 use opgp_octets::ParseFault;
 use opgp_packet::{AreasView, SigView, Signature, Subs, ThreeView};
 use std::alloc::Global;
 
-/// The answer to a call about signatures; false where there is none of the name.
+/// The answer to a call about signatures; None where there is none of the name.
 pub(crate) fn answered(
     alloc: Global,
     name: &str,
     given: &Given,
     answer: &mut Answer,
-) -> Result<bool, End> {
+) -> Option<Result<(), End>> {
     let body = match given.octets(0) {
         Ok(body) if body.len() <= 4_294_967_295 => body,
-        _ => return Ok(false),
+        _ => return None,
     };
-    match name {
-        "signature" => signature(alloc, body, answer)?,
-        "signature_fields" => signature_fields(body, answer)?,
-        "subpackets" => subpackets(body, answer)?,
-        _ => return Ok(false),
-    }
-    Ok(true)
+    Some(match name {
+        "signature" => signature(alloc, body, answer),
+        "signature_fields" => {
+            signature_fields(body, answer);
+            Ok(())
+        }
+        "subpackets" => {
+            subpackets(body, answer);
+            Ok(())
+        }
+        _ => return None,
+    })
 }
 
 /// `signature BODY`: a signature's body, or its fault, in each way to read it.
@@ -37,8 +43,8 @@ fn signature(alloc: Global, body: &[u8], answer: &mut Answer) -> Result<(), End>
     requires { IsBodySized body.now }
 {
     match SigView::parse_body(body) {
-        Ok(view) => answer.octets(view.body())?,
-        Err(fault) => answer.named(fault.reason.name(), fault.inner)?,
+        Ok(view) => answer.octets(view.body()),
+        Err(fault) => add_fault(fault, answer),
     }
     parsed(alloc, body, answer)?;
     kept(alloc, body, answer)
@@ -50,121 +56,131 @@ fn parsed(alloc: Global, body: &[u8], answer: &mut Answer) -> Result<(), End>
 {
     match Signature::parse_body(alloc, body) {
         Ok(signature) => add_value(alloc, &signature, answer),
-        Err(ParseFault::Body(fault)) => answer.named(fault.reason.name(), fault.inner),
+        Err(ParseFault::Body(fault)) => {
+            add_fault(fault, answer);
+            Ok(())
+        }
         Err(ParseFault::Memory) => Err(End::Memory),
     }
 }
 
 /// Adds a body, how long it is, and the bodies of copies of the signature and of its view.
 fn add_value(alloc: Global, signature: &Signature, answer: &mut Answer) -> Result<(), End> {
-    answer.octets(signature.body())?;
-    answer.number(signature.body_len())?;
-    answer.octets(signature.copy(alloc)?.body())?;
-    answer.octets(Signature::of(alloc, signature.view())?.body())
+    answer.octets(signature.body());
+    answer.number(signature.body_len());
+    answer.octets(signature.copy(alloc)?.body());
+    answer.octets(Signature::of(alloc, signature.view())?.body());
+    Ok(())
 }
 
-/// Adds a signature's body that is kept, written behind octets and then given back, or its fault.
+/// Adds a signature's body that is kept, or its fault.
 fn kept(alloc: Global, body: &[u8], answer: &mut Answer) -> Result<(), End>
     requires { IsBodySized body.now }
 {
     match Signature::from_body(Vec::from_slice(alloc, body)?) {
-        Ok(signature) => {
-            let mut out = Vec::from_slice(alloc, b"so far")?;
-            signature.write_body(&mut out)?;
-            answer.octets(out.as_slice())?;
-            answer.octets(signature.into_body().as_slice())
+        Ok(signature) => add_behind(alloc, signature, answer),
+        Err(fault) => {
+            add_fault(fault, answer);
+            Ok(())
         }
-        Err(fault) => answer.named(fault.reason.name(), fault.inner),
     }
 }
 
+/// Adds a body, written behind octets and then given back.
+fn add_behind(alloc: Global, signature: Signature, answer: &mut Answer) -> Result<(), End> {
+    let mut out = Vec::from_slice(alloc, b"so far")?;
+    signature.write_body(&mut out)?;
+    answer.octets(out.as_slice());
+    answer.octets(signature.into_body().as_slice());
+    Ok(())
+}
+
 /// `signature_fields BODY`: the fields of a signature.
-fn signature_fields(body: &[u8], answer: &mut Answer) -> Result<(), End>
+fn signature_fields(body: &[u8], answer: &mut Answer)
     requires { IsBodySized body.now }
 {
     let Ok(view) = SigView::parse_body(body) else {
-        return answer.word("refused");
+        answer.word("refused");
+        return;
     };
-    add_common(&view, answer)?;
+    add_common(&view, answer);
     match view {
         SigView::Three(three) => add_three(&three, answer),
         SigView::Four(four) => add_areas("four", &four, answer),
         SigView::Six(six) => add_areas("six", &six, answer),
-        SigView::Other(other) => {
-            answer.word("other")?;
-            answer.octets(other.body())
-        }
+        SigView::Other(other) => answer.named_octets("other", other.body()),
     }
 }
 
 /// Adds what a signature of each version that is typed has: its type, its algorithms, its left octets.
-fn add_common(view: &SigView<'_>, answer: &mut Answer) -> Result<(), End> {
-    for field in [view.kind(), view.algorithm(), view.hash()] {
-        match field {
-            Some(field) => answer.number(u64::from(field))?,
-            None => answer.word("none")?,
-        }
-    }
+fn add_common(view: &SigView<'_>, answer: &mut Answer) {
+    add_field(view.kind(), answer);
+    add_field(view.algorithm(), answer);
+    add_field(view.hash(), answer);
     match view.left() {
         Some(left) => answer.octets(&left),
         None => answer.word("none"),
     }
 }
 
+/// Adds a field that there may be.
+fn add_field(field: Option<u8>, answer: &mut Answer) {
+    match field {
+        Some(field) => answer.small(field),
+        None => answer.word("none"),
+    }
+}
+
 /// Adds the fields of a signature of version 3.
-fn add_three(three: &ThreeView<'_>, answer: &mut Answer) -> Result<(), End> {
-    answer.named("three", u64::from(three.kind()))?;
-    answer.number(u64::from(three.created()))?;
-    answer.octets(&three.issuer())?;
-    answer.number(u64::from(three.algorithm()))?;
-    answer.number(u64::from(three.hash()))?;
-    answer.octets(&three.left())?;
-    add_signed(three.material(), answer)
+fn add_three(three: &ThreeView<'_>, answer: &mut Answer) {
+    answer.named("three", u64::from(three.kind()));
+    answer.number(u64::from(three.created()));
+    answer.octets(&three.issuer());
+    answer.small(three.algorithm());
+    answer.small(three.hash());
+    answer.octets(&three.left());
+    add_signed(three.material(), answer);
 }
 
 /// Adds the fields of a signature of version 4 or 6.
-fn add_areas<const V: u8>(
-    version: &str,
-    view: &AreasView<'_, V>,
-    answer: &mut Answer,
-) -> Result<(), End> {
-    answer.named(version, u64::from(view.kind()))?;
-    answer.number(u64::from(view.algorithm()))?;
-    answer.number(u64::from(view.hash()))?;
-    answer.octets(view.hashed_area())?;
-    answer.octets(view.unhashed_area())?;
-    answer.octets(&view.left())?;
-    answer.octets(view.salt())?;
-    answer.octets(view.front())?;
-    add_signed(view.material(), answer)
+fn add_areas<const V: u8>(version: &str, view: &AreasView<'_, V>, answer: &mut Answer) {
+    answer.named(version, u64::from(view.kind()));
+    answer.small(view.algorithm());
+    answer.small(view.hash());
+    answer.octets(view.hashed_area());
+    answer.octets(view.unhashed_area());
+    answer.octets(&view.left());
+    answer.octets(view.salt());
+    answer.octets(view.front());
+    add_signed(view.material(), answer);
 }
 
 /// `subpackets BODY`: the subpackets of a signature, the hashed ones first.
-fn subpackets(body: &[u8], answer: &mut Answer) -> Result<(), End>
+fn subpackets(body: &[u8], answer: &mut Answer)
     requires { IsBodySized body.now }
 {
     match SigView::parse_body(body) {
-        Ok(SigView::Four(four)) => {
-            add_subs(four.hashed(), answer)?;
-            add_subs(four.unhashed(), answer)
-        }
-        Ok(SigView::Six(six)) => {
-            add_subs(six.hashed(), answer)?;
-            add_subs(six.unhashed(), answer)
-        }
+        Ok(SigView::Four(four)) => add_both(four.hashed(), four.unhashed(), answer),
+        Ok(SigView::Six(six)) => add_both(six.hashed(), six.unhashed(), answer),
         _ => answer.word("none"),
     }
 }
 
+/// Adds the subpackets of both areas.
+fn add_both(hashed: Subs<'_>, unhashed: Subs<'_>, answer: &mut Answer) {
+    add_subs(hashed, answer);
+    add_subs(unhashed, answer);
+}
+
 /// Adds subpackets: the form and the number of the length, the kind, whether it is critical, the
 /// octets, what they mean.
-fn add_subs(subs: Subs<'_>, answer: &mut Answer) -> Result<(), End> {
+fn add_subs(subs: Subs<'_>, answer: &mut Answer) {
     for sub in subs {
-        add_sub_len_of(sub.len(), answer)?;
-        answer.number(u64::from(sub.kind()))?;
-        answer.truth(sub.critical())?;
-        answer.octets(sub.octets())?;
-        add_meaning(sub.meaning(), answer)?;
+        add_sub_len(sub.len(), answer);
+        answer.small(sub.kind());
+        answer.truth(sub.critical());
+        answer.octets(sub.octets());
+        add_meaning(sub.meaning(), answer);
     }
-    answer.word("end")
+    answer.word("end");
 }

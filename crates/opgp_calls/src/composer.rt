@@ -1,0 +1,165 @@
+//! The composer of `opgp_ring`, and the parts that it hands out.
+
+use crate::answer::Answer;
+use crate::end::End;
+use crate::given::Given;
+use crate::octets::limits_of;
+use crate::ring::blocks_of;
+use opgp_frame::{Placed, write_packet, write_parts};
+use opgp_octets::{Limits, OutOfMemory};
+use opgp_ring::{BlockOf, Composer, Packets, Part, Ready};
+use std::alloc::Global;
+
+/// The answer to a call of these; None where there is none of the name.
+pub(crate) fn answered(
+    alloc: Global,
+    name: &str,
+    given: &Given,
+    answer: &mut Answer,
+) -> Option<Result<(), End>> {
+    Some(match name {
+        "composer" => composed(alloc, given, Shown::AsItIs, answer),
+        "composer_normal" => composed(alloc, given, Shown::Normal, answer),
+        "composer_sizes" => composed(alloc, given, Shown::Size, answer),
+        _ => return None,
+    })
+}
+
+/// How a part is shown: by its octets, by those in the current format, or by its size alone.
+#[derive(Clone, Copy)]
+enum Shown {
+    AsItIs,
+    Normal,
+    Size,
+}
+
+/// `composer LIMITS.. [LABEL OCTETS]..`: blocks whose packets are pushed one by one: each part, behind
+/// how many packets it was ready, and how the packets end. `composer_normal`: the parts in the current
+/// format. `composer_sizes`: without their octets.
+fn composed(alloc: Global, given: &Given, shown: Shown, answer: &mut Answer) -> Result<(), End> {
+    let limits = limits_of(given)?;
+    push_blocks(alloc, limits, blocks_of(alloc, given)?, shown, answer)
+}
+
+/// Pushes the packets of blocks, and adds the parts and the end.
+fn push_blocks(
+    alloc: Global,
+    limits: Limits,
+    blocks: Vec<BlockOf>,
+    shown: Shown,
+    answer: &mut Answer,
+) -> Result<(), End> {
+    let mut composer = Composer::new(alloc, limits);
+    for block in blocks {
+        composer.begin_block(block.block, block.label_fits);
+        push_all(alloc, &mut composer, block.packets, shown, answer)?;
+    }
+    add_end(alloc, composer, shown, answer)
+}
+
+/// Pushes packets, and adds the parts.
+fn push_all(
+    alloc: Global,
+    composer: &mut Composer,
+    packets: Vec<Placed>,
+    shown: Shown,
+    answer: &mut Answer,
+) -> Result<(), End> {
+    for (number, placed) in packets.into_iter().enumerate() {
+        if composer.ready() {
+            return Err(End::Bad("parts that were taken"));
+        }
+        composer.push(placed)?;
+        if let Some(part) = composer.take() {
+            answer.named("behind", number as u64);
+            add_part(alloc, part, shown, answer)?;
+        }
+    }
+    Ok(())
+}
+
+/// Adds the last part, if there is one, and how the packets end.
+fn add_end(
+    alloc: Global,
+    composer: Composer,
+    shown: Shown,
+    answer: &mut Answer,
+) -> Result<(), End> {
+    if composer.ready() {
+        return Err(End::Bad("parts that were taken"));
+    }
+    match composer.finish() {
+        Ok(Some(part)) => {
+            answer.word("last");
+            add_part(alloc, part, shown, answer)?;
+            answer.word("end");
+        }
+        Ok(None) => answer.word("end"),
+        Err(fault) => answer.fault(&fault),
+    }
+    Ok(())
+}
+
+/// Adds a part as it is to be shown.
+fn add_part(alloc: Global, part: Ready, shown: Shown, answer: &mut Answer) -> Result<(), End> {
+    match shown {
+        Shown::AsItIs => add_octets(alloc, &part, answer),
+        Shown::Normal => add_octets(alloc, &part.normalise(), answer),
+        Shown::Size => {
+            add_size(&part, answer);
+            Ok(())
+        }
+    }
+}
+
+/// Adds whether a part is a lead or a certificate.
+fn add_kind(part: &Ready, answer: &mut Answer) {
+    answer.word(match part {
+        Ready::Lead(_) => "lead",
+        Ready::Certificate(_) => "certificate",
+    });
+}
+
+/// Adds what a part is, how many packets it has, and its octets.
+fn add_octets(alloc: Global, part: &Ready, answer: &mut Answer) -> Result<(), End> {
+    let mut out = Vec::new(alloc);
+    add_kind(part, answer);
+    answer.number(write_all(part.packets(), &mut out)?);
+    answer.octets(out.as_slice());
+    Ok(())
+}
+
+/// Writes packets, and answers how many they are.
+fn write_all(packets: Packets<'_>, out: &mut Vec<u8>) -> Result<u64, OutOfMemory> {
+    let mut packets = packets;
+    for count in 0..u64::MAX {
+        match packets.next() {
+            Some(part) => write_part(part, out)?,
+            None => return Ok(count),
+        }
+    }
+    Ok(u64::MAX)
+}
+
+/// Writes a packet.
+fn write_part(part: Part<'_>, out: &mut Vec<u8>) -> Result<(), OutOfMemory> {
+    match part {
+        Part::Lead(packet) => write_packet(packet, out),
+        Part::Member(member) => write_parts(member.form(), member.kind(), member.body(), out),
+    }
+}
+
+/// Adds what a part is, and how many octets its packets have.
+fn add_size(part: &Ready, answer: &mut Answer) {
+    let mut packets = part.packets();
+    let mut size = 0u64;
+    for _ in 0..u64::MAX {
+        match packets.next() {
+            Some(Part::Lead(packet)) => size = size.saturating_add(packet.spelled_len()),
+            Some(Part::Member(member)) => size = size.saturating_add(member.spelled_len()),
+            None => break,
+        }
+    }
+    add_kind(part, answer);
+    answer.number(size);
+}

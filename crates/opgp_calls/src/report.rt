@@ -1,0 +1,188 @@
+//! The calls of `opgp_report`, and what a question of it hashes.
+
+use crate::answer::Answer;
+use crate::end::End;
+use crate::given::Given;
+use crate::ring::ring_of;
+use opgp_hash::{Question, Subject, digest, write_octets};
+use opgp_octets::OutOfMemory;
+use opgp_report::{
+    Finding, LeftOctets, Place, Reporting, Row, Verdict, check, index_keys, question_at,
+};
+use opgp_ring::Certificate;
+use std::alloc::Global;
+
+/// The answer to a call of this crate; None where it has none of the name.
+pub(crate) fn answered(
+    alloc: Global,
+    name: &str,
+    given: &Given,
+    answer: &mut Answer,
+) -> Option<Result<(), End>> {
+    Some(match name {
+        "check" => checked(alloc, given, answer),
+        "reporting" => reported(alloc, given, answer),
+        "question_at" => question(alloc, given, answer),
+        "first_by_key_id" => key_of_id(alloc, given, answer),
+        "first_by_fingerprint" => key_of_fingerprint(alloc, given, answer),
+        _ => return None,
+    })
+}
+
+/// `check OCTETS`: the rows of a keyring's report, by the left octets.
+fn checked(alloc: Global, given: &Given, answer: &mut Answer) -> Result<(), End> {
+    let ring = ring_of(alloc, given.octets(0)?)?;
+    let report = check(alloc, &ring, &LeftOctets)?;
+    add_rows(report.rows(), answer);
+    Ok(())
+}
+
+/// `reporting OCTETS`: the same, made of one certificate after the other.
+fn reported(alloc: Global, given: &Given, answer: &mut Answer) -> Result<(), End> {
+    let ring = ring_of(alloc, given.octets(0)?)?;
+    let reporting = reporting_of(alloc, ring.certificates())?;
+    add_rows(reporting.report().rows(), answer);
+    Ok(())
+}
+
+/// The report in the making of certificates.
+fn reporting_of(alloc: Global, certificates: &[Certificate]) -> Result<Reporting, OutOfMemory> {
+    let mut reporting = Reporting::new(alloc);
+    for certificate in certificates {
+        reporting = reporting.with(certificate)?;
+    }
+    Ok(reporting)
+}
+
+/// Adds the rows of a report.
+fn add_rows(rows: &[Row], answer: &mut Answer) {
+    for row in rows {
+        add_place(row.place, answer);
+        add_finding(&row.finding, answer);
+    }
+    answer.word("end");
+}
+
+/// Adds where a signature is: in which certificate, on which component, what hangs there, and which
+/// signature in that.
+fn add_place(place: Place, answer: &mut Answer) {
+    answer.named("at", place.certificate as u64);
+    add_number(place.component, answer);
+    answer.number(place.hang as u64);
+    add_number(place.nested, answer);
+}
+
+/// Adds a number that there may be.
+fn add_number(number: Option<usize>, answer: &mut Answer) {
+    match number {
+        Some(number) => answer.number(number as u64),
+        None => answer.word("-"),
+    }
+}
+
+/// Adds what was found: the question's type and hash, the signer, the digest and the verdict; or why
+/// nothing is asked.
+fn add_finding(finding: &Finding, answer: &mut Answer) {
+    match finding {
+        Finding::Asked {
+            kind,
+            hash,
+            signer,
+            digest,
+            verdict,
+        } => {
+            answer.named("asked", u64::from(*kind));
+            answer.small(*hash);
+            match signer {
+                Some(id) => answer.octets(&id.0),
+                None => answer.word("-"),
+            }
+            answer.octets(digest.octets());
+            add_verdict(*verdict, answer);
+        }
+        Finding::NotAsked(why) => answer.word(why.name()),
+    }
+}
+
+/// Adds a verdict.
+fn add_verdict(verdict: Verdict, answer: &mut Answer) {
+    answer.word(match verdict {
+        Verdict::Good => "good",
+        Verdict::Bad => "bad",
+        Verdict::Undecided => "undecided",
+    });
+}
+
+/// `question_at ROW OCTETS OCTETS`: what a row of a keyring asks, what it hashes, written behind other
+/// octets, and its digest; or that there is none.
+fn question(alloc: Global, given: &Given, answer: &mut Answer) -> Result<(), End> {
+    let row = given.long(0)? as usize;
+    let before = given.octets(1)?;
+    let ring = ring_of(alloc, given.octets(0)?)?;
+    match question_at(&ring, row) {
+        Some(question) => add_question(alloc, &question, before, answer),
+        None => {
+            answer.word("none");
+            Ok(())
+        }
+    }
+}
+
+/// `first_by_key_id OCTETS OCTETS`: the number of a keyring's first key with a key ID.
+fn key_of_id(alloc: Global, given: &Given, answer: &mut Answer) -> Result<(), End> {
+    let ring = ring_of(alloc, given.octets(0)?)?;
+    let Ok(id) = <[u8; 8]>::try_from(given.octets(1)?) else {
+        return Err(End::Bad("a key ID"));
+    };
+    add_number(index_keys(alloc, &ring)?.first_by_key_id(id), answer);
+    Ok(())
+}
+
+/// `first_by_fingerprint VERSION OCTETS OCTETS`: that of its first key of a version with a fingerprint.
+fn key_of_fingerprint(alloc: Global, given: &Given, answer: &mut Answer) -> Result<(), End> {
+    let version = given.small(0)?;
+    let ring = ring_of(alloc, given.octets(0)?)?;
+    let print = given.octets(1)?;
+    add_number(
+        index_keys(alloc, &ring)?.first_by_fingerprint(version, print),
+        answer,
+    );
+    Ok(())
+}
+
+/// Adds a question: its fields, what it hashes, written behind octets, and its digest.
+fn add_question(
+    alloc: Global,
+    question: &Question<'_>,
+    before: &[u8],
+    answer: &mut Answer,
+) -> Result<(), End> {
+    add_fields(question, answer);
+    let mut out = Vec::from_slice(alloc, before)?;
+    write_octets(question, &mut out)?;
+    answer.octets(out.as_slice());
+    answer.octets(digest(question).octets());
+    Ok(())
+}
+
+/// Adds the fields of a question.
+fn add_fields(question: &Question<'_>, answer: &mut Answer) {
+    answer.named("version", u64::from(question.version()));
+    answer.word(subject_name(question.subject()));
+    answer.small(question.kind());
+    answer.small(question.algorithm());
+    answer.small(question.hash());
+    answer.octets(question.salt());
+    answer.octets(question.hashed_area());
+}
+
+/// What a question is about.
+fn subject_name(subject: Subject<'_>) -> &'static str {
+    match subject {
+        Subject::Binary(_) => "content",
+        Subject::One(_) => "key",
+        Subject::Two(_, _) => "subkey",
+        Subject::OnUserId(_, _) => "name",
+        Subject::OnAttribute(_, _) => "attribute",
+    }
+}

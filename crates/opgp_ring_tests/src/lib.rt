@@ -9,8 +9,6 @@ mod growth;
 #[cfg(test)]
 mod malformed;
 #[cfg(test)]
-mod merging;
-#[cfg(test)]
 mod reading;
 #[cfg(test)]
 mod report;

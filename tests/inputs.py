@@ -7,6 +7,13 @@ import re
 
 import model
 
+# The names of packet types (RFC 9580, 5).
+PACKET_TYPES = {
+    0: "Reserved", 1: "Public Key Encrypted Session Key", 2: "Signature", 3: "Symmetric Key Encrypted Session Key",
+    4: "One-Pass Signature", 5: "Secret Key", 6: "Public Key", 7: "Secret Subkey", 8: "Compressed Data",
+    9: "Symmetrically Encrypted Data", 10: "Marker", 11: "Literal Data", 12: "Trust", 13: "User ID", 14: "Public Subkey",
+    17: "User Attribute", 18: "Symmetrically Encrypted and Integrity Protected Data", 21: "Padding",
+}  # fmt: skip
 SALTS = {8: 16, 9: 24, 10: 32, 11: 16, 12: 16, 14: 32}
 
 

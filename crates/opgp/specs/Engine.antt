@@ -7,6 +7,7 @@ pub use Rattle.opgp_engine.specs.Framed
 pub use Rattle.opgp_engine.specs.HandingOut
 pub use Rattle.opgp_engine.specs.Keyrings
 pub use Rattle.opgp_engine.specs.Layers
+pub use Rattle.opgp_engine.specs.PacketReader
 pub use Rattle.opgp_engine.specs.Packets
 pub use Rattle.opgp_engine.specs.PartReader
 pub use Rattle.opgp_engine.specs.Pipeline
@@ -14,8 +15,10 @@ pub use Rattle.opgp_engine.specs.Pulled
 pub use Rattle.opgp_engine.specs.Reading
 pub use Rattle.opgp_engine.specs.Receiver
 pub use Rattle.opgp_engine.specs.Signed
+pub use Rattle.opgp_engine.specs.SoundPackets
 pub use Rattle.opgp_engine.specs.Spool
 pub use Rattle.opgp_engine.specs.Through
+pub use Rattle.opgp_engine.specs.Used
 pub use Rattle.opgp_engine.specs.Via
 pub use Rattle.opgp_engine.specs.Waiting
 pub use Rattle.opgp_engine.specs.Writing

@@ -17,3 +17,5 @@ mod Ways
 pub mod Exchanging
 pub mod Held
 pub mod PartEnds
+pub mod PacketEnds
+pub mod SoundSoFar

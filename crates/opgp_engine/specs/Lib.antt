@@ -18,3 +18,6 @@ pub mod Exchanged
 pub mod HandingOut
 pub mod PartReader
 pub mod Waiting
+pub mod PacketReader
+pub mod SoundPackets
+pub mod Used

@@ -1,5 +1,5 @@
 -- A keyring that is read in pieces, whose parts are handed out as they come.
-use Rattle.std.specs.Prelude.{ℕ, ◌+◌, List, ◌++◌, Ok, Err, MatchResult}
+use Rattle.std.specs.Prelude.{ℕ, ◌+◌, List, Ok, Err, MatchResult}
 use Rattle.opgp_octets.specs.declared.limits.Limits.{Limits}
 use Rattle.opgp_octets.specs.Limits.{body_limit, cert_limit, line_limit, pieces_limit}
 use Rattle.opgp_armor.specs.Fed.{held_of as text_held}
@@ -7,7 +7,6 @@ use Rattle.opgp_frame.specs.Fed.{held_of as packet_held}
 use Rattle.opgp_ring.specs.Composed.{PartValue}
 use Rattle.opgp_ring.specs.Fed.{held_of as part_held}
 use Rattle.opgp_ring.specs.Keyring.{KeyringValue}
-use Rattle.opgp_engine.specs.declared.mode.Mode.{Mode}
 use Rattle.opgp_engine.specs.declared.pipeline.Front.{Front}
 use Rattle.opgp_engine.specs.declared.pipeline.Front.TheVariants.{Undecided, Binary, Armored}
 use Rattle.opgp_engine.specs.declared.pipeline.Pipeline.{Pipeline}
@@ -18,28 +17,13 @@ use Rattle.opgp_engine.specs.Keyrings.{ComposesTo, key_label}
 use Rattle.opgp_engine.specs.Pipeline.{Fed, count_of}
 use Rattle.opgp_engine.specs.Reading.{AnswerOf, Outcome}
 use Rattle.opgp_engine.specs.Exchanged.{top_of}
+pub use Rattle.opgp_engine.specs.Used.{UseOf, given, having, taking}
 use Rattle.opgp_engine.specs.Waiting.{EndsWith, parts_in}
 use Rattle.opgp_engine.specs.declared.waiting.Waiting.{Waiting}
 
--- how a reader was used: the mode and the limits that it was made with, the octets that it was
--- given, in whatever pieces, and the parts that were taken from it
-pub record Use : Type 0 where
-  pub mode : Mode
-  pub limits : Limits
-  pub input : List ℕ
-  pub taken : List PartValue
-
--- these octets more
-abbrev pub given : Use → List ℕ → Use
-given u octets = record u { input = u.input ++ octets }
-
--- these parts in place of those that were taken
-abbrev pub having : Use → List PartValue → Use
-having u parts = record u { taken = parts }
-
--- these parts more
-abbrev pub taking : Use → List PartValue → Use
-taking u parts = record u { taken = u.taken ++ parts }
+-- how a reader of parts was used
+abbrev pub Use : Type 0
+Use = UseOf PartValue
 
 -- the pipeline was used so
 abbrev pub IsFedSo : {P : Type 0} → Use → Pipeline (Handing P) → Type 0

@@ -1,5 +1,5 @@
 -- The parts of a keyring that wait to be taken.
-use Rattle.std.specs.Prelude.{◌≡◌, ℕ, ◌^◌, ◌-◌, min, List, ◌++◌, length, map, MatchResult}
+use Rattle.std.specs.Prelude.{◌≡◌, List, ◌++◌, map, MatchResult}
 use Rattle.opgp_octets.specs.declared.limits.Limits.{Limits}
 use Rattle.opgp_ring.specs.Composed.{IsFault, IsKeyringOf, PartValue, parts_of}
 use Rattle.opgp_ring.specs.Composition.{Item}
@@ -7,14 +7,11 @@ use Rattle.opgp_ring.specs.Keyring.{KeyringValue}
 use Rattle.opgp_ring.specs.State.{part_of}
 use Rattle.opgp_engine.specs.declared.waiting.Waiting.{Waiting}
 use Rattle.opgp_engine.specs.Reading.{Outcome}
+pub use Rattle.opgp_engine.specs.Used.{shown_count}
 
 -- in order
 abbrev pub parts_in : Waiting → List PartValue
 parts_in w = map part_of w.parts.items
-
--- how many parts these are, as it is shown
-abbrev pub shown_count : List PartValue → ℕ
-shown_count parts = min (length parts) (2 ^ 64 - 1)
 
 -- the keyring's parts are those that were taken, and behind them those that wait
 abbrev pub EndsWith : List PartValue → KeyringValue → Waiting → Type 0

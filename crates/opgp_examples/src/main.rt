@@ -2,6 +2,7 @@
 #![tactic(auto)]
 
 mod certificates;
+mod packets;
 mod reopening;
 mod rewriting;
 mod verifying;
@@ -19,10 +20,11 @@ fn main(rt: HostRuntime) -> Result<()> {
             &rt,
             BufReader::new(rt.alloc(), rt.stdin())?,
         ),
+        Some("packets") => packets::packets(&rt, BufReader::new(rt.alloc(), rt.stdin())?),
         Some("verify") => verifying::verify(&rt, rt.stdin(), &words[2..]),
         Some("reopen") => reopening::show_question(&rt, &read_all(&rt)?),
         Some("rewrite") => rewriting::rewrite(&rt, rt.stdin(), rt.stdout()),
-        _ => bail!("usage: opgp_examples walk|certificates|verify|reopen|rewrite"),
+        _ => bail!("usage: opgp_examples walk|certificates|packets|verify|reopen|rewrite"),
     }
 }
 

@@ -1,52 +1,58 @@
 -- What is shown of packets one by one is what is shown of their blocks.
 use Rattle.std.proofs.Common.{◌≡◌, ℕ, ◌+◌, flat_map, Bool, true, false, List, [], ◌∷◌, ◌++◌, map, Option, Some, None, is_some, Ok, Err, refl, sym, ap, subst, ◌∙◌, append-nil}
 use Rattle.std.proofs.lemmas.List.Concat.{flat_map-append}
-use Rattle.std.proofs.lemmas.List.Elements.{All-push}
 use Rattle.opgp_octets.specs.declared.fault.Fault.{Fault}
 use Rattle.opgp_octets.specs.declared.limits.Limits.{Limits}
 use Rattle.opgp_octets.specs.Limits.{malformed_of}
-use Rattle.opgp_octets.specs.declared.malformed.Malformed.{Malformed}
 use Rattle.opgp_frame.specs.declared.packet.Placed.{Placed}
-use Rattle.opgp_ring.specs.Bodies.{IsSound, IsPlacedFault}
 use Rattle.opgp_ring.specs.Composition.{Item, of_label, of_packet, placed_in}
-use Rattle.opgp_ring.proofs.Feeding.{placed_in-append}
-use Rattle.opgp_ring.proofs.FirstBodyFaults.{first_last, first_more}
 use Rattle.opgp_engine.specs.Packets.{ArePackets, BlockValue, any_label, items_in}
-use Rattle.opgp_engine.specs.Reading.{AnswerOf, AreFramed, TextBlock, Wanted}
+use Rattle.opgp_engine.specs.Pulled.{OfAll}
+use Rattle.opgp_engine.specs.Reading.{AnswerOf, AreFramed, Outcome, TextBlock, Wanted}
+use Rattle.opgp_engine.specs.SoundPackets.{AreSound}
 use Rattle.opgp_engine.proofs.Kept.{fault_by, value_by}
+use Rattle.opgp_engine.proofs.Pulling.{of_all}
+use Rattle.opgp_stack.specs.declared.run_fault.RunFault.{RunFault}
+use Rattle.opgp_stack.specs.declared.run_fault.RunFault.TheVariants as run
 use Rattle.opgp_stack.specs.declared.task.Task.{Task}
-use Rattle.opgp_stack.specs.Running.{Made, OfPackets, Refused, Text}
+use Rattle.opgp_stack.specs.Running.{Made, OfPackets, ReadsFor, Refused, Text}
 use Rattle.opgp_stack.specs.Showing.{lines_of}
-use Rattle.opgp_stack.specs.Shown.{IsShown, ShowsSoFar}
+use Rattle.opgp_stack.specs.Shown.{IsShown}
 
--- ---- so far
-
-pub shows_label : (policy : Malformed) (lines : Placed → List ℕ) → (fault : Option Fault) (has : List ℕ → Type 0) (given : List Item) (n : ℕ) (fits : Bool) → ShowsSoFar policy lines fault has (placed_in given) → ShowsSoFar policy lines fault has (placed_in (given ++ of_label n fits ∷ []))
-shows_label policy lines fault has given n fits h =
-    subst (λ (ps : List Placed). ShowsSoFar policy lines fault has ps) (sym (placed_in-append given (of_label n fits ∷ []) ∙ append-nil (placed_in given))) h
-
-shown_push : (lines : Placed → List ℕ) → (packets : List Placed) (p : Placed) → flat_map lines packets ++ lines p ≡ flat_map lines (packets ++ p ∷ [])
+-- a packet more
+pub shown_push : (lines : Placed → List ℕ) → (packets : List Placed) (p : Placed) → flat_map lines packets ++ lines p ≡ flat_map lines (packets ++ p ∷ [])
 shown_push lines packets p = ap (λ (o : List ℕ). flat_map lines packets ++ o) (sym (append-nil (lines p))) ∙ sym (flat_map-append lines packets (p ∷ []))
 
-pub shows_packet : (policy : Malformed) (lines : Placed → List ℕ) → (fault : Option Fault) (has more : List ℕ → Type 0) (given : List Item) (p : Placed) → is_some fault ≡ false → ShowsSoFar policy lines fault has (placed_in given) → IsSound policy p → ((text : List ℕ) → has text → more (text ++ lines p)) → ShowsSoFar policy lines fault more (placed_in (given ++ of_packet p ∷ []))
-shows_packet policy lines None has more given p none h sound e =
-    let packets : List Placed = placed_in given in
-    subst (λ (ps : List Placed). ShowsSoFar policy lines None more ps) (sym (placed_in-append given (of_packet p ∷ [])))
-    (All-push (IsSound policy) packets p h.0 sound, subst more (shown_push lines packets p) (e (flat_map lines packets) h.1))
-shows_packet policy lines (Some fault) has more given p none h sound e = absurd cc
+-- ---- what a keeper has is the answer
+module _ {K A : Type 0} (lines : Placed → List ℕ) (has : A → List ℕ → Type 0) (show : K → A) (task : Task) where
+  abbrev pub KeptAnswer : List ℕ → Outcome K → Type 0
+  KeptAnswer input answer = AnswerOf any_label (λ items. AreSound (malformed_of task.limits) (λ k packets. has (show k) (flat_map lines packets)) (placed_in items)) task.mode task.limits input answer
 
-pub shows_fault : (policy : Malformed) (lines : Placed → List ℕ) → (has : List ℕ → Type 0) (given : List Item) (p : Placed) (fault : Fault) → ShowsSoFar policy lines None has (placed_in given) → IsPlacedFault policy p fault → ShowsSoFar policy lines (Some fault) has (placed_in (given ++ of_packet p ∷ []))
-shows_fault policy lines has given p fault h k =
-    subst (λ (ps : List Placed). ShowsSoFar policy lines (Some fault) has ps) (sym (placed_in-append given (of_packet p ∷ []))) (first_last policy (placed_in given) p fault h.0 k)
+  abbrev pub ShownAnswer : List ℕ → Outcome A → Type 0
+  ShownAnswer input answer = AnswerOf any_label (λ items. IsShown (malformed_of task.limits) lines has (placed_in items)) task.mode task.limits input answer
 
-pub shows_still : (policy : Malformed) (lines : Placed → List ℕ) → (fault : Option Fault) (has : List ℕ → Type 0) (given : List Item) (p : Placed) → is_some fault ≡ true → ShowsSoFar policy lines fault has (placed_in given) → ShowsSoFar policy lines fault has (placed_in (given ++ of_packet p ∷ []))
-shows_still policy lines None has given p some h = absurd cc
-shows_still policy lines (Some fault) has given p some h =
-    subst (λ (ps : List Placed). ShowsSoFar policy lines (Some fault) has ps) (sym (placed_in-append given (of_packet p ∷ []))) (first_more policy (placed_in given) (p ∷ []) fault h)
+  shown_as : (k : K) (input : List ℕ) → KeptAnswer input (Ok k) → ShownAnswer input (Ok (show k))
+  shown_as k input h =
+      let r = value_by any_label (λ items. AreSound (malformed_of task.limits) (λ k packets. has (show k) (flat_map lines packets)) (placed_in items)) (λ items. IsShown (malformed_of task.limits) lines has (placed_in items)) (λ v a. a ≡ show v) task.mode task.limits input k
+      (λ blocks items framed t. (show k, t, refl)) h in
+      subst (λ (a : A). ShownAnswer input (Ok a)) r.2 r.1
 
-pub shows_none : (policy : Malformed) (lines : Placed → List ℕ) → (fault : Option Fault) (has : List ℕ → Type 0) (packets : List Placed) → is_some fault ≡ false → ShowsSoFar policy lines fault has packets → ShowsSoFar policy lines None has packets
-shows_none policy lines None has packets none h = h
-shows_none policy lines (Some fault) has packets none h = absurd cc
+  unshown : (fault : Fault) (input : List ℕ) → KeptAnswer input (Err fault) → ShownAnswer input (Err fault)
+  unshown fault input h = fault_by any_label (λ items. AreSound (malformed_of task.limits) (λ k packets. has (show k) (flat_map lines packets)) (placed_in items)) (λ items. IsShown (malformed_of task.limits) lines has (placed_in items)) task.mode task.limits input fault (λ items t. t) h
+
+  module _ {R : Type 0} (left : R → Option (List ℕ)) (has_failed : R → Bool) (old new : R) where
+    pub shown_read : (k : K) → OfAll left has_failed old new task.limits (λ input. KeptAnswer input (Ok k)) → OfAll left has_failed old new task.limits (λ input. ShownAnswer input (Ok (show k)))
+    shown_read k h = of_all left has_failed old new task.limits _ _ (shown_as k) h
+
+    pub shown_unread : (e : RunFault) → ReadsFor (λ answer. OfAll left has_failed old new task.limits (λ input. KeptAnswer input answer)) (has_failed new ≡ true) (has_failed new ≡ false) (Err e)
+        → ReadsFor (λ answer. OfAll left has_failed old new task.limits (λ input. ShownAnswer input answer)) (has_failed new ≡ true) (has_failed new ≡ false) (Err e)
+    shown_unread (run.Refused fault) h = of_all left has_failed old new task.limits _ _ (unshown fault) h
+    shown_unread run.Read h = h
+    shown_unread run.Memory h = h
+    shown_unread run.Write h = h
+    shown_unread run.Spool h = h
+    shown_unread run.NoSuchRow h = h
+    shown_unread run.NoSuchCertificate h = h
 
 -- ---- of all
 

@@ -36,8 +36,8 @@ use crate::shown_text::{EachPacket, Plain, ShownText, Valued};
 use crate::task::{Action, Task, Top};
 use crate::writing_report::write_report;
 use opgp_engine::{
-    Draft, DraftError, EngineError, NoSpool, Out, ReadError, Receiver, Spool, read_with,
-    write_certificate, write_keyring,
+    Draft, DraftError, EngineError, NoSpool, Out, ReadError, Receiver, SoundPackets, Spool,
+    read_with, write_certificate, write_keyring,
 };
 use opgp_merge::merge;
 use opgp_report::{Report, question_at};
@@ -161,11 +161,15 @@ fn shown_of<R: Source, E: EachPacket, S: Spool + Drop>(
         task.now.limits octets answer))
         (R.has_failed reader.new ≡ true) (R.has_failed reader.new ≡ false) result }
 {
-    let text: ShownText<E, S> = match ShownText::new(alloc, spool, task.limits.malformed()) {
+    let text: ShownText<E, S> = match ShownText::new(alloc, spool) {
         Ok(text) => text,
         Err(_) => return Err(RunFault::Memory),
     };
-    ask(alloc, task, reader, text)
+    let top = SoundPackets::new(task.limits.malformed(), text);
+    match ask(alloc, task, reader, top) {
+        Ok(text) => Ok(text.into_draft()),
+        Err(fault) => Err(fault),
+    }
 }
 
 /// Reads a keyring.

@@ -1,0 +1,65 @@
+-- The packets of an input that are checked one after the other.
+use Rattle.std.proofs.Common.{◌≡◌, ℕ, Bool, true, false, List, [], ◌∷◌, ◌++◌, Option, Some, None, is_some, refl, sym, ap, subst, ◌∙◌, append-nil, append_assoc}
+use Rattle.std.proofs.lemmas.List.Elements.{All-push}
+use Rattle.opgp_octets.specs.declared.fault.Fault.{Fault}
+use Rattle.opgp_octets.specs.declared.malformed.Malformed.{Malformed}
+use Rattle.opgp_frame.specs.declared.packet.Placed.{Placed}
+use Rattle.opgp_ring.specs.Bodies.{IsFirstBodyFault, IsPlacedFault, IsSound}
+use Rattle.opgp_ring.specs.Composition.{Item, of_label, of_packet, placed_in}
+use Rattle.opgp_ring.proofs.Feeding.{placed_in-append}
+use Rattle.opgp_engine.specs.SoundPackets.{AreSoFar}
+
+module _ (policy : Malformed) where
+  -- a label has no packet
+  pub so_far_label : (kept : List Placed → Type 0) (fault : Option Fault) (given : List Item) (n : ℕ) (fits : Bool) → AreSoFar policy kept fault (placed_in given) → AreSoFar policy kept fault (placed_in (given ++ of_label n fits ∷ []))
+  so_far_label kept fault given n fits h =
+      subst (AreSoFar policy kept fault) (sym (placed_in-append given (of_label n fits ∷ []) ∙ append-nil (placed_in given))) h
+
+  pub so_far_none : (kept : List Placed → Type 0) (fault : Option Fault) (packets : List Placed) → is_some fault ≡ false → AreSoFar policy kept fault packets → AreSoFar policy kept None packets
+  so_far_none kept None packets none h = h
+  so_far_none kept (Some fault) packets none h = absurd cc
+
+  -- a sound packet that is kept
+  pub so_far_packet : (kept more : List Placed → Type 0) (fault : Option Fault) (given : List Item) (p : Placed) → is_some fault ≡ false → AreSoFar policy kept fault (placed_in given) → IsSound policy p → ((packets : List Placed) → kept packets → more (packets ++ p ∷ [])) → AreSoFar policy more fault (placed_in (given ++ of_packet p ∷ []))
+  so_far_packet kept more None given p none h sound e =
+      subst (AreSoFar policy more None) (sym (placed_in-append given (of_packet p ∷ [])))
+      (All-push (IsSound policy) (placed_in given) p h.0 sound, e (placed_in given) h.1)
+  so_far_packet kept more (Some fault) given p none h sound e = absurd cc
+
+  -- the first whose body has a fault
+  pub so_far_fault : (kept : List Placed → Type 0) (given : List Item) (p : Placed) (fault : Fault) → AreSoFar policy kept None (placed_in given) → IsPlacedFault policy p fault → AreSoFar policy kept (Some fault) (placed_in (given ++ of_packet p ∷ []))
+  so_far_fault kept given p fault h k =
+      let first : IsFirstBodyFault policy (placed_in given ++ p ∷ []) fault = record { before = placed_in given; at = p; after = []; why = k.why; whole = refl; sound = h.0; octets = k.octets; here = k.here; is = k.is } in
+      subst (AreSoFar policy kept (Some fault)) (sym (placed_in-append given (of_packet p ∷ []))) (first, h.1)
+
+  -- what comes behind a fault
+  pub so_far_still : (kept : List Placed → Type 0) (fault : Option Fault) (given : List Item) (p : Placed) → is_some fault ≡ true → AreSoFar policy kept fault (placed_in given) → AreSoFar policy kept fault (placed_in (given ++ of_packet p ∷ []))
+  so_far_still kept None given p some h = absurd cc
+  so_far_still kept (Some fault) given p some (b, h) =
+      let first : IsFirstBodyFault policy (placed_in given ++ p ∷ []) fault = record {
+        before = b.before;
+        at = b.at;
+        after = b.after ++ p ∷ [];
+        why = b.why;
+        whole = ap (λ (l : List Placed). l ++ p ∷ []) b.whole ∙ append_assoc b.before (b.at ∷ b.after) (p ∷ []);
+        sound = b.sound;
+        octets = b.octets;
+        here = b.here;
+        is = b.is;
+      } in
+      subst (AreSoFar policy kept (Some fault)) (sym (placed_in-append given (of_packet p ∷ []))) (first, h)
+
+  -- what is kept in one way is kept in another
+  pub so_far_kept : (kept more : List Placed → Type 0) (fault : Option Fault) (packets : List Placed) → ((ps : List Placed) → kept ps → more ps) → AreSoFar policy kept fault packets → AreSoFar policy more fault packets
+  so_far_kept kept more None packets by h = (h.0, by packets h.1)
+  so_far_kept kept more (Some fault) packets by h = (h.0, by h.0.before h.1)
+
+  -- some packets are kept
+  pub so_far_some : (kept : List Placed → Type 0) (fault : Option Fault) (packets : List Placed) → AreSoFar policy kept fault packets → (ps : List Placed) × kept ps
+  so_far_some kept None packets h = (packets, h.1)
+  so_far_some kept (Some fault) packets h = (h.0.before, h.1)
+
+  -- what is kept in some way is kept in one
+  pub so_far_one : {A : Type 0} (kept : A → List Placed → Type 0) (fault : Option Fault) (packets : List Placed) → AreSoFar policy (λ ps. (a : A) × kept a ps) fault packets → (a : A) × AreSoFar policy (kept a) fault packets
+  so_far_one kept None packets h = (h.1.0, (h.0, h.1.1))
+  so_far_one kept (Some fault) packets h = (h.1.0, (h.0, h.1.1))

@@ -17,7 +17,7 @@ _opgp() {
             --malformed) words="refuse keep" ;;
             --out) words="armor binary" ;;
             --of) words="ring literal" ;;
-            --row | --nth | --key | --line | --body | --cert | --input | --pieces)
+            --row | --nth | --key | --user-id | --line | --body | --cert | --input | --pieces)
                 compopt +o default # a number or a key, and no file
                 return
                 ;;
@@ -30,7 +30,8 @@ _opgp() {
                     show | list) words="--values $limits" ;;
                     check) words=$limits ;;
                     octets) words="--row --all --of $limits" ;;
-                    write | normalise) words="--out $limits" ;;
+                    write) words="--out --own-signatures --no-attributes --user-id $limits" ;;
+                    normalise) words="--out $limits" ;;
                     split) words="--out --nth --key $limits" ;;
                     join) words="--out --merge $limits" ;;
                     help) words="show list check octets write normalise split join help" ;;

@@ -36,7 +36,8 @@ _opgp() {
         list) shift words; ((CURRENT--)); _arguments $limits '--values[shows the left 16 bits, the creation time and the issuer of each signature]' ;;
         check) shift words; ((CURRENT--)); _arguments $limits ;;
         octets) shift words; ((CURRENT--)); _arguments $limits '--row=[the number of the row]:number:' '--all[writes those of every row, each behind a line of its own]' '--of=[what the input is read as]:top:(ring literal)' ;;
-        write | normalise) shift words; ((CURRENT--)); _arguments $limits $out ;;
+        write) shift words; ((CURRENT--)); _arguments $limits $out '--own-signatures[leaves out signatures that do not name the primary key as their issuer]' '--no-attributes[leaves out user attributes]' '--user-id=[the number of the one user ID that stays in each certificate]:number:' ;;
+        normalise) shift words; ((CURRENT--)); _arguments $limits $out ;;
         split) shift words; ((CURRENT--)); _arguments $limits $out '--nth=[the number of the certificate]:number:' '--key=[the fingerprint or key ID of a key]:key:' ;;
         join) shift words; ((CURRENT--)); _arguments $limits $out '--merge[makes certificates of one primary key one]' ;;
         help) _describe command commands ;;

@@ -653,9 +653,30 @@ def merged(packets, certificates):
     return [[(head, [*kept.values()]) for head, kept in places.values()] for places in keys.values()]
 
 
+def chosen(packets, certificates, own, bare, number):
+    """What stays of each certificate: of its signatures those that name its primary key, no attribute, the user ID of this number."""
+
+    def stays(index, key):
+        *_, kind, _, body, _ = packets[index]
+        return not own or kind != 2 or issuer_of(kept_signature(body)) in (fingerprint(key), key_id(key))
+
+    for parts in certificates:
+        key, names, kept = packets[parts[0][0]][4], -1, []
+        for head, hangs in parts:
+            kind = packets[head][2]
+            names += kind == 13
+            if kind == 13 and number not in (None, names) or kind == 17 and bare:
+                continue
+            kept.append((head, [it for it in hangs if stays(it, key)]))
+        yield kept
+
+
 def written(command, blocks, packets, lead, certificates, nth, binary):
-    """What write, normalise, split, nth (split --nth), join and merge (join --merge) write, in binary or in armor."""
+    """What write, normalise, split, nth (split --nth), join and merge (join --merge) write, in binary or in armor; and what write does
+    of chosen parts: the command is then whether only own signatures stay, whether no attributes, and the number of a user ID."""
     spelled = in_normal_form if command == "normalise" else lambda it: as_it_is(blocks, it)
+    if isinstance(command, tuple):
+        certificates = [*chosen(packets, certificates, *command)]
     if command == "merge":
         certificates = merged(packets, certificates)
     if command == "nth":

@@ -6,6 +6,7 @@ pub use Rattle.opgp_report.specs.First
 pub use Rattle.opgp_report.specs.Left
 pub use Rattle.opgp_report.specs.IssuerName
 pub use Rattle.opgp_report.specs.KeyIndex
+pub use Rattle.opgp_report.specs.Named
 pub use Rattle.opgp_report.specs.Report
 pub use Rattle.opgp_report.specs.Reporting
 pub use Rattle.opgp_report.specs.Row

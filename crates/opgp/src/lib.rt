@@ -37,9 +37,9 @@ pub mod hash {
     };
 }
 
-/// Keyrings merged: one certificate for each primary key.
+/// Keyrings merged, one certificate for each primary key, and chosen parts of certificates.
 pub mod merge {
-    pub use opgp_merge::merge;
+    pub use opgp_merge::{Choice, choose, choose_certificate, laws, merge};
 }
 
 /// Limits, faults, lengths, and registered numbers with their names (RFC 9580, 3, 9).

@@ -1,4 +1,4 @@
-//! The calls of `opgp_ring` that take whole keyrings, and that of `opgp_merge`.
+//! The calls of `opgp_ring` that take whole keyrings, and those of `opgp_merge`.
 
 use crate::answer::Answer;
 use crate::end::End;
@@ -7,7 +7,7 @@ use crate::given::Given;
 use crate::octets::limits_of;
 use crate::parts::{add_part_copies, add_parts};
 use opgp_frame::{Deframe, Packet, Placed, write_packet};
-use opgp_merge::merge;
+use opgp_merge::{Choice, choose, choose_certificate, merge};
 use opgp_octets::{Limits, OutOfMemory};
 use opgp_ring::{BlockOf, Keyring, check_bodies, compose, flatten, join, normalise, nth};
 use std::alloc::Global;
@@ -28,6 +28,8 @@ pub(crate) fn answered(
         "normalise" => normalised(alloc, given, answer),
         "join" => joined(alloc, given, answer),
         "merge" => merged(alloc, given, answer),
+        "choose" => chosen(alloc, given, answer),
+        "choose_certificate" => chosen_certificate(alloc, given, answer),
         "nth" => one(alloc, given, answer),
         "block_copy" => block_copy(alloc, given, answer),
         "check_bodies" => bodies_checked(alloc, given, answer),
@@ -172,6 +174,44 @@ fn merged(alloc: Global, given: &Given, answer: &mut Answer) -> Result<(), End> 
     add_ring(alloc, &ring, answer)?;
     let again = merge(ring)?;
     add_ring(alloc, &again, answer)
+}
+
+/// `own` and `bare` say which signatures and whether attributes are left out, a number which user ID
+/// stays.
+fn choice_of(given: &Given) -> Choice {
+    let mut choice = Choice::everything();
+    for name in given.names() {
+        match *name {
+            "own" => choice.own_signatures = true,
+            "bare" => choice.no_attributes = true,
+            _ => (),
+        }
+    }
+    if let Ok(number) = given.number(0) {
+        choice.user_id = Some(number);
+    }
+    choice
+}
+
+/// `choose CHOICE.. OCTETS`: whether a choice is that of everything, and what is chosen of a keyring.
+fn chosen(alloc: Global, given: &Given, answer: &mut Answer) -> Result<(), End> {
+    let choice = choice_of(given);
+    answer.truth(choice.is_everything());
+    let ring = choose(ring_of(alloc, given.octets(0)?)?, choice)?;
+    add_ring(alloc, &ring, answer)
+}
+
+/// `choose_certificate CHOICE.. OCTETS`: what is chosen of each certificate of a keyring, as a keyring.
+fn chosen_certificate(alloc: Global, given: &Given, answer: &mut Answer) -> Result<(), End> {
+    let (lead, certificates, _) = ring_of(alloc, given.octets(0)?)?.into_parts();
+    drop(lead);
+    for certificate in certificates {
+        let chosen = choose_certificate(alloc, certificate, choice_of(given))?;
+        let ring = Keyring::of(alloc, chosen)?;
+        add_ring(alloc, &ring, answer)?;
+    }
+    answer.word("end");
+    Ok(())
 }
 
 /// `nth NUMBER OCTETS`: a keyring with one of its certificates, or that there is none.

@@ -1,10 +1,16 @@
-//! Keyrings merged: certificates of one primary key become one (RFC 9580, 10.1).
+//! Keyrings merged: certificates of one primary key become one (RFC 9580, 10.1); and certificates of
+//! which only chosen parts stay.
 #![tactic(auto)]
 
+mod choice;
+mod choosing;
 mod gathering;
 mod joining;
 pub mod laws;
 mod merging;
+mod own;
 mod slots;
 
+pub use choice::Choice;
+pub use choosing::{choose, choose_certificate};
 pub use merging::merge;

@@ -4,6 +4,7 @@ pub mod First
 pub mod Left
 pub mod IssuerName
 pub mod KeyIndex
+pub mod Named
 pub mod Report
 pub mod Reporting
 pub mod Row

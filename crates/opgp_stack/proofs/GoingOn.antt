@@ -3,8 +3,9 @@ use Rattle.std.proofs.Common.{◌≡◌, ◌∙◌, ℕ, List, [], ◌∷◌, �
 use Rattle.std.proofs.Math.Seq.{take-append_seam}
 use Rattle.opgp_packet.specs.SignatureBody.{SignatureValue}
 use Rattle.opgp_report.specs.Left.{left_in}
+use Rattle.opgp_report.specs.Named.{named_of}
 use Rattle.opgp_report.specs.Signer.{NameValue}
-use Rattle.opgp_stack.specs.ValuedListing.{created_of, going_on, named_of, unended, value_words}
+use Rattle.opgp_stack.specs.ValuedListing.{created_of, going_on, unended, value_words}
 
 but_last : (xs : List ℕ) (n : ℕ) → unended (xs ++ n ∷ []) ≡ xs
 but_last xs n =

@@ -50,6 +50,7 @@ by_top P packets ring literal (action.Octets row top.Ring) = ring _
 by_top P packets ring literal (action.Octets row top.Literal) = literal _
 by_top P packets ring literal action.OctetsAll = ring _
 by_top P packets ring literal (action.Write out) = ring _
+by_top P packets ring literal (action.WriteChosen out choice) = ring _
 by_top P packets ring literal (action.Normalise out) = ring _
 by_top P packets ring literal (action.Split out None) = ring _
 by_top P packets ring literal (action.Split out (Some n)) = ring _

@@ -4,6 +4,8 @@ use Rattle.std.specs.List.{flat_map}
 use Rattle.std.proofs.lemmas.List.Concat.{flat_map-append}
 use Rattle.opgp_frame.specs.Packet.{PacketValue, packets_octets, spelling}
 use Rattle.opgp_frame.specs.Reframed.{reframed}
+use Rattle.opgp_merge.specs.Chosen.{chosen_certificate, chosen_keyring, chosen_part}
+use Rattle.opgp_merge.specs.declared.choice.Choice.{Choice}
 use Rattle.opgp_ring.specs.Composed.{PartValue, of_lead, of_certificate, lead_parts, parts_of}
 use Rattle.opgp_ring.specs.Keyring.{CertificateValue, KeyringValue, certificate_packets, flat}
 use Rattle.opgp_ring.specs.Normal.{normal_certificate, normal_of}
@@ -11,7 +13,7 @@ use Rattle.opgp_ring.specs.Parts.{normal_part, part_packets}
 use Rattle.opgp_engine.specs.declared.out.Out.{Out}
 use Rattle.opgp_engine.specs.Writing.{certificates_text, packets_text}
 use Rattle.opgp_stack.specs.Listing.{listing, packet_line}
-use Rattle.opgp_stack.specs.Parts.{certificate_text, normal_octets, part_lines, part_octets, part_valued_lines}
+use Rattle.opgp_stack.specs.Parts.{certificate_text, chosen_octets, normal_octets, part_lines, part_octets, part_valued_lines}
 use Rattle.opgp_stack.specs.ValuedListing.{valued_listing, valued_packet_line}
 
 -- a part more
@@ -59,6 +61,19 @@ normal_parts f r = normal_in f r.lead r.certificates
 
 pub normal_text : (r : KeyringValue) → flat_map normal_octets (parts_of r) ≡ packets_octets (flat (normal_of r))
 normal_text r = normal_parts part_octets r ∙ packets_text_of (normal_of r)
+
+-- of what is chosen
+chosen_certificates : (f : PartValue → List ℕ) (choice : Choice) (cs : List CertificateValue) → flat_map (λ part. f (chosen_part choice part)) (map of_certificate cs) ≡ flat_map f (map of_certificate (map (chosen_certificate choice) cs))
+chosen_certificates f choice [] = refl
+chosen_certificates f choice (c ∷ cs) = ap (λ (o : List ℕ). f (of_certificate (chosen_certificate choice c)) ++ o) (chosen_certificates f choice cs)
+
+chosen_in : (f : PartValue → List ℕ) (choice : Choice) (lead : List PacketValue) (cs : List CertificateValue)
+    → flat_map (λ part. f (chosen_part choice part)) (lead_parts lead ++ map of_certificate cs) ≡ flat_map f (lead_parts lead ++ map of_certificate (map (chosen_certificate choice) cs))
+chosen_in f choice [] cs = chosen_certificates f choice cs
+chosen_in f choice (p ∷ lead) cs = ap (λ (o : List ℕ). f (of_lead (p ∷ lead)) ++ o) (chosen_certificates f choice cs)
+
+pub chosen_text : (choice : Choice) (r : KeyringValue) → flat_map (chosen_octets choice) (parts_of r) ≡ packets_octets (flat (chosen_keyring choice r))
+chosen_text choice r = chosen_in part_octets choice r.lead r.certificates ∙ packets_text_of (chosen_keyring choice r)
 
 -- certificates alone
 alone_certificates : (out : Out) (cs : List CertificateValue) → flat_map (certificate_text out) (map of_certificate cs) ≡ certificates_text out cs

@@ -7,6 +7,8 @@ use Rattle.opgp_ring.specs.Composed.{IsFault, IsKeyringOf, PartValue, of_lead, o
 use Rattle.opgp_ring.specs.Composition.{Item}
 use Rattle.opgp_ring.specs.Keyring.{KeyringValue, certificate_packets}
 use Rattle.opgp_ring.specs.Parts.{normal_part, part_packets}
+use Rattle.opgp_merge.specs.Chosen.{chosen_part}
+use Rattle.opgp_merge.specs.declared.choice.Choice.{Choice}
 use Rattle.opgp_engine.specs.declared.out.Out.{Out}
 use Rattle.opgp_engine.specs.Reading.{Outcome}
 use Rattle.opgp_engine.specs.Writing.{packets_text}
@@ -27,6 +29,10 @@ part_octets part = packets_octets (part_packets part)
 
 abbrev pub normal_octets : PartValue → List ℕ
 normal_octets part = packets_octets (part_packets (normal_part part))
+
+-- what is chosen of it, as it is
+abbrev pub chosen_octets : Choice → PartValue → List ℕ
+chosen_octets choice part = packets_octets (part_packets (chosen_part choice part))
 
 -- a certificate on its own; nothing of the lead
 abbrev pub certificate_text : Out → PartValue → List ℕ

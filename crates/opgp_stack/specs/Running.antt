@@ -13,6 +13,7 @@ use Rattle.opgp_report.specs.Report.{report_of}
 use Rattle.opgp_ring.specs.Composition.{Item}
 use Rattle.opgp_ring.specs.Keyring.{KeyringValue, CertificateValue, certificate_packets, flat}
 use Rattle.opgp_ring.specs.Normal.{normal_of}
+use Rattle.opgp_merge.specs.Chosen.{chosen_keyring}
 use Rattle.opgp_merge.specs.Merged.{merged_of}
 use Rattle.opgp_engine.specs.declared.draft_error.DraftError.{DraftError}
 use Rattle.opgp_engine.specs.declared.draft_error.DraftError.TheVariants as draft
@@ -105,6 +106,8 @@ MakesBy (action.Octets row top.Literal) =
     OfLiteral (λ packets. question_made (question_in (slice_get (message_asked packets) row)))
 MakesBy action.OctetsAll = OfRing (λ r. Text (octets_rows (asked_of r)))
 MakesBy (action.Write out) = OfRing (λ r. Text (packets_text out (flat r)))
+MakesBy (action.WriteChosen out choice) =
+    OfRing (λ r. Text (packets_text out (flat (chosen_keyring choice r))))
 MakesBy (action.Normalise out) = OfRing (λ r. Text (packets_text out (flat (normal_of r))))
 MakesBy (action.Split out None) = OfRing (λ r. Text (certificates_text out r.certificates))
 MakesBy (action.Split out (Some n)) = OfRing (λ r. one_text out (slice_get r.certificates n))

@@ -15,8 +15,9 @@ use Rattle.opgp_packet.specs.Subpackets.{Sub}
 use Rattle.opgp_packet.specs.SubView.{fields_of}
 use Rattle.opgp_frame.specs.Header.{is_type}
 use Rattle.opgp_frame.specs.Packet.{PacketValue}
-use Rattle.opgp_report.specs.Left.{left_in, octets_at}
-use Rattle.opgp_report.specs.Signer.{NameValue, by_print, by_id, unnamed, first_some, issuer_of}
+use Rattle.opgp_report.specs.Left.{left_in}
+use Rattle.opgp_report.specs.Named.{named_of}
+use Rattle.opgp_report.specs.Signer.{NameValue, by_print, by_id, unnamed, first_some}
 use Rattle.opgp_stack.specs.Listing.{number_at, packet_line}
 use Rattle.opgp_stack.specs.Report.{number_or_none}
 
@@ -30,11 +31,6 @@ created_in s = fields_of kind.Created form.number s
 abbrev pub created_of : SignatureValue → Option ℕ
 created_of (of_three fields) = Some (number_at fields 3)
 created_of signature = first_some created_in (hashed_subs signature)
-
--- the issuer that it names: in version 3 its fifth field (5.2.2), in versions 4 and 6 as in a report
-abbrev pub named_of : SignatureValue → NameValue
-named_of (of_three fields) = by_id (octets_at fields 4)
-named_of signature = issuer_of signature
 
 -- ---- lines
 -- a fingerprint or a key ID, or `-` for none

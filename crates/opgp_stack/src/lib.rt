@@ -4,6 +4,7 @@
 
 mod all_octets;
 mod by_key;
+mod chosen_text;
 mod hashing;
 mod key_name;
 mod key_text;
@@ -31,6 +32,7 @@ pub use opgp_engine::{
     Pipeline, ReadError, Receiver, Sink, Source, Spool, Text, Watched, read_keyring, read_packets,
     read_signed, read_with, write, write_certificate, write_certificates, write_keyring,
 };
+pub use opgp_merge::Choice;
 pub use run_fault::RunFault;
 pub use running::{run, run_last, run_spooled};
 pub use task::{Action, Task, Top};

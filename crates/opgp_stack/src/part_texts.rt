@@ -108,7 +108,10 @@ impl EachPart for BareAlone {
 }
 
 /// Adds the packets of a part.
-fn add_packets<S: Spool + Drop>(draft: &mut Draft<S>, part: &Ready) -> Result<(), OutOfMemory>
+pub(crate) fn add_packets<S: Spool + Drop>(
+    draft: &mut Draft<S>,
+    part: &Ready,
+) -> Result<(), OutOfMemory>
     ensures { OnOk result ((given : List ℕ)
         → DraftHas S.serves S.tells S.holds S.has_failed draft.old given
         → DraftHas S.serves S.tells S.holds S.has_failed draft.new (given ++ part_octets (part_of part.now))) }

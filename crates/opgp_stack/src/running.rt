@@ -15,7 +15,7 @@ ghost use Rattle.opgp_stack.specs.AllOctets.{HasAllOctets};
 ghost use Rattle.opgp_stack.specs.ByKey.{NamedIn};
 ghost use Rattle.opgp_stack.specs.KeyName.{name_octets};
 ghost use Rattle.opgp_stack.specs.OnePart.{HasNth, HasRow, found_question};
-ghost use Rattle.opgp_stack.specs.Parts.{HasText, OfKeyring};
+ghost use Rattle.opgp_stack.specs.Parts.{HasText, OfKeyring, chosen_octets};
 ghost use Rattle.opgp_stack.specs.Report.{HasReport, report_lines};
 ghost use Rattle.opgp_octets.specs.Limits.{malformed_of};
 ghost use Rattle.opgp_stack.specs.Shown.{IsShown};
@@ -24,6 +24,7 @@ ghost use Rattle.opgp_stack.specs.Running.{ended, found_made, one_text, question
 
 use crate::all_octets::AllOctets;
 use crate::by_key::{NamedCertificates, Sought};
+use crate::chosen_text::{Chosen, ChosenText};
 use crate::hashing::{question_of, write_question};
 use crate::key_name::KeyName;
 use crate::one_part::{NthCertificate, Number, RowFound};
@@ -39,7 +40,7 @@ use opgp_engine::{
     Draft, DraftError, EngineError, NoSpool, Out, ReadError, Receiver, SoundPackets, Spool,
     read_with, write_certificate, write_keyring,
 };
-use opgp_merge::merge;
+use opgp_merge::{Choice, merge};
 use opgp_report::{Report, question_at};
 use opgp_ring::{Certificate, Gathering, Keyring, SignedGathering};
 use opgp_stream::{Sink, Source};
@@ -325,6 +326,33 @@ fn named_of<R: Source, N: Sought, S: Spool + Drop>(
     }
 }
 
+/// Reads a keyring, and returns what is written of the chosen parts of its certificates. No
+/// certificate is kept.
+fn chosen_of<R: Source, N: Chosen, S: Spool + Drop>(
+    alloc: Global,
+    task: &Task,
+    spool: Option<S>,
+    reader: &mut R,
+    choice: Choice,
+) -> Result<Draft<S>, RunFault>
+    requires sound { R.has_failed reader.old ≡ false }
+    requires empty { IfSome spool (λ s. (S.serves ≡ true) × (S.tells ≡ true → S.holds s ≡ [])) }
+    requires choice { choice ≡ N.choice }
+    ensures { ReadsFor (λ answer. OfAll R.left R.has_failed reader.old reader.new task.now.limits
+        (λ octets. AnswerOf key_label (OfKeyring (HasText (DraftHas S.serves S.tells S.holds S.has_failed)
+        (chosen_octets choice)) task.now.limits) task.now.mode task.now.limits octets answer))
+        (R.has_failed reader.new ≡ true) (R.has_failed reader.new ≡ false) result }
+{
+    let top: ChosenText<N, S> = match ChosenText::new(alloc, spool, choice) {
+        Ok(top) => top,
+        Err(_) => return Err(RunFault::Memory),
+    };
+    match ask(alloc, task, reader, Gathering::new(alloc, task.limits, top)) {
+        Ok(kept) => Ok(kept.into_draft()),
+        Err(fault) => Err(fault),
+    }
+}
+
 /// Runs a task, with or without a spool, and frees or leaks what it read.
 fn run_and<R: Source, W: Sink, S: Spool + Drop>(
     alloc: Global,
@@ -386,6 +414,10 @@ fn run_and<R: Source, W: Sink, S: Spool + Drop>(
         }
         Action::Write { out } => {
             let text = text_of::<R, AsTheyAre, S>(alloc, task, spool, reader)?;
+            write_draft(text, out, writer)
+        }
+        Action::WriteChosen { out, choice } => {
+            let text = chosen_of::<R, Brand, S>(alloc, task, spool, reader, choice)?;
             write_draft(text, out, writer)
         }
         Action::Normalise { out } => {

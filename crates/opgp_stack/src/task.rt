@@ -2,6 +2,7 @@
 
 use crate::key_name::KeyName;
 use opgp_engine::{Mode, Out};
+use opgp_merge::Choice;
 use opgp_octets::Limits;
 
 /// What an input is read as.
@@ -41,6 +42,13 @@ pub enum Action {
     Write {
         /// How it is written.
         out: Out,
+    },
+    /// The chosen parts of the keyring's certificates with their framing kept, and all else of it.
+    WriteChosen {
+        /// How they are written.
+        out: Out,
+        /// Which parts they are.
+        choice: Choice,
     },
     /// The keyring, each packet in the current format with its shortest length.
     Normalise {

@@ -8,14 +8,17 @@ use Rattle.clap.specs.Walk.{row_text}
 use Rattle.clap.specs.Words.{App, Row, Text, read_as}
 use Rattle.opgp_octets.specs.declared.limits.Limits.{Limits}
 use Rattle.opgp_engine.specs.declared.mode.Mode.{Mode}
+use Rattle.opgp_merge.specs.Chosen.{everything, is_everything}
+use Rattle.opgp_merge.specs.declared.choice.Choice.{Choice}
 use Rattle.opgp_stack.specs.declared.task.Action.{Action}
 use Rattle.opgp_stack.specs.declared.task.Action.TheVariants as action
 use Rattle.opgp_stack.specs.declared.task.Task.{Task}
 use Rattle.opgp_stack.specs.KeyText.{IsKeyText}
 use Rattle.opgp_stack.specs.declared.key_name.KeyName.{KeyName}
+use Rattle.opgp_merge.proofs.Staying.{choice_with}
 use Rattle.opgp_stack.proofs.KeyTexts.{one_name}
 use Rattle.opgp_tool.specs.Program.{SaysTask}
-use Rattle.opgp_tool.specs.Words.{Asked, HasKey, HasLimits, HasNumber, IsAction, IsNth, IsRequest, IsTask}
+use Rattle.opgp_tool.specs.Words.{Asked, HasKey, HasLimits, HasNumber, IsAction, IsChoice, IsGivenNumber, IsRequest, IsTask}
 use Rattle.opgp_tool.proofs.Reading.{apart}
 use Rattle.opgp_tool.proofs.SameLimits.{same_limits}
 
@@ -31,11 +34,17 @@ no_text None t none some = none-some t some
 no_text (Some r) t none some =
     none-some t (sym (ap (option_map (read_as r.reading)) none) ∙ some)
 
-one_nth : (options : List Row) (m n : Option ℕ) → IsNth options m → IsNth options n → m ≡ n
-one_nth options None None a b = refl
-one_nth options None (Some n) a b = absurd (no_text _ b.0 a b.1)
-one_nth options (Some m) None a b = absurd (no_text _ a.0 b a.1)
-one_nth options (Some m) (Some n) a b = ap {B = Option ℕ} Some (one_number options _ m n a b)
+one_given : (options : List Row) (id : Text) (m n : Option ℕ) → IsGivenNumber options id m → IsGivenNumber options id n → m ≡ n
+one_given options id None None a b = refl
+one_given options id None (Some n) a b = absurd (no_text _ b.0 a b.1)
+one_given options id (Some m) None a b = absurd (no_text _ a.0 b a.1)
+one_given options id (Some m) (Some n) a b = ap {B = Option ℕ} Some (one_number options _ m n a b)
+
+one_choice : (options : List Row) (x y : Choice) → IsChoice options x → IsChoice options y → x ≡ y
+one_choice options x y a b =
+    ap (λ (own : Bool). choice_with own x.no_attributes x.user_id) (a.own_signatures ∙ sym b.own_signatures)
+    ∙ ap (λ (none : Bool). choice_with y.own_signatures none x.user_id) (a.no_attributes ∙ sym b.no_attributes)
+    ∙ ap (choice_with y.own_signatures y.no_attributes) (one_given options _ x.user_id y.user_id a.user_id b.user_id)
 
 one_key : (options : List Row) (a b : KeyName) → HasKey options a → HasKey options b → a ≡ b
 one_key options a b x y =
@@ -51,6 +60,7 @@ name_of action.Check = codes "check"
 name_of (action.Octets row top) = codes "octets"
 name_of action.OctetsAll = codes "octets"
 name_of (action.Write out) = codes "write"
+name_of (action.WriteChosen out choice) = codes "write"
 name_of (action.Normalise out) = codes "normalise"
 name_of (action.Split out nth) = codes "split"
 name_of (action.SplitKey out key) = codes "split"
@@ -65,6 +75,7 @@ named name options action.Check said = said
 named name options (action.Octets row top) said = said.0
 named name options action.OctetsAll said = said.0
 named name options (action.Write out) said = said.0
+named name options (action.WriteChosen out choice) said = said.0
 named name options (action.Normalise out) said = said.0
 named name options (action.Split out nth) said = said.0
 named name options (action.SplitKey out key) said = said.0
@@ -87,9 +98,15 @@ one_action name options action.OctetsAll action.OctetsAll a b = refl
 one_action name options (action.Octets row top) action.OctetsAll a b = absurd (cc (a.3, b.1))
 one_action name options action.OctetsAll (action.Octets row top) a b = absurd (cc (a.1, b.3))
 one_action name options (action.Write out) (action.Write other) a b = cc (a.1, b.1)
+one_action name options (action.WriteChosen out choice) (action.WriteChosen other c) a b =
+    let same : choice ≡ c = one_choice options choice c a.2 b.2 in cc (same, a.1, b.1)
+one_action name options (action.Write out) (action.WriteChosen other c) a b =
+    absurd (apart (ap is_everything (one_choice options everything c a.2 b.2) ∙ b.3))
+one_action name options (action.WriteChosen out choice) (action.Write other) a b =
+    absurd (apart (ap is_everything (one_choice options everything choice b.2 a.2) ∙ a.3))
 one_action name options (action.Normalise out) (action.Normalise other) a b = cc (a.1, b.1)
 one_action name options (action.Split out nth) (action.Split other m) a b =
-    let same : nth ≡ m = one_nth options nth m a.2 b.2 in cc (same, a.1, b.1)
+    let same : nth ≡ m = one_given options _ nth m a.2 b.2 in cc (same, a.1, b.1)
 one_action name options (action.SplitKey out key) (action.SplitKey other k) a b =
     let same : key ≡ k = one_key options key k a.2 b.2 in cc (same, a.1, b.1)
 one_action name options (action.Split out nth) (action.SplitKey other k) a b = absurd (none-some b.2.0 (sym a.3 ∙ b.2.1))

@@ -6,12 +6,14 @@ use Rattle.std.specs.Str.{bytes_eq}
 use Rattle.std.specs.Str.Parse.{ParsesUnsigned}
 use Rattle.clap.specs.Words.{Row, Text, first_of, one_of}
 use Rattle.clap.specs.Matches.{ReadsOne}
+use Rattle.opgp_merge.specs.Chosen.{everything}
+use Rattle.opgp_merge.specs.declared.choice.Choice.{Choice}
 use Rattle.opgp_stack.specs.declared.task.Action.{Action}
 use Rattle.opgp_stack.specs.declared.task.Action.TheVariants as action
 use Rattle.opgp_stack.specs.declared.task.Top.TheVariants as top
 use Rattle.opgp_stack.specs.KeyText.{IsKeyText}
 use Rattle.opgp_stack.specs.declared.key_name.KeyName.{KeyName}
-use Rattle.opgp_tool.specs.Words.{HasKey, HasNumber, IsAction, IsNth, is_given, top_of}
+use Rattle.opgp_tool.specs.Words.{HasKey, HasNumber, IsAction, IsChoice, IsGivenNumber, is_given, top_of}
 
 module _ (E : Type 0) (Gives : List ℕ → Result ℕ E → Type 0)
     (parses : (t : List ℕ) (r : Result ℕ E) → Gives t r → ParsesUnsigned 64 10 t r)
@@ -42,12 +44,12 @@ pub where_none : {A P : Type 0} (o : Option A) → o ≡ None → IfNone o P →
 where_none None is holds = holds
 where_none (Some a) is holds = absurd (cc is)
 
--- a split whose number isn't one is no action
-pub no_nth : (options : List Row) (word : Text)
-    → ((n : ℕ) → HasNumber options (codes "nth") n → ⊥)
-    → first_of (codes "nth") options ≡ Some word → (nth : Option ℕ) → IsNth options nth → ⊥
-no_nth options word none is None said = none-some word (sym said ∙ is)
-no_nth options word none is (Some n) said = none n said
+-- an option whose text isn't a number gives none
+pub no_given_number : (options : List Row) (id word : Text)
+    → ((n : ℕ) → HasNumber options id n → ⊥)
+    → first_of id options ≡ Some word → (given : Option ℕ) → IsGivenNumber options id given → ⊥
+no_given_number options id word none is None said = none-some word (sym said ∙ is)
+no_given_number options id word none is (Some n) said = none n said
 
 pub apart : true ≡ false → ⊥
 apart e = absurd cc
@@ -56,7 +58,7 @@ abbrev is_split : Text → Bool
 is_split name = bytes_eq name (codes "split")
 
 -- options of a split that say neither how many nor which certificates are no action
-pub no_split : (options : List Row) → ((nth : Option ℕ) → IsNth options nth → first_of (codes "key") options ≡ None → ⊥)
+pub no_split : (options : List Row) → ((nth : Option ℕ) → IsGivenNumber options (codes "nth") nth → first_of (codes "key") options ≡ None → ⊥)
     → ((key : KeyName) → HasKey options key → first_of (codes "nth") options ≡ None → ⊥)
     → (a : Action) → IsAction (codes "split") options a → ⊥
 no_split options whole by_key action.Show said = absurd (apart (ap is_split said.0))
@@ -67,6 +69,7 @@ no_split options whole by_key action.Check said = absurd (apart (ap is_split sai
 no_split options whole by_key (action.Octets row top) said = absurd (apart (ap is_split said.0))
 no_split options whole by_key action.OctetsAll said = absurd (apart (ap is_split said.0))
 no_split options whole by_key (action.Write out) said = absurd (apart (ap is_split said.0))
+no_split options whole by_key (action.WriteChosen out choice) said = absurd (apart (ap is_split said.0))
 no_split options whole by_key (action.Normalise out) said = absurd (apart (ap is_split said.0))
 no_split options whole by_key (action.Split out nth) said = whole nth said.2 said.3
 no_split options whole by_key (action.SplitKey out key) said = by_key key said.2 said.3
@@ -82,7 +85,7 @@ no_named_split options text given none = no_split options
 
 -- where no key is given, and no number is one
 pub no_numbered_split : (options : List Row) → first_of (codes "key") options ≡ None
-    → ((nth : Option ℕ) → IsNth options nth → ⊥) → (a : Action) → IsAction (codes "split") options a → ⊥
+    → ((nth : Option ℕ) → IsGivenNumber options (codes "nth") nth → ⊥) → (a : Action) → IsAction (codes "split") options a → ⊥
 no_numbered_split options lacks none = no_split options (λ nth is no_key. none nth is)
     (λ key has no_nth. none-some has.0 (sym lacks ∙ has.1))
 
@@ -101,7 +104,27 @@ no_octets options one all action.Check said = absurd (apart (ap is_octets said))
 no_octets options one all (action.Octets row top) said = one row said.1 said.3
 no_octets options one all action.OctetsAll said = all said.1 said.2 said.3
 no_octets options one all (action.Write out) said = absurd (apart (ap is_octets said.0))
+no_octets options one all (action.WriteChosen out choice) said = absurd (apart (ap is_octets said.0))
 no_octets options one all (action.Normalise out) said = absurd (apart (ap is_octets said.0))
 no_octets options one all (action.Split out nth) said = absurd (apart (ap is_octets said.0))
 no_octets options one all (action.SplitKey out key) said = absurd (apart (ap is_octets said.0))
 no_octets options one all (action.Join out merge) said = absurd (apart (ap is_octets said.0))
+
+abbrev is_write : Text → Bool
+is_write name = bytes_eq name (codes "write")
+
+-- options of write that choose nothing are no action
+pub no_write : (options : List Row) → ((choice : Choice) → IsChoice options choice → ⊥) → (a : Action) → IsAction (codes "write") options a → ⊥
+no_write options none action.Show said = absurd (apart (ap is_write said.0))
+no_write options none action.ShowValues said = absurd (apart (ap is_write said.0))
+no_write options none action.List said = absurd (apart (ap is_write said.0))
+no_write options none action.ListValues said = absurd (apart (ap is_write said.0))
+no_write options none action.Check said = absurd (apart (ap is_write said))
+no_write options none (action.Octets row top) said = absurd (apart (ap is_write said.0))
+no_write options none action.OctetsAll said = absurd (apart (ap is_write said.0))
+no_write options none (action.Write out) said = none everything said.2
+no_write options none (action.WriteChosen out choice) said = none choice said.2
+no_write options none (action.Normalise out) said = absurd (apart (ap is_write said.0))
+no_write options none (action.Split out nth) said = absurd (apart (ap is_write said.0))
+no_write options none (action.SplitKey out key) said = absurd (apart (ap is_write said.0))
+no_write options none (action.Join out merge) said = absurd (apart (ap is_write said.0))

@@ -78,6 +78,9 @@ row_rule = number_rule (codes "row")
 abbrev pub nth_rule : Rule
 nth_rule = number_rule (codes "nth")
 
+abbrev pub user_id_rule : Rule
+user_id_rule = number_rule (codes "user-id")
+
 -- an option `--name` without a value
 abbrev pub flag_rule : Text → Rule
 flag_rule name = record (new_rule name) { long = Some name; action = Some SetTrue }
@@ -90,6 +93,12 @@ values_rule = flag_rule (codes "values")
 
 abbrev pub all_rule : Rule
 all_rule = flag_rule (codes "all")
+
+abbrev pub own_signatures_rule : Rule
+own_signatures_rule = flag_rule (codes "own-signatures")
+
+abbrev pub no_attributes_rule : Rule
+no_attributes_rule = flag_rule (codes "no-attributes")
 
 abbrev pub progress_rule : Rule
 progress_rule = flag_rule (codes "progress")
@@ -174,7 +183,8 @@ program_of show list check octets write normalise split join tops
           ∷ command_shape (codes "list") list (values_rule ∷ [])
           ∷ command_shape (codes "check") check []
           ∷ command_shape (codes "octets") octets (row_rule ∷ of_rule tops ∷ all_rule ∷ [])
-          ∷ command_shape (codes "write") write (out_rule write_outs ∷ [])
+          ∷ command_shape (codes "write") write
+          (out_rule write_outs ∷ own_signatures_rule ∷ no_attributes_rule ∷ user_id_rule ∷ [])
           ∷ command_shape (codes "normalise") normalise (out_rule normalise_outs ∷ [])
           ∷ command_shape (codes "split") split
           (out_rule split_outs ∷ nth_rule ∷ key_rule ∷ [])

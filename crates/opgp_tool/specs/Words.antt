@@ -15,6 +15,8 @@ use Rattle.opgp_engine.specs.declared.mode.Mode.{Mode}
 use Rattle.opgp_engine.specs.declared.mode.Mode.TheVariants as mode
 use Rattle.opgp_engine.specs.declared.out.Out.{Out}
 use Rattle.opgp_engine.specs.declared.out.Out.TheVariants as out
+use Rattle.opgp_merge.specs.Chosen.{everything, is_everything}
+use Rattle.opgp_merge.specs.declared.choice.Choice.{Choice}
 use Rattle.opgp_stack.specs.KeyText.{IsKeyText}
 use Rattle.opgp_stack.specs.declared.key_name.KeyName.{KeyName}
 use Rattle.opgp_stack.specs.declared.task.Top.{Top}
@@ -62,10 +64,10 @@ abbrev pub top_of : Option Text → Top
 top_of None = top.Ring
 top_of (Some word) = if bytes_eq word (codes "literal") then top.Literal else top.Ring
 
--- `--nth`: the number that its text is, or none if it isn't given
-abbrev pub IsNth : List Row → Option ℕ → Type 0
-IsNth options nth = MatchOption nth (first_of (codes "nth") options ≡ None)
-    (HasNumber options (codes "nth"))
+-- the number that an option's text is, or none if it isn't given
+abbrev pub IsGivenNumber : List Row → Text → Option ℕ → Type 0
+IsGivenNumber options id given = MatchOption given (first_of id options ≡ None)
+    (HasNumber options id)
 
 -- `--key`: the key that its text names
 abbrev pub HasKey : List Row → KeyName → Type 0
@@ -76,6 +78,14 @@ HasKey options key = (text : Text) × (first_of (codes "key") options ≡ Some t
 abbrev pub is_given : Option Text → Bool
 is_given None = false
 is_given (Some word) = bytes_eq word (codes "true")
+
+-- what `--own-signatures`, `--no-attributes` and `--user-id` choose
+pub record IsChoice (options : List Row) (choice : Choice) : Type 0 where
+  pub own_signatures : choice.own_signatures
+      ≡ is_given (first_of (codes "own-signatures") options)
+  pub no_attributes : choice.no_attributes
+      ≡ is_given (first_of (codes "no-attributes") options)
+  pub user_id : IsGivenNumber options (codes "user-id") choice.user_id
 
 -- each limit is the number of the option of its name, and the policies are those of `--outside` and
 -- `--malformed`
@@ -108,11 +118,14 @@ IsAction name options action.OctetsAll = (name ≡ codes "octets")
     × (top_of (first_of (codes "of") options) ≡ top.Ring)
     × (first_of (codes "row") options ≡ None)
 IsAction name options (action.Write out) = (name ≡ codes "write")
-    × (out ≡ out_of (first_of (codes "out") options))
+    × (out ≡ out_of (first_of (codes "out") options)) × IsChoice options everything
+IsAction name options (action.WriteChosen out choice) = (name ≡ codes "write")
+    × (out ≡ out_of (first_of (codes "out") options)) × IsChoice options choice
+    × (is_everything choice ≡ false)
 IsAction name options (action.Normalise out) = (name ≡ codes "normalise")
     × (out ≡ out_of (first_of (codes "out") options))
 IsAction name options (action.Split out nth) = (name ≡ codes "split")
-    × (out ≡ out_of (first_of (codes "out") options)) × IsNth options nth
+    × (out ≡ out_of (first_of (codes "out") options)) × IsGivenNumber options (codes "nth") nth
     × (first_of (codes "key") options ≡ None)
 IsAction name options (action.SplitKey out key) = (name ≡ codes "split")
     × (out ≡ out_of (first_of (codes "out") options)) × HasKey options key

@@ -6,6 +6,7 @@ ghost use Rattle.opgp_tool.specs.Program.{Choice, AreModes, ArePolicies, AreSign
 ghost use Rattle.opgp_tool.specs.Program.{mode_rule, outside_rule, malformed_rule, out_rule};
 ghost use Rattle.opgp_tool.specs.Program.{of_rule, limit_rule, row_rule, nth_rule, flag_rule, merge_rule, key_rule};
 ghost use Rattle.opgp_tool.specs.Program.{text_rule, values_rule, all_rule, with_limits};
+ghost use Rattle.opgp_tool.specs.Program.{own_signatures_rule, no_attributes_rule, user_id_rule};
 ghost use Rattle.opgp_tool.specs.Program.{IsCommand, IsProgram, bare_program};
 
 use crate::help::{
@@ -164,6 +165,19 @@ fn nth_option<'a>(alloc: Global) -> Arg<'a>
         .help("The number of the one certificate that is written, from 0")
 }
 
+/// `--user-id`: any `u64`.
+fn user_id_option<'a>(alloc: Global) -> Arg<'a>
+    ensures rule { rule_of result ≡ user_id_rule }
+    ensures own { result.global ≡ false }
+{
+    Arg::new(alloc, "user-id")
+        .long("user-id")
+        .value_name("N")
+        .action(ArgAction::Set)
+        .value_parser(clap::value_parser!(u64))
+        .help("The number of the one user ID that stays in each certificate, from 0")
+}
+
 /// A flag, which takes no value.
 fn flag_option<'a>(alloc: Global, name: &'a str, help: &'a str) -> Arg<'a>
     ensures rule { rule_of result ≡ flag_rule name.entry.now }
@@ -272,6 +286,19 @@ fn writing_command<'a>(
     with_option(new_command(alloc, name, about, more)?, out_option(alloc))
 }
 
+fn write_command<'a>(alloc: Global) -> Result<Command<'a>, OutOfMemory>
+    ensures { IfOk result (λ c. (outs : Choice) × AreOuts outs × IsCommand (codes "write")
+        (out_rule outs ∷ own_signatures_rule ∷ no_attributes_rule ∷ user_id_rule ∷ []) c) }
+{
+    let about = "Writes a keyring, its framing kept";
+    let command = writing_command(alloc, "write", about, WRITE_HELP)?;
+    let help = "Leaves out signatures that don't name the primary key as their issuer";
+    let command = with_option(command, flag_option(alloc, "own-signatures", help))?;
+    let help = "Leaves out user attributes";
+    let command = with_option(command, flag_option(alloc, "no-attributes", help))?;
+    with_option(command, user_id_option(alloc))
+}
+
 fn split_command<'a>(alloc: Global) -> Result<Command<'a>, OutOfMemory>
     ensures { IfOk result (λ c. (outs : Choice) × AreOuts outs
         × IsCommand (codes "split") (out_rule outs ∷ nth_rule ∷ key_rule ∷ []) c) }
@@ -314,8 +341,7 @@ pub fn program<'a>(alloc: Global) -> Result<Command<'a>, OutOfMemory>
     let about = "Lists the signatures of a keyring";
     let tool = with_command(tool, new_command(alloc, "check", about, CHECK_HELP))?;
     let tool = with_command(tool, octets_command(alloc))?;
-    let about = "Writes a keyring, its framing kept";
-    let tool = with_command(tool, writing_command(alloc, "write", about, WRITE_HELP))?;
+    let tool = with_command(tool, write_command(alloc))?;
     let about = "Writes a keyring in the current format";
     let tool = with_command(
         tool,

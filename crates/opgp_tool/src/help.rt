@@ -39,9 +39,12 @@ Example: opgp octets --row 0 < KEYRING | sha512sum";
 
 pub const WRITE_HELP: &str = "Each packet is written as it was framed. With --out binary the \
 output is the octets of
-all packets of the input.
+all packets of the input. Three options leave out parts of each certificate:
+--own-signatures the signatures that don't name its primary key as their issuer,
+--no-attributes its user attributes, and --user-id all its user IDs but one, with the
+signatures on these. No signature is verified.
 
-Example: opgp write --out binary < KEYRING > KEYRING.pgp";
+Example: opgp write --own-signatures --user-id 0 < KEYRING > MINIMAL.asc";
 
 pub const NORMALISE_HELP: &str = "Each packet gets the current format and its shortest length. \
 No body is changed.

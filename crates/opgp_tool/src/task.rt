@@ -4,12 +4,13 @@ ghost use Rattle.std.specs.Prelude.{◌≡◌, ◌⊎◌, ℕ, Option, IfSome, I
 ghost use Rattle.std.specs.Prelude.{codes, map, option_map};
 ghost use Rattle.clap.specs.Words.{App, fault_of, first_of, found_of, kind_of, rows_of};
 ghost use Rattle.clap.specs.declared.error.kind.ErrorKind.TheVariants.{OutOfMemory};
+ghost use Rattle.opgp_merge.specs.declared.choice.Choice.{Choice};
 ghost use Rattle.opgp_stack.specs.declared.task.Action.{Action};
 ghost use Rattle.opgp_stack.specs.declared.task.Task.{Task};
 ghost use Rattle.opgp_octets.specs.declared.limits.Limits.{Limits};
 ghost use Rattle.opgp_tool.specs.Words.{mode_of, outside_of, malformed_of, out_of, top_of, is_given};
 ghost use Rattle.opgp_tool.specs.Words.{HasNumber, HasLimits};
-ghost use Rattle.opgp_tool.specs.Words.{Asked, IsAction, IsNth, IsRequest, IsTask, asked_by};
+ghost use Rattle.opgp_tool.specs.Words.{Asked, IsAction, IsChoice, IsGivenNumber, IsRequest, IsTask, asked_by};
 ghost use Rattle.opgp_tool.specs.Program.{IsProgram, SaysNone, SaysTask};
 ghost use Rattle.opgp_tool.specs.declared.task.Usage.TheVariants.{Memory};
 
@@ -17,7 +18,7 @@ use crate::command::program;
 use clap::error::ErrorKind;
 use clap::{ArgMatches, Error};
 use opgp_octets::{Limits, Malformed, OutOfMemory, Outside};
-use opgp_stack::{Action, KeyName, Mode, Out, Task, Top};
+use opgp_stack::{Action, Choice, KeyName, Mode, Out, Task, Top};
 use std::alloc::Global;
 use std::convert::AsStr;
 
@@ -107,15 +108,16 @@ fn number_of(matches: &ArgMatches, id: &str) -> Option<u64>
     matches.get_one::<u64>(id)
 }
 
-/// The number of `--nth`, if it is given. The outer None means that its value isn't a number.
-fn nth_of(matches: &ArgMatches) -> Option<Option<u64>>
-    ensures some { IfSome result (IsNth (rows_of (found_of matches.now))) }
-    ensures none { IfNone result ((nth : Option ℕ)
-        → IsNth (rows_of (found_of matches.now)) nth → ⊥) }
+/// The number that is an option's value, if it is given. The outer None means that its value isn't a
+/// number.
+fn given_number_of(matches: &ArgMatches, option: &str) -> Option<Option<u64>>
+    ensures some { IfSome result (IsGivenNumber (rows_of (found_of matches.now)) option.now) }
+    ensures none { IfNone result ((given : Option ℕ)
+        → IsGivenNumber (rows_of (found_of matches.now)) option.now given → ⊥) }
 {
-    match word_of(matches, "nth") {
+    match word_of(matches, option) {
         None => Some(None),
-        Some(_) => Some(Some(number_of(matches, "nth")?)),
+        Some(_) => Some(Some(number_of(matches, option)?)),
     }
 }
 
@@ -153,7 +155,7 @@ fn split_of(matches: &ArgMatches) -> Option<Action>
     let out = out_of(matches);
     let text = match word_of(matches, "key") {
         None => {
-            let nth = nth_of(matches)?;
+            let nth = given_number_of(matches, "nth")?;
             return Some(Action::Split { out, nth });
         }
         Some(text) => text,
@@ -164,6 +166,34 @@ fn split_of(matches: &ArgMatches) -> Option<Action>
             None => None,
         },
         Some(_) => None,
+    }
+}
+
+/// Which parts of certificates `write` writes.
+fn choice_of(matches: &ArgMatches) -> Option<Choice>
+    ensures some { IfSome result (IsChoice (rows_of (found_of matches.now))) }
+    ensures none { IfNone result ((choice : Choice)
+        → IsChoice (rows_of (found_of matches.now)) choice → ⊥) }
+{
+    Some(Choice {
+        own_signatures: is_given(matches, "own-signatures"),
+        no_attributes: is_given(matches, "no-attributes"),
+        user_id: given_number_of(matches, "user-id")?,
+    })
+}
+
+/// What `write` writes: the keyring, or chosen parts of its certificates.
+fn write_of(matches: &ArgMatches) -> Option<Action>
+    ensures some { IfSome result (IsAction (codes "write") (rows_of (found_of matches.now))) }
+    ensures none { IfNone result ((action : Action)
+        → IsAction (codes "write") (rows_of (found_of matches.now)) action → ⊥) }
+{
+    let out = out_of(matches);
+    let choice = choice_of(matches)?;
+    if choice.is_everything() {
+        Some(Action::Write { out })
+    } else {
+        Some(Action::WriteChosen { out, choice })
     }
 }
 
@@ -205,9 +235,7 @@ fn action_of(name: &str, matches: &ArgMatches) -> Option<Action>
         }),
         "check" => Some(Action::Check),
         "octets" => octets_of(matches),
-        "write" => Some(Action::Write {
-            out: out_of(matches),
-        }),
+        "write" => write_of(matches),
         "normalise" => Some(Action::Normalise {
             out: out_of(matches),
         }),

@@ -1,6 +1,7 @@
 use Rattle.std.proofs.Common.{◌∙◌, ◌⊎◌, inl, inr, refl, ap, sym, Err, Ok, Option, None, ℕ, Bool, List}
 use Rattle.std.specs.Prelude.{slice_get}
 use Rattle.opgp_frame.specs.Packet.{packets_octets}
+use Rattle.opgp_merge.specs.Chosen.{chosen_keyring}
 use Rattle.opgp_merge.specs.Merged.{merged_of}
 use Rattle.opgp_report.specs.Asked.{question_in}
 use Rattle.opgp_report.specs.Row.{report_rows}
@@ -26,12 +27,12 @@ use Rattle.opgp_stack.specs.Report.{HasReport, report_lines}
 use Rattle.opgp_stack.specs.Running.{IsMade, IsSpooled, Made, Text, one_text, question_made}
 use Rattle.opgp_stack.specs.Showing.{packet_lines}
 use Rattle.opgp_stack.specs.Values.{valued_lines}
-use Rattle.opgp_stack.specs.Parts.{HasText, certificate_text, normal_octets, part_lines, part_octets, part_valued_lines}
+use Rattle.opgp_stack.specs.Parts.{HasText, certificate_text, chosen_octets, normal_octets, part_lines, part_octets, part_valued_lines}
 use Rattle.opgp_stack.specs.ValuedListing.{valued_listing}
 use Rattle.opgp_stack.proofs.AllRows.{octets_made}
 use Rattle.opgp_stack.proofs.KeptOf.{KeyringOf, made_of, refused_of, text_made}
 use Rattle.opgp_stack.proofs.Named.{named_made_of}
-use Rattle.opgp_stack.proofs.PartTexts.{alone_text, lines_text, normal_text, packets_text_of, valued_lines_text}
+use Rattle.opgp_stack.proofs.PartTexts.{alone_text, chosen_text, lines_text, normal_text, packets_text_of, valued_lines_text}
 use Rattle.opgp_stack.proofs.Runs.{LiteralOf, RingOf, ShownOf, ran, stopped}
 use Rattle.opgp_stack.proofs.ShownTexts.{made_of_packets, refused_packets}
 use Rattle.opgp_stack.proofs.running.run_and.Goals as goal
@@ -107,6 +108,15 @@ returns-in_ok-text-in-Write g c =
     ran (KeyringOf (HasText (DraftHas g.S.Spool.serves g.S.Spool.tells g.S.Spool.holds g.S.Spool.has_failed) part_octets) c.args.task.now) _ c.in-Write.is (λ fault. inl (refl, refl)) _ _ _ c.in_ok-text-in-Write.text
     (text_made (DraftHas g.S.Spool.serves g.S.Spool.tells g.S.Spool.holds g.S.Spool.has_failed) part_octets (λ r. octets_text c.in-Write.out (packets_octets (flat r))) (octets_text c.in-Write.out) (λ r. ap (octets_text c.in-Write.out) (packets_text_of r)) (λ (made : Made). IsMade g.W.Sink.held g.W.Sink.has_failed c.args.writer.now c.write_draft-in-Write.new.writer c.write_draft-in-Write.result made ⊎ IsSpooled g.S.Spool.serves g.S.Spool.tells g.W.Sink.held g.W.Sink.has_failed c.args.writer.now c.write_draft-in-Write.new.writer c.write_draft-in-Write.result made) c.in_ok-text-in-Write.text (λ octets h. inr (c.write_draft-in-Write.ensures octets h)) c.args.task.now)
     c.in_ok-text-in-Write.ensures refl
+
+pub returns-in_err-text-in-WriteChosen : goal.returns-in_err-text-in-WriteChosen
+returns-in_err-text-in-WriteChosen g c = stopped (KeyringOf (HasText (DraftHas g.S.Spool.serves g.S.Spool.tells g.S.Spool.holds g.S.Spool.has_failed) (chosen_octets c.in-WriteChosen.choice)) c.args.task.now) _ c.in-WriteChosen.is (λ fault. inl (refl, refl)) _ _ (refused_of (HasText (DraftHas g.S.Spool.serves g.S.Spool.tells g.S.Spool.holds g.S.Spool.has_failed) (chosen_octets c.in-WriteChosen.choice)) _ c.args.task.now) c.in_err-text-in-WriteChosen.ensures c.from_residual-in_err-text-in-WriteChosen.ensures
+
+pub returns-in_ok-text-in-WriteChosen : goal.returns-in_ok-text-in-WriteChosen
+returns-in_ok-text-in-WriteChosen g c =
+    ran (KeyringOf (HasText (DraftHas g.S.Spool.serves g.S.Spool.tells g.S.Spool.holds g.S.Spool.has_failed) (chosen_octets c.in-WriteChosen.choice)) c.args.task.now) _ c.in-WriteChosen.is (λ fault. inl (refl, refl)) _ _ _ c.in_ok-text-in-WriteChosen.text
+    (text_made (DraftHas g.S.Spool.serves g.S.Spool.tells g.S.Spool.holds g.S.Spool.has_failed) (chosen_octets c.in-WriteChosen.choice) (λ r. octets_text c.in-WriteChosen.out (packets_octets (flat (chosen_keyring c.in-WriteChosen.choice r)))) (octets_text c.in-WriteChosen.out) (λ r. ap (octets_text c.in-WriteChosen.out) (chosen_text c.in-WriteChosen.choice r)) (λ (made : Made). IsMade g.W.Sink.held g.W.Sink.has_failed c.args.writer.now c.write_draft-in-WriteChosen.new.writer c.write_draft-in-WriteChosen.result made ⊎ IsSpooled g.S.Spool.serves g.S.Spool.tells g.W.Sink.held g.W.Sink.has_failed c.args.writer.now c.write_draft-in-WriteChosen.new.writer c.write_draft-in-WriteChosen.result made) c.in_ok-text-in-WriteChosen.text (λ octets h. inr (c.write_draft-in-WriteChosen.ensures octets h)) c.args.task.now)
+    c.in_ok-text-in-WriteChosen.ensures refl
 
 pub returns-in_err-text-in-Normalise : goal.returns-in_err-text-in-Normalise
 returns-in_err-text-in-Normalise g c = stopped (KeyringOf (HasText (DraftHas g.S.Spool.serves g.S.Spool.tells g.S.Spool.holds g.S.Spool.has_failed) normal_octets) c.args.task.now) _ c.in-Normalise.is (λ fault. inl (refl, refl)) _ _ (refused_of (HasText (DraftHas g.S.Spool.serves g.S.Spool.tells g.S.Spool.holds g.S.Spool.has_failed) normal_octets) _ c.args.task.now) c.in_err-text-in-Normalise.ensures c.from_residual-in_err-text-in-Normalise.ensures

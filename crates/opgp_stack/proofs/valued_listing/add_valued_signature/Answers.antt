@@ -6,7 +6,8 @@ use Rattle.opgp_report.specs.Left.{left_in}
 use Rattle.opgp_report.specs.Signer.{by_id}
 use Rattle.opgp_stream.proofs.Extended.{extends_same}
 use Rattle.opgp_stack.specs.Listing.{signature_text, typed_start}
-use Rattle.opgp_stack.specs.ValuedListing.{created_of, named_of}
+use Rattle.opgp_report.specs.Named.{named_of}
+use Rattle.opgp_stack.specs.ValuedListing.{created_of}
 use Rattle.opgp_stack.proofs.GoingOn.{goes_on_with}
 use Rattle.opgp_stack.proofs.valued_listing.add_valued_signature.Goals as goal
 

@@ -22,9 +22,9 @@ returns c = IfOk-weaker c.with_command-8.result _ _ (λ r last.
     let list = both c.list_command.result _ _ c.list_command.ensures c.in_ok-tool-3.ensures in
     let check = both c.new_command.result _ _ c.new_command.ensures c.in_ok-tool-4.ensures in
     let octets = both c.octets_command.result _ _ c.octets_command.ensures c.in_ok-tool-5.ensures in
-    let write = both c.writing_command.result _ _ c.writing_command.ensures
+    let write = both c.write_command.result _ _ c.write_command.ensures
     c.in_ok-tool-6.ensures in
-    let normalise = both c.writing_command-2.result _ _ c.writing_command-2.ensures
+    let normalise = both c.writing_command.result _ _ c.writing_command.ensures
     c.in_ok-tool-7.ensures in
     let split = both c.split_command.result _ _ c.split_command.ensures c.in_ok-tool-8.ensures in
     let join = both c.join_command.result _ _ c.join_command.ensures last in

@@ -34,7 +34,7 @@ _opgp() {
     case $words[2] in
         show) shift words; ((CURRENT--)); _arguments $limits '--values[shows the fields of each packet, and what each subpacket means]' ;;
         list) shift words; ((CURRENT--)); _arguments $limits '--values[shows the left 16 bits, the creation time and the issuer of each signature]' ;;
-        check) shift words; ((CURRENT--)); _arguments $limits ;;
+        check) shift words; ((CURRENT--)); _arguments $limits '--fingerprints[shows the fingerprints of each signature'"'"'s certificate and signer]' ;;
         octets) shift words; ((CURRENT--)); _arguments $limits '--row=[the number of the row]:number:' '--all[writes those of every row, each behind a line of its own]' '--of=[what the input is read as]:top:(ring literal)' ;;
         write | normalise) shift words; ((CURRENT--)); _arguments $limits $out ;;
         split) shift words; ((CURRENT--)); _arguments $limits $out '--nth=[the number of the certificate]:number:' '--key=[the fingerprint or key ID of a key]:key:' ;;

@@ -203,7 +203,11 @@ fn action_of(name: &str, matches: &ArgMatches) -> Option<Action>
         } else {
             Action::List
         }),
-        "check" => Some(Action::Check),
+        "check" => Some(if is_given(matches, "fingerprints") {
+            Action::CheckFingerprints
+        } else {
+            Action::Check
+        }),
         "octets" => octets_of(matches),
         "write" => Some(Action::Write {
             out: out_of(matches),

@@ -28,7 +28,7 @@ _opgp() {
             *)
                 case ${COMP_WORDS[1]} in
                     show | list) words="--values $limits" ;;
-                    check) words=$limits ;;
+                    check) words="--fingerprints $limits" ;;
                     octets) words="--row --all --of $limits" ;;
                     write) words="--out --own-signatures --no-attributes --user-id $limits" ;;
                     normalise) words="--out $limits" ;;

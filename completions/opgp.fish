@@ -25,6 +25,7 @@ complete -c opgp -l spool -x -a "(__fish_complete_directories)" -d "Holds the ou
 complete -c opgp -n "__fish_seen_subcommand_from write normalise split join" -l out -x -a "armor binary" -d "How keyrings are written"
 complete -c opgp -n "__fish_seen_subcommand_from show" -l values -d "Shows the fields of each packet, and what each subpacket means"
 complete -c opgp -n "__fish_seen_subcommand_from list" -l values -d "Shows the left 16 bits, the creation time and the issuer of each signature"
+complete -c opgp -n "__fish_seen_subcommand_from check" -l fingerprints -d "Shows the fingerprints of each signature's certificate and signer"
 complete -c opgp -n "__fish_seen_subcommand_from octets" -l all -d "Writes those of every row, each behind a line of its own"
 complete -c opgp -n "__fish_seen_subcommand_from octets" -l row -x -d "The number of the row"
 complete -c opgp -n "__fish_seen_subcommand_from octets" -l of -x -a "ring literal" -d "What the input is read as"

@@ -34,7 +34,7 @@ _opgp() {
     case $words[2] in
         show) shift words; ((CURRENT--)); _arguments $limits '--values[shows the fields of each packet, and what each subpacket means]' ;;
         list) shift words; ((CURRENT--)); _arguments $limits '--values[shows the left 16 bits, the creation time and the issuer of each signature]' ;;
-        check) shift words; ((CURRENT--)); _arguments $limits ;;
+        check) shift words; ((CURRENT--)); _arguments $limits '--fingerprints[shows the fingerprints of each signature'"'"'s certificate and signer]' ;;
         octets) shift words; ((CURRENT--)); _arguments $limits '--row=[the number of the row]:number:' '--all[writes those of every row, each behind a line of its own]' '--of=[what the input is read as]:top:(ring literal)' ;;
         write) shift words; ((CURRENT--)); _arguments $limits $out '--own-signatures[leaves out signatures that do not name the primary key as their issuer]' '--no-attributes[leaves out user attributes]' '--user-id=[the number of the one user ID that stays in each certificate]:number:' ;;
         normalise) shift words; ((CURRENT--)); _arguments $limits $out ;;

@@ -709,13 +709,13 @@ def key_octets(body):
 
 
 def signer_of(signature, keys):
-    """The key ID of the first key that the signature names."""
+    """The body of the first key that the signature names."""
     for octet, _, octets in signature.hashed:
         if octet & 127 == 33 and meaning(33, octets) == "typed":
-            return next((key_id(it) for it in keys if it[:1] + fingerprint(it) == octets), None)
+            return next((it for it in keys if it[:1] + fingerprint(it) == octets), None)
     for octet, _, octets in (*signature.hashed, *signature.unhashed):
         if octet & 127 == 16 and len(octets) == 8:
-            return next((key_id(it) for it in keys if key_id(it) == octets), None)
+            return next((it for it in keys if key_id(it) == octets), None)
     return None
 
 
@@ -748,16 +748,18 @@ def asked_there(body, place, primary, head):
 
 
 def found(body, place, primary, head, keys):
-    """What a row says of the signature, and the octets that it hashes, if it asks something."""
+    """What a row says of the signature, the octets that it hashes, if it asks something, and the fingerprints of its certificate
+    and its signer."""
     it, octets = asked_there(body, place, primary, head)
+    certificate = fingerprint(primary).hex().upper()
     if it is None:
-        return f"none {octets}", None
+        return f"none {octets}", None, f"{certificate} -"
     digest = hashlib.new(HASHES[it.hash], octets).digest()[:2]
     signer = signer_of(it, keys)
-    name = signer.hex().upper() if signer else "-"
+    name, print_of_signer = (key_id(signer).hex().upper(), fingerprint(signer).hex().upper()) if signer else "--"
     verdict = "undecided" if digest == it.left else "bad"
     line = f"asked type {it.kind:02X} hash {it.hash} signer {name} digest {digest.hex().upper()} verdict {verdict}"
-    return line, octets
+    return line, octets, f"{certificate} {print_of_signer}"
 
 
 def reported(packets, certificates):
@@ -825,7 +827,7 @@ def hashed_of_a_literal(literal, signatures):
 
 def answer(command, octets, row=0, limits=USUAL, bare=False):
     """The status, the standard output and the standard error. The commands are list, stated (list --values), show, values (show
-    --values), check, octets, all (octets --all), literal (octets --of literal), and those of written()."""
+    --values), check, prints (check --fingerprints), octets, all (octets --all), literal (octets --of literal), and those of written()."""
     wanted = b"MESSAGE" if command == "literal" else b"PUBLIC KEY BLOCK"
     try:
         binary = not octets or octets[0] >= 128
@@ -837,7 +839,7 @@ def answer(command, octets, row=0, limits=USUAL, bare=False):
         lead, certificates = compose(blocks, packets, limits) if command not in ("show", "values") else ([], [])
     except Refused as refused:
         return 1, b"", refused.args[0]
-    if command not in ("list", "stated", "show", "values", "check", "octets", "all"):
+    if command not in ("list", "stated", "show", "values", "check", "prints", "octets", "all"):
         return written(command, blocks, packets, lead, certificates, row, bare)
     if command in ("show", "values"):
         lines = shown(packets, command == "values")
@@ -849,5 +851,6 @@ def answer(command, octets, row=0, limits=USUAL, bare=False):
             return hashed([it[2] for it in rows], row)
         if command == "all":
             return all_hashed([it[2] for it in rows])
-        lines = (f"row {n} {where} : {line}" for n, (where, line, _) in enumerate(rows))
+        ends = (f" {prints}" if command == "prints" else "" for *_, prints in rows)
+        lines = (f"row {n} {where} : {line}{end}" for n, ((where, line, *_), end) in enumerate(zip(rows, ends)))
     return 0, "".join(f"{it}\n" for it in lines).encode(), b""

@@ -2,7 +2,10 @@
 pub use Rattle.opgp_report.specs.declared
 pub use Rattle.opgp_report.specs.Asked
 pub use Rattle.opgp_report.specs.Reporter
+pub use Rattle.opgp_report.specs.Fingerprinted
+pub use Rattle.opgp_report.specs.Fingerprinting
 pub use Rattle.opgp_report.specs.First
+pub use Rattle.opgp_report.specs.FoundRows
 pub use Rattle.opgp_report.specs.Left
 pub use Rattle.opgp_report.specs.IssuerName
 pub use Rattle.opgp_report.specs.KeyIndex

@@ -67,8 +67,9 @@ pub mod packet {
 /// What can be said of each signature of a keyring.
 pub mod report {
     pub use opgp_report::{
-        Finding, IssuerName, Job, KeyIndex, LeftOctets, Place, Report, Reporting, Row, Verdict,
-        Verifier, Visitor, check, index_keys, issuer_named, laws, question_at, signer, visit,
+        Finding, FingerprintedReport, FingerprintedReporting, FingerprintedRow, FingerprintedRows,
+        IssuerName, Job, KeyIndex, LeftOctets, Place, Report, Reporting, Row, Verdict, Verifier,
+        Visitor, check, index_keys, issuer_named, laws, question_at, signer, visit,
     };
 }
 
@@ -85,8 +86,8 @@ pub mod ring {
 /// What the program does: its lines, its tasks, and a run of one.
 pub mod stack {
     pub use opgp_stack::{
-        Action, KeyName, RunFault, Task, Top, laws, run, run_last, run_spooled, write_listing,
-        write_report, write_shown,
+        Action, KeyName, RunFault, Task, Top, laws, run, run_last, run_spooled,
+        write_fingerprinted_report, write_listing, write_report, write_shown,
     };
 }
 

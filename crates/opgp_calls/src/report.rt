@@ -7,7 +7,8 @@ use crate::ring::ring_of;
 use opgp_hash::{Question, Subject, digest, write_octets};
 use opgp_octets::OutOfMemory;
 use opgp_report::{
-    Finding, LeftOctets, Place, Reporting, Row, Verdict, check, index_keys, question_at,
+    Finding, FingerprintedReporting, LeftOctets, Place, Reporting, Row, Verdict, check, index_keys,
+    question_at,
 };
 use opgp_ring::Certificate;
 use std::alloc::Global;
@@ -22,6 +23,7 @@ pub(crate) fn answered(
     Some(match name {
         "check" => checked(alloc, given, answer),
         "reporting" => reported(alloc, given, answer),
+        "fingerprinted" => fingerprinted(alloc, given, answer),
         "question_at" => question(alloc, given, answer),
         "first_by_key_id" => key_of_id(alloc, given, answer),
         "first_by_fingerprint" => key_of_fingerprint(alloc, given, answer),
@@ -43,6 +45,35 @@ fn reported(alloc: Global, given: &Given, answer: &mut Answer) -> Result<(), End
     let reporting = reporting_of(alloc, ring.certificates())?;
     add_rows(reporting.report().rows(), answer);
     Ok(())
+}
+
+/// `fingerprinted OCTETS`: the same, each row with the fingerprints of its certificate and its signer.
+fn fingerprinted(alloc: Global, given: &Given, answer: &mut Answer) -> Result<(), End> {
+    let ring = ring_of(alloc, given.octets(0)?)?;
+    let report = fingerprinting_of(alloc, ring.certificates())?.report();
+    for row in report.rows() {
+        add_place(row.row.place, answer);
+        add_finding(&row.row.finding, answer);
+        answer.octets(row.certificate.octets());
+        match row.signer {
+            Some(print) => answer.octets(print.octets()),
+            None => answer.word("-"),
+        }
+    }
+    answer.word("end");
+    Ok(())
+}
+
+/// The report in the making of certificates, with fingerprints.
+fn fingerprinting_of(
+    alloc: Global,
+    certificates: &[Certificate],
+) -> Result<FingerprintedReporting, OutOfMemory> {
+    let mut reporting = FingerprintedReporting::new(alloc);
+    for certificate in certificates {
+        reporting = reporting.with(certificate)?;
+    }
+    Ok(reporting)
 }
 
 /// The report in the making of certificates.

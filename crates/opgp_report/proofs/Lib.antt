@@ -1,4 +1,5 @@
 pub mod Asking
+pub mod Fingerprints
 mod FirstLaws
 mod NamedKeys
 mod Numbered

@@ -1,6 +1,9 @@
 pub mod Asked
 pub mod Reporter
+pub mod Fingerprinted
+pub mod Fingerprinting
 pub mod First
+pub mod FoundRows
 pub mod Left
 pub mod IssuerName
 pub mod KeyIndex

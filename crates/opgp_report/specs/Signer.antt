@@ -51,10 +51,12 @@ named_in prints (by_print version octets) = first_by_print version octets prints
 named_in prints (by_id id) = first_by_id id prints
 named_in prints unnamed = None
 
--- its key ID
+-- its fingerprint, and its key ID
+abbrev pub print_named : List Fingerprint → NameValue → Option Fingerprint
+print_named prints name = option_and_then (λ i. slice_get prints i) (named_in prints name)
+
 abbrev pub id_named : List Fingerprint → NameValue → Option (List ℕ)
-id_named prints name =
-    option_map id_of (option_and_then (λ i. slice_get prints i) (named_in prints name))
+id_named prints name = option_map id_of (print_named prints name)
 
 -- the place of the issuer's key
 abbrev pub signer_of : List Fingerprint → SignatureValue → Option ℕ

@@ -43,7 +43,7 @@ impl KeyIndex {
     ghost use Rattle.opgp_report.specs.IssuerName.{name_value};
     ghost use Rattle.opgp_report.specs.KeyIndex.{prints_shown};
     ghost use Rattle.opgp_report.specs.Report.{certificate_keys, subkey_bodies};
-    ghost use Rattle.opgp_report.specs.Signer.{id_named, named_in};
+    ghost use Rattle.opgp_report.specs.Signer.{id_named, named_in, print_named};
 
     /// The index of an empty list of keys.
     pub fn new(alloc: Global) -> KeyIndex
@@ -102,8 +102,21 @@ impl KeyIndex {
         ensures { IfOk result (λ n. prints_shown n
             ≡ prints_shown self ++ map print_of (certificate_keys certificate.now)) }
     {
-        let primary = certificate.key().view();
-        let names = self.with(print_of(&primary))?;
+        self.with_named(certificate, print_of(&certificate.key().view()))
+    }
+
+    /// The same, where this is the fingerprint of the certificate's primary key. Fails only when out
+    /// of memory.
+    pub(crate) fn with_named(
+        self,
+        certificate: &Certificate,
+        primary: Fingerprint,
+    ) -> Result<KeyIndex, OutOfMemory>
+        requires { primary ≡ print_of certificate.now.primary.body }
+        ensures { IfOk result (λ n. prints_shown n
+            ≡ prints_shown self ++ map print_of (certificate_keys certificate.now)) }
+    {
+        let names = self.with(primary)?;
         let names = names.with_components(certificate.components())?;
         Ok(names)
     }
@@ -141,6 +154,16 @@ impl KeyIndex {
             }
             IssuerName::Id(id) => self.first_by_key_id(id.0),
             IssuerName::Unnamed => None,
+        }
+    }
+
+    /// The fingerprint of the first key that has this name.
+    pub(crate) fn print_named(&self, name: IssuerName) -> Option<Fingerprint>
+        ensures { result ≡ print_named (prints_shown self.now) (name_value name) }
+    {
+        match self.find(name) {
+            Some(place) => self.prints.get(place).copied(),
+            None => None,
         }
     }
 

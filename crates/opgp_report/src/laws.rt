@@ -6,6 +6,7 @@ ghost use Rattle.opgp_ring.specs.Joining.{nth_of};
 ghost use Rattle.opgp_ring.specs.Keyring.{CertificateValue, KeyringValue, IsKeyring, flat};
 ghost use Rattle.opgp_ring.specs.Normal.{normal_of};
 ghost use Rattle.opgp_report.specs.Asked.{asked_by, asked_of};
+ghost use Rattle.opgp_report.specs.Fingerprinted.{fingerprinted_report_of};
 ghost use Rattle.opgp_report.specs.Report.{Says, certificate_keys, keys_in, report_of};
 ghost use Rattle.opgp_report.specs.Standing.{certificate_standing, hang_at, is_key, is_outer};
 ghost use Rattle.opgp_report.specs.Standing.{is_signature};
@@ -16,6 +17,13 @@ ghost use Rattle.opgp_report.specs.Told.{asked_told, row_told};
 pub fn rows_are_those_of_questions()
     ensures { (says : Says) (r : KeyringValue)
         → map row_told (report_of says r) ≡ map asked_told (asked_of r) }
+{}
+
+/// With fingerprints a keyring's report has the same rows.
+#[tactic(auto, using(crate::proofs::Fingerprints::same_rows))]
+pub fn fingerprints_change_no_row()
+    ensures { (says : Says) (r : KeyringValue)
+        → map (λ p. p.row) (fingerprinted_report_of says r) ≡ report_of says r }
 {}
 
 /// The rows that aren't of embedded signatures belong to the keyring's signature packets, in their

@@ -4,6 +4,8 @@
 
 mod checking;
 mod finding;
+mod fingerprinted;
+mod fingerprinting;
 mod issuer_name;
 mod key_index;
 pub mod laws;
@@ -21,6 +23,8 @@ mod walk;
 
 pub use checking::check;
 pub use finding::{question_at, rows_left};
+pub use fingerprinted::{FingerprintedReport, FingerprintedRow, FingerprintedRows};
+pub use fingerprinting::FingerprintedReporting;
 pub use issuer_name::IssuerName;
 pub use key_index::KeyIndex;
 pub use left_octets::LeftOctets;

@@ -6,7 +6,9 @@ ghost use Rattle.opgp_report.specs.KeyIndex.{prints_shown};
 use crate::key_index::KeyIndex;
 use crate::report::Report;
 use crate::row_maker::RowMaker;
+use crate::signers::print_of;
 use crate::walk::visit_certificate;
+use opgp_hash::Fingerprint;
 use opgp_octets::OutOfMemory;
 use opgp_ring::Certificate;
 use std::alloc::Global;
@@ -28,6 +30,7 @@ pub struct Reporting {
 
 impl Reporting {
     ghost use Rattle.opgp_ring.specs.Keyring.{CertificateValue, KeyringValue};
+    ghost use Rattle.opgp_report.specs.First.{print_of};
     ghost use Rattle.opgp_report.specs.Left.{says_left};
     ghost use Rattle.opgp_report.specs.Report.{report_of};
     ghost use Rattle.opgp_report.specs.Reporting.{Reports};
@@ -52,12 +55,26 @@ impl Reporting {
         ensures { IfOk result (λ r. (cs : List CertificateValue) → Reports self cs
             → Reports r (cs ++ certificate.now ∷ [])) }
     {
+        self.with_named(certificate, print_of(&certificate.key().view()))
+    }
+
+    /// The same, where this is the fingerprint of the certificate's primary key. Fails only when out
+    /// of memory.
+    pub(crate) fn with_named(
+        self,
+        certificate: &Certificate,
+        primary: Fingerprint,
+    ) -> Result<Reporting, OutOfMemory>
+        requires { primary ≡ print_of certificate.now.primary.body }
+        ensures { IfOk result (λ r. (cs : List CertificateValue) → Reports self cs
+            → Reports r (cs ++ certificate.now ∷ [])) }
+    {
         let Reporting {
             keys,
             mut made,
             certificates,
         } = self;
-        let keys = keys.with_certificate(certificate)?;
+        let keys = keys.with_named(certificate, primary)?;
         visit_certificate(&mut made, certificates, certificate)?;
         // Called for its contract: there are at least as many keys.
         let _keys = keys.len();

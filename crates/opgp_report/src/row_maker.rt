@@ -88,7 +88,7 @@ impl RowMaker {
 }
 
 /// Fills in the signers of rows, from the names of their issuers.
-fn sign_rows(rows: &mut Vec<Row>, issuers: &[IssuerName], keys: &KeyIndex)
+pub(crate) fn sign_rows(rows: &mut Vec<Row>, issuers: &[IssuerName], keys: &KeyIndex)
     ensures { map row_value rows.new.items ≡ signed_rows (prints_shown keys.now)
         (map row_value rows.old.items) (map name_value issuers.now) }
 {

@@ -46,6 +46,7 @@ by_top P packets ring literal action.ShowValues = packets _
 by_top P packets ring literal action.List = ring _
 by_top P packets ring literal action.ListValues = ring _
 by_top P packets ring literal action.Check = ring _
+by_top P packets ring literal action.CheckFingerprints = ring _
 by_top P packets ring literal (action.Octets row top.Ring) = ring _
 by_top P packets ring literal (action.Octets row top.Literal) = literal _
 by_top P packets ring literal action.OctetsAll = ring _

@@ -8,6 +8,7 @@ use Rattle.opgp_frame.specs.Packet.{PacketValue}
 use Rattle.opgp_hash.specs.Hashed.{hashed}
 use Rattle.opgp_hash.specs.QuestionValue.{QuestionValue}
 use Rattle.opgp_report.specs.Asked.{asked_of, question_in}
+use Rattle.opgp_report.specs.Fingerprinted.{fingerprinted_report_of}
 use Rattle.opgp_report.specs.Left.{says_left}
 use Rattle.opgp_report.specs.Report.{report_of}
 use Rattle.opgp_ring.specs.Composition.{Item}
@@ -35,7 +36,7 @@ use Rattle.opgp_stack.specs.Listing.{listing}
 use Rattle.opgp_engine.specs.Packets.{ArePackets, BlockValue, any_label}
 use Rattle.opgp_engine.specs.Pulled.{OfAll}
 use Rattle.opgp_engine.specs.Reading.{AnswerOf, Outcome, Wanted}
-use Rattle.opgp_stack.specs.Report.{report_lines}
+use Rattle.opgp_stack.specs.Report.{fingerprinted_lines, report_lines}
 use Rattle.opgp_stack.specs.Showing.{shown_blocks}
 use Rattle.opgp_stack.specs.ValuedListing.{valued_listing}
 use Rattle.opgp_stack.specs.Values.{valued_blocks}
@@ -100,6 +101,8 @@ MakesBy action.ShowValues = OfPackets (λ blocks. Text (valued_blocks blocks))
 MakesBy action.List = OfRing (λ r. Text (listing (flat r)))
 MakesBy action.ListValues = OfRing (λ r. Text (valued_listing (flat r)))
 MakesBy action.Check = OfRing (λ r. Text (report_lines 0 (report_of says_left r)))
+MakesBy action.CheckFingerprints =
+    OfRing (λ r. Text (fingerprinted_lines 0 (fingerprinted_report_of says_left r)))
 MakesBy (action.Octets row top.Ring) =
     OfRing (λ r. question_made (question_in (slice_get (asked_of r) row)))
 MakesBy (action.Octets row top.Literal) =

@@ -5,6 +5,7 @@
 mod all_octets;
 mod by_key;
 mod chosen_text;
+mod fingerprint_keeper;
 mod hashing;
 mod key_name;
 mod key_text;
@@ -37,5 +38,5 @@ pub use run_fault::RunFault;
 pub use running::{run, run_last, run_spooled};
 pub use task::{Action, Task, Top};
 pub use writing_listing::write_listing;
-pub use writing_report::write_report;
+pub use writing_report::{write_fingerprinted_report, write_report};
 pub use writing_shown::write_shown;

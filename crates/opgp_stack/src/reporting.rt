@@ -3,15 +3,18 @@
 ghost use Rattle.std.specs.Prelude.{◌≡◌, ◌++◌, false, codes, map, take};
 ghost use Rattle.std.specs.Option.{option_map};
 ghost use Rattle.opgp_hash.specs.Digest.{digest_octets};
+ghost use Rattle.opgp_report.specs.Fingerprinting.{fingerprinted_value, rows_to_come};
 ghost use Rattle.opgp_report.specs.Row.{row_value};
 ghost use Rattle.opgp_report.specs.RowValue.{asked_with, not_asked};
-ghost use Rattle.opgp_stack.specs.Report.{finding_words, id_or_none, line_at, number_or_none};
-ghost use Rattle.opgp_stack.specs.Report.{report_lines, row_line, verdict_name};
+ghost use Rattle.opgp_stack.specs.Report.{fields_at, finding_words, fingerprinted_line};
+ghost use Rattle.opgp_stack.specs.Report.{fingerprinted_lines, id_or_none, number_or_none};
+ghost use Rattle.opgp_stack.specs.Report.{print_or_none, print_words, report_lines, row_fields};
+ghost use Rattle.opgp_stack.specs.Report.{row_line, verdict_name};
 ghost use Rattle.opgp_stream.specs.Line.{word_text};
 ghost use Rattle.opgp_stream.specs.Output.{Extends, sink_of};
 
-use opgp_hash::{Digest, KeyId, Why};
-use opgp_report::{Finding, Place, Row, Verdict};
+use opgp_hash::{Digest, Fingerprint, KeyId, Why};
+use opgp_report::{Finding, FingerprintedRow, FingerprintedRows, Place, Row, Verdict};
 use opgp_stream::{Output, Sink, Word};
 use std::io;
 
@@ -24,14 +27,14 @@ fn number_or_none(number: Option<usize>) -> Word<'static>
     }
 }
 
-/// A verdict, and the line's end.
-fn verdict_end(verdict: Verdict) -> &'static [u8]
-    ensures { result.now ≡ codes " verdict " ++ verdict_name verdict ++ codes "\n" }
+/// The word of a verdict, and the verdict.
+fn verdict_words(verdict: Verdict) -> &'static [u8]
+    ensures { result.now ≡ codes " verdict " ++ verdict_name verdict }
 {
     match verdict {
-        Verdict::Good => b" verdict good\n",
-        Verdict::Bad => b" verdict bad\n",
-        Verdict::Undecided => b" verdict undecided\n",
+        Verdict::Good => b" verdict good",
+        Verdict::Bad => b" verdict bad",
+        Verdict::Undecided => b" verdict undecided",
     }
 }
 
@@ -55,7 +58,7 @@ fn left_of(digest: &Digest) -> [u8; 2]
     }
 }
 
-/// Adds the line of a signature that is hashed.
+/// Adds the fields of a signature that is hashed.
 fn add_asked<W: Sink>(
     output: &mut Output<'_, W>,
     number: u64,
@@ -68,7 +71,7 @@ fn add_asked<W: Sink>(
 ) -> io::Result<()>
     requires { W.has_failed (sink_of output.old) ≡ false }
     ensures { Extends W.held W.has_failed output.old output.new result
-        (line_at number place (finding_words
+        (fields_at number place (finding_words
         (asked_with kind hash (option_map (λ k. k.0) signer) digest.now verdict))) }
 {
     let left = left_of(digest);
@@ -91,11 +94,11 @@ fn add_asked<W: Sink>(
         id_or_none(&signer),
         Word::Text(b" digest "),
         Word::Hex(&left),
-        Word::Text(verdict_end(verdict)),
+        Word::Text(verdict_words(verdict)),
     ])
 }
 
-/// Adds the line of a signature that isn't hashed.
+/// Adds the fields of a signature that isn't hashed.
 fn add_none<W: Sink>(
     output: &mut Output<'_, W>,
     number: u64,
@@ -104,7 +107,7 @@ fn add_none<W: Sink>(
 ) -> io::Result<()>
     requires { W.has_failed (sink_of output.old) ≡ false }
     ensures { Extends W.held W.has_failed output.old output.new result
-        (line_at number place (finding_words (not_asked why))) }
+        (fields_at number place (finding_words (not_asked why))) }
 {
     output.add_words(&[
         Word::Text(b"row "),
@@ -119,15 +122,14 @@ fn add_none<W: Sink>(
         number_or_none(place.nested),
         Word::Text(b" : none "),
         Word::Text(why.name().as_bytes()),
-        Word::Text(b"\n"),
     ])
 }
 
-/// Adds the line of a row.
-fn add_row<W: Sink>(output: &mut Output<'_, W>, number: u64, row: &Row) -> io::Result<()>
+/// Adds the fields of a row.
+fn add_fields<W: Sink>(output: &mut Output<'_, W>, number: u64, row: &Row) -> io::Result<()>
     requires { W.has_failed (sink_of output.old) ≡ false }
     ensures { Extends W.held W.has_failed output.old output.new result
-        (row_line number (row_value row.now)) }
+        (row_fields number (row_value row.now)) }
 {
     match &row.finding {
         Finding::Asked {
@@ -143,6 +145,16 @@ fn add_row<W: Sink>(output: &mut Output<'_, W>, number: u64, row: &Row) -> io::R
     }
 }
 
+/// Adds the line of a row.
+fn add_row<W: Sink>(output: &mut Output<'_, W>, number: u64, row: &Row) -> io::Result<()>
+    requires { W.has_failed (sink_of output.old) ≡ false }
+    ensures { Extends W.held W.has_failed output.old output.new result
+        (row_line number (row_value row.now)) }
+{
+    add_fields(output, number, row)?;
+    output.add(b"\n")
+}
+
 /// Adds the lines of rows.
 pub(crate) fn add_report<W: Sink>(output: &mut Output<'_, W>, rows: &[Row]) -> io::Result<()>
     requires { W.has_failed (sink_of output.old) ≡ false }
@@ -155,6 +167,66 @@ pub(crate) fn add_report<W: Sink>(output: &mut Output<'_, W>, rows: &[Row]) -> i
         add_row(output, number, row)?;
         number += 1;
         rest = more;
+    }
+    Ok(())
+}
+
+/// A fingerprint's digits in hexadecimal, or `-` for none.
+fn print_or_none(print: &Option<Fingerprint>) -> Word<'_>
+    ensures { word_text result ≡ print_or_none print.now }
+{
+    match print {
+        Some(print) => Word::Hex(print.octets()),
+        None => Word::Text(b"-"),
+    }
+}
+
+/// Adds the fingerprints of a certificate and of a signer, and the line's end.
+fn add_prints<'p, W: Sink>(
+    output: &mut Output<'_, W>,
+    certificate: &'p Fingerprint,
+    signer: &'p Option<Fingerprint>,
+) -> io::Result<()>
+    requires { W.has_failed (sink_of output.old) ≡ false }
+    ensures { Extends W.held W.has_failed output.old output.new result
+        (print_words certificate.now signer.now) }
+{
+    output.add_words(&[
+        Word::Text(b" "),
+        Word::Hex(certificate.octets()),
+        Word::Text(b" "),
+        print_or_none(signer),
+        Word::Text(b"\n"),
+    ])
+}
+
+/// Adds the line of a row with fingerprints.
+fn add_fingerprinted_row<W: Sink>(
+    output: &mut Output<'_, W>,
+    number: u64,
+    row: &FingerprintedRow,
+) -> io::Result<()>
+    requires { W.has_failed (sink_of output.old) ≡ false }
+    ensures { Extends W.held W.has_failed output.old output.new result
+        (fingerprinted_line number (fingerprinted_value row.now)) }
+{
+    add_fields(output, number, &row.row)?;
+    add_prints(output, &row.certificate, &row.signer)
+}
+
+/// Adds the lines of all rows that are left, with fingerprints.
+pub(crate) fn add_fingerprinted_report<W: Sink>(
+    output: &mut Output<'_, W>,
+    mut rows: FingerprintedRows<'_>,
+) -> io::Result<()>
+    requires { W.has_failed (sink_of output.old) ≡ false }
+    ensures { Extends W.held W.has_failed output.old output.new result
+        (fingerprinted_lines 0 (rows_to_come rows.entry)) }
+{
+    let mut number = 0u64;
+    'rows: while let Some(row) = rows.next() {
+        add_fingerprinted_row(output, number, &row)?;
+        number += 1;
     }
     Ok(())
 }

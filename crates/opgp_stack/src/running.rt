@@ -4,6 +4,7 @@ ghost use Rattle.std.specs.Prelude.{◌≡◌, ◌⊎◌, ℕ, List, [], true, f
 ghost use Rattle.opgp_octets.specs.declared.limits.Limits.{Limits};
 ghost use Rattle.opgp_ring.specs.Keyring.{flat};
 ghost use Rattle.opgp_ring.specs.Composition.{placed_in};
+ghost use Rattle.opgp_report.specs.Fingerprinting.{fingerprinted_rows_of};
 ghost use Rattle.opgp_report.specs.Row.{report_rows};
 ghost use Rattle.opgp_engine.specs.Draft.{DraftHas};
 ghost use Rattle.opgp_engine.specs.Keyrings.{ComposesTo, key_label};
@@ -16,7 +17,8 @@ ghost use Rattle.opgp_stack.specs.ByKey.{NamedIn};
 ghost use Rattle.opgp_stack.specs.KeyName.{name_octets};
 ghost use Rattle.opgp_stack.specs.OnePart.{HasNth, HasRow, found_question};
 ghost use Rattle.opgp_stack.specs.Parts.{HasText, OfKeyring, chosen_octets};
-ghost use Rattle.opgp_stack.specs.Report.{HasReport, report_lines};
+ghost use Rattle.opgp_stack.specs.Report.{HasFingerprintedReport, HasReport};
+ghost use Rattle.opgp_stack.specs.Report.{fingerprinted_lines, report_lines};
 ghost use Rattle.opgp_octets.specs.Limits.{malformed_of};
 ghost use Rattle.opgp_stack.specs.Shown.{IsShown};
 ghost use Rattle.opgp_stack.specs.Running.{IsMade, IsSpooled, Made, ReadsFor, RunsAs, RunsSpooled};
@@ -25,6 +27,7 @@ ghost use Rattle.opgp_stack.specs.Running.{ended, found_made, one_text, question
 use crate::all_octets::AllOctets;
 use crate::by_key::{NamedCertificates, Sought};
 use crate::chosen_text::{Chosen, ChosenText};
+use crate::fingerprint_keeper::FingerprintKeeper;
 use crate::hashing::{question_of, write_question};
 use crate::key_name::KeyName;
 use crate::one_part::{NthCertificate, Number, RowFound};
@@ -35,13 +38,13 @@ use crate::row_keeper::RowKeeper;
 use crate::run_fault::RunFault;
 use crate::shown_text::{EachPacket, Plain, ShownText, Valued};
 use crate::task::{Action, Task, Top};
-use crate::writing_report::write_report;
+use crate::writing_report::{write_fingerprinted_report, write_report};
 use opgp_engine::{
     Draft, DraftError, EngineError, NoSpool, Out, ReadError, Receiver, SoundPackets, Spool,
     read_with, write_certificate, write_keyring,
 };
 use opgp_merge::{Choice, merge};
-use opgp_report::{Report, question_at};
+use opgp_report::{FingerprintedReport, Report, question_at};
 use opgp_ring::{Certificate, Gathering, Keyring, SignedGathering};
 use opgp_stream::{Sink, Source};
 use std::alloc::Global;
@@ -84,8 +87,8 @@ pub fn run_last<R: Source, W: Sink>(
 }
 
 /// Runs a task as [`run`] does, but what it writes is held in this spool, which is to be empty, and
-/// not in memory: so memory doesn't limit the output of any task but `Check`, `Octets`, one certificate
-/// of `Split`, and a `Join` that merges, which hold none.
+/// not in memory: so memory doesn't limit the output of any task but `Check`, `CheckFingerprints`,
+/// `Octets`, one certificate of `Split`, and a `Join` that merges, which hold none.
 ///
 /// With the error `Spool` the spool has failed. If that was while it was read again, the sink holds a
 /// prefix of the text, else nothing was written. It isn't told before the input has ended without a fault.
@@ -297,6 +300,26 @@ fn rows_of<R: Source>(alloc: Global, task: &Task, reader: &mut R) -> Result<Repo
     }
 }
 
+/// Reads a keyring, and returns its report with fingerprints. No certificate is kept once its rows are
+/// made.
+fn fingerprinted_of<R: Source>(
+    alloc: Global,
+    task: &Task,
+    reader: &mut R,
+) -> Result<FingerprintedReport, RunFault>
+    requires { R.has_failed reader.old ≡ false }
+    ensures { ReadsFor (λ answer. OfAll R.left R.has_failed reader.old reader.new task.now.limits
+        (λ octets. AnswerOf key_label (OfKeyring HasFingerprintedReport task.now.limits) task.now.mode
+        task.now.limits octets answer)) (R.has_failed reader.new ≡ true)
+        (R.has_failed reader.new ≡ false) result }
+{
+    let top = FingerprintKeeper::new(alloc);
+    match ask(alloc, task, reader, Gathering::new(alloc, task.limits, top)) {
+        Ok(kept) => Ok(kept.report()),
+        Err(fault) => Err(fault),
+    }
+}
+
 /// Reads a keyring, and returns what is written of its certificates with a key of this name, and
 /// whether there are any. No certificate is kept.
 fn named_of<R: Source, N: Sought, S: Spool + Drop>(
@@ -389,6 +412,11 @@ fn run_and<R: Source, W: Sink, S: Spool + Drop>(
             drop(spool);
             let report = rows_of(alloc, task, reader)?;
             done(write_rows(alloc, &report, writer), report, after)
+        }
+        Action::CheckFingerprints => {
+            drop(spool);
+            let report = fingerprinted_of(alloc, task, reader)?;
+            done(write_fingerprinted(alloc, &report, writer), report, after)
         }
         Action::Octets { row, top } => match top {
             Top::Ring => {
@@ -505,6 +533,19 @@ fn write_rows<W: Sink>(alloc: Global, report: &Report, writer: &mut W) -> Result
         (Made.Text (report_lines 0 (report_rows report.now))) }
 {
     end(write_report(alloc, report, writer))
+}
+
+/// Writes a line for each row of a report with fingerprints.
+fn write_fingerprinted<W: Sink>(
+    alloc: Global,
+    report: &FingerprintedReport,
+    writer: &mut W,
+) -> Result<(), RunFault>
+    requires { W.has_failed writer.old ≡ false }
+    ensures { IsMade W.held W.has_failed writer.old writer.new result
+        (Made.Text (fingerprinted_lines 0 (fingerprinted_rows_of report.now))) }
+{
+    end(write_fingerprinted_report(alloc, report, writer))
 }
 
 /// Writes a certificate, if there is one.

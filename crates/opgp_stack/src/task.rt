@@ -28,6 +28,9 @@ pub enum Action {
     ListValues,
     /// A line for each signature of a certificate, with what can be said of its digest.
     Check,
+    /// The same, where the line also has the fingerprints of the certificate's primary key and of the
+    /// signer.
+    CheckFingerprints,
     /// The octets that one signature hashes.
     Octets {
         /// The number of the signature's row, from 0.

@@ -1,13 +1,14 @@
 //! Writes a report into a sink.
 
 ghost use Rattle.std.specs.Prelude.{◌≡◌, false, map};
+ghost use Rattle.opgp_report.specs.Fingerprinting.{fingerprinted_rows_of, rows_to_come};
 ghost use Rattle.opgp_report.specs.Row.{report_rows, row_value};
-ghost use Rattle.opgp_stack.specs.Report.{report_lines};
+ghost use Rattle.opgp_stack.specs.Report.{fingerprinted_lines, report_lines};
 ghost use Rattle.opgp_engine.specs.Written.{IsWritten};
 
-use crate::reporting::add_report;
+use crate::reporting::{add_fingerprinted_report, add_report};
 use opgp_engine::{EngineError, Text, write};
-use opgp_report::{Report, Row};
+use opgp_report::{FingerprintedReport, FingerprintedRows, Report, Row};
 use opgp_stream::{Output, Sink};
 use std::alloc::Global;
 use std::io;
@@ -50,4 +51,39 @@ pub fn write_report<W: Sink>(
 {
     let rows = report.rows();
     write(alloc, ReportText { rows }, writer)
+}
+
+/// A line for each row of a report, with fingerprints.
+#[derive(Clone, Copy)]
+struct FingerprintedReportText<'a> {
+    rows: FingerprintedRows<'a>,
+}
+
+impl Text for FingerprintedReportText<'_> {
+    ghost octets = { λ text. fingerprinted_lines 0 (rows_to_come text.rows) };
+
+    fn add<W: Sink>(self, output: &mut Output<'_, W>) -> io::Result<()> {
+        add_fingerprinted_report(output, self.rows)
+    }
+}
+
+/// Writes a line for each row of a report with fingerprints, as [`write_report`] does; it goes on with
+/// the fingerprint of the primary key of the row's certificate, and that of its signer, or `-` for none
+/// (RFC 9580, 5.5.4). The condition is that the sink hasn't failed.
+///
+/// A fingerprint has 40 upper-case hexadecimal digits in version 4, 64 in version 6.
+///
+/// All memory is allocated before the first octet is written. The errors are `Memory`, with
+/// nothing written, and `Write`: the sink has failed, and holds a prefix of the lines.
+pub fn write_fingerprinted_report<W: Sink>(
+    alloc: Global,
+    report: &FingerprintedReport,
+    writer: &mut W,
+) -> Result<(), EngineError>
+    requires { W.has_failed writer.old ≡ false }
+    ensures { IsWritten W.held W.has_failed writer.old writer.new result
+        (fingerprinted_lines 0 (fingerprinted_rows_of report.now)) }
+{
+    let rows = report.rows();
+    write(alloc, FingerprintedReportText { rows }, writer)
 }

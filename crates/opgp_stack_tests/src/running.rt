@@ -124,7 +124,7 @@ const MALFORMED: &[u8] =
 #[test]
 fn malformed_signatures(rt: HostRuntime) -> Result<(), Fail> {
     let alloc = rt.alloc();
-    let cases: [(Action, &[u8]); 4] = [
+    let cases: [(Action, &[u8]); 5] = [
         (
             Action::List,
             b"pub v4 alg 22 created 1408458507 C959BDBAFA32A2F89A153B678CFDE12197965A9A \
@@ -137,6 +137,11 @@ fn malformed_signatures(rt: HostRuntime) -> Result<(), Fail> {
         (
             Action::Check,
             b"row 0 cert 0 part - hang 0 nested - : none opaque\n",
+        ),
+        (
+            Action::CheckFingerprints,
+            b"row 0 cert 0 part - hang 0 nested - : none opaque \
+            C959BDBAFA32A2F89A153B678CFDE12197965A9A -\n",
         ),
         (Action::Write { out: Out::Binary }, MALFORMED),
     ];

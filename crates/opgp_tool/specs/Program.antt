@@ -91,6 +91,9 @@ merge_rule = flag_rule (codes "merge")
 abbrev pub values_rule : Rule
 values_rule = flag_rule (codes "values")
 
+abbrev pub fingerprints_rule : Rule
+fingerprints_rule = flag_rule (codes "fingerprints")
+
 abbrev pub all_rule : Rule
 all_rule = flag_rule (codes "all")
 
@@ -181,7 +184,7 @@ program_of show list check octets write normalise split join tops
       top = record (new_shape (codes "opgp")) { subcommand_required = true; is_leaf = false };
       subs = command_shape (codes "show") show (values_rule ∷ [])
           ∷ command_shape (codes "list") list (values_rule ∷ [])
-          ∷ command_shape (codes "check") check []
+          ∷ command_shape (codes "check") check (fingerprints_rule ∷ [])
           ∷ command_shape (codes "octets") octets (row_rule ∷ of_rule tops ∷ all_rule ∷ [])
           ∷ command_shape (codes "write") write
           (out_rule write_outs ∷ own_signatures_rule ∷ no_attributes_rule ∷ user_id_rule ∷ [])

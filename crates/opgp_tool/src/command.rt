@@ -5,7 +5,7 @@ ghost use Rattle.clap.specs.Words.{rule_of, app_of, shape_of, with_rule, with_su
 ghost use Rattle.opgp_tool.specs.Program.{Choice, AreModes, ArePolicies, AreSignaturePolicies, AreOuts, AreTops};
 ghost use Rattle.opgp_tool.specs.Program.{mode_rule, outside_rule, malformed_rule, out_rule};
 ghost use Rattle.opgp_tool.specs.Program.{of_rule, limit_rule, row_rule, nth_rule, flag_rule, merge_rule, key_rule};
-ghost use Rattle.opgp_tool.specs.Program.{text_rule, values_rule, all_rule, with_limits};
+ghost use Rattle.opgp_tool.specs.Program.{text_rule, values_rule, fingerprints_rule, all_rule, with_limits};
 ghost use Rattle.opgp_tool.specs.Program.{own_signatures_rule, no_attributes_rule, user_id_rule};
 ghost use Rattle.opgp_tool.specs.Program.{IsCommand, IsProgram, bare_program};
 
@@ -261,6 +261,15 @@ fn list_command<'a>(alloc: Global) -> Result<Command<'a>, OutOfMemory>
     with_option(command, flag_option(alloc, "values", help))
 }
 
+fn check_command<'a>(alloc: Global) -> Result<Command<'a>, OutOfMemory>
+    ensures { IfOk result (IsCommand (codes "check") (fingerprints_rule ∷ [])) }
+{
+    let about = "Lists the signatures of a keyring";
+    let command = new_command(alloc, "check", about, CHECK_HELP)?;
+    let help = "Shows the fingerprints of each signature's certificate and signer";
+    with_option(command, flag_option(alloc, "fingerprints", help))
+}
+
 fn octets_command<'a>(alloc: Global) -> Result<Command<'a>, OutOfMemory>
     ensures { IfOk result (λ c. (tops : Choice) × AreTops tops
         × IsCommand (codes "octets") (row_rule ∷ of_rule tops ∷ all_rule ∷ []) c) }
@@ -338,8 +347,7 @@ pub fn program<'a>(alloc: Global) -> Result<Command<'a>, OutOfMemory>
     let tool = bare_program(alloc)?;
     let tool = with_command(tool, show_command(alloc))?;
     let tool = with_command(tool, list_command(alloc))?;
-    let about = "Lists the signatures of a keyring";
-    let tool = with_command(tool, new_command(alloc, "check", about, CHECK_HELP))?;
+    let tool = with_command(tool, check_command(alloc))?;
     let tool = with_command(tool, octets_command(alloc))?;
     let tool = with_command(tool, write_command(alloc))?;
     let about = "Writes a keyring in the current format";

@@ -25,7 +25,8 @@ Example: opgp list --values < KEYRING | grep '^sig'";
 pub const CHECK_HELP: &str = "A line for each signature says where it is, which key it names \
 as its issuer, and the first
 octets of the digest of what it signs: bad if they aren't those that it states. No signature
-is verified.
+is verified. With --fingerprints a line goes on with the fingerprint of its certificate's
+primary key, and with that of the key that made the signature, where the keyring has it.
 
 Example: opgp check < KEYRING | grep bad";
 

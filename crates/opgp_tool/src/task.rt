@@ -233,7 +233,11 @@ fn action_of(name: &str, matches: &ArgMatches) -> Option<Action>
         } else {
             Action::List
         }),
-        "check" => Some(Action::Check),
+        "check" => Some(if is_given(matches, "fingerprints") {
+            Action::CheckFingerprints
+        } else {
+            Action::Check
+        }),
         "octets" => octets_of(matches),
         "write" => write_of(matches),
         "normalise" => Some(Action::Normalise {

@@ -4,6 +4,8 @@ use Rattle.opgp_frame.specs.Packet.{packets_octets}
 use Rattle.opgp_merge.specs.Chosen.{chosen_keyring}
 use Rattle.opgp_merge.specs.Merged.{merged_of}
 use Rattle.opgp_report.specs.Asked.{question_in}
+use Rattle.opgp_report.specs.Fingerprinted.{FingerprintedValue}
+use Rattle.opgp_report.specs.Fingerprinting.{fingerprinted_rows_of}
 use Rattle.opgp_report.specs.Row.{report_rows}
 use Rattle.opgp_report.specs.RowValue.{RowValue}
 use Rattle.opgp_ring.specs.Keyring.{flat}
@@ -23,7 +25,7 @@ use Rattle.opgp_stack.specs.Hashing.{message_asked}
 use Rattle.opgp_stack.specs.KeyName.{name_octets}
 use Rattle.opgp_stack.specs.Listing.{listing}
 use Rattle.opgp_stack.specs.OnePart.{HasNth, HasRow, found_question}
-use Rattle.opgp_stack.specs.Report.{HasReport, report_lines}
+use Rattle.opgp_stack.specs.Report.{HasFingerprintedReport, HasReport, fingerprinted_lines, report_lines}
 use Rattle.opgp_stack.specs.Running.{IsMade, IsSpooled, Made, Text, one_text, question_made}
 use Rattle.opgp_stack.specs.Showing.{packet_lines}
 use Rattle.opgp_stack.specs.Values.{valued_lines}
@@ -90,6 +92,15 @@ returns-in_ok-report-in-Check g c =
     ran (KeyringOf HasReport c.args.task.now) _ c.in-Check.is (λ fault. inl (refl, refl)) _ _ _ c.in_ok-report-in-Check.report
     (λ octets h. (Text (report_lines 0 (report_rows c.in_ok-report-in-Check.report)), made_of HasReport (λ report. Text (report_lines 0 (report_rows report))) _ (λ r report k. ap (λ (rows : List RowValue). Text (report_lines 0 rows)) k) c.args.task.now octets c.in_ok-report-in-Check.report h, inl c.write_rows.ensures))
     c.in_ok-report-in-Check.ensures c.done.ensures
+
+pub returns-in_err-report-in-CheckFingerprints : goal.returns-in_err-report-in-CheckFingerprints
+returns-in_err-report-in-CheckFingerprints g c = stopped (KeyringOf HasFingerprintedReport c.args.task.now) _ c.in-CheckFingerprints.is (λ fault. inl (refl, refl)) _ _ (refused_of HasFingerprintedReport _ c.args.task.now) c.in_err-report-in-CheckFingerprints.ensures c.from_residual-in_err-report-in-CheckFingerprints.ensures
+
+pub returns-in_ok-report-in-CheckFingerprints : goal.returns-in_ok-report-in-CheckFingerprints
+returns-in_ok-report-in-CheckFingerprints g c =
+    ran (KeyringOf HasFingerprintedReport c.args.task.now) _ c.in-CheckFingerprints.is (λ fault. inl (refl, refl)) _ _ _ c.in_ok-report-in-CheckFingerprints.report
+    (λ octets h. (Text (fingerprinted_lines 0 (fingerprinted_rows_of c.in_ok-report-in-CheckFingerprints.report)), made_of HasFingerprintedReport (λ report. Text (fingerprinted_lines 0 (fingerprinted_rows_of report))) _ (λ r report k. ap (λ (rows : List FingerprintedValue). Text (fingerprinted_lines 0 rows)) k) c.args.task.now octets c.in_ok-report-in-CheckFingerprints.report h, inl c.write_fingerprinted.ensures))
+    c.in_ok-report-in-CheckFingerprints.ensures c.done-in-CheckFingerprints.ensures
 
 pub returns-in_err-message-in-Literal : goal.returns-in_err-message-in-Literal
 returns-in_err-message-in-Literal g c = stopped (LiteralOf c.args.task.now) _ (c.in-Octets.is ∙ ap (λ (t : Top). action.Octets c.in-Octets.row t) c.in-Literal.is) (λ fault. inl (refl, refl)) _ _ (λ octets fault h. (Err fault, answer_shown message_label (AreSigned c.args.task.now.limits) signed_packets c.args.task.now.mode c.args.task.now.limits octets (Err fault) h, refl)) c.in_err-message-in-Literal.ensures c.from_residual-in_err-message-in-Literal.ensures

@@ -20,7 +20,7 @@ pub returns : goal.returns
 returns c = IfOk-weaker c.with_command-8.result _ _ (λ r last.
     let show = both c.show_command.result _ _ c.show_command.ensures c.in_ok-tool-2.ensures in
     let list = both c.list_command.result _ _ c.list_command.ensures c.in_ok-tool-3.ensures in
-    let check = both c.new_command.result _ _ c.new_command.ensures c.in_ok-tool-4.ensures in
+    let check = both c.check_command.result _ _ c.check_command.ensures c.in_ok-tool-4.ensures in
     let octets = both c.octets_command.result _ _ c.octets_command.ensures c.in_ok-tool-5.ensures in
     let write = both c.write_command.result _ _ c.write_command.ensures
     c.in_ok-tool-6.ensures in

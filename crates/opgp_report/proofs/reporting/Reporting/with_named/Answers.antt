@@ -3,7 +3,7 @@ use Rattle.std.specs.declared.alloc.AllocError.{AllocError}
 use Rattle.opgp_report.specs.RowMaker.{AddsUnsigned}
 use Rattle.opgp_report.specs.Standing.{Standing, certificate_standing}
 use Rattle.opgp_report.proofs.Reported.{none_added, one_more}
-use Rattle.opgp_report.proofs.reporting.Reporting.with.Goals as goal
+use Rattle.opgp_report.proofs.reporting.Reporting.with_named.Goals as goal
 
 pub returns : goal.returns
 returns c cs so =

@@ -1,0 +1,14 @@
+use Rattle.std.proofs.Common.{List, sym, subst}
+use Rattle.opgp_ring.specs.Keyring.{CertificateValue}
+use Rattle.opgp_report.specs.Fingerprinting.{ReportsPrints}
+use Rattle.opgp_report.specs.declared.fingerprinting.FingerprintedReporting.{FingerprintedReporting}
+use Rattle.opgp_stack.specs.OnePart.{certificates_in}
+use Rattle.opgp_stack.proofs.Looking.{certificate_push, lead_push}
+use Rattle.opgp_stack.proofs.fingerprint_keeper.FingerprintKeeperKeeper.keep.Goals as goal
+
+pub returns-in-Lead : goal.returns-in-Lead
+returns-in-Lead c = rw c.in-Lead.is (λ parts h a. subst (λ (cs : List CertificateValue). ReportsPrints c.args.self.now.rows cs) (sym (lead_push parts _)) h)
+
+pub returns : goal.returns
+returns c = rw c.in-Certificate.is (λ parts h a. subst (λ (cs : List CertificateValue). ReportsPrints c.in_ok-self.field-0 cs) (sym (certificate_push parts c.in-Certificate.certificate))
+    (c.in_ok-self.ensures (certificates_in parts) (subst (λ (k : FingerprintedReporting). ReportsPrints k (certificates_in parts)) (sym c.replace-rows.ensures.value) h)))

@@ -1,4 +1,4 @@
--- The octets that the signatures of a keyring hash, one after the other.
+-- The octets that the signatures of a keyring hash (RFC 9580, 5.2.4), one after the other.
 use Rattle.std.specs.Prelude.{◌≡◌, ⊤, ℕ, List, [], ◌++◌, length, map, codes, Result, Ok, Err}
 use Rattle.std.specs.Fmt.{decimal}
 use Rattle.opgp_hash.specs.Hashed.{hashed}

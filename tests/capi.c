@@ -361,6 +361,14 @@ static void policies(opgp_ring *ring)
     uint64_t count = 0;
     holds(opgp_ring_write(ring, 0, text, sizeof text, &count) == OPGP_DONE && count == sizeof malformed - 1 && !memcmp(text, malformed, count),
           "a malformed signature is written again");
+    holds(read_by(ring, refuse + keep, malformed, sizeof malformed - 1) == OPGP_DONE, "a malformed signature under both policies");
+    uint8_t armor[256], other[256];
+    uint64_t armor_count = 0, other_count = 0;
+    holds(opgp_ring_write(ring, 1, armor, sizeof armor, &armor_count) == OPGP_DONE && armor[0] == '-', "armor");
+    for (unsigned way = 2; way != 0; way *= 2) {
+        holds(opgp_ring_write(ring, way, other, sizeof other, &other_count) == OPGP_DONE && other_count == armor_count
+              && !memcmp(armor, other, armor_count), "armor by another number than 1");
+    }
 }
 
 static void closed(void)
@@ -733,6 +741,7 @@ static void reader_statuses(void)
     holds(status == later && memcmp(&fault, &again, sizeof fault) == 0, "an end that is asked for again");
     holds((status == OPGP_REFUSED) != is_blank(&fault, 0, sizeof fault), "the fault of a refused input alone");
     holds(opgp_reader_push(&reader, in, 1) == OPGP_ENDED, "a piece behind the end");
+    holds(opgp_reader_push(&reader, in, 0) == OPGP_ENDED, "an empty piece behind the end");
     size_t count = 0;
     while (opgp_take(&reader, &keyring) == OPGP_DONE) {
         holds(opgp_packet_count(keyring) > 0, "the packets of a part");

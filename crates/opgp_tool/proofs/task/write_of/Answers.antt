@@ -12,7 +12,7 @@ returns-then-is_everything-clause-some c =
     let whole : is_everything c.in_ok-choice.choice ≡ true = search rules in
     let said : IsChoice options c.in_ok-choice.choice = search rules in
     let all : IsChoice options everything = subst (IsChoice options) (all_of_it c.in_ok-choice.choice whole) said in
-    (refl, c.out_of.ensures, all)
+    (refl, c.out_of-out.ensures, all)
 
 pub returns-in_err-choice-clause-none : goal.returns-in_err-choice-clause-none
 returns-in_err-choice-clause-none c =

@@ -3,8 +3,6 @@
 #![tactic(auto)]
 
 #[cfg(test)]
-mod composer;
-#[cfg(test)]
 mod growth;
 #[cfg(test)]
 mod malformed;

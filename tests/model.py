@@ -3,6 +3,7 @@ goes: an answer to hold the program's against."""
 
 import base64
 import collections
+import datetime
 import hashlib
 import os
 import re
@@ -436,6 +437,11 @@ def digits(octets):
     return octets.hex().upper() or "-"
 
 
+def date(octets):
+    """A time, in seconds since 1970, as a date in UTC."""
+    return datetime.datetime.fromtimestamp(number(octets), datetime.timezone.utc).strftime("%Y-%m-%dT%H:%M:%SZ")
+
+
 def flags(octets, names):
     return " ".join([digits(octets)] + [name for bit, name in names.items() if bit & (octets or b"\0")[0]])
 
@@ -448,7 +454,7 @@ KEY_FLAGS = {1: "certify", 2: "sign", 4: "encrypt-communications", 8: "encrypt-s
              128: "group"}  # fmt: skip
 # What a subpacket says, by its kind, as docs/OUTPUT.md has it.
 VALUES = {
-    2: lambda it: f"created {number(it)}",
+    2: lambda it: f"created {number(it)} {date(it)}",
     3: lambda it: f"expires {number(it)}",
     4: lambda it: f"exportable {it[0]}",
     5: lambda it: f"trust level {it[0]} amount {it[1]}",
@@ -572,14 +578,15 @@ def issuer_of(it):
 def stated(it):
     """What the line of a signature goes on with in list --values."""
     times = [it.body[3:7]] if it.version == 3 else [octets for octet, _, octets in it.hashed if octet & 127 == 2 and len(octets) == 4]
-    created = number(times[0]) if times else "-"
-    return f" left {it.left.hex().upper()} created {created} issuer {issuer_of(it).hex().upper() or '-'}"
+    created, day = (number(times[0]), date(times[0])) if times else ("-", "-")
+    return f" left {it.left.hex().upper()} created {created} issuer {issuer_of(it).hex().upper() or '-'} {day}"
 
 
 def listed(kind, body, values=False):
     if kind in (6, 14):
         names = f"{fingerprint(body).hex().upper()} {key_id(body).hex().upper()}"
-        return f"{'pub' if kind == 6 else 'sub'} v{body[0]} alg {body[5]} created {number(body[1:5])} {names}"
+        line = f"{'pub' if kind == 6 else 'sub'} v{body[0]} alg {body[5]} created {number(body[1:5])} {names}"
+        return f"{line} {date(body[1:5])}" if values else line
     if kind == 13:
         return f"uid {quoted(body)}"
     if kind == 17:
@@ -595,10 +602,10 @@ def shown(packets, values):
     for block, at, kind, form, body, _ in packets:
         yield f"block {block} at {at} type {kind} form {form} length {len(body)}"
         if values and kind in (2, 6, 13, 14, 17):
-            yield f"  {listed(kind, body)}"
+            yield f"  {listed(kind, body, values=kind != 2)}"
         if values and kind == 11:
-            octet, name, date, content = literal_fields(body)
-            yield f"  lit format {quoted(octet)} name {quoted(name)} date {number(date)} length {len(content)}"
+            octet, name, time, content = literal_fields(body)
+            yield f"  lit format {quoted(octet)} name {quoted(name)} date {number(time)} length {len(content)} {date(time)}"
         if kind == 2:
             it = kept_signature(body)
             for area, subpackets in (("hashed", it.hashed), ("unhashed", it.unhashed)):

@@ -1,4 +1,6 @@
 mod AllRows
+mod Calendar
+mod DateTexts
 mod GoingOn
 mod KeptOf
 mod KeyLines

@@ -1,11 +1,13 @@
 pub mod AllOctets
 pub mod ByKey
+pub mod Date
 pub mod Faults
 pub mod Hashing
 pub mod Digits
 pub mod KeyName
 pub mod KeyText
 pub mod Listing
+pub mod March
 pub mod OnePart
 pub mod Parts
 pub mod Report

@@ -16,6 +16,7 @@ use Rattle.opgp_packet.specs.KeyBody.{key}
 use Rattle.opgp_frame.specs.Header.{is_type}
 use Rattle.opgp_packet.specs.SignatureBody.{SignatureValue, of_three, of_four, of_six, of_other}
 use Rattle.opgp_packet.specs.SignatureBody.{signature_at}
+use Rattle.opgp_stack.specs.Date.{date_words}
 use Rattle.opgp_stream.specs.Texts.{escaped}
 
 -- ---- numbers of a body
@@ -50,7 +51,7 @@ key_numbers version created algorithm = codes " v" ++ decimal version ++ codes "
 
 -- `<fingerprint> <key ID>`
 abbrev pub key_names : List ℕ → List ℕ → List ℕ
-key_names print id = encode_upper print ++ (codes " " ++ encode_upper id ++ codes "\n")
+key_names print id = encode_upper print ++ (codes " " ++ encode_upper id)
 
 -- `pub` or `sub`, `v<version> alg <n> created <n> <fingerprint> <key ID>`
 abbrev pub key_text : List ℕ → ℕ → ℕ → ℕ → List ℕ → List ℕ
@@ -58,9 +59,16 @@ key_text word version created algorithm body = word
     ++ (key_numbers version created algorithm
     ++ key_names (print_octets (fingerprint_of version body)) (key_id_of version body))
 
-abbrev pub key_line : List ℕ → List ℕ → List ℕ
-key_line word body = let fields = key_fields_in body in
+abbrev pub key_start : List ℕ → List ℕ → List ℕ
+key_start word body = let fields = key_fields_in body in
     key_text word (number_at fields 0) (number_at fields 1) (number_at fields 2) body
+
+abbrev pub key_line : List ℕ → List ℕ → List ℕ
+key_line word body = key_start word body ++ codes "\n"
+
+-- the same with the date of its creation at the end
+abbrev pub dated_key_line : List ℕ → List ℕ → List ℕ
+dated_key_line word body = key_start word body ++ date_words (number_at (key_fields_in body) 1)
 
 -- `sig v<version> type <T> alg <n> hash <n>`, the type in two hexadecimal digits
 abbrev pub typed_start : ℕ → ℕ → ℕ → ℕ → List ℕ

@@ -1,5 +1,5 @@
--- The lines of a keyring's listing with values: those of signatures say more, and the others are the
--- same.
+-- The lines of a keyring's listing with values: those of keys and signatures say more, and the others are
+-- the same.
 use Rattle.std.specs.Prelude.{ℕ, ◌-◌, if◌then◌else◌, List, ◌++◌, length, take, codes}
 use Rattle.std.specs.Prelude.{Option, Some, None, Result, Ok, Err}
 use Rattle.std.specs.List.{flat_map}
@@ -18,7 +18,8 @@ use Rattle.opgp_frame.specs.Packet.{PacketValue}
 use Rattle.opgp_report.specs.Left.{left_in}
 use Rattle.opgp_report.specs.Named.{named_of}
 use Rattle.opgp_report.specs.Signer.{NameValue, by_print, by_id, unnamed, first_some}
-use Rattle.opgp_stack.specs.Listing.{number_at, packet_line}
+use Rattle.opgp_stack.specs.Date.{date_words_or_none}
+use Rattle.opgp_stack.specs.Listing.{dated_key_line, number_at, packet_line}
 use Rattle.opgp_stack.specs.Report.{number_or_none}
 
 -- ---- what a signature says
@@ -39,7 +40,7 @@ name_text (by_print version octets) = encode_upper octets
 name_text (by_id id) = encode_upper id
 name_text unnamed = codes "-"
 
--- ` left <DDDD>`, ` created <n or ->` and ` issuer <fingerprint, key ID or ->`
+-- ` left <DDDD>`, ` created <n or ->`, ` issuer <fingerprint, key ID or ->` and ` <date or ->`
 abbrev pub left_words : List ℕ → List ℕ
 left_words left = codes " left " ++ encode_upper left
 
@@ -47,10 +48,11 @@ abbrev pub created_words : Option ℕ → List ℕ
 created_words created = codes " created " ++ number_or_none created
 
 abbrev pub issuer_words : NameValue → List ℕ
-issuer_words name = codes " issuer " ++ name_text name ++ codes "\n"
+issuer_words name = codes " issuer " ++ name_text name
 
 abbrev pub value_words : List ℕ → Option ℕ → NameValue → List ℕ
-value_words left created name = left_words left ++ (created_words created ++ issuer_words name)
+value_words left created name = left_words left
+    ++ (created_words created ++ (issuer_words name ++ date_words_or_none created))
 
 -- a line without its line feed
 abbrev pub unended : List ℕ → List ℕ
@@ -66,11 +68,14 @@ abbrev pub with_values : Result SignatureValue BodyFault → List ℕ → List �
 with_values (Ok signature) line = going_on (left_in signature) signature line
 with_values (Err fault) line = line
 
--- the line of a packet of a keyring; that of a signature of version 3, 4 or 6 goes on
+-- the line of a packet of a keyring; that of a key goes on with a date, that of a signature of version
+-- 3, 4 or 6 with what it states
 abbrev pub valued_packet_line : PacketValue → List ℕ
 valued_packet_line p =
-    if is_type packet.Signature p.kind then with_values (signature_at p.body) (packet_line p)
-    else packet_line p
+    if is_type packet.PublicKey p.kind then dated_key_line (codes "pub") p.body
+    else (if is_type packet.PublicSubkey p.kind then dated_key_line (codes "sub") p.body
+    else (if is_type packet.Signature p.kind then with_values (signature_at p.body) (packet_line p)
+    else packet_line p))
 
 abbrev pub valued_listing : List PacketValue → List ℕ
 valued_listing packets = flat_map valued_packet_line packets

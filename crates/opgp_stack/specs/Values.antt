@@ -26,7 +26,8 @@ use Rattle.opgp_packet.specs.SubView.{kind_shown}
 use Rattle.opgp_engine.specs.Packets.{BlockValue}
 use Rattle.opgp_stack.specs.declared.showing.Area.{Area}
 use Rattle.opgp_stack.specs.declared.showing.Area.TheVariants.{Hashed, Unhashed}
-use Rattle.opgp_stack.specs.Listing.{attribute_line, key_line, signature_line, user_id_line}
+use Rattle.opgp_stack.specs.Date.{date_words}
+use Rattle.opgp_stack.specs.Listing.{attribute_line, dated_key_line, signature_line, user_id_line}
 use Rattle.opgp_stack.specs.Showing.{header_line, lines_of, subpacket_start}
 use Rattle.opgp_stream.specs.Texts.{escaped}
 
@@ -76,6 +77,13 @@ server_words n = flag_word n 128 (codes " no-modify")
 abbrev pub number_line : List ℕ → ℕ → List ℕ
 number_line word n = word ++ decimal n ++ codes "\n"
 
+-- a time, and its date
+abbrev pub time_words : List ℕ → ℕ → List ℕ
+time_words word n = word ++ decimal n
+
+abbrev pub time_line : List ℕ → ℕ → List ℕ
+time_line word n = time_words word n ++ date_words n
+
 -- two numbers, each behind its word
 abbrev pub pair_line : List ℕ → ℕ → List ℕ → ℕ → List ℕ
 pair_line word n next m = word ++ decimal n ++ next ++ decimal m ++ codes "\n"
@@ -117,7 +125,7 @@ reason_line code text = codes " reason " ++ decimal code ++ codes " " ++ quoted 
 -- The end of a subpacket's line: what it means (RFC 9580, 5.2.3.11 to 5.2.3.36); its octets where they
 -- mean nothing that is known.
 abbrev pub value_line : Meaning → List ℕ → List ℕ
-value_line (typed kind.Created form.number n) o = number_line (codes " created ") n
+value_line (typed kind.Created form.number n) o = time_line (codes " created ") n
 value_line (typed kind.Expires form.number n) o = number_line (codes " expires ") n
 value_line (typed kind.Exportable form.octet n) o = number_line (codes " exportable ") n
 value_line (typed kind.Trust form.two_octets x) o =
@@ -171,25 +179,28 @@ abbrev pub where_sound : {A : Type 0} → Result A BodyFault → List ℕ → Li
 where_sound (Ok value) line = codes "  " ++ line
 where_sound (Err fault) line = []
 
--- `lit format "<f>" name "<text>" date <n> length <n>`, the length that of the content
+-- `lit format "<f>" name "<text>" date <n> length <n> <date>`, the length that of the content
 abbrev pub format_text : ℕ → List ℕ
 format_text format = codes "  lit format " ++ quoted (format ∷ [])
 
+abbrev pub literal_words : List ℕ → ℕ → ℕ → List ℕ
+literal_words name date n = codes " name " ++ quoted name ++ codes " date " ++ decimal date
+    ++ codes " length " ++ decimal n
+
 abbrev pub literal_rest : List ℕ → ℕ → ℕ → List ℕ
-literal_rest name date n = codes " name " ++ quoted name ++ codes " date " ++ decimal date
-    ++ codes " length " ++ decimal n ++ codes "\n"
+literal_rest name date n = literal_words name date n ++ date_words date
 
 abbrev pub literal_text : Result (List Field) BodyFault → List ℕ
 literal_text (Ok (small format ∷ named name ∷ wide date ∷ bare content ∷ [])) =
     format_text format ++ literal_rest name date (length content)
 literal_text r = []
 
--- the fields of a packet, as in a listing, by its type
+-- the fields of a packet, as in a listing, by its type; of a key with its date
 abbrev pub fields_line : ℕ → List ℕ → List ℕ
 fields_line n body =
-    if is_type packet.PublicKey n then where_sound (body_at key body) (key_line (codes "pub") body)
+    if is_type packet.PublicKey n then where_sound (body_at key body) (dated_key_line (codes "pub") body)
     else (if is_type packet.PublicSubkey n
-    then where_sound (body_at key body) (key_line (codes "sub") body)
+    then where_sound (body_at key body) (dated_key_line (codes "sub") body)
     else (if is_type packet.UserId n then codes "  " ++ user_id_line body
     else (if is_type packet.UserAttribute n
     then where_sound (body_at attribute body) (attribute_line body)

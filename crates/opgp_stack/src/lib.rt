@@ -5,6 +5,7 @@
 mod all_octets;
 mod by_key;
 mod chosen_text;
+mod date;
 mod fingerprint_keeper;
 mod hashing;
 mod key_name;

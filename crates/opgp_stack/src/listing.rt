@@ -7,13 +7,15 @@ ghost use Rattle.opgp_packet.specs.Parsed.{body_octets};
 ghost use Rattle.opgp_ring.specs.Packets.{IsLent, packets_left, part_packet};
 ghost use Rattle.opgp_packet.specs.Signature.{signature_octets};
 ghost use Rattle.opgp_packet.specs.SigView.{sig_view_value};
-ghost use Rattle.opgp_stack.specs.Listing.{attribute_line, filler_line, key_line, listing};
+ghost use Rattle.opgp_stack.specs.Listing.{attribute_line, dated_key_line, filler_line, key_line};
+ghost use Rattle.opgp_stack.specs.Listing.{key_start, listing};
 ghost use Rattle.opgp_stack.specs.Listing.{opaque_text, packet_line, signature_line};
 ghost use Rattle.opgp_stack.specs.Listing.{signature_text, typed_text};
 ghost use Rattle.opgp_stack.specs.Listing.{key_names, key_numbers, user_id_line};
 ghost use Rattle.opgp_stack.specs.Role.{role_name};
 ghost use Rattle.opgp_stream.specs.Output.{Extends, sink_of};
 
+use crate::date::add_date;
 use opgp_hash::{KeyId, fingerprint_of_view};
 use opgp_packet::{AttributeView, KeyView, SigView, Signature};
 use opgp_ring::{Content, Packets, Part};
@@ -70,13 +72,31 @@ fn add_names<W: Sink>(output: &mut Output<'_, W>, print: &[u8], id: &[u8]) -> io
     add_id(output, id)
 }
 
-/// Adds a key ID and the line's end.
+/// Adds a key ID.
 fn add_id<W: Sink>(output: &mut Output<'_, W>, id: &[u8]) -> io::Result<()>
     requires { W.has_failed (sink_of output.old) ≡ false }
     ensures { Extends W.held W.has_failed output.old output.new result
-        (codes " " ++ encode_upper id.now ++ codes "\n") }
+        (codes " " ++ encode_upper id.now) }
 {
-    output.add_words(&[Word::Text(b" "), Word::Hex(id), Word::Text(b"\n")])
+    output.add_words(&[Word::Text(b" "), Word::Hex(id)])
+}
+
+/// Adds the line of a key, but for its end.
+fn add_key_start<W: Sink>(
+    output: &mut Output<'_, W>,
+    role: Role,
+    key: KeyView<'_>,
+) -> io::Result<()>
+    requires { W.has_failed (sink_of output.old) ≡ false }
+    ensures { Extends W.held W.has_failed output.old output.new result
+        (key_start (role_name role) (body_octets key.entry)) }
+{
+    opgp_packet::key_laws::written(&key);
+    let print = fingerprint_of_view(key);
+    let KeyId(id) = print.key_id();
+    add_role(output, role)?;
+    add_numbers(output, key.version(), key.created(), key.algorithm())?;
+    add_names(output, print.octets(), &id)
 }
 
 /// Adds the line of a key.
@@ -89,12 +109,23 @@ pub(crate) fn add_key<W: Sink>(
     ensures { Extends W.held W.has_failed output.old output.new result
         (key_line (role_name role) (body_octets key.entry)) }
 {
+    add_key_start(output, role, key)?;
+    output.add(b"\n")
+}
+
+/// Adds the line of a key, with the date of its creation.
+pub(crate) fn add_dated_key<W: Sink>(
+    output: &mut Output<'_, W>,
+    role: Role,
+    key: KeyView<'_>,
+) -> io::Result<()>
+    requires { W.has_failed (sink_of output.old) ≡ false }
+    ensures { Extends W.held W.has_failed output.old output.new result
+        (dated_key_line (role_name role) (body_octets key.entry)) }
+{
     opgp_packet::key_laws::written(&key);
-    let print = fingerprint_of_view(key);
-    let KeyId(id) = print.key_id();
-    add_role(output, role)?;
-    add_numbers(output, key.version(), key.created(), key.algorithm())?;
-    add_names(output, print.octets(), &id)
+    add_key_start(output, role, key)?;
+    add_date(output, key.created())
 }
 
 /// Adds the line of a user ID.

@@ -10,15 +10,17 @@ ghost use Rattle.opgp_packet.specs.SignatureBody.{signature_at};
 ghost use Rattle.opgp_packet.specs.SigView.{sig_view_value};
 ghost use Rattle.opgp_packet.specs.SubView.{sub_shown};
 ghost use Rattle.opgp_packet.specs.Subs.{subs_to_come};
-ghost use Rattle.opgp_stack.specs.Listing.{attribute_line, key_line, signature_line};
+ghost use Rattle.opgp_stack.specs.Listing.{attribute_line, dated_key_line, signature_line};
 ghost use Rattle.opgp_stack.specs.Listing.{user_id_line};
 ghost use Rattle.opgp_stack.specs.Role.{role_name};
 ghost use Rattle.opgp_stack.specs.Values.{fields_line, format_text, literal_rest, literal_text};
+ghost use Rattle.opgp_stack.specs.Values.{literal_words};
 ghost use Rattle.opgp_stack.specs.Values.{valued_area, valued_areas};
 ghost use Rattle.opgp_stack.specs.Values.{valued_line, valued_lines, where_sound};
 ghost use Rattle.opgp_stream.specs.Output.{Extends, sink_of};
 
-use crate::listing::{Role, add_attribute, add_key, add_opaque, add_signature, add_user_id};
+use crate::date::add_date;
+use crate::listing::{Role, add_attribute, add_dated_key, add_opaque, add_signature, add_user_id};
 use crate::showing::{Area, add_header, add_subpacket};
 use crate::values::add_value;
 use opgp_frame::Placed;
@@ -103,19 +105,19 @@ fn add_signature_fields<W: Sink>(output: &mut Output<'_, W>, body: &[u8]) -> io:
     }
 }
 
-/// Adds the line of a key.
+/// Adds the line of a key, with its date.
 fn add_key_fields<W: Sink>(output: &mut Output<'_, W>, role: Role, body: &[u8]) -> io::Result<()>
     requires small { IsBodySized body.now }
     requires sound { W.has_failed (sink_of output.old) ≡ false }
     ensures { Extends W.held W.has_failed output.old output.new result
-        (where_sound (body_at key body.now) (key_line (role_name role) body.now)) }
+        (where_sound (body_at key body.now) (dated_key_line (role_name role) body.now)) }
 {
     let key = match KeyView::parse_body(body) {
         Ok(key) => key,
         Err(_) => return Ok(()),
     };
     output.add(b"  ")?;
-    add_key(output, role, key)
+    add_dated_key(output, role, key)
 }
 
 /// Adds the line of a user ID.
@@ -171,7 +173,7 @@ fn add_format<W: Sink>(output: &mut Output<'_, W>, format: u8) -> io::Result<()>
     ])
 }
 
-/// Adds the other fields of a literal.
+/// Adds the other fields of a literal, and the line's end.
 fn add_literal_rest<W: Sink>(
     output: &mut Output<'_, W>,
     name: &[u8],
@@ -182,6 +184,21 @@ fn add_literal_rest<W: Sink>(
     ensures { Extends W.held W.has_failed output.old output.new result
         (literal_rest name.now date length) }
 {
+    add_literal_words(output, name, date, length)?;
+    add_date(output, date)
+}
+
+/// Adds the name, the date and the length of a literal.
+fn add_literal_words<W: Sink>(
+    output: &mut Output<'_, W>,
+    name: &[u8],
+    date: u32,
+    length: u64,
+) -> io::Result<()>
+    requires { W.has_failed (sink_of output.old) ≡ false }
+    ensures { Extends W.held W.has_failed output.old output.new result
+        (literal_words name.now date length) }
+{
     output.add_words(&[
         Word::Text(b" name \""),
         Word::Escaped(name),
@@ -189,7 +206,6 @@ fn add_literal_rest<W: Sink>(
         Word::Decimal(date as u64),
         Word::Text(b" length "),
         Word::Decimal(length),
-        Word::Text(b"\n"),
     ])
 }
 

@@ -16,7 +16,8 @@ ghost use Rattle.opgp_stack.specs.ValuedListing.{valued_listing, valued_packet_l
 ghost use Rattle.opgp_stack.specs.ValuedListing.{with_values};
 ghost use Rattle.opgp_stream.specs.Output.{Extends, sink_of};
 
-use crate::listing::{add_line, add_signature};
+use crate::date::add_date_or_none;
+use crate::listing::{Role, add_dated_key, add_line, add_signature};
 use opgp_engine::Text;
 use opgp_hash::KeyId;
 use opgp_octets::SubpacketKind;
@@ -71,20 +72,16 @@ fn add_created<W: Sink>(output: &mut Output<'_, W>, created: Option<u32>) -> io:
     }
 }
 
-/// Adds the octets of the name of an issuer, and the line's end.
+/// Adds the octets of the name of an issuer.
 fn add_named<W: Sink>(output: &mut Output<'_, W>, octets: &[u8]) -> io::Result<()>
     requires { W.has_failed (sink_of output.old) ≡ false }
     ensures { Extends W.held W.has_failed output.old output.new result
-        (codes " issuer " ++ encode_upper octets.now ++ codes "\n") }
+        (codes " issuer " ++ encode_upper octets.now) }
 {
-    output.add_words(&[
-        Word::Text(b" issuer "),
-        Word::Hex(octets),
-        Word::Text(b"\n"),
-    ])
+    output.add_words(&[Word::Text(b" issuer "), Word::Hex(octets)])
 }
 
-/// Adds the name of an issuer, or `-` for none, and the line's end.
+/// Adds the name of an issuer, or `-` for none.
 fn add_issuer<W: Sink>(output: &mut Output<'_, W>, name: IssuerName) -> io::Result<()>
     requires { W.has_failed (sink_of output.old) ≡ false }
     ensures { Extends W.held W.has_failed output.old output.new result
@@ -96,7 +93,7 @@ fn add_issuer<W: Sink>(output: &mut Output<'_, W>, name: IssuerName) -> io::Resu
             let KeyId(octets) = id;
             add_named(output, &octets)
         }
-        IssuerName::Unnamed => output.add(b" issuer -\n"),
+        IssuerName::Unnamed => output.add(b" issuer -"),
     }
 }
 
@@ -143,7 +140,8 @@ fn add_typed_values<W: Sink>(
     add_typed_start(output, version, kind, algorithm, hash)?;
     add_left(output, left)?;
     add_created(output, created)?;
-    add_issuer(output, issuer)
+    add_issuer(output, issuer)?;
+    add_date_or_none(output, created)
 }
 
 /// Adds the line of a signature, with its values unless it is kept as it is.
@@ -201,8 +199,11 @@ fn add_valued_line<W: Sink>(output: &mut Output<'_, W>, part: Part<'_>) -> io::R
         (valued_packet_line (part_packet part.entry)) }
 {
     if let Part::Member(member) = part {
-        if let Content::Signature(signature) = member.content() {
-            return add_valued_parsed(output, signature);
+        match member.content() {
+            Content::Primary(key) => return add_dated_key(output, Role::Primary, key.view()),
+            Content::Subkey(key) => return add_dated_key(output, Role::Subkey, key.view()),
+            Content::Signature(signature) => return add_valued_parsed(output, signature),
+            _ => {}
         }
     }
     add_line(output, part)

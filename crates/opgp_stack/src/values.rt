@@ -9,10 +9,11 @@ ghost use Rattle.opgp_stack.specs.Values.{feature_words, flags_line, key_flag_wo
 ghost use Rattle.opgp_stack.specs.Values.{number_line, number_text, numbers_line, numbers_text};
 ghost use Rattle.opgp_stack.specs.Values.{pair_digits_line};
 ghost use Rattle.opgp_stack.specs.Values.{pair_line, print_line, reason_line, server_words};
-ghost use Rattle.opgp_stack.specs.Values.{text_line, value_line};
+ghost use Rattle.opgp_stack.specs.Values.{text_line, time_line, time_words, value_line};
 ghost use Rattle.opgp_stream.specs.Line.{word_text};
 ghost use Rattle.opgp_stream.specs.Output.{Extends, sink_of};
 
+use crate::date::add_date;
 use crate::listing::add_body;
 use opgp_packet::SubMeaning;
 use opgp_stream::{Output, Sink, Word};
@@ -24,6 +25,23 @@ fn add_number<W: Sink>(output: &mut Output<'_, W>, word: &[u8], n: u64) -> io::R
     ensures { Extends W.held W.has_failed output.old output.new result (number_line word.now n) }
 {
     output.add_words(&[Word::Text(word), Word::Decimal(n), Word::Text(b"\n")])
+}
+
+/// Adds a word, and a time behind it, with its date.
+fn add_time<W: Sink>(output: &mut Output<'_, W>, word: &[u8], time: u32) -> io::Result<()>
+    requires { W.has_failed (sink_of output.old) ≡ false }
+    ensures { Extends W.held W.has_failed output.old output.new result (time_line word.now time) }
+{
+    add_seconds(output, word, time)?;
+    add_date(output, time)
+}
+
+/// Adds a word, and the seconds of a time.
+fn add_seconds<W: Sink>(output: &mut Output<'_, W>, word: &[u8], time: u32) -> io::Result<()>
+    requires { W.has_failed (sink_of output.old) ≡ false }
+    ensures { Extends W.held W.has_failed output.old output.new result (time_words word.now time) }
+{
+    output.add_words(&[Word::Text(word), Word::Decimal(time as u64)])
 }
 
 /// Adds two numbers, each behind its word.
@@ -295,7 +313,7 @@ pub(crate) fn add_value<W: Sink>(
         (value_line (meaning_shown meaning.entry) octets.now) }
 {
     match meaning {
-        SubMeaning::Created(n) => add_number(output, b" created ", n as u64),
+        SubMeaning::Created(n) => add_time(output, b" created ", n),
         SubMeaning::Expires(n) => add_number(output, b" expires ", n as u64),
         SubMeaning::Exportable(n) => add_number(output, b" exportable ", n as u64),
         SubMeaning::Trust { level, amount } => {

@@ -1,11 +1,11 @@
 use Rattle.opgp_stream.proofs.Extended.{extends_stop, extends_then}
-use Rattle.opgp_stack.specs.Listing.{key_line}
+use Rattle.opgp_stack.specs.Listing.{dated_key_line}
 use Rattle.opgp_stack.specs.Role.{role_name}
 use Rattle.opgp_stack.proofs.SoundLines.{sound_line}
 use Rattle.opgp_stack.proofs.valued.add_key_fields.Goals as goal
 
 pub returns-in_err-add : goal.returns-in_err-add
-returns-in_err-add g c = extends_stop (key_line (role_name c.args.role) c.args.body.now) (sound_line _ _ (key_line (role_name c.args.role) c.args.body.now) c.in-Ok.ensures.exact) c.from_residual.ensures.0 c.in_err-add.ensures
+returns-in_err-add g c = extends_stop (dated_key_line (role_name c.args.role) c.args.body.now) (sound_line _ _ (dated_key_line (role_name c.args.role) c.args.body.now) c.in-Ok.ensures.exact) c.from_residual.ensures.0 c.in_err-add.ensures
 
 pub returns : goal.returns
-returns g c = extends_then (sound_line _ _ (key_line (role_name c.args.role) c.args.body.now) c.in-Ok.ensures.exact) c.in_ok-add.ensures (rw c.in-Ok.ensures.body at c.add_key.ensures)
+returns g c = extends_then (sound_line _ _ (dated_key_line (role_name c.args.role) c.args.body.now) c.in-Ok.ensures.exact) c.in_ok-add.ensures (rw c.in-Ok.ensures.body at c.add_dated_key.ensures)

@@ -1,12 +1,11 @@
 -- The octets of all rows, as certificates come.
-use Rattle.std.proofs.Common.{◌≡◌, ◌∙◌, ℕ, ◌+◌, List, [], ◌∷◌, ◌++◌, map, length, refl, sym, ap, subst, arith, append-nil, append_assoc, length-append, Result, Ok, Err}
+use Rattle.std.proofs.Common.{◌≡◌, ◌∙◌, ℕ, ◌+◌, List, [], ◌∷◌, ◌++◌, map, length, refl, sym, ap, subst, arith, append-nil, append_assoc, length-append, Ok, Err}
 use Rattle.opgp_hash.specs.Hashed.{hashed}
 use Rattle.opgp_hash.specs.QuestionValue.{QuestionValue}
 use Rattle.opgp_hash.specs.declared.why.Why.{Why}
 use Rattle.opgp_report.specs.Asked.{Asked, asked_by, asked_of}
 use Rattle.opgp_report.specs.Standing.{Standing, by_number}
-use Rattle.opgp_report.specs.Visitor.{Leaves, Shown}
-use Rattle.opgp_ring.specs.Keyring.{KeyringValue}
+use Rattle.opgp_report.specs.Visitor.{Leaves}
 use Rattle.opgp_engine.specs.Keyrings.{ComposesTo, key_label}
 use Rattle.opgp_engine.proofs.Kept.{value_by}
 use Rattle.opgp_stack.specs.AllOctets.{AddsRows, HasAllOctets, HasRows, asked_row, octets_row, octets_rows}

@@ -9,7 +9,7 @@ use Rattle.opgp_octets.specs.declared.packet_type.PacketType.TheVariants as pack
 use Rattle.opgp_octets.specs.declared.subpacket_kind.SubpacketKind.TheVariants as kind
 use Rattle.opgp_packet.specs.Areas.{hashed_subs}
 use Rattle.opgp_packet.specs.Forms as form
-use Rattle.opgp_packet.specs.SignatureBody.{SignatureValue, of_three, of_four, of_six, of_other}
+use Rattle.opgp_packet.specs.SignatureBody.{SignatureValue, of_three}
 use Rattle.opgp_packet.specs.SignatureBody.{signature_at}
 use Rattle.opgp_packet.specs.Subpackets.{Sub}
 use Rattle.opgp_packet.specs.SubView.{fields_of}

@@ -1,4 +1,4 @@
-use Rattle.std.proofs.Common.{◌≤◌, ◌+◌, List, ap, arith, length, map}
+use Rattle.std.proofs.Common.{◌+◌, List, ap, arith, length, map}
 use Rattle.std.proofs.lemmas.List.{length-map}
 use Rattle.opgp_report.specs.Fingerprinted.{FingerprintedValue}
 use Rattle.opgp_report.specs.Fingerprinting.{rows_to_come}

@@ -6,7 +6,8 @@
 //   WRITE_FAILS    the write that fails, with the errno WRITE_ERROR, or takes nothing where that is 0
 //   WRITE_MOST     the most octets that a write takes
 //   SPOOL_FAILS    the call about the file of --spool that fails, with the errno SPOOL_ERROR: that makes it, takes its name away, writes
-//                  it, goes back to its beginning or reads it
+//                  it, goes back to its beginning or reads it; where that is 0, a write takes nothing, a read gives nothing, and the others
+//                  do as ever
 //   SPOOL_MOST     the most octets that such a write takes, and such a read gives
 // As the program ends, the four counts go to descriptor 9.
 #include <errno.h>
@@ -49,7 +50,7 @@ static int spool_breaks(void) {
 
 static int make(const char *path, int how, unsigned mode) {
     int is_new = counts && (how & O_CREAT) && (how & O_EXCL);
-    if (is_new && spool_breaks()) return -1;
+    if (is_new && spool_breaks() && spool_error) return -1;
     int file = (int)syscall(SYS_openat, AT_FDCWD, path, how, mode);
     if (is_new && file >= 0) spool = file;
     return file;
@@ -72,18 +73,18 @@ int open64(const char *path, int how, ...) {
 }
 
 int unlink(const char *path) {
-    if (counts && spool_breaks()) return -1;
+    if (counts && spool_breaks() && spool_error) return -1;
     return (int)syscall(SYS_unlink, path);
 }
 
 off_t lseek(int file, off_t at, int from) {
-    if (counts && file == spool && spool_breaks()) return -1;
+    if (counts && file == spool && spool_breaks() && spool_error) return -1;
     return syscall(SYS_lseek, file, at, from);
 }
 
 ssize_t read(int file, void *octets, size_t most) {
     if (file == spool && counts) {
-        if (spool_breaks()) return -1;
+        if (spool_breaks()) return spool_error ? -1 : 0;
         if (spool_most > 0 && most > (size_t)spool_most) most = (size_t)spool_most;
     }
     if (file == 0 && counts) {
@@ -98,7 +99,7 @@ ssize_t read(int file, void *octets, size_t most) {
 
 static ssize_t put(int file, const void *octets, size_t size) {
     if (file == spool && counts) {
-        if (spool_breaks()) return -1;
+        if (spool_breaks()) return spool_error ? -1 : 0;
         if (spool_most > 0 && size > (size_t)spool_most) size = (size_t)spool_most;
     }
     if (file == 1 && counts) {

@@ -23,6 +23,8 @@ pub struct SpoolFile<F> {
     waiting: Vec<u8>,
     is_read: bool,
     has_failed: bool,
+    /// How many octets were put and aren't read yet.
+    left: u64,
 }
 
 /// Makes a new file in a directory, which only its owner may read, and takes its name away: so
@@ -44,6 +46,7 @@ pub fn open_spool<R: Files>(
             waiting,
             is_read: false,
             has_failed: false,
+            left: 0,
         }),
         Err(error) if error.kind() == io::ErrorKind::OutOfMemory => Err(RunFault::Memory),
         Err(_) => Err(RunFault::Spool),
@@ -98,7 +101,8 @@ impl<F: Read + Write + Seek> SpoolFile<F> {
         }
     }
 
-    /// Reads into the front of the buffer, from the first octet of the file on.
+    /// Reads into the front of the buffer, from the first octet of the file on. A file that ends
+    /// before what was put does is a failure.
     fn read(&mut self, buf: &mut [u8]) -> io::Result<usize>
         ensures bound { IfOk result (λ n. n ≤ length buf.new) }
         ensures same { spool_failed self.new ≡ spool_failed self.old }
@@ -108,7 +112,12 @@ impl<F: Read + Write + Seek> SpoolFile<F> {
             self.file.seek(SeekFrom::Start(0))?;
             self.is_read = true;
         }
-        self.file.read(buf)
+        let count = self.file.read(buf)?;
+        if count == 0 && !buf.is_empty() && self.left > 0 {
+            return Err(io::Error::from(io::ErrorKind::UnexpectedEof));
+        }
+        self.left = self.left.saturating_sub(count as u64);
+        Ok(count)
     }
 }
 
@@ -127,6 +136,7 @@ impl<F: Read + Write + Seek> Spool for SpoolFile<F> {
                 if n == 0 && !octets.is_empty() {
                     self.has_failed = true;
                 }
+                self.left = self.left.saturating_add(n as u64);
                 Ok(n)
             }
             Err(error) => {

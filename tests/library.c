@@ -66,9 +66,35 @@ static void print_key(FILE *file, const opgp_key *key)
     fputc('\n', file);
 }
 
+/* The fields of each row stand right behind those of the row before, also of a row that has none. */
+static void hold_places(const opgp_keyring *keyring)
+{
+    uint64_t packets = 0, keys = 0, jobs = 0;
+    for (size_t number = 0; number < opgp_packet_count(keyring); packets += opgp_packet_at(keyring, number++)->size) {
+        if (opgp_packet_at(keyring, number)->at != packets) {
+            fail("the place of a packet");
+        }
+    }
+    for (size_t number = 0; number < opgp_key_count(keyring); number++) {
+        const opgp_key *key = opgp_key_at(keyring, number);
+        if (key->at != keys) {
+            fail("the place of a key");
+        }
+        keys += key->sizes[0] + key->sizes[1] + key->sizes[2] + key->sizes[3];
+    }
+    for (size_t number = 0; number < opgp_job_count(keyring); number++) {
+        const opgp_job *job = opgp_job_at(keyring, number);
+        if (job->at != jobs) {
+            fail("the place of a signature");
+        }
+        jobs += job->sizes[0] + job->sizes[1];
+    }
+}
+
 /* What a way finds. */
 struct found {
     struct text lines, octets;
+    size_t parts;
 };
 
 /* Adds a keyring, which is closed. */
@@ -76,6 +102,8 @@ static void add(struct found *found, opgp_keyring *keyring)
 {
     uint8_t *octets;
     size_t size;
+    hold_places(keyring);
+    found->parts++;
     for (size_t number = 0; number < opgp_key_count(keyring); number++) {
         print_key(found->lines.file, opgp_key_at(keyring, number));
     }
@@ -138,8 +166,13 @@ static void in_pieces(struct found *found, const uint8_t *in, size_t n, size_t p
         at += size;
         status = status == OPGP_DONE ? take_all(found, &reader) : status;
     }
+    size_t early = found->parts;
     status = status == OPGP_DONE ? opgp_reader_end(&reader, &fault) : status;
     status = status == OPGP_DONE ? take_all(found, &reader) : status;
+    /* A part is ready once the next one has begun: only the last one waits for the end. */
+    if (status == OPGP_DONE && found->parts > early + 1) {
+        fail("a part before the end");
+    }
     opgp_reader_close(reader);
     if (status != OPGP_DONE) {
         refuse(found, status, &fault);
@@ -201,7 +234,7 @@ static void make(struct found *found, const char *way, const uint8_t *in, size_t
 
 static void read_by(const char *way, const uint8_t *in, size_t n)
 {
-    struct found found;
+    struct found found = {.parts = 0};
     begin(&found.lines);
     begin(&found.octets);
     if (strcmp(way, "0") == 0) {

@@ -58,6 +58,21 @@ fn bodies_are_moved_in_4_growths(rt: HostRuntime) {
     }
 }
 
+// A vector that bodies are written behind one another into grows by doubling; one growth more makes the
+// signature.
+#[test]
+fn bodies_written_in_9_growths(rt: HostRuntime) {
+    if let Ok(signature) = Signature::parse_body(rt.alloc(), ODD) {
+        let mut out = Vec::new(rt.alloc());
+        for _ in 0..100 {
+            if signature.write_body(&mut out).is_err() {
+                return;
+            }
+        }
+        assert!(rt; out.len() == 100 * ODD.len());
+    }
+}
+
 // A value is its body's vector or slice, and where its fields lie.
 #[test]
 fn values_are_small(rt: HostRuntime) {

@@ -10,9 +10,10 @@ fn refused_growth(rt: HostRuntime) {
     if reader.push(b"-----").is_ok() {
         return;
     }
-    assert!(rt; !reader.ready() && reader.given() == 0);
+    assert!(rt; !reader.ready() && !reader.ended() && reader.given() == 0);
     assert!(rt; reader.take().is_none());
     assert_eq!(rt; reader.last().err(), Some(PushFault::Spent));
+    assert!(rt; !reader.ready() && reader.ended() && reader.given() == 0);
     let spent = Fault {
         layer: Layer::Armor,
         reason: Reason::Spent,

@@ -1,5 +1,5 @@
 -- Which octets a reader has been given, and which events were taken from it.
-use Rattle.std.specs.Prelude.{◌≡◌, ℕ, ◌+◌, ◌<◌, Bool, false, List, [], ◌∷◌, ◌++◌, length, take}
+use Rattle.std.specs.Prelude.{◌≡◌, ◌↔◌, ℕ, ◌+◌, ◌<◌, Bool, false, List, [], ◌∷◌, ◌++◌, length, take}
 use Rattle.std.specs.Prelude.{is_some}
 use Rattle.std.specs.declared.option.Option.{Option}
 use Rattle.std.specs.declared.option.Option.TheVariants.{None, Some}
@@ -98,6 +98,19 @@ abbrev pub KeepsFed : Dearmor → Dearmor → List ℕ → List Event → Type 0
 KeepsFed old new octets events =
     (given : List ℕ) (taken : List Event) → Fed old given taken
     → Fed new (given ++ octets) (taken ++ events)
+
+-- The new reader says all that the old one says: it was given the same octets, the same events were
+-- taken from it, and it holds as many octets.
+pub record SaysTheSame (old new : Dearmor) : Type 0 where
+  pub fed : (given : List ℕ) (taken : List Event) → Fed old given taken ↔ Fed new given taken
+  pub ready : is_ready new ≡ is_ready old
+  pub count : count_of new ≡ count_of old
+  pub spent : is_spent new ≡ is_spent old
+  pub ended : has_ended new ≡ has_ended old
+  pub fault : fault_of new ≡ fault_of old
+  pub limit : line_limit_of new ≡ line_limit_of old
+  pub rule : rule_of new ≡ rule_of old
+  pub held : held_of new ≡ held_of old
 
 -- The first n octets of the piece, without the last, yield no event beyond those that were taken.
 abbrev pub IsQuiet : Dearmor → List ℕ → ℕ → Type 0

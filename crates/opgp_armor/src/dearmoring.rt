@@ -5,6 +5,7 @@ ghost use Rattle.std.specs.List.{fold};
 ghost use Rattle.opgp_armor.specs.Rules.{line_rule};
 ghost use Rattle.opgp_armor.specs.Armored.{Armored, IsArmorFault};
 ghost use Rattle.opgp_armor.specs.Blocks.{blocks_of_stored, built_of};
+ghost use Rattle.opgp_armor.specs.Fed.{SaysTheSame};
 ghost use Rattle.opgp_armor.specs.Events.{event_of, events_of, absorb, nothing_built};
 
 use crate::block::Block;
@@ -52,9 +53,16 @@ impl Building {
         Ok(())
     }
 
-    /// Takes one more event.
-    fn absorb(&mut self, alloc: Global, event: ArmorEvent) -> Result<(), OutOfMemory>
-        ensures { OnOk result (built_of self.new ≡ absorb (built_of self.old) (event_of event)) }
+    /// Takes one more event, and gives the reader its memory back.
+    fn absorb(
+        &mut self,
+        alloc: Global,
+        reader: &mut Dearmor,
+        event: ArmorEvent,
+    ) -> Result<(), OutOfMemory>
+        ensures built { OnOk result
+            (built_of self.new ≡ absorb (built_of self.old) (event_of event)) }
+        ensures reader { SaysTheSame reader.old reader.new }
     {
         match event {
             ArmorEvent::Begin(label) => {
@@ -67,6 +75,7 @@ impl Building {
             }
             ArmorEvent::Octets(octets) => {
                 self.octets.extend_from_slice(octets.as_slice())?;
+                reader.reuse(octets);
             }
             ArmorEvent::End => {
                 self.end_block(alloc)?;
@@ -75,17 +84,19 @@ impl Building {
         Ok(())
     }
 
-    /// Takes one more event, if there is one.
+    /// Takes one more event, if there is one, and gives the reader its memory back.
     pub(crate) fn absorb_some(
         &mut self,
         alloc: Global,
+        reader: &mut Dearmor,
         event: Option<ArmorEvent>,
     ) -> Result<(), OutOfMemory>
-        ensures { OnOk result
+        ensures built { OnOk result
             (built_of self.new ≡ fold absorb (built_of self.old) (events_of event)) }
+        ensures reader { SaysTheSame reader.old reader.new }
     {
         match event {
-            Some(event) => self.absorb(alloc, event),
+            Some(event) => self.absorb(alloc, reader, event),
             None => Ok(()),
         }
     }
@@ -111,13 +122,13 @@ pub fn dearmor(
             return Err(AllocError);
         };
         let event = reader.take();
-        building.absorb_some(alloc, event)?;
+        building.absorb_some(alloc, &mut reader, event)?;
         at += n;
     }
     let Ok(event) = reader.last() else {
         return Err(AllocError);
     };
-    building.absorb_some(alloc, event)?;
+    building.absorb_some(alloc, &mut reader, event)?;
     match reader.finish() {
         Ok(()) => Ok(Ok(building.blocks)),
         Err(fault) => Ok(Err(fault)),

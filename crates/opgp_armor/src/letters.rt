@@ -1,7 +1,7 @@
 //! The letters of a block's data lines.
 
 ghost use Rattle.std.specs.Prelude.{◌≡◌, ◌++◌, ℕ, List, true, false, if◌then◌else◌, length, Ok};
-ghost use Rattle.std.specs.Prelude.{IfOk, IfErr};
+ghost use Rattle.std.specs.Prelude.{IfOk, IfErr, OnOk};
 ghost use Rattle.std.specs.List.{list_all};
 ghost use Rattle.base64.specs.Engines.{standard};
 ghost use Rattle.base64.specs.GeneralPurpose.{decode_of, IsBytes, IsDecodeFailure};
@@ -10,10 +10,12 @@ ghost use Rattle.opgp_armor.specs.LineAnswer.{AnswersLetters, pending_of};
 
 use crate::pending::Pending;
 use crate::refusal::Refusal;
-use base64::DecodeAllocError;
+use crate::spare::Spare;
 use base64::engine::general_purpose::STANDARD;
+use base64::{DecodeAllocError, decoded_len_estimate};
 use opgp_octets::{OutOfMemory, Reason};
 use std::alloc::Global;
+use std::mem;
 
 /// What a data line yields: the octets of the groups that it completes, and the letters after them.
 #[derive(Drop)]
@@ -62,29 +64,48 @@ fn is_spoilt(rest: &[u8], padded: bool) -> bool
     !are_letters(rest) || (padded && !rest.is_empty())
 }
 
-/// The octets that whole groups decode to.
-#[tactic(auto, unfolding(crate::specs::Letters::base64_of))]
-fn decoded(alloc: Global, groups: &[u8]) -> Result<Vec<u8>, DecodeAllocError>
+/// Puts the octets that groups decode to in the place of what `octets` holds.
+fn decode_over(octets: &mut Vec<u8>, groups: &[u8]) -> Result<(), DecodeAllocError>
+    ensures ok { OnOk result (decode_of standard groups.now ≡ Ok octets.new.items) }
+    ensures octets { OnOk result (IsBytes octets.new.items) }
+    ensures exact { OnOk result (groups.now ≡ base64_of octets.new.items) }
+    ensures err { IfErr result (λ e. IsDecodeFailure standard groups.now e) }
+{
+    // What was held isn't cleared, but overwritten, so that each octet is written once.
+    octets.resize(decoded_len_estimate(groups.len()), 0)?;
+    let count = STANDARD.decode_slice_unchecked(groups, octets.as_mut_slice())?;
+    octets.truncate(count);
+    Ok(())
+}
+
+/// The octets that whole groups decode to, in the memory of `spare`.
+fn decoded(alloc: Global, spare: &mut Vec<u8>, groups: &[u8]) -> Result<Vec<u8>, DecodeAllocError>
     ensures ok { IfOk result (λ v. decode_of standard groups.now ≡ Ok v.items) }
     ensures octets { IfOk result (λ v. IsBytes v.items) }
     ensures exact { IfOk result (λ v. groups.now ≡ base64_of v.items) }
     ensures err { IfErr result (λ e. IsDecodeFailure standard groups.now e) }
 {
-    // So that lines of few letters don't pay for the decoder's tables.
+    // So that lines of few letters don't take the memory.
     if groups.is_empty() {
         return Ok(Vec::new(alloc));
     }
-    STANDARD.decode(alloc, groups)
+    decode_over(spare, groups)?;
+    Ok(mem::replace(spare, Vec::new(alloc)))
 }
 
 /// What a line yields, if `all` is the letters left over and then its own, and no group was padded.
-fn groups_of_letters(alloc: Global, all: &[u8], content: &[u8]) -> Result<Letters, Refusal>
+fn groups_of_letters(
+    alloc: Global,
+    spare: &mut Vec<u8>,
+    all: &[u8],
+    content: &[u8],
+) -> Result<Letters, Refusal>
     ensures { (letters : List ℕ) → list_all is_letter letters ≡ true
         → all.now ≡ letters ++ content.now → AnswersLetters result
         (data_line (record { letters = letters; padded = false }) content.now) }
 {
     let (groups, rest) = all.split_at(4 * (all.len() / 4));
-    match decoded(alloc, groups) {
+    match decoded(alloc, spare, groups) {
         Ok(octets) => {
             let padded = octets.len() % 3 != 0;
             if is_spoilt(rest, padded) {
@@ -98,15 +119,15 @@ fn groups_of_letters(alloc: Global, all: &[u8], content: &[u8]) -> Result<Letter
     }
 }
 
-/// The two lists joined.
-fn joined(alloc: Global, front: &[u8], back: &[u8]) -> Result<Vec<u8>, OutOfMemory>
-    ensures { IfOk result (λ v. v.items ≡ front.now ++ back.now) }
+/// Puts the two lists, joined, in the place of what `all` holds.
+fn join(all: &mut Vec<u8>, front: &[u8], back: &[u8]) -> Result<(), OutOfMemory>
+    ensures { OnOk result (all.new.items ≡ front.now ++ back.now) }
 {
-    let mut all = Vec::new(alloc);
+    all.clear();
     all.reserve_exact(front.len().saturating_add(back.len()))?;
     all.extend_from_slice(front)?;
     all.extend_from_slice(back)?;
-    Ok(all)
+    Ok(())
 }
 
 /// What a data line that isn't blank yields, given the letters left over from the lines before.
@@ -115,6 +136,7 @@ fn joined(alloc: Global, front: &[u8], back: &[u8]) -> Result<Vec<u8>, OutOfMemo
 #[tactic(auto, unfolding(crate::specs::Letters::data_line))]
 pub(crate) fn letters_of(
     alloc: Global,
+    spare: &mut Spare,
     pending: &Pending,
     content: &[u8],
 ) -> Result<Letters, Refusal>
@@ -124,8 +146,8 @@ pub(crate) fn letters_of(
         return Err(Refusal::Reason(refused(content)));
     }
     if !pending.waits() {
-        return groups_of_letters(alloc, content, content);
+        return groups_of_letters(alloc, &mut spare.octets, content, content);
     }
-    let all = joined(alloc, pending.letters(), content)?;
-    groups_of_letters(alloc, all.as_slice(), content)
+    join(&mut spare.letters, pending.letters(), content)?;
+    groups_of_letters(alloc, &mut spare.octets, spare.letters.as_slice(), content)
 }

@@ -13,6 +13,7 @@ mod pending;
 mod reader;
 mod refusal;
 mod section;
+mod spare;
 mod writing;
 
 pub use block::Block;

@@ -20,6 +20,7 @@ use crate::letters::{Letters, letters_of};
 use crate::pending::Pending;
 use crate::refusal::Refusal;
 use crate::section::Section;
+use crate::spare::Spare;
 use memchr::memchr;
 use opgp_octets::{Outside, Reason};
 use std::alloc::Global;
@@ -157,10 +158,16 @@ fn header(
 }
 
 /// What a data line does.
-fn data(alloc: Global, label: Label, pending: Pending, content: &[u8]) -> Result<Reaction, Refusal>
+fn data(
+    alloc: Global,
+    spare: &mut Spare,
+    label: Label,
+    pending: Pending,
+    content: &[u8],
+) -> Result<Reaction, Refusal>
     ensures { IsAnswer result (on_letters label (data_line (pending_of pending) content.now)) }
 {
-    let Letters { pending, octets } = letters_of(alloc, &pending, content)?;
+    let Letters { pending, octets } = letters_of(alloc, spare, &pending, content)?;
     let event = if octets.is_empty() {
         None
     } else {
@@ -208,6 +215,7 @@ fn in_headers(
 #[tactic(auto, using(crate::proofs::Insides::data_lines))]
 fn in_data(
     alloc: Global,
+    spare: &mut Spare,
     label: Label,
     pending: Pending,
     content: &[u8],
@@ -226,7 +234,7 @@ fn in_data(
     if content[0] == b'-' {
         return close(label, pending, content);
     }
-    data(alloc, label, pending, content)
+    data(alloc, spare, label, pending, content)
 }
 
 /// What a line after a checksum line does.
@@ -280,6 +288,7 @@ fn pass(
 #[tactic(auto, unfolding(crate::specs::Machine::step))]
 pub(crate) fn answer_line(
     alloc: Global,
+    spare: &mut Spare,
     limit: usize,
     outside: Outside,
     section: Section,
@@ -299,7 +308,7 @@ pub(crate) fn answer_line(
     match section {
         Section::Outside => begin(content),
         Section::Headers(label) => in_headers(alloc, label, pending, content),
-        Section::Data(label) => in_data(alloc, label, pending, content),
+        Section::Data(label) => in_data(alloc, spare, label, pending, content),
         Section::AfterChecksum(label) => after_checksum(label, pending, content),
     }
 }

@@ -16,6 +16,7 @@ use crate::lines::{Reaction, answer_line};
 use crate::pending::Pending;
 use crate::refusal::Refusal;
 use crate::section::Section;
+use crate::spare::Spare;
 use memchr::memchr;
 use opgp_octets::{Fault, Layer, Limits, OutOfMemory, Outside, PushFault, Reason};
 use std::alloc::{AllocError, Global};
@@ -24,7 +25,9 @@ use std::mem;
 /// A reader of armored text (RFC 9580, 6.2), which takes it in pieces of any size and hands out one
 /// event at a time.
 ///
-/// It keeps an unfinished line, at most three letters left over, and the event that is ready.
+/// It keeps an unfinished line, at most three letters left over, and the event that is ready; and
+/// memory for the letters and the octets of one line, which the next ones use again
+/// ([`Dearmor::reuse`]).
 #[derive(Drop)]
 pub struct Dearmor {
     alloc: Global,
@@ -33,6 +36,7 @@ pub struct Dearmor {
     buffer: Vec<u8>,
     section: Section,
     pending: Pending,
+    spare: Spare,
     ready: Option<ArmorEvent>,
     fault: Option<Fault>,
     given: u64,
@@ -172,6 +176,7 @@ impl Dearmor {
     ghost use Rattle.opgp_armor.specs.Armored.{Armored, IsArmorFault};
     ghost use Rattle.opgp_armor.specs.Events.{Event, built};
     ghost use Rattle.opgp_armor.specs.Fed.{Fed, KeepsFed, IsQuiet, AfterLine, SameReader};
+    ghost use Rattle.opgp_armor.specs.Fed.{SaysTheSame};
     ghost use Rattle.opgp_armor.specs.Fed.{line_limit_of, is_ready, count_of, is_spent, has_ended};
     ghost use Rattle.opgp_armor.specs.Fed.{rule_of, fault_of, held_of, spent_fault};
     ghost use Rattle.opgp_armor.specs.Rules.{line_rule};
@@ -197,6 +202,7 @@ impl Dearmor {
             buffer: Vec::new(alloc),
             section: Section::Outside,
             pending: Pending::none(),
+            spare: Spare::new(alloc),
             ready: None,
             fault: None,
             given: 0,
@@ -247,6 +253,19 @@ impl Dearmor {
         self.ready.take()
     }
 
+    /// Takes back the vector of an event that was used up, so that octets of a later line are put in
+    /// its memory; what it holds doesn't matter, and nothing that the reader says changes.
+    ///
+    /// One vector is kept, and none whose capacity is more than twice the octets that a line may
+    /// have. Allocates nothing.
+    pub fn reuse(&mut self, octets: Vec<u8>)
+        ensures { SaysTheSame self.old self.new }
+    {
+        if octets.capacity() <= 2 * self.limit {
+            self.spare.octets = octets;
+        }
+    }
+
     /// Ends this line, of which nothing is in the buffer.
     fn end_line(&mut self, line: &[u8]) -> Result<(), OutOfMemory>
         requires free { self.old.ready ≡ None }
@@ -260,6 +279,7 @@ impl Dearmor {
     {
         match answer_line(
             self.alloc,
+            &mut self.spare,
             self.limit,
             self.outside,
             self.section,
@@ -354,7 +374,7 @@ impl Dearmor {
         Ok(n)
     }
 
-    /// Frees the buffer and marks the reader as spent, when out of memory.
+    /// Frees the memory that it keeps and marks the reader as spent, when out of memory.
     fn give_up(&mut self, given: u64)
         requires { self.old.ready ≡ None }
         ensures spent { self.new.spent ≡ true }
@@ -364,6 +384,7 @@ impl Dearmor {
         ensures rule { rule_of self.new ≡ rule_of self.old }
     {
         self.buffer = Vec::new(self.alloc);
+        self.spare = Spare::new(self.alloc);
         self.finished = 0;
         self.given = given;
         self.spent = true;

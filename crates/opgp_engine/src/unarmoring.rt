@@ -4,7 +4,7 @@ ghost use Rattle.std.specs.Prelude.{◌≡◌, ◌<◌, ◌+◌, ◌^◌, ◌++�
 ghost use Rattle.std.specs.List.{fold};
 ghost use Rattle.opgp_octets.specs.declared.limits.Limits.{Limits};
 ghost use Rattle.opgp_armor.specs.Events.{Built, absorb, events_of, event_octets};
-ghost use Rattle.opgp_armor.specs.Fed.{count_of};
+ghost use Rattle.opgp_armor.specs.Fed.{SaysTheSame, count_of};
 ghost use Rattle.opgp_engine.specs.Framed.{open_count, number_of, has_begun};
 ghost use Rattle.opgp_engine.specs.Through.{BegunAfter, FramesBuilt, IsEnd, MayCome, Through};
 
@@ -17,8 +17,9 @@ use opgp_armor::{ArmorEvent, Dearmor};
 use opgp_octets::{Fault, OutOfMemory};
 use std::alloc::AllocError;
 
-/// One event of a text, where there is one.
+/// One event of a text, where there is one, whose memory the reader is given back.
 fn absorb<T: Receiver + Drop>(
+    dearmor: &mut Dearmor,
     framer: &mut Framer<T>,
     event: Option<ArmorEvent>,
 ) -> Result<(), OutOfMemory>
@@ -30,6 +31,7 @@ fn absorb<T: Receiver + Drop>(
         → FramesBuilt T.fed T.wanted limits framer.new (fold absorb b (events_of event))) }
     ensures begun { OnOk result
         (BegunAfter (has_begun framer.old) (has_begun framer.new) (events_of event)) }
+    ensures same { SaysTheSame dearmor.old dearmor.new }
 {
     match event {
         Some(ArmorEvent::Begin(label)) => {
@@ -38,6 +40,7 @@ fn absorb<T: Receiver + Drop>(
         }
         Some(ArmorEvent::Octets(octets)) => {
             framer.add(octets.as_slice())?;
+            dearmor.reuse(octets);
             Ok(())
         }
         Some(ArmorEvent::End) => {
@@ -71,7 +74,7 @@ pub(crate) fn unarmor<T: Receiver + Drop>(
             Err(_) => return Err(AllocError),
         }
         let event = dearmor.take();
-        absorb(framer, event)?;
+        absorb(dearmor, framer, event)?;
     }
     Ok(())
 }
@@ -94,6 +97,6 @@ pub(crate) fn end_text<T: Receiver + Drop>(
         Ok(event) => event,
         Err(_) => return Err(AllocError),
     };
-    absorb(framer, event)?;
+    absorb(&mut dearmor, framer, event)?;
     Ok(dearmor.finish())
 }

@@ -6,6 +6,7 @@ pub mod Faults
 pub mod FedLemmas
 pub mod Headers
 pub mod Holding
+pub mod Least
 pub mod Lengths
 pub mod Lists
 pub mod Made

@@ -3,7 +3,8 @@
 
 ghost use Rattle.std.specs.Prelude.{true, false};
 ghost use Rattle.std.specs.Prelude.{◌≡◌, ◌≢◌, ◌↔◌, ℕ, List, [], ◌∷◌, ◌++◌, ◌⊎◌, Option, Some, None};
-ghost use Rattle.std.specs.Prelude.{map};
+ghost use Rattle.std.specs.Prelude.{map, length, ◌+◌, ◌*◌, ◌≤◌};
+ghost use Rattle.std.specs.List.{sum_by};
 ghost use Rattle.opgp_octets.specs.declared.fault.Fault.{Fault};
 ghost use Rattle.opgp_octets.specs.declared.fault.Reason.{Reason};
 ghost use Rattle.opgp_octets.specs.declared.limits.Limits.{Limits};
@@ -27,6 +28,13 @@ pub fn one_packet()
 pub fn spelled_without_places()
     ensures { (packets : List Placed)
         → spelled packets ≡ packets_octets (map (λ p. p.packet) packets) }
+{}
+
+/// Packets take at least two octets each beside their bodies, one for the type and one for the
+/// length: octets bound how many packets they are, and so the memory that these take.
+pub fn two_octets_beside_each_body()
+    ensures { (packets : List PacketValue)
+        → 2 * length packets + sum_by (λ p. length p.body) packets ≤ length (packets_octets packets) }
 {}
 
 /// What was taken from a reader and what is ready is the longest list of allowed packets that the

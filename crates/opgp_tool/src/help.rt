@@ -10,7 +10,8 @@ the spool failed; 4 the launcher couldn't build the program.";
 pub const SHOW_HELP: &str = "The input is any packets, those of a keyring or of a message. \
 A line for each packet
 has its place, type, form and length; a signature's is followed by one for each of its
-subpackets. With --values the fields of each packet follow, and what each subpacket means.
+subpackets. With --values the fields of each packet follow, and what each subpacket means,
+times as seconds since 1970 and as dates.
 
 Example: opgp show --values < KEYRING | grep key-expires";
 
@@ -18,7 +19,8 @@ pub const LIST_HELP: &str = "A line for each packet: pub and sub with algorithm,
 fingerprint and
 key ID, uid with its text, uat and sig, and pkt for any other packet. With --values the line
 of a signature goes on with the left 16 bits of its hash, the time when it was made, and the
-fingerprint or key ID of its issuer, as it states them.
+fingerprint or key ID of its issuer, as it states them; it and that of a key end with the
+time as a date.
 
 Example: opgp list --values < KEYRING | grep '^sig'";
 

@@ -18,8 +18,9 @@ pub pieces-preserved : goal.pieces-preserved
 pieces-preserved c =
     let p = c.in-Ok.ensures in
     let t = c.take-event.ensures in
-    reads_more (line_rule c.args.limits.now) c.pieces.reader c.push.new.self c.take-event.new.self c.pieces.building c.absorb_some.new.self c.args.text.now c.pieces.at c.in-Ok.n (events_of c.take-event.result) c.pieces.invariant
-    p.within p.fed t.fed t.free (t.«open» ∙ p.«open») (t.count ∙ p.count) (t.rule ∙ p.rule) c.in_ok-absorb_some.ensures
+    let s = c.in_ok-absorb_some.ensures.reader in
+    reads_more (line_rule c.args.limits.now) c.pieces.reader c.push.new.self c.absorb_some.new.reader c.pieces.building c.absorb_some.new.self c.args.text.now c.pieces.at c.in-Ok.n (events_of c.take-event.result) c.pieces.invariant
+    p.within p.fed (λ given taken fed. (s.fed _ _).0 (t.fed given taken fed)) (s.ready ∙ t.free) (s.ended ∙ t.«open» ∙ p.«open») (s.count ∙ t.count ∙ p.count) (s.rule ∙ t.rule ∙ p.rule) c.in_ok-absorb_some.ensures.built
 
 pub returns-in-Ok-finish : goal.returns-in-Ok-finish
 returns-in-Ok-finish c =
@@ -27,13 +28,14 @@ returns-in-Ok-finish c =
     let l = c.in-Ok-last.ensures in
     let text : List ℕ = c.args.text.now in
     let more : List Event = events_of c.in-Ok-last.event in
-    let fed : Fed c.last.new.self (take c.pieces.at text) (r.taken ++ more) = without_octet _ _ (r.taken ++ more) (l.fed (take c.pieces.at text) r.taken r.fed) in
+    let s = c.in_ok-absorb_some-2.ensures.reader in
+    let fed : Fed c.absorb_some-2.new.reader (take c.pieces.at text) (r.taken ++ more) = (s.fed _ _).0 (without_octet _ _ (r.taken ++ more) (l.fed (take c.pieces.at text) r.taken r.fed)) in
     let whole : take c.pieces.at text ≡ text = take_all c.pieces.at text (omega arith) in
-    let armored : Armored (rule_of c.last.new.self) text (built (r.taken ++ more)).blocks =
-    c.in-Ok-finish.ensures.ok text (r.taken ++ more) (subst (λ (v : List ℕ). Fed c.last.new.self v (r.taken ++ more)) whole fed) in
-    let is : built (r.taken ++ more) ≡ built_of c.absorb_some-2.new.self = built_next (built_of c.pieces.building) (built_of c.absorb_some-2.new.self) r.taken more r.built_is c.in_ok-absorb_some-2.ensures in
+    let armored : Armored (rule_of c.absorb_some-2.new.reader) text (built (r.taken ++ more)).blocks =
+    c.in-Ok-finish.ensures.ok text (r.taken ++ more) (subst (λ (v : List ℕ). Fed c.absorb_some-2.new.reader v (r.taken ++ more)) whole fed) in
+    let is : built (r.taken ++ more) ≡ built_of c.absorb_some-2.new.self = built_next (built_of c.pieces.building) (built_of c.absorb_some-2.new.self) r.taken more r.built_is c.in_ok-absorb_some-2.ensures.built in
     subst (λ (v : List Block). Armored (line_rule c.args.limits.now) text v) (ap (λ (v : Built). v.blocks) is)
-    (subst (λ (v : LineRule). Armored v text (built (r.taken ++ more)).blocks) (l.rule ∙ r.rule_is) armored)
+    (subst (λ (v : LineRule). Armored v text (built (r.taken ++ more)).blocks) (s.rule ∙ l.rule ∙ r.rule_is) armored)
 
 pub push-requires : goal.push-requires
 push-requires c = let r = c.pieces.invariant in record { free = r.quiet; «open» = r.going; room = omega (arith, r.count, length-take (length c.args.text.now - c.pieces.at) (drop c.pieces.at c.args.text.now)) }
@@ -42,7 +44,10 @@ pub last-requires : goal.last-requires
 last-requires c = let r = c.pieces.invariant in record { free = r.quiet; «open» = r.going }
 
 pub finish-requires : goal.finish-requires
-finish-requires c = let l = c.in-Ok-last.ensures in record { free = l.free; ended = l.ended }
+finish-requires c =
+    let l = c.in-Ok-last.ensures in
+    let s = c.in_ok-absorb_some-2.ensures.reader in
+    record { free = s.ready ∙ l.free; ended = s.ended ∙ l.ended }
 
 pub returns-in-Err : goal.returns-in-Err
 returns-in-Err c =
@@ -50,7 +55,8 @@ returns-in-Err c =
     let l = c.in-Ok-last.ensures in
     let text : List ℕ = c.args.text.now in
     let more : List Event = events_of c.in-Ok-last.event in
-    let fed : Fed c.last.new.self (take c.pieces.at text) (r.taken ++ more) = without_octet _ _ (r.taken ++ more) (l.fed (take c.pieces.at text) r.taken r.fed) in
+    let s = c.in_ok-absorb_some-2.ensures.reader in
+    let fed : Fed c.absorb_some-2.new.reader (take c.pieces.at text) (r.taken ++ more) = (s.fed _ _).0 (without_octet _ _ (r.taken ++ more) (l.fed (take c.pieces.at text) r.taken r.fed)) in
     let whole : take c.pieces.at text ≡ text = take_all c.pieces.at text (omega arith) in
-    subst (λ (v : LineRule). IsArmorFault v text c.in-Err.fault) (l.rule ∙ r.rule_is)
-    (c.in-Err.ensures.ok text (r.taken ++ more) (subst (λ (v : List ℕ). Fed c.last.new.self v (r.taken ++ more)) whole fed))
+    subst (λ (v : LineRule). IsArmorFault v text c.in-Err.fault) (s.rule ∙ l.rule ∙ r.rule_is)
+    (c.in-Err.ensures.ok text (r.taken ++ more) (subst (λ (v : List ℕ). Fed c.absorb_some-2.new.reader v (r.taken ++ more)) whole fed))

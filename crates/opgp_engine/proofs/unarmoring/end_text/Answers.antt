@@ -1,4 +1,4 @@
-use Rattle.std.proofs.Common.{arith}
+use Rattle.std.proofs.Common.{◌∙◌, arith}
 use Rattle.opgp_armor.specs.Events.{events_of}
 use Rattle.opgp_engine.proofs.Texts.{room_for, few_blocks, comes, fed_end, on_ok, through_end}
 use Rattle.opgp_engine.proofs.unarmoring.end_text.Goals as goal
@@ -18,6 +18,7 @@ absorb-requires-clause-order g c =
 
 pub returns : goal.returns
 returns g c limits input t =
-    let fed = fed_end _ _ _ (c.in-Ok.ensures.fed _ _ t.fed) in
-    through_end g.T.Receiver.fed g.T.Receiver.wanted limits c.args.dearmor c.last.new.self c.args.framer.now c.absorb.new.framer input c.in-Ok.event c.finish.result t c.events_are_in_order.ensures fed c.in-Ok.ensures.free
-    c.in_ok-absorb.ensures.framed c.in_ok-absorb.ensures.begun c.in-Ok.ensures.rule (c.finish.ensures.ok _ _ fed) (λ ok. on_ok c.finish.result _ c.finish.ensures.closed ok _ _ fed)
+    let s = c.in_ok-absorb.ensures.same in
+    let fed = (s.fed _ _).0 (fed_end _ _ _ (c.in-Ok.ensures.fed _ _ t.fed)) in
+    through_end g.T.Receiver.fed g.T.Receiver.wanted limits c.args.dearmor c.absorb.new.dearmor c.args.framer.now c.absorb.new.framer input c.in-Ok.event c.finish.result t c.events_are_in_order.ensures fed (s.ready ∙ c.in-Ok.ensures.free)
+    c.in_ok-absorb.ensures.framed c.in_ok-absorb.ensures.begun (s.rule ∙ c.in-Ok.ensures.rule) (c.finish.ensures.ok _ _ fed) (λ ok. on_ok c.finish.result _ c.finish.ensures.closed ok _ _ fed)

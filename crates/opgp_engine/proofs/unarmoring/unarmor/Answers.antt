@@ -59,12 +59,13 @@ pushes-preserved g c = record {
       let part : List ℕ = take c.in-Ok.n (take (length c.args.piece.now - c.pushes.at) (drop c.pushes.at c.args.piece.now)) in
       let size : length part ≡ c.in-Ok.n = length-take-le c.in-Ok.n _ c.in-Ok.ensures.within in
       let before : List ℕ = input ++ take c.pushes.at c.args.piece.now in
-      let d = c.take-event.new.self in
-      let counted : count_of d ≡ count_of c.pushes.dearmor + c.in-Ok.n = c.take-event.ensures.count ∙ c.in-Ok.ensures.count in
+      let s = c.in_ok-absorb.ensures.same in
+      let d = c.absorb.new.dearmor in
+      let counted : count_of d ≡ count_of c.pushes.dearmor + c.in-Ok.n = s.count ∙ c.take-event.ensures.count ∙ c.in-Ok.ensures.count in
       let more = through_more g.T.Receiver.fed g.T.Receiver.wanted limits c.pushes.dearmor d c.pushes.framer c.absorb.new.framer before part c.take-event.result t c.events_are_in_order.ensures
-      (taken_next c.pushes.dearmor _ d before part t.taken (events_of c.take-event.result) c.in-Ok.ensures.fed c.take-event.ensures.fed t.fed) c.in_ok-absorb.ensures.framed c.in_ok-absorb.ensures.begun c.take-event.ensures.free
-      (c.take-event.ensures.«open» ∙ c.in-Ok.ensures.«open») (c.take-event.ensures.rule ∙ c.in-Ok.ensures.rule) (counted ∙ ap (λ (m : ℕ). count_of c.pushes.dearmor + m) (sym size))
+      ((s.fed _ _).0 (taken_next c.pushes.dearmor _ c.take-event.new.self before part t.taken (events_of c.take-event.result) c.in-Ok.ensures.fed c.take-event.ensures.fed t.fed)) c.in_ok-absorb.ensures.framed c.in_ok-absorb.ensures.begun (s.ready ∙ c.take-event.ensures.free)
+      (s.ended ∙ c.take-event.ensures.«open» ∙ c.in-Ok.ensures.«open») (s.rule ∙ c.take-event.ensures.rule ∙ c.in-Ok.ensures.rule) (counted ∙ ap (λ (m : ℕ). count_of c.pushes.dearmor + m) (sym size))
       (omega (arith, counted, fits c.args.piece.now c.pushes.at c.in-Ok.n c.pushes.invariant.within c.in-Ok.ensures.within, c.pushes.invariant.count, c.requires.room)) in
       rw (take-add c.pushes.at c.in-Ok.n c.args.piece.now, ← append_assoc) (rw (take_rest c.args.piece.now c.pushes.at) at more);
-  count = omega (arith, c.take-event.ensures.count, c.in-Ok.ensures.count, c.pushes.invariant.count);
+  count = omega (arith, c.in_ok-absorb.ensures.same.count, c.take-event.ensures.count, c.in-Ok.ensures.count, c.pushes.invariant.count);
 }

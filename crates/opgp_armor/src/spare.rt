@@ -1,0 +1,27 @@
+//! Memory that lines use in turn.
+
+ghost use Rattle.std.specs.Prelude.{◌≡◌, []};
+
+use std::alloc::Global;
+
+/// Memory that lines use in turn: for octets, and for the letters left over joined with a line's.
+///
+/// What it holds means nothing.
+#[derive(Drop)]
+pub(crate) struct Spare {
+    pub(crate) octets: Vec<u8>,
+    pub(crate) letters: Vec<u8>,
+}
+
+impl Spare {
+    /// No memory. Allocates nothing.
+    pub(crate) fn new(alloc: Global) -> Spare
+        ensures octets { result.octets.items ≡ [] }
+        ensures letters { result.letters.items ≡ [] }
+    {
+        Spare {
+            octets: Vec::new(alloc),
+            letters: Vec::new(alloc),
+        }
+    }
+}

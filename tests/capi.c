@@ -1,6 +1,6 @@
 /* The library for C, called in each way that its header allows, over the keyring on standard input. Words:
  *
- *     --line=N --body=N --cert=N --input=N --pieces=N   the limits of `told`
+ *     --line=N --body=N --cert=N --input=N --pieces=N --policies=N   the limits of `told`
  *     told      prints the tables, or the fault
  *     named     prints each name of a number
  *     normalise, merge, join, nth=N   write the packets of the keyring that is made; joined with itself
@@ -859,7 +859,7 @@ int main(int argc, char **argv)
         const char *word;
         uint64_t *number;
     } options[] = {{"--line=", &limits.line}, {"--body=", &limits.body}, {"--cert=", &limits.cert}, {"--input=", &limits.input},
-                   {"--pieces=", &limits.pieces}};
+                   {"--pieces=", &limits.pieces}, {"--policies=", &limits.policies}};
     bool is_told = false;
     const char *making = NULL;
     opgp_usual_limits(&limits);

@@ -66,6 +66,31 @@ static void print_key(FILE *file, const opgp_key *key)
     fputc('\n', file);
 }
 
+/* The data of each subpacket stands right behind that of the one before, and its fields behind the octets of its numbers; they end
+ * where the data does, but for the octet 0 behind a text. Each has the place of its signature. */
+static void hold_subpackets(const opgp_keyring *keyring)
+{
+    static const uint8_t of_numbers[] = {0, 4, 1, 2, 0, 0, 2, 0, 8, 1, 2, 0, 1, 0};
+    uint64_t data = 0;
+    for (size_t row = 0; row < opgp_job_count(keyring); row++) {
+        const opgp_job *job = opgp_job_at(keyring, row);
+        size_t count;
+        const opgp_subpacket *rows = opgp_subpackets_of(keyring, row, &count);
+        for (size_t number = 0; number < count; number++) {
+            const opgp_subpacket *it = &rows[number];
+            uint64_t fields = it->field_sizes[0] + it->field_sizes[1];
+            uint64_t end = it->at + it->size - (it->form == OPGP_FORM_ENDED_TEXT);
+            if (it->at != data || it->form >= sizeof of_numbers || it->fields_at != it->at + of_numbers[it->form]
+                || (it->form != OPGP_FORM_NONE && it->fields_at + fields != end) || (it->form == OPGP_FORM_NONE && fields != 0)
+                || it->certificate != job->certificate || it->component != job->component || it->hang != job->hang
+                || it->nested != job->nested) {
+                fail("the place of a subpacket");
+            }
+            data += it->size;
+        }
+    }
+}
+
 /* The fields of each row stand right behind those of the row before, also of a row that has none. */
 static void hold_places(const opgp_keyring *keyring)
 {
@@ -89,6 +114,7 @@ static void hold_places(const opgp_keyring *keyring)
         }
         jobs += job->sizes[0] + job->sizes[1];
     }
+    hold_subpackets(keyring);
 }
 
 /* What a way finds. */

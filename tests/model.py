@@ -329,10 +329,11 @@ class Signature:
         self.body, self.version = body, it.take(1)[0]
         self.hashed = self.unhashed = ()
         if self.version == 3 and three_fits(body):
-            self.kind, self.algorithm, self.hash, self.left = body[2], body[15], body[16], body[17:19]
+            self.kind, self.algorithm, self.hash, self.left, self.material = body[2], body[15], body[16], body[17:19], body[19:]
             return
         if self.version not in (4, 6):
-            self.version = 0
+            self.version = self.kind = self.algorithm = self.hash = 0
+            self.left, self.material = bytes(2), b""
             return
         width = 2 if self.version == 4 else 4
         self.kind, self.algorithm, self.hash = it.take(1)[0], it.take(1)[0], it.take(1)[0]
@@ -346,7 +347,39 @@ class Signature:
             if size != {8: 16, 9: 24, 10: 32, 11: 16, 12: 16, 14: 32}.get(self.hash, size):
                 raise Unfit("SaltSize", begin)
             self.salt = it.take(size, begin)
+        self.material = body[it.at :]
         signature_material(it, self.algorithm, self.version == 6)
+
+
+def integers(octets, count):
+    """So many integers at the front, without their counts of bits; and what follows them."""
+    found = []
+    for _ in range(count):
+        size = (number(octets[:2]) + 7) // 8
+        found.append(octets[2 : 2 + size])
+        octets = octets[2 + size :]
+    return found, octets
+
+
+def key_material(body):
+    """The fields of a key's material (5.5.5): integers without their counts of bits, curves and parameters without their sizes."""
+    algorithm, material = body[5], body[10 if body[0] == 6 else 6 :]
+    counts = {1: 2, 2: 2, 3: 2, 16: 3, 17: 4}
+    if algorithm in counts:
+        return integers(material, counts[algorithm])[0]
+    if algorithm not in (18, 19, 22):
+        return [material]
+    curve, rest = material[1 : 1 + material[0]], material[1 + material[0] :]
+    point, rest = integers(rest, 1)
+    return [curve, *point, rest[1:]][: 3 if algorithm == 18 else 2]
+
+
+def made_by(it):
+    """What the algorithm of a signature made (5.2.3): integers without their counts of bits, or octets."""
+    counts = {1: 1, 3: 1, 17: 2, 19: 2, 22: 2}
+    if it.algorithm in counts and it.version:
+        return integers(it.material, counts[it.algorithm])[0]
+    return [it.material] if it.version else []
 
 
 def kept_signature(body):

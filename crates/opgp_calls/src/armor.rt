@@ -182,9 +182,6 @@ fn push_some(reader: &mut Dearmor, rest: &[u8], answer: &mut Answer) -> Result<u
     let count = reader.push(rest)?;
     if let Some(event) = reader.take() {
         add_event(&event, answer);
-        if let ArmorEvent::Octets(octets) = event {
-            reader.reuse(octets);
-        }
     }
     Ok(count)
 }

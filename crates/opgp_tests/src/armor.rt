@@ -6,25 +6,50 @@ use opgp_octets::{Fault, Layer, Limits, PushFault, Reason};
 use std::alloc::Global;
 use std::test::Fail;
 
-/// What holds if the allocation of a push fails.
+/// The fault of a reader that ran out of memory.
+const SPENT: Fault = Fault {
+    layer: Layer::Armor,
+    reason: Reason::Spent,
+    block: 0,
+    pos: 0,
+    inner: 0,
+};
+
+/// What holds if the allocation of a push fails; the blank line before takes no memory.
 #[test]
 fn refused_growth(rt: HostRuntime) {
     let mut reader = Dearmor::new(rt.alloc(), Limits::usual());
+    assert!(rt; reader.push(b"\n") == Ok(1));
+    assert!(rt; !reader.ready() && !reader.ended() && reader.given() == 1);
     if reader.push(b"-----").is_ok() {
         return;
     }
-    assert!(rt; !reader.ready() && !reader.ended() && reader.given() == 0);
+    assert!(rt; !reader.ready() && !reader.ended() && reader.given() == 1);
     assert!(rt; reader.take().is_none());
     assert_eq!(rt; reader.last().err(), Some(PushFault::Spent));
-    assert!(rt; !reader.ready() && reader.ended() && reader.given() == 0);
-    let spent = Fault {
-        layer: Layer::Armor,
-        reason: Reason::Spent,
-        block: 0,
-        pos: 0,
-        inner: 0,
-    };
-    assert_eq!(rt; reader.finish(), Err(spent));
+    assert!(rt; !reader.ready() && reader.ended() && reader.given() == 1);
+    assert_eq!(rt; reader.finish(), Err(SPENT));
+}
+
+/// What holds if an allocation for the last line fails, which is a header.
+#[test]
+fn last_refused_growth(rt: HostRuntime) {
+    let mut reader = Dearmor::new(rt.alloc(), Limits::usual());
+    assert!(rt; reader.push(b"-----BEGIN PGP MESSAGE-----\n") == Ok(28));
+    drop(reader.take());
+    assert!(rt; !reader.ready() && !reader.ended() && reader.given() == 28);
+    if reader.push(b"A: b").is_err() {
+        return;
+    }
+    assert!(rt; !reader.ready() && !reader.ended() && reader.given() == 32);
+    match reader.last() {
+        Ok(event) => assert!(rt; event.is_some()),
+        Err(fault) => {
+            assert!(rt; fault == PushFault::Memory);
+            assert!(rt; !reader.ready() && reader.ended() && reader.given() == 32);
+            assert_eq!(rt; reader.finish(), Err(SPENT));
+        }
+    }
 }
 
 /// The octets of a line; None if it has none, or if memory runs out.

@@ -38,7 +38,7 @@ fn bodies_take_no_more_room_than_they_have(rt: HostRuntime) -> Result<(), Fail> 
 
 /// A reader that ran out of memory reads no more.
 fn is_spent(rt: &impl Abort, mut deframe: Deframe, octets: &[u8]) {
-    assert!(rt; !deframe.ready() && deframe.given() == 0 && octets.len() < 100);
+    assert!(rt; !deframe.ready() && deframe.given() == 2 && octets.len() < 100);
     assert!(rt; deframe.push(octets) == Err(PushFault::Spent));
     assert!(rt; deframe.take().is_none());
     let spent = Fault {
@@ -65,6 +65,10 @@ fn is_written(rt: &impl Abort, alloc: Global, placed: &Placed) -> Result<(), Out
 fn refused_growth(rt: HostRuntime) {
     let alloc = rt.alloc();
     let mut deframe = Deframe::new(alloc, 7, Limits::usual());
+    // A packet of no octets takes no memory.
+    assert!(rt; deframe.push(b"\xE8\x00") == Ok(2));
+    drop(deframe.take());
+    assert!(rt; !deframe.ready() && deframe.given() == 2);
     let octets = b"\xCD\x03abc";
     match deframe.push(octets) {
         Ok(n) => assert!(rt; n == 5),

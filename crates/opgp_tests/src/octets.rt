@@ -105,6 +105,7 @@ fn texts_of_refusals(rt: HostRuntime) {
     assert!(rt; says(alloc, &body, "Count inner 6"));
     assert!(rt; says(alloc, &ParseFault::Body(body), "Count inner 6"));
     assert!(rt; says(alloc, &ParseFault::Memory, "out of memory"));
+    assert!(rt; says(alloc, &MpiFault::Short, "Short"));
     assert!(rt; says(alloc, &MpiFault::MpiBits, "MpiBits"));
     assert!(rt; says(alloc, &MpiFault::Memory, "out of memory"));
     assert!(rt; says(alloc, &PushFault::Spent, "Spent"));

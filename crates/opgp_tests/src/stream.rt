@@ -3,7 +3,7 @@
 ghost use Rattle.std.specs.Prelude.{◌≡◌, false};
 
 use opgp_armor::{Label, armor};
-use opgp_stream::{Armoring, Buffer, Held, Output, Sink, Watched, Word, put_all};
+use opgp_stream::{Armoring, Buffer, Held, Output, Sink, Source, Watched, Word, put_all};
 use std::alloc::{AllocError, Global};
 use std::io;
 use std::io::Write;
@@ -106,23 +106,31 @@ fn words_of_a_line(rt: HostRuntime) -> Result<(), Fail> {
     Ok(())
 }
 
+/// A number alone and as a word, with a bar behind it.
+fn decimals_of(alloc: Global, n: u64) -> Result<Vec<u8>, Fail> {
+    let mut buffer = Buffer::new(alloc)?;
+    let mut sink = Watched::new(Vec::new(alloc));
+    {
+        let mut output = Output::new(&mut sink, &mut buffer);
+        output.add_decimal(n)?;
+        output.add_words([Word::Decimal(n), Word::Text(b"|")].as_slice())?;
+        output.finish()?;
+    }
+    Ok(sink.into_inner())
+}
+
+// Numbers of each number of digits, as std prints them.
 #[test]
 fn decimals(rt: HostRuntime) -> Result<(), Fail> {
-    for (n, text) in [
-        (0, "0"),
-        (9, "9"),
-        (10, "10"),
-        (4_294_967_295, "4294967295"),
-        (18_446_744_073_709_551_615, "18446744073709551615"),
-    ] {
-        let mut buffer = Buffer::new(rt.alloc())?;
-        let mut sink = Watched::new(Vec::new(rt.alloc()));
-        {
-            let mut output = Output::new(&mut sink, &mut buffer);
-            output.add_decimal(n)?;
-            output.finish()?;
+    let mut power = 1u64;
+    for _ in 0..20 {
+        for n in [power.saturating_sub(1), power, u64::MAX - power] {
+            let mut wanted = String::new(rt.alloc());
+            write!(wanted, "{n}{n}|")?;
+            let told = decimals_of(rt.alloc(), n)?;
+            assert_eq!(rt; told.as_slice(), wanted.as_bytes());
         }
-        assert_eq!(rt; sink.into_inner().as_slice(), text.as_bytes());
+        power = power.saturating_mul(10);
     }
     Ok(())
 }
@@ -294,6 +302,59 @@ fn writes_at_the_end_of_the_room(rt: HostRuntime) -> Result<(), Fail> {
         output.finish()?;
     }
     assert_eq!(rt; sink.into_inner().sizes, [65_536, 1, 65_536, 65_535]);
+    Ok(())
+}
+
+/// Whether both were held at once, and how many octets a sink was given then.
+fn both_held(alloc: Global, front: &[u8], back: &[u8]) -> Result<(bool, usize), Fail> {
+    let mut buffer = Buffer::new(alloc)?;
+    let mut sink = Watched::new(Vec::new(alloc));
+    let fits;
+    {
+        let mut output = Output::new(&mut sink, &mut buffer);
+        fits = output.hold_both(front, back);
+        output.finish()?;
+    }
+    Ok((fits, sink.into_inner().len()))
+}
+
+// What fits the room of a buffer exactly is held, and no more than that.
+#[test]
+fn two_held_at_once(rt: HostRuntime) -> Result<(), Fail> {
+    let octets = octets_of(rt.alloc(), 65_537)?;
+    for (front, back, wanted) in [
+        (0, 0, (true, 0)),
+        (65_535, 1, (true, 65_536)),
+        (65_536, 0, (true, 65_536)),
+        (0, 65_536, (true, 65_536)),
+        (65_535, 2, (false, 0)),
+        (65_537, 0, (false, 0)),
+        (1, 65_536, (false, 0)),
+    ] {
+        let front = octets.get(..front).unwrap_or_default();
+        let back = octets.get(..back).unwrap_or_default();
+        assert_eq!(rt; both_held(rt.alloc(), front, back)?, wanted);
+    }
+    Ok(())
+}
+
+// Where nothing is put, or there is no room for what is read, nothing is taken, and nothing has failed.
+#[test]
+fn nothing_put_and_read(rt: HostRuntime) -> Result<(), Fail> {
+    let mut sink = Watched::new(Drips::new(rt.alloc(), 3, 0, true));
+    assert_eq!(rt; sink.put(b"")?, 0);
+    assert!(rt; !sink.failed());
+    let mut held = Held::new(rt.alloc())?;
+    assert_eq!(rt; held.put(b"")?, 0);
+    assert!(rt; !held.failed());
+    let mut source = Watched::new(b"ab".as_slice());
+    assert_eq!(rt; source.pull(&mut [])?, 0);
+    assert!(rt; !source.failed());
+    let mut room = [0; 3];
+    assert_eq!(rt; source.pull(&mut room)?, 2);
+    assert!(rt; !source.failed() && room == [b'a', b'b', 0]);
+    assert_eq!(rt; source.pull(&mut room)?, 0);
+    assert!(rt; !source.failed());
     Ok(())
 }
 

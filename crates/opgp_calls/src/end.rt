@@ -1,5 +1,6 @@
 //! Why a line has no answer.
 
+use opgp_engine::EngineError;
 use opgp_octets::{OutOfMemory, PushFault};
 
 /// Why a line has no answer.
@@ -22,6 +23,15 @@ impl From<PushFault> for End {
         match fault {
             PushFault::Memory => End::Memory,
             PushFault::Spent => End::Bad("a reader that isn't spent"),
+        }
+    }
+}
+
+impl From<EngineError> for End {
+    fn from(error: EngineError) -> End {
+        match error {
+            EngineError::Memory => End::Memory,
+            EngineError::Read | EngineError::Write => End::Bad("a sink that takes all"),
         }
     }
 }

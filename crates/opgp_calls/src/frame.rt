@@ -109,7 +109,7 @@ pub(crate) fn push_some(reader: &mut Deframe, rest: &[u8]) -> Result<usize, End>
 }
 
 /// Adds a packet: its place, block, header and octets.
-fn add_placed(alloc: Global, placed: &Placed, answer: &mut Answer) -> Result<(), End> {
+pub(crate) fn add_placed(alloc: Global, placed: &Placed, answer: &mut Answer) -> Result<(), End> {
     answer.named("at", placed.pos);
     answer.number(placed.block);
     add_packet(alloc, &placed.packet, answer)

@@ -62,17 +62,35 @@ fn add_id(id: &KeyId, answer: &mut Answer) {
     answer.word(id.write_digits(&mut [0; 16]));
 }
 
-/// `digest OCTETS`: a digest of 20 or 32 octets.
+/// `digest OCTETS`: a digest of 20, 28, 32, 48 or 64 octets.
 fn digest(octets: &[u8], answer: &mut Answer) -> Result<(), End> {
+    match digest_of(octets) {
+        Some(digest) => {
+            add_digest(&digest, answer);
+            Ok(())
+        }
+        None => Err(End::Bad("20, 28, 32, 48 or 64 octets")),
+    }
+}
+
+/// The digest of these octets, by the hash algorithm that gives so many.
+fn digest_of(octets: &[u8]) -> Option<Digest> {
     if let Ok(octets) = <[u8; 20]>::try_from(octets) {
-        add_digest(&Digest::Sha1(octets), answer);
-        return Ok(());
+        return Some(Digest::Sha1(octets));
+    }
+    if let Ok(octets) = <[u8; 28]>::try_from(octets) {
+        return Some(Digest::Sha224(octets));
     }
     if let Ok(octets) = <[u8; 32]>::try_from(octets) {
-        add_digest(&Digest::Sha256(octets), answer);
-        return Ok(());
+        return Some(Digest::Sha256(octets));
     }
-    Err(End::Bad("20 or 32 octets"))
+    if let Ok(octets) = <[u8; 48]>::try_from(octets) {
+        return Some(Digest::Sha384(octets));
+    }
+    match <[u8; 64]>::try_from(octets) {
+        Ok(octets) => Some(Digest::Sha512(octets)),
+        Err(_) => None,
+    }
 }
 
 /// Adds a digest: its octets and its digits.

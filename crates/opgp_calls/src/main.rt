@@ -6,6 +6,7 @@ mod answer;
 mod armor;
 mod composer;
 mod end;
+mod engine;
 mod frame;
 mod given;
 mod hash;
@@ -19,6 +20,7 @@ mod parts;
 mod report;
 mod ring;
 mod signature;
+mod signed;
 
 use crate::answer::Answer;
 use crate::end::End;
@@ -98,6 +100,12 @@ fn called(
         return Some(ended);
     }
     if let Some(ended) = composer::answered(alloc, name, given, answer) {
+        return Some(ended);
+    }
+    if let Some(ended) = signed::answered(alloc, name, given, answer) {
+        return Some(ended);
+    }
+    if let Some(ended) = engine::answered(alloc, name, given, answer) {
         return Some(ended);
     }
     report::answered(alloc, name, given, answer)

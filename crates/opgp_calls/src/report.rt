@@ -4,11 +4,11 @@ use crate::answer::Answer;
 use crate::end::End;
 use crate::given::Given;
 use crate::ring::ring_of;
-use opgp_hash::{Question, Subject, digest, write_octets};
+use opgp_hash::{Question, Subject, digest, reopen, write_octets};
 use opgp_octets::OutOfMemory;
 use opgp_report::{
-    Finding, FingerprintedReporting, LeftOctets, Place, Reporting, Row, Verdict, check, index_keys,
-    question_at,
+    Finding, FingerprintedReporting, KeyIndex, LeftOctets, Place, Reporting, Row, Verdict, check,
+    index_keys, question_at,
 };
 use opgp_ring::Certificate;
 use std::alloc::Global;
@@ -25,6 +25,7 @@ pub(crate) fn answered(
         "reporting" => reported(alloc, given, answer),
         "fingerprinted" => fingerprinted(alloc, given, answer),
         "question_at" => question(alloc, given, answer),
+        "reopen" => reopened(alloc, given, answer),
         "first_by_key_id" => key_of_id(alloc, given, answer),
         "first_by_fingerprint" => key_of_fingerprint(alloc, given, answer),
         _ => return None,
@@ -159,14 +160,40 @@ fn question(alloc: Global, given: &Given, answer: &mut Answer) -> Result<(), End
     }
 }
 
-/// `first_by_key_id OCTETS OCTETS`: the number of a keyring's first key with a key ID.
+/// `reopen OCTETS`: the question that hashed octets are of, these again, and their digest; or that there
+/// is none.
+fn reopened(alloc: Global, given: &Given, answer: &mut Answer) -> Result<(), End> {
+    match reopen(given.octets(0)?) {
+        Some(question) => add_question(alloc, &question, &[], answer),
+        None => {
+            answer.word("none");
+            Ok(())
+        }
+    }
+}
+
+/// `first_by_key_id OCTETS OCTETS`: the number of a keyring's first key with a key ID, by an index of the
+/// keyring and by one that is made of its certificates.
 fn key_of_id(alloc: Global, given: &Given, answer: &mut Answer) -> Result<(), End> {
     let ring = ring_of(alloc, given.octets(0)?)?;
     let Ok(id) = <[u8; 8]>::try_from(given.octets(1)?) else {
         return Err(End::Bad("a key ID"));
     };
     add_number(index_keys(alloc, &ring)?.first_by_key_id(id), answer);
+    add_number(
+        index_of(alloc, ring.certificates())?.first_by_key_id(id),
+        answer,
+    );
     Ok(())
+}
+
+/// The index of the keys of certificates.
+fn index_of(alloc: Global, certificates: &[Certificate]) -> Result<KeyIndex, OutOfMemory> {
+    let mut index = KeyIndex::new(alloc);
+    for certificate in certificates {
+        index = index.with_certificate(certificate)?;
+    }
+    Ok(index)
 }
 
 /// `first_by_fingerprint VERSION OCTETS OCTETS`: that of its first key of a version with a fingerprint.
@@ -199,7 +226,7 @@ fn add_question(
 /// Adds the fields of a question.
 fn add_fields(question: &Question<'_>, answer: &mut Answer) {
     answer.named("version", u64::from(question.version()));
-    answer.word(subject_name(question.subject()));
+    add_subject(question.subject(), answer);
     answer.small(question.kind());
     answer.small(question.algorithm());
     answer.small(question.hash());
@@ -207,13 +234,22 @@ fn add_fields(question: &Question<'_>, answer: &mut Answer) {
     answer.octets(question.hashed_area());
 }
 
-/// What a question is about.
-fn subject_name(subject: Subject<'_>) -> &'static str {
+/// Adds what a question is about: its name, and the octets of its parts.
+fn add_subject(subject: Subject<'_>, answer: &mut Answer) {
     match subject {
-        Subject::Binary(_) => "content",
-        Subject::One(_) => "key",
-        Subject::Two(_, _) => "subkey",
-        Subject::OnUserId(_, _) => "name",
-        Subject::OnAttribute(_, _) => "attribute",
+        Subject::Binary(content) => answer.named_octets("content", content),
+        Subject::One(key) => answer.named_octets("key", key.body()),
+        Subject::Two(primary, subkey) => {
+            answer.named_octets("subkey", primary.body());
+            answer.octets(subkey.body());
+        }
+        Subject::OnUserId(primary, id) => {
+            answer.named_octets("name", primary.body());
+            answer.octets(id);
+        }
+        Subject::OnAttribute(primary, attribute) => {
+            answer.named_octets("attribute", primary.body());
+            answer.octets(attribute.body());
+        }
     }
 }

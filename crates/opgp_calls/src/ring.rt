@@ -2,14 +2,16 @@
 
 use crate::answer::Answer;
 use crate::end::End;
-use crate::frame::push_some;
+use crate::frame::{add_placed, push_some};
 use crate::given::Given;
 use crate::octets::limits_of;
 use crate::parts::{add_part_copies, add_parts};
 use opgp_frame::{Deframe, Packet, Placed, write_packet};
 use opgp_merge::{Choice, choose, choose_certificate, merge};
-use opgp_octets::{Limits, OutOfMemory};
-use opgp_ring::{BlockOf, Keyring, check_bodies, compose, flatten, join, normalise, nth};
+use opgp_octets::{Fault, Limits, Malformed};
+use opgp_ring::{
+    BlockOf, Keyring, check_bodies, check_bodies_by, compose, flatten, join, normalise, nth,
+};
 use std::alloc::Global;
 
 /// The answer to a call of these; None where there is none of the name.
@@ -109,7 +111,11 @@ fn add_ring(alloc: Global, ring: &Keyring, answer: &mut Answer) -> Result<(), En
 }
 
 /// Adds the octets of packets.
-fn add_packets(alloc: Global, packets: &[Packet], answer: &mut Answer) -> Result<(), End> {
+pub(crate) fn add_packets(
+    alloc: Global,
+    packets: &[Packet],
+    answer: &mut Answer,
+) -> Result<(), End> {
     let mut out = Vec::new(alloc);
     for packet in packets {
         write_packet(packet, &mut out)?;
@@ -119,7 +125,7 @@ fn add_packets(alloc: Global, packets: &[Packet], answer: &mut Answer) -> Result
 }
 
 /// The block of octets, alone.
-fn one_block(alloc: Global, octets: &[u8]) -> Result<Vec<BlockOf>, End> {
+pub(crate) fn one_block(alloc: Global, octets: &[u8]) -> Result<Vec<BlockOf>, End> {
     let block = block_of(alloc, 0, "fits", octets)?;
     let mut blocks = Vec::new(alloc);
     if blocks.push(block).is_err() {
@@ -128,9 +134,10 @@ fn one_block(alloc: Global, octets: &[u8]) -> Result<Vec<BlockOf>, End> {
     Ok(blocks)
 }
 
-/// The keyring of octets.
+/// The keyring of octets, whose malformed signatures are kept.
 pub(crate) fn ring_of(alloc: Global, octets: &[u8]) -> Result<Keyring, End> {
-    match compose(alloc, one_block(alloc, octets)?, &Limits::usual())? {
+    let limits = Limits::usual().with_malformed(Malformed::Keep);
+    match compose(alloc, one_block(alloc, octets)?, &limits)? {
         Ok(ring) => Ok(ring),
         Err(_) => Err(End::Bad("a keyring")),
     }
@@ -256,27 +263,35 @@ fn block_copy(alloc: Global, given: &Given, answer: &mut Answer) -> Result<(), E
 }
 
 /// Adds a copy of a block.
-fn add_block_copy(alloc: Global, block: &BlockOf, answer: &mut Answer) -> Result<(), OutOfMemory> {
+fn add_block_copy(alloc: Global, block: &BlockOf, answer: &mut Answer) -> Result<(), End> {
     let copy = block.copy(alloc)?;
-    add_block(&copy, answer);
-    Ok(())
+    add_block(alloc, &copy, answer)
 }
 
-/// Adds a block: its number, whether its label fits, how many packets it has and where they are.
-fn add_block(block: &BlockOf, answer: &mut Answer) {
+/// Adds a block: its number, whether its label fits, its packets and where they are.
+fn add_block(alloc: Global, block: &BlockOf, answer: &mut Answer) -> Result<(), End> {
     answer.named("block", block.block);
     answer.truth(block.label_fits);
     for placed in &block.packets {
-        answer.named("at", placed.pos);
+        add_placed(alloc, placed, answer)?;
     }
+    Ok(())
 }
 
-/// `check_bodies [LABEL OCTETS]..`: the first fault of the bodies of blocks.
+/// `check_bodies [LABEL OCTETS]..`: the first fault of the bodies of blocks, and that by each policy for
+/// malformed signatures.
 fn bodies_checked(alloc: Global, given: &Given, answer: &mut Answer) -> Result<(), End> {
     let blocks = blocks_of(alloc, given)?;
-    match check_bodies(&blocks) {
+    add_fault(check_bodies(&blocks), answer);
+    add_fault(check_bodies_by(&blocks, Malformed::Refuse), answer);
+    add_fault(check_bodies_by(&blocks, Malformed::Keep), answer);
+    Ok(())
+}
+
+/// Adds a fault, or that there is none.
+fn add_fault(fault: Option<Fault>, answer: &mut Answer) {
+    match fault {
         Some(fault) => answer.fault(&fault),
         None => answer.word("whole"),
     }
-    Ok(())
 }

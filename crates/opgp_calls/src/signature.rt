@@ -30,6 +30,7 @@ pub(crate) fn answered(
             signature_fields(body, answer);
             Ok(())
         }
+        "signature_copy" => signature_copy(alloc, body, answer),
         "subpackets" => {
             subpackets(body, answer);
             Ok(())
@@ -99,10 +100,40 @@ fn add_behind(alloc: Global, signature: Signature, answer: &mut Answer) -> Resul
 fn signature_fields(body: &[u8], answer: &mut Answer)
     requires { IsBodySized body.now }
 {
-    let Ok(view) = SigView::parse_body(body) else {
-        answer.word("refused");
-        return;
-    };
+    match SigView::parse_body(body) {
+        Ok(view) => add_fields(view, answer),
+        Err(_) => answer.word("refused"),
+    }
+}
+
+/// `signature_copy BODY`: the fields of a signature that was parsed, of one that is kept, and of a copy.
+fn signature_copy(alloc: Global, body: &[u8], answer: &mut Answer) -> Result<(), End>
+    requires { IsBodySized body.now }
+{
+    match Signature::parse_body(alloc, body) {
+        Ok(signature) => add_fields(signature.view(), answer),
+        Err(ParseFault::Body(_)) => answer.word("refused"),
+        Err(ParseFault::Memory) => return Err(End::Memory),
+    }
+    match Signature::from_body(Vec::from_slice(alloc, body)?) {
+        Ok(signature) => add_copied(alloc, &signature, answer),
+        Err(_) => {
+            answer.word("refused");
+            Ok(())
+        }
+    }
+}
+
+/// Adds the fields of a signature, and those of a copy.
+fn add_copied(alloc: Global, signature: &Signature, answer: &mut Answer) -> Result<(), End> {
+    add_fields(signature.view(), answer);
+    let copy = signature.copy(alloc)?;
+    add_fields(copy.view(), answer);
+    Ok(())
+}
+
+/// Adds the fields of a signature of each version.
+fn add_fields(view: SigView<'_>, answer: &mut Answer) {
     add_common(&view, answer);
     match view {
         SigView::Three(three) => add_three(&three, answer),

@@ -1,0 +1,57 @@
+//! The calls of `opgp_engine` and `opgp_stack` that write into a sink.
+
+use crate::answer::Answer;
+use crate::end::End;
+use crate::given::Given;
+use crate::ring::{blocks_of, ring_of};
+use opgp_engine::{Out, Watched, write_certificates};
+use opgp_stack::{write_listing, write_shown};
+use std::alloc::Global;
+
+/// The answer to a call of these; None where there is none of the name.
+pub(crate) fn answered(
+    alloc: Global,
+    name: &str,
+    given: &Given,
+    answer: &mut Answer,
+) -> Option<Result<(), End>> {
+    Some(match name {
+        "write_certificates" => certificates(alloc, given, answer),
+        "write_listing" => listing(alloc, given, answer),
+        "write_shown" => shown(alloc, given, answer),
+        _ => return None,
+    })
+}
+
+/// `write_certificates OUT OCTETS`: the certificates of a keyring, each on its own, as `armor` or as
+/// `binary`.
+fn certificates(alloc: Global, given: &Given, answer: &mut Answer) -> Result<(), End> {
+    let out = match given.name(0)? {
+        "armor" => Out::Armor,
+        "binary" => Out::Binary,
+        _ => return Err(End::Bad("armor or binary")),
+    };
+    let ring = ring_of(alloc, given.octets(0)?)?;
+    let mut sink = Watched::new(Vec::new(alloc));
+    write_certificates(alloc, &ring, out, &mut sink)?;
+    answer.octets(sink.into_inner().as_slice());
+    Ok(())
+}
+
+/// `write_listing OCTETS`: the lines of a keyring's packets.
+fn listing(alloc: Global, given: &Given, answer: &mut Answer) -> Result<(), End> {
+    let ring = ring_of(alloc, given.octets(0)?)?;
+    let mut sink = Watched::new(Vec::new(alloc));
+    write_listing(alloc, &ring, &mut sink)?;
+    answer.octets(sink.into_inner().as_slice());
+    Ok(())
+}
+
+/// `write_shown [LABEL OCTETS]..`: the lines of the packets of blocks.
+fn shown(alloc: Global, given: &Given, answer: &mut Answer) -> Result<(), End> {
+    let blocks = blocks_of(alloc, given)?;
+    let mut sink = Watched::new(Vec::new(alloc));
+    write_shown(alloc, &blocks, &mut sink)?;
+    answer.octets(sink.into_inner().as_slice());
+    Ok(())
+}

@@ -1,0 +1,94 @@
+//! The calls of `opgp_ring` about signed literals.
+
+use crate::answer::Answer;
+use crate::end::End;
+use crate::given::Given;
+use crate::packet::add_fault;
+use crate::ring::{add_packets, blocks_of, one_block};
+use opgp_octets::Malformed;
+use opgp_ring::{BlockOf, Signatures, SignedLiteral, compose_signed_by, end_fits};
+use std::alloc::Global;
+
+/// The answer to a call of these; None where there is none of the name.
+pub(crate) fn answered(
+    alloc: Global,
+    name: &str,
+    given: &Given,
+    answer: &mut Answer,
+) -> Option<Result<(), End>> {
+    Some(match name {
+        "signed" => composed(alloc, given, Malformed::Refuse, answer),
+        "signed_kept" => composed(alloc, given, Malformed::Keep, answer),
+        "end_fits" => ends(alloc, given, answer),
+        _ => return None,
+    })
+}
+
+/// `signed [LABEL OCTETS]..`: the signed literal of blocks, and a copy of it, or the fault; of
+/// `signed_kept` malformed signatures are kept.
+fn composed(
+    alloc: Global,
+    given: &Given,
+    malformed: Malformed,
+    answer: &mut Answer,
+) -> Result<(), End> {
+    let blocks = blocks_of(alloc, given)?;
+    if !end_fits(&blocks) {
+        return Err(End::Bad("blocks that end"));
+    }
+    match compose_signed_by(alloc, blocks, malformed)? {
+        Ok(literal) => add_both(alloc, &literal, answer),
+        Err(fault) => {
+            answer.fault(&fault);
+            Ok(())
+        }
+    }
+}
+
+/// Adds a signed literal, a copy of it, and the packets of that.
+fn add_both(alloc: Global, literal: &SignedLiteral, answer: &mut Answer) -> Result<(), End> {
+    add_signed(alloc, literal, answer)?;
+    let copy = literal.copy(alloc)?;
+    add_signed(alloc, &copy, answer)?;
+    let packets = copy.into_packets();
+    add_packets(alloc, packets.as_slice(), answer)
+}
+
+/// Adds a signed literal: its packets, its literal, its signatures.
+fn add_signed(alloc: Global, signed: &SignedLiteral, answer: &mut Answer) -> Result<(), End> {
+    answer.named("packets", signed.flat().len() as u64);
+    add_packets(alloc, signed.flat(), answer)?;
+    answer.named_octets("literal", signed.literal().body());
+    add_signatures(signed.signatures(), answer);
+    Ok(())
+}
+
+/// Adds the bodies of signatures, or their faults.
+fn add_signatures(mut signatures: Signatures<'_>, answer: &mut Answer) {
+    for _ in 0..u64::MAX {
+        match signatures.next() {
+            Some(Ok(signature)) => answer.named_octets("signature", signature.body()),
+            Some(Err(fault)) => add_fault(fault, answer),
+            None => break,
+        }
+    }
+    answer.word("end");
+}
+
+/// `end_fits PLACE OCTETS`: whether a block ends at 2^64 - 1 at most, each of whose packets is in this
+/// place.
+fn ends(alloc: Global, given: &Given, answer: &mut Answer) -> Result<(), End> {
+    let mut blocks = one_block(alloc, given.octets(0)?)?;
+    for block in &mut blocks {
+        move_to(block, given.number(0)?);
+    }
+    answer.truth(end_fits(&blocks));
+    Ok(())
+}
+
+/// Moves the packets of a block to this place.
+fn move_to(block: &mut BlockOf, pos: u64) {
+    for placed in &mut block.packets {
+        placed.pos = pos;
+    }
+}

@@ -6,6 +6,7 @@
 #include <unistd.h>
 
 void *__libc_malloc(size_t size);
+void *__libc_calloc(size_t count, size_t size);
 void *__libc_realloc(void *block, size_t size);
 void __libc_free(void *block);
 
@@ -20,6 +21,8 @@ static void *taken(void *block, size_t size, size_t before) {
 }
 
 void *malloc(size_t size) { return taken(__libc_malloc(size), size, 0); }
+
+void *calloc(size_t count, size_t size) { return taken(__libc_calloc(count, size), count * size, 0); }
 
 void *realloc(void *block, size_t size) {
     size_t before = block ? malloc_usable_size(block) : 0;

@@ -33,11 +33,11 @@ module _ {T : Type 0} (was now : Limits → T → List Item → Type 0) (wanted 
     stands = stands_with f f.fault done octets by x.stands;
   }
 
-  through_with : (d : Dearmor) (f : Framer T) (input : List ℕ) → GoesOver f.top → Through was wanted limits d f input → Through now wanted limits d (framer_with f top) input
+  through_with : (d : Dearmor) (f : Framer T) (input : List ℕ) → GoesOver f.top → Through was wanted limits d f [] input → Through now wanted limits d (framer_with f top) [] input
   through_with d f input by x = record {
     taken = x.taken;
     fed = x.fed;
-    framed = framed_with f _ _ _ by x.framed;
+    framed = (x.framed.0, x.framed.1, framed_with f _ _ _ by x.framed.2);
     inside = x.inside;
     quiet = x.quiet;
     going = x.going;
@@ -68,10 +68,10 @@ module _ {T A : Type 0} (fed : A → Limits → T → List Item → Type 0) (wan
       let k = stands_one f f.fault done octets x.stands in
       (k.0, record { limits_kept = x.limits_kept; label_kept = x.label_kept; numbered = x.numbered; counted = x.counted; stands = k.1 })
 
-  through_one : (d : Dearmor) (f : Framer T) (input : List ℕ) → Through FedSome wanted limits d f input → (a : A) × Through (fed a) wanted limits d f input
+  through_one : (d : Dearmor) (f : Framer T) (input : List ℕ) → Through FedSome wanted limits d f [] input → (a : A) × Through (fed a) wanted limits d f [] input
   through_one d f input x =
-      let k = framed_one f _ _ _ x.framed in
-      (k.0, record { taken = x.taken; fed = x.fed; framed = k.1; inside = x.inside; quiet = x.quiet; going = x.going; rule = x.rule; count = x.count; few = x.few })
+      let k = framed_one f _ _ _ x.framed.2 in
+      (k.0, record { taken = x.taken; fed = x.fed; framed = (x.framed.0, x.framed.1, k.1); inside = x.inside; quiet = x.quiet; going = x.going; rule = x.rule; count = x.count; few = x.few })
 
   passed_one : (mode : Mode) (front : Front) (f : Framer T) (seen input : List ℕ) → Passed FedSome wanted mode limits front f seen input → (a : A) × Passed (fed a) wanted mode limits front f seen input
   passed_one mode Undecided f seen input x = let k = framed_one f [] None input x.4 in (k.0, (x.0, x.1, x.2, x.3, k.1))

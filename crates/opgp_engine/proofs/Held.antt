@@ -55,7 +55,7 @@ module _ {T : Type 0} (fed : Limits → T → List Item → Type 0) (wanted : Wa
   framer_within : (mode : Mode) (front : Front) (f : Framer T) (seen input : List ℕ) → Passed fed wanted mode limits front f seen input → (f.limits ≡ limits) × WasGiven fed limits f.top
   framer_within mode Undecided f seen input x = (x.4.limits_kept, stands_given f f.fault _ _ x.4.stands)
   framer_within mode Binary f seen input x = (x.1.limits_kept, stands_given f f.fault _ _ x.1.stands)
-  framer_within mode (Armored d) f seen input x = (x.1.framed.limits_kept, stands_given f f.fault _ _ x.1.framed.stands)
+  framer_within mode (Armored d) f seen input x = (x.1.framed.2.limits_kept, stands_given f f.fault _ _ x.1.framed.2.stands)
 
   front_short : (mode : Mode) (front : Front) (f : Framer T) (seen input : List ℕ) → Passed fed wanted mode limits front f seen input → front_held front ≤ line_limit limits + 16
   front_short mode Undecided f seen input x = omega arith

@@ -42,7 +42,7 @@ module _ {T : Type 0} (fed_top : Limits → T → List Item → Type 0) (wanted 
       → ((limits : Limits) (done : List TextBlock) (was : Option Label) (octets : List ℕ) → Framed fed_top wanted limits old done was octets → Framed fed_top wanted limits f done (Some Message) [])
       → Passed fed_top wanted mode limits (Armored d) f (input ++ first ∷ []) input
   decide_text mode limits d old f Undecided first input is passed small fed quiet going rule count begun step =
-      (text_told mode input first passed.0 passed.2 small, subst (Through fed_top wanted limits d f) (sym passed.2) (through_none fed_top wanted limits d f fed quiet going rule count begun (step limits [] None input passed.4)))
+      (text_told mode input first passed.0 passed.2 small, subst (Through fed_top wanted limits d f []) (sym passed.2) (through_none fed_top wanted limits d f fed quiet going rule count begun (step limits [] None input passed.4)))
   decide_text mode limits d old f Binary first input is passed small fed quiet going rule count begun step = cc
   decide_text mode limits d old f (Armored e) first input is passed small fed quiet going rule count begun step = cc
 

@@ -25,7 +25,7 @@ Passed fed wanted mode limits Undecided f seen input =
 Passed fed wanted mode limits Binary f seen input =
     Decides mode seen true × Framed fed wanted limits f [] None input
 Passed fed wanted mode limits (Armored d) f seen input =
-    Decides mode seen false × Through fed wanted limits d f input
+    Decides mode seen false × Through fed wanted limits d f [] input
 
 -- the octets given
 abbrev pub count_of : {T : Type 0} → Pipeline T → ℕ

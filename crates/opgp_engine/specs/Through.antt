@@ -1,5 +1,5 @@
 -- Armored text on its way to framed blocks.
-use Rattle.std.specs.Prelude.{◌≡◌, ℕ, ◌<◌, ◌^◌, Bool, true, false, List, [], ◌∷◌, length, map, Option}
+use Rattle.std.specs.Prelude.{◌≡◌, ℕ, ◌<◌, ◌^◌, Bool, true, false, List, [], ◌∷◌, ◌++◌, length, map, Option}
 use Rattle.std.specs.Prelude.{Some, Result}
 use Rattle.std.specs.Result.{MatchResult}
 use Rattle.opgp_octets.specs.declared.fault.Fault.{Fault}
@@ -24,11 +24,11 @@ MayCome begun (Header key value ∷ es) = Unit {0}
 MayCome begun (Octets o ∷ es) = Unit {0}
 MayCome begun (End ∷ es) = Unit {0}
 
--- whether the top was told of the open block, after one event or none
+-- whether an open block is known, after one event or none
 abbrev pub BegunAfter : Bool → Bool → List Event → Type 0
-BegunAfter old new [] = new ≡ old
+BegunAfter old new [] = new ≡ true → old ≡ true
 BegunAfter old new (Begin l ∷ es) = new ≡ false
-BegunAfter old new (Header key value ∷ es) = new ≡ old
+BegunAfter old new (Header key value ∷ es) = new ≡ true → old ≡ true
 BegunAfter old new (Octets o ∷ es) = Unit {0}
 BegunAfter old new (End ∷ es) = new ≡ false
 
@@ -39,14 +39,25 @@ abbrev pub FramesBuilt : {T : Type 0} → (Limits → T → List Item → Type 0
 FramesBuilt fed wanted limits f b =
     Framed fed wanted limits f (map armored_block b.blocks) (Some b.label) b.octets
 
+-- the framer was given it but for the last octets of the open block, which wait
+abbrev pub FramesBut : {T : Type 0} → (Limits → T → List Item → Type 0) → Wanted → Limits
+    → Framer T → List ℕ → Built → Type 0
+FramesBut fed wanted limits f waiting b = (octets : List ℕ) × (b.octets ≡ octets ++ waiting)
+    × Framed fed wanted limits f (map armored_block b.blocks) (Some b.label) octets
+
+-- whether an open block is known: the top was told of it, or octets of it wait
+abbrev pub is_known : {T : Type 0} → Framer T → List ℕ → Bool
+is_known f [] = has_begun f
+is_known f (o ∷ os) = true
+
 -- The reader was given these octets of a text, and the framer what the events built that were taken
--- from it.
+-- from it, but for the octets that wait.
 pub record Through {T : Type 0} (fed_top : Limits → T → List Item → Type 0) (wanted : Wanted)
-    (limits : Limits) (d : Dearmor) (f : Framer T) (input : List ℕ) : Type 0 where
+    (limits : Limits) (d : Dearmor) (f : Framer T) (waiting input : List ℕ) : Type 0 where
   pub taken : List Event
   pub fed : Fed d input taken
-  pub framed : FramesBuilt fed_top wanted limits f (built taken)
-  pub inside : has_begun f ≡ true → is_open_behind false taken ≡ true
+  pub framed : FramesBut fed_top wanted limits f waiting (built taken)
+  pub inside : is_known f waiting ≡ true → is_open_behind false taken ≡ true
   pub quiet : is_ready d ≡ false
   pub going : has_ended d ≡ false
   pub rule : rule_of d ≡ line_rule limits

@@ -1,6 +1,6 @@
 //! The blocks of an input, framed one after the other.
 
-ghost use Rattle.std.specs.Prelude.{◌≡◌, ◌<◌, ◌+◌, ◌^◌, ◌++◌, ◌∷◌, [], ℕ, List, Option, Some, false, true};
+ghost use Rattle.std.specs.Prelude.{◌≡◌, ◌<◌, ◌≤◌, ◌+◌, ◌^◌, ◌++◌, ◌∷◌, [], ℕ, List, Option, Some, false, true};
 ghost use Rattle.std.specs.Prelude.{length, OnOk, MatchResult};
 ghost use Rattle.opgp_armor.specs.declared.label.Label.{Label};
 ghost use Rattle.opgp_frame.specs.Fed.{is_ready, limits_of};
@@ -96,6 +96,8 @@ impl<T: Receiver + Drop> Framer<T> {
             (label : Option Label) (octets : List ℕ)
             → Framed T.fed T.wanted limits self.old done label octets
             → Framed T.fed T.wanted limits self.new done label (octets ++ piece.now)) }
+        ensures count { OnOk result (open_count self.new ≤ open_count self.old + length piece.now) }
+        ensures number { OnOk result (number_of self.new ≡ number_of self.old) }
     {
         if self.fault.is_some() {
             return Ok(());

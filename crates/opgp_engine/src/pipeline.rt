@@ -121,7 +121,7 @@ impl<T: Receiver + Drop> Pipeline<T> {
             return Ok(());
         }
         self.decide(piece[0]);
-        pass(&mut self.front, &mut self.framer, piece)?;
+        pass(self.alloc, &mut self.front, &mut self.framer, piece)?;
         self.given += piece.len() as u64;
         Ok(())
     }
@@ -171,6 +171,7 @@ impl<T: Receiver + Drop> Pipeline<T> {
 
 /// Passes a piece on.
 fn pass<T: Receiver + Drop>(
+    alloc: Global,
     front: &mut Front,
     framer: &mut Framer<T>,
     piece: &[u8],
@@ -185,7 +186,7 @@ fn pass<T: Receiver + Drop>(
 {
     match front {
         Front::Armored(dearmor) => {
-            unarmor(dearmor, framer, piece)?;
+            unarmor(alloc, dearmor, framer, piece)?;
             Ok(())
         }
         Front::Binary => {

@@ -1,4 +1,4 @@
-use Rattle.std.proofs.Common.{◌∙◌, arith}
+use Rattle.std.proofs.Common.{◌∙◌, [], arith}
 use Rattle.opgp_armor.specs.Events.{events_of}
 use Rattle.opgp_engine.proofs.Texts.{room_for, few_blocks, comes, fed_end, on_ok, through_end}
 use Rattle.opgp_engine.proofs.unarmoring.end_text.Goals as goal
@@ -6,15 +6,16 @@ use Rattle.opgp_engine.proofs.unarmoring.end_text.Goals as goal
 pub absorb-requires-clause-room : goal.absorb-requires-clause-room
 absorb-requires-clause-room g c =
     let t = c.requires.2 in
-    room_for g.T.Receiver.fed g.T.Receiver.wanted c.requires.0 c.last.new.self c.args.framer.now _ t.taken (events_of c.in-Ok.event) _ c.no_more_octets_than_given.ensures (fed_end _ _ _ (c.in-Ok.ensures.fed _ _ t.fed)) t.framed (omega (arith, t.count)) t.few
+    let room = room_for g.T.Receiver.fed g.T.Receiver.wanted c.requires.0 c.last.new.self c.args.framer.now [] _ t.taken (events_of c.in-Ok.event) _ c.no_more_octets_than_given.ensures (fed_end _ _ _ (c.in-Ok.ensures.fed _ _ t.fed)) t.framed (omega (arith, t.count)) t.few in
+    omega (arith, room)
 
 pub absorb-requires-clause-few : goal.absorb-requires-clause-few
-absorb-requires-clause-few g c = few_blocks g.T.Receiver.fed g.T.Receiver.wanted c.requires.0 c.args.dearmor c.args.framer.now c.requires.1 c.no_more_blocks_than_octets.ensures c.requires.2
+absorb-requires-clause-few g c = few_blocks g.T.Receiver.fed g.T.Receiver.wanted c.requires.0 c.args.dearmor c.args.framer.now [] c.requires.1 c.no_more_blocks_than_octets.ensures c.requires.2
 
 pub absorb-requires-clause-order : goal.absorb-requires-clause-order
 absorb-requires-clause-order g c =
     let t = c.requires.2 in
-    comes g.T.Receiver.fed g.T.Receiver.wanted c.requires.0 c.args.dearmor c.last.new.self c.args.framer.now c.requires.1 _ (events_of c.in-Ok.event) t c.events_are_in_order.ensures (c.in-Ok.ensures.fed _ _ t.fed) c.in-Ok.ensures.free
+    comes g.T.Receiver.fed g.T.Receiver.wanted c.requires.0 c.args.dearmor c.last.new.self c.args.framer.now [] c.requires.1 _ (events_of c.in-Ok.event) t c.events_are_in_order.ensures (c.in-Ok.ensures.fed _ _ t.fed) c.in-Ok.ensures.free
 
 pub returns : goal.returns
 returns g c limits input t =

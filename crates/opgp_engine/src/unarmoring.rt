@@ -25,6 +25,9 @@ use std::mem;
 /// one step.
 const MANY: usize = 8192;
 
+/// Where fewer octets of a piece are left, lines don't wait, so that a short text takes no more memory.
+const FEW: usize = 1024;
+
 /// One event of a text, where there is one, whose memory the reader is given back.
 fn absorb<T: Receiver + Drop>(
     dearmor: &mut Dearmor,
@@ -84,12 +87,12 @@ fn pass_on<T: Receiver + Drop>(
     Ok(())
 }
 
-/// The octets of a line, or any other event.
-fn line_of(event: Option<ArmorEvent>) -> Result<Vec<u8>, Option<ArmorEvent>>
+/// The octets of a line that waits, or any other event.
+fn line_of(event: Option<ArmorEvent>, waits: bool) -> Result<Vec<u8>, Option<ArmorEvent>>
     ensures { MatchResult result (λ octets. event ≡ Some (Octets octets)) (λ other. other ≡ event) }
 {
     match event {
-        Some(ArmorEvent::Octets(octets)) => Ok(octets),
+        Some(ArmorEvent::Octets(octets)) if waits => Ok(octets),
         other => Err(other),
     }
 }
@@ -108,14 +111,15 @@ fn wait(dearmor: &mut Dearmor, waiting: &mut Vec<u8>, octets: Vec<u8>) -> Result
     Ok(())
 }
 
-/// One event of a text, where there is one, behind octets that wait: those of its line wait too, until
-/// they are many; any other event finds none waiting.
+/// One event of a text, where there is one, behind octets that wait: those of its line wait too, if they
+/// may, until they are many; any other event finds none waiting.
 fn hold<T: Receiver + Drop>(
     alloc: Global,
     dearmor: &mut Dearmor,
     framer: &mut Framer<T>,
     waiting: &mut Vec<u8>,
     event: Option<ArmorEvent>,
+    waits: bool,
 ) -> Result<(), OutOfMemory>
     requires room { open_count framer.old + length waiting.old.items
         + event_octets (events_of event) < 2 ^ 63 }
@@ -129,7 +133,7 @@ fn hold<T: Receiver + Drop>(
         (is_known framer.new waiting.new.items) (events_of event)) }
     ensures same { SaysTheSame dearmor.old dearmor.new }
 {
-    match line_of(event) {
+    match line_of(event, waits) {
         Ok(octets) => {
             wait(dearmor, waiting, octets)?;
             if waiting.len() < MANY {
@@ -173,7 +177,8 @@ pub(crate) fn unarmor<T: Receiver + Drop>(
             Err(_) => return Err(AllocError),
         }
         let event = dearmor.take();
-        hold(alloc, dearmor, framer, &mut waiting, event)?;
+        let waits = piece.len() - at >= FEW;
+        hold(alloc, dearmor, framer, &mut waiting, event, waits)?;
     }
     pass_on(dearmor, framer, waiting)?;
     Ok(())

@@ -221,7 +221,7 @@ fn add_copy(alloc: Global, event: ArmorEvent, answer: &mut Answer) -> Result<(),
 }
 
 /// The label of this name.
-fn label_of(name: &str) -> Result<Label, End> {
+pub(crate) fn label_of(name: &str) -> Result<Label, End> {
     match name {
         "message" => Ok(Label::Message),
         "public" => Ok(Label::PublicKeyBlock),

@@ -61,6 +61,11 @@ impl<'a> Given<'a> {
         }
     }
 
+    /// All numbers.
+    pub(crate) fn numbers(&self) -> &[u64] {
+        self.numbers.as_slice()
+    }
+
     /// A number below 256.
     pub(crate) fn small(&self, at: usize) -> Result<u8, End> {
         let number = self.number(at)?;

@@ -4,9 +4,12 @@
 
 mod answer;
 mod armor;
+mod asked;
 mod composer;
+mod drips;
 mod end;
 mod engine;
+mod faults;
 mod frame;
 mod given;
 mod hash;
@@ -15,6 +18,7 @@ mod material;
 mod meaning;
 mod numbers;
 mod octets;
+mod output;
 mod packet;
 mod parts;
 mod report;
@@ -108,5 +112,14 @@ fn called(
     if let Some(ended) = engine::answered(alloc, name, given, answer) {
         return Some(ended);
     }
-    report::answered(alloc, name, given, answer)
+    if let Some(ended) = report::answered(alloc, name, given, answer) {
+        return Some(ended);
+    }
+    if let Some(ended) = asked::answered(alloc, name, given, answer) {
+        return Some(ended);
+    }
+    if let Some(ended) = faults::answered(alloc, name, given, answer) {
+        return Some(ended);
+    }
+    output::answered(alloc, name, given, answer)
 }

@@ -209,7 +209,7 @@ fn key_of_fingerprint(alloc: Global, given: &Given, answer: &mut Answer) -> Resu
 }
 
 /// Adds a question: its fields, what it hashes, written behind octets, and its digest.
-fn add_question(
+pub(crate) fn add_question(
     alloc: Global,
     question: &Question<'_>,
     before: &[u8],

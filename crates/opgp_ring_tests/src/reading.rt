@@ -1,8 +1,8 @@
 //! Packets and keyrings of octets, for the tests.
 
-use opgp_frame::{Deframe, Packet, Placed, write_packet};
+use opgp_frame::{Deframe, Placed};
 use opgp_octets::Limits;
-use opgp_ring::{BlockOf, Keyring, compose, flatten};
+use opgp_ring::{BlockOf, Keyring, compose};
 use std::alloc::Global;
 use std::test::Fail;
 
@@ -15,18 +15,9 @@ pub const KEY: &[u8] =
 // A signature by EdDSA, of empty areas and integers of no octets.
 pub const SIGNATURE: &[u8] = b"\xC2\x0E\x04\x13\x16\x08\x00\x00\x00\x00\xAB\xCD\x00\x00\x00\x00";
 
-/// The octets, joined.
-pub fn joined(alloc: Global, parts: &[&[u8]]) -> Result<Vec<u8>, Fail> {
-    let mut octets = Vec::new(alloc);
-    for part in parts {
-        octets.extend_from_slice(part)?;
-    }
-    Ok(octets)
-}
-
 /// The packets of a block's octets.
-pub fn packets_of(alloc: Global, block: u64, octets: &[u8]) -> Result<Vec<Placed>, Fail> {
-    let mut deframe = Deframe::new(alloc, block, Limits::usual());
+fn packets_of(alloc: Global, octets: &[u8]) -> Result<Vec<Placed>, Fail> {
+    let mut deframe = Deframe::new(alloc, 0, Limits::usual());
     let mut packets = Vec::new(alloc);
     let mut rest = octets;
     for _ in 0..=octets.len() {
@@ -51,36 +42,14 @@ pub fn packets_of(alloc: Global, block: u64, octets: &[u8]) -> Result<Vec<Placed
     }
 }
 
-/// Blocks of these octets, one after the other, each with a label that fits or not.
-pub fn blocks_of(alloc: Global, blocks: &[(bool, &[u8])]) -> Result<Vec<BlockOf>, Fail> {
-    let mut list = Vec::new(alloc);
-    for (i, (label_fits, octets)) in blocks.iter().enumerate() {
-        list.push(BlockOf {
-            block: i as u64,
-            label_fits: *label_fits,
-            packets: packets_of(alloc, i as u64, octets)?,
-        })?;
-    }
-    Ok(list)
-}
-
-/// The octets of packets.
-pub fn written(alloc: Global, packets: &[Packet]) -> Result<Vec<u8>, Fail> {
-    let mut octets = Vec::new(alloc);
-    for packet in packets {
-        write_packet(packet, &mut octets)?;
-    }
-    Ok(octets)
-}
-
-/// The octets of a keyring's packets.
-pub fn octets_of(alloc: Global, ring: &Keyring) -> Result<Vec<u8>, Fail> {
-    written(alloc, &flatten(alloc, ring)?)
-}
-
 /// The keyring of these octets.
 pub fn ring_of(alloc: Global, octets: &[u8]) -> Result<Keyring, Fail> {
-    let blocks = blocks_of(alloc, &[(true, octets)])?;
+    let mut blocks = Vec::new(alloc);
+    blocks.push(BlockOf {
+        block: 0,
+        label_fits: true,
+        packets: packets_of(alloc, octets)?,
+    })?;
     match compose(alloc, blocks, &Limits::usual())? {
         Ok(ring) => Ok(ring),
         Err(_) => Err("no keyring".into()),

@@ -2,7 +2,7 @@
 
 use crate::ends::{Trouble, holds, in_drips, in_pieces};
 use crate::keys::KEYS;
-use opgp_octets::{Limits, Malformed};
+use opgp_octets::Limits;
 use opgp_stack::{Action, KeyName, Mode, Out, RunFault, Task, Watched, run};
 use std::alloc::Global;
 use std::test::Fail;
@@ -108,57 +108,6 @@ fn runs_whose_writes_fail(rt: HostRuntime) -> Result<(), Fail> {
                     assert!(rt; fault == if fails { Some(RunFault::Write) } else { None });
                 }
             }
-        }
-    }
-    Ok(())
-}
-
-// The key of RFC 9580, A.1, and a signature on it that ends after its version.
-const MALFORMED: &[u8] =
-    b"\xC6\x33\x04\x53\xF3\x5F\x0B\x16\x09\x2B\x06\x01\x04\x01\xDA\x47\x0F\x01\x01\x07\x40\x3F\
-    \x09\x89\x94\xBD\xD9\x16\xED\x40\x53\x19\x79\x34\xE4\xA8\x7C\x80\x73\x3A\x12\x80\xD6\x2F\
-    \x80\x10\x99\x2E\x43\xEE\x3B\x24\x06\xC2\x01\x04";
-
-// A malformed signature refuses the input, or it is kept: listed by its length, without a digest, and
-// written as it is.
-#[test]
-fn malformed_signatures(rt: HostRuntime) -> Result<(), Fail> {
-    let alloc = rt.alloc();
-    let cases: [(Action, &[u8]); 5] = [
-        (
-            Action::List,
-            b"pub v4 alg 22 created 1408458507 C959BDBAFA32A2F89A153B678CFDE12197965A9A \
-            8CFDE12197965A9A\nsig opaque 1\n",
-        ),
-        (
-            Action::Show,
-            b"block 0 at 0 type 6 form new1 length 51\nblock 0 at 53 type 2 form new1 length 1\n",
-        ),
-        (
-            Action::Check,
-            b"row 0 cert 0 part - hang 0 nested - : none opaque\n",
-        ),
-        (
-            Action::CheckFingerprints,
-            b"row 0 cert 0 part - hang 0 nested - : none opaque \
-            C959BDBAFA32A2F89A153B678CFDE12197965A9A -\n",
-        ),
-        (Action::Write { out: Out::Binary }, MALFORMED),
-    ];
-    for (action, wanted) in cases {
-        let mut task = task_of(action);
-        let mut sink = Watched::new(Vec::new(alloc));
-        match run(alloc, &task, &mut in_pieces(MALFORMED, 100, 0), &mut sink) {
-            Err(RunFault::Refused(fault)) => assert!(rt; fault.pos == 53 && fault.inner == 1),
-            _ => return Err("not refused".into()),
-        }
-        if sink.failed() {
-            return Err("failed".into());
-        }
-        task.limits = task.limits.with_malformed(Malformed::Keep);
-        match run(alloc, &task, &mut in_pieces(MALFORMED, 100, 0), &mut sink) {
-            Ok(()) => assert!(rt; sink.into_inner().as_slice() == wanted),
-            Err(_) => return Err("refused".into()),
         }
     }
     Ok(())

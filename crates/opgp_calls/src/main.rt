@@ -17,6 +17,8 @@ mod numbers;
 mod octets;
 mod packet;
 mod parts;
+mod pieces;
+mod reading;
 mod report;
 mod ring;
 mod signature;
@@ -106,6 +108,12 @@ fn called(
         return Some(ended);
     }
     if let Some(ended) = engine::answered(alloc, name, given, answer) {
+        return Some(ended);
+    }
+    if let Some(ended) = reading::answered(alloc, name, given, answer) {
+        return Some(ended);
+    }
+    if let Some(ended) = pieces::answered(alloc, name, given, answer) {
         return Some(ended);
     }
     report::answered(alloc, name, given, answer)

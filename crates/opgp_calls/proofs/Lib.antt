@@ -1,1 +1,3 @@
+pub mod ReadingPackets
+pub mod ReadingParts
 pub mod Writable

@@ -27,7 +27,7 @@ pub(crate) fn answered(
 
 /// How a part is shown: by its octets, by those in the current format, or by its size alone.
 #[derive(Clone, Copy)]
-enum Shown {
+pub(crate) enum Shown {
     AsItIs,
     Normal,
     Size,
@@ -101,7 +101,12 @@ fn add_end(
 }
 
 /// Adds a part as it is to be shown.
-fn add_part(alloc: Global, part: Ready, shown: Shown, answer: &mut Answer) -> Result<(), End> {
+pub(crate) fn add_part(
+    alloc: Global,
+    part: Ready,
+    shown: Shown,
+    answer: &mut Answer,
+) -> Result<(), End> {
     match shown {
         Shown::AsItIs => add_octets(alloc, &part, answer),
         Shown::Normal => add_octets(alloc, &part.normalise(), answer),

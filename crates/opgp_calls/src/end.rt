@@ -30,8 +30,9 @@ impl From<PushFault> for End {
 impl From<EngineError> for End {
     fn from(error: EngineError) -> End {
         match error {
-            EngineError::Memory => End::Memory,
-            EngineError::Read | EngineError::Write => End::Bad("a sink that takes all"),
+            // Each sink is a vector, which takes all that there is memory for.
+            EngineError::Memory | EngineError::Write => End::Memory,
+            EngineError::Read => End::Bad("a source that can be read"),
         }
     }
 }

@@ -5,7 +5,8 @@ use crate::end::End;
 use crate::given::Given;
 use crate::ring::{blocks_of, ring_of};
 use opgp_engine::{Out, Watched, write_certificates};
-use opgp_stack::{write_listing, write_shown};
+use opgp_report::{LeftOctets, Report, check};
+use opgp_stack::{write_listing, write_report, write_shown};
 use std::alloc::Global;
 
 /// The answer to a call of these; None where there is none of the name.
@@ -19,6 +20,7 @@ pub(crate) fn answered(
         "write_certificates" => certificates(alloc, given, answer),
         "write_listing" => listing(alloc, given, answer),
         "write_shown" => shown(alloc, given, answer),
+        "write_report" => reported(alloc, given, answer),
         _ => return None,
     })
 }
@@ -52,6 +54,21 @@ fn shown(alloc: Global, given: &Given, answer: &mut Answer) -> Result<(), End> {
     let blocks = blocks_of(alloc, given)?;
     let mut sink = Watched::new(Vec::new(alloc));
     write_shown(alloc, &blocks, &mut sink)?;
+    answer.octets(sink.into_inner().as_slice());
+    Ok(())
+}
+
+/// `write_report OCTETS`: the lines of a keyring's report, by the left octets.
+fn reported(alloc: Global, given: &Given, answer: &mut Answer) -> Result<(), End> {
+    let ring = ring_of(alloc, given.octets(0)?)?;
+    let report = check(alloc, &ring, &LeftOctets)?;
+    add_report(alloc, &report, answer)
+}
+
+/// Adds the lines of a report.
+fn add_report(alloc: Global, report: &Report, answer: &mut Answer) -> Result<(), End> {
+    let mut sink = Watched::new(Vec::new(alloc));
+    write_report(alloc, report, &mut sink)?;
     answer.octets(sink.into_inner().as_slice());
     Ok(())
 }

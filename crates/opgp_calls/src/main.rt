@@ -21,6 +21,8 @@ mod octets;
 mod output;
 mod packet;
 mod parts;
+mod pieces;
+mod reading;
 mod report;
 mod ring;
 mod signature;
@@ -113,6 +115,12 @@ fn called(
         return Some(ended);
     }
     if let Some(ended) = report::answered(alloc, name, given, answer) {
+        return Some(ended);
+    }
+    if let Some(ended) = reading::answered(alloc, name, given, answer) {
+        return Some(ended);
+    }
+    if let Some(ended) = pieces::answered(alloc, name, given, answer) {
         return Some(ended);
     }
     if let Some(ended) = asked::answered(alloc, name, given, answer) {

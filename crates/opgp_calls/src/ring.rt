@@ -103,7 +103,7 @@ fn composed(alloc: Global, given: &Given, answer: &mut Answer) -> Result<(), End
 }
 
 /// Adds a keyring: how many packets come before how many certificates, and its octets.
-fn add_ring(alloc: Global, ring: &Keyring, answer: &mut Answer) -> Result<(), End> {
+pub(crate) fn add_ring(alloc: Global, ring: &Keyring, answer: &mut Answer) -> Result<(), End> {
     answer.named("lead", ring.lead().len() as u64);
     answer.named("certificates", ring.certificates().len() as u64);
     let packets = flatten(alloc, ring)?;
@@ -269,7 +269,7 @@ fn add_block_copy(alloc: Global, block: &BlockOf, answer: &mut Answer) -> Result
 }
 
 /// Adds a block: its number, whether its label fits, its packets and where they are.
-fn add_block(alloc: Global, block: &BlockOf, answer: &mut Answer) -> Result<(), End> {
+pub(crate) fn add_block(alloc: Global, block: &BlockOf, answer: &mut Answer) -> Result<(), End> {
     answer.named("block", block.block);
     answer.truth(block.label_fits);
     for placed in &block.packets {

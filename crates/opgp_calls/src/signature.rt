@@ -124,11 +124,15 @@ fn signature_copy(alloc: Global, body: &[u8], answer: &mut Answer) -> Result<(),
     }
 }
 
-/// Adds the fields of a signature, and those of a copy.
+/// Adds the fields of a signature, and those of a copy; of one that is kept as it is, a copy of that
+/// alone.
 fn add_copied(alloc: Global, signature: &Signature, answer: &mut Answer) -> Result<(), End> {
     add_fields(signature.view(), answer);
     let copy = signature.copy(alloc)?;
     add_fields(copy.view(), answer);
+    if let Signature::Other(other) = signature {
+        answer.octets(other.copy(alloc)?.body());
+    }
     Ok(())
 }
 

@@ -6,7 +6,7 @@ use crate::given::Given;
 use crate::packet::add_fault;
 use crate::ring::{add_packets, blocks_of, one_block};
 use opgp_octets::Malformed;
-use opgp_ring::{BlockOf, Signatures, SignedLiteral, compose_signed_by, end_fits};
+use opgp_ring::{BlockOf, Signatures, SignedLiteral, compose_signed, compose_signed_by, end_fits};
 use std::alloc::Global;
 
 /// The answer to a call of these; None where there is none of the name.
@@ -36,7 +36,11 @@ fn composed(
     if !end_fits(&blocks) {
         return Err(End::Bad("blocks that end"));
     }
-    match compose_signed_by(alloc, blocks, malformed)? {
+    let composed = match malformed {
+        Malformed::Refuse => compose_signed(alloc, blocks)?,
+        Malformed::Keep => compose_signed_by(alloc, blocks, malformed)?,
+    };
+    match composed {
         Ok(literal) => add_both(alloc, &literal, answer),
         Err(fault) => {
             answer.fault(&fault);
@@ -46,7 +50,11 @@ fn composed(
 }
 
 /// Adds a signed literal, a copy of it, and the packets of that.
-fn add_both(alloc: Global, literal: &SignedLiteral, answer: &mut Answer) -> Result<(), End> {
+pub(crate) fn add_both(
+    alloc: Global,
+    literal: &SignedLiteral,
+    answer: &mut Answer,
+) -> Result<(), End> {
     add_signed(alloc, literal, answer)?;
     let copy = literal.copy(alloc)?;
     add_signed(alloc, &copy, answer)?;

@@ -81,13 +81,32 @@ fn called(
     given: &Given,
     answer: &mut Answer,
 ) -> Option<Result<(), End>> {
+    match called_of_octets(alloc, name, given, answer) {
+        Some(ended) => Some(ended),
+        None => called_of_keyrings(alloc, name, given, answer),
+    }
+}
+
+/// The same of numbers and names, octets, texts, packets and their bodies, and what is hashed.
+fn called_of_octets(
+    alloc: Global,
+    name: &str,
+    given: &Given,
+    answer: &mut Answer,
+) -> Option<Result<(), End>> {
     if let Some(ended) = numbers::answered(name, given, answer) {
         return Some(ended);
     }
     if let Some(ended) = octets::answered(alloc, name, given, answer) {
         return Some(ended);
     }
+    if let Some(ended) = faults::answered(alloc, name, given, answer) {
+        return Some(ended);
+    }
     if let Some(ended) = armor::answered(alloc, name, given, answer) {
+        return Some(ended);
+    }
+    if let Some(ended) = output::answered(alloc, name, given, answer) {
         return Some(ended);
     }
     if let Some(ended) = frame::answered(alloc, name, given, answer) {
@@ -102,6 +121,16 @@ fn called(
     if let Some(ended) = hash::answered(alloc, name, given, answer) {
         return Some(ended);
     }
+    asked::answered(alloc, name, given, answer)
+}
+
+/// The same of keyrings, and of what reads them.
+fn called_of_keyrings(
+    alloc: Global,
+    name: &str,
+    given: &Given,
+    answer: &mut Answer,
+) -> Option<Result<(), End>> {
     if let Some(ended) = ring::answered(alloc, name, given, answer) {
         return Some(ended);
     }
@@ -114,20 +143,11 @@ fn called(
     if let Some(ended) = engine::answered(alloc, name, given, answer) {
         return Some(ended);
     }
-    if let Some(ended) = report::answered(alloc, name, given, answer) {
-        return Some(ended);
-    }
     if let Some(ended) = reading::answered(alloc, name, given, answer) {
         return Some(ended);
     }
     if let Some(ended) = pieces::answered(alloc, name, given, answer) {
         return Some(ended);
     }
-    if let Some(ended) = asked::answered(alloc, name, given, answer) {
-        return Some(ended);
-    }
-    if let Some(ended) = faults::answered(alloc, name, given, answer) {
-        return Some(ended);
-    }
-    output::answered(alloc, name, given, answer)
+    report::answered(alloc, name, given, answer)
 }

@@ -40,7 +40,7 @@ fn parts(alloc: Global, given: &Given, answer: &mut Answer) -> Result<(), End> {
         alloc,
         limits,
         given.octets(0)?,
-        given.short(5)?,
+        given.long(5)?,
         &mut reader,
         answer,
     )?;
@@ -64,7 +64,7 @@ fn feed_parts(
     alloc: Global,
     limits: Limits,
     octets: &[u8],
-    size: u16,
+    size: u32,
     reader: &mut PartReader,
     answer: &mut Answer,
 ) -> Result<(), End>
@@ -115,7 +115,7 @@ fn packets(alloc: Global, given: &Given, answer: &mut Answer) -> Result<(), End>
         alloc,
         limits,
         given.octets(0)?,
-        given.short(5)?,
+        given.long(5)?,
         &mut reader,
         answer,
     )?;
@@ -138,7 +138,7 @@ fn feed_packets(
     alloc: Global,
     limits: Limits,
     octets: &[u8],
-    size: u16,
+    size: u32,
     reader: &mut PacketReader,
     answer: &mut Answer,
 ) -> Result<(), End>

@@ -6,8 +6,8 @@ use Rattle.opgp_calls.proofs.pieces.feed_packets.Given as goal
 
 abbrev pub invariant-pieces : goal.invariant-pieces
 invariant-pieces l =
-    (octets_given l.reader ≡ l.given) × (l.given ≤ input_limit l.limits + 65536)
+    (octets_given l.reader ≡ l.given) × (l.given ≤ input_limit l.limits + 4294967296)
     × IsReadingPackets l.limits l.reader
 
 abbrev pub decreases-pieces : goal.decreases-pieces
-decreases-pieces l = input_limit l.limits + 65537 - l.given
+decreases-pieces l = input_limit l.limits + 4294967297 - l.given

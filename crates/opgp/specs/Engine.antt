@@ -4,6 +4,7 @@ pub use Rattle.opgp_engine.specs.Draft
 pub use Rattle.opgp_engine.specs.Errors
 pub use Rattle.opgp_engine.specs.Exchanged
 pub use Rattle.opgp_engine.specs.Framed
+pub use Rattle.opgp_engine.specs.Going
 pub use Rattle.opgp_engine.specs.HandingOut
 pub use Rattle.opgp_engine.specs.Keyrings
 pub use Rattle.opgp_engine.specs.Layers

@@ -1,3 +1,1 @@
-pub mod ReadingPackets
-pub mod ReadingParts
 pub mod Writable

@@ -1,6 +1,7 @@
 mod Again
 mod Ends
 mod Framing
+mod Going
 mod Handing
 pub mod Kept
 mod Labels

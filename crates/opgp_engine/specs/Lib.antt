@@ -21,3 +21,4 @@ pub mod Waiting
 pub mod PacketReader
 pub mod SoundPackets
 pub mod Used
+pub mod Going

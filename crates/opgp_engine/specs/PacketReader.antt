@@ -11,6 +11,7 @@ use Rattle.opgp_engine.specs.declared.packet_reader.PacketReader.{PacketReader}
 use Rattle.opgp_engine.specs.declared.pipeline.Pipeline.{Pipeline}
 use Rattle.opgp_engine.specs.declared.sound_packets.SoundPackets.{SoundPackets}
 use Rattle.opgp_engine.specs.Exchanged.{top_of}
+use Rattle.opgp_engine.specs.Going.{IsGoing}
 use Rattle.opgp_engine.specs.Packets.{any_label}
 use Rattle.opgp_engine.specs.PartReader.{front_held}
 use Rattle.opgp_engine.specs.Pipeline.{Fed, count_of}
@@ -74,6 +75,10 @@ held_of r = front_held r.pipeline.front + packet_held r.pipeline.framer.deframe
 -- the most that is
 abbrev pub most_held : Limits → ℕ
 most_held l = line_limit l + body_limit l + pieces_limit l + 32
+
+-- it was used within these limits, and holds no more than they allow
+abbrev pub IsReading : Limits → PacketReader → Type 0
+IsReading limits r = IsGoing IsUsed held_of most_held limits r
 
 -- The answer to all octets (RFC 9580, 4): their packets, none of which has a fault in its body, are
 -- those that were taken and those that still wait; or the one fault.

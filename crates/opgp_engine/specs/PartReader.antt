@@ -13,6 +13,7 @@ use Rattle.opgp_engine.specs.declared.pipeline.Pipeline.{Pipeline}
 use Rattle.opgp_engine.specs.declared.handing_out.Handing.{Handing}
 use Rattle.opgp_engine.specs.declared.part_reader.PartReader.{PartReader}
 use Rattle.opgp_engine.specs.HandingOut.{HandsOut}
+use Rattle.opgp_engine.specs.Going.{IsGoing}
 use Rattle.opgp_engine.specs.Keyrings.{ComposesTo, key_label}
 use Rattle.opgp_engine.specs.Pipeline.{Fed, count_of}
 use Rattle.opgp_engine.specs.Reading.{AnswerOf, Outcome}
@@ -56,6 +57,10 @@ held_of p = front_held p.pipeline.front + packet_held p.pipeline.framer.deframe
 -- the most that is
 abbrev pub most_held : Limits → ℕ
 most_held l = line_limit l + body_limit l + pieces_limit l + cert_limit l + 32
+
+-- it was used within these limits, and holds no more than they allow
+abbrev pub IsReading : Limits → PartReader → Type 0
+IsReading limits p = IsGoing IsUsed held_of most_held limits p
 
 -- how many parts were taken from it, as it is shown
 abbrev pub taken_count : PartReader → ℕ

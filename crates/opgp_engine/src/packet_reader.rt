@@ -3,8 +3,9 @@
 ghost use Rattle.std.specs.Prelude.{◌≡◌, ◌<◌, ◌≤◌, ◌+◌, ◌^◌, ◌++◌, [], List, length, None, OnOk};
 ghost use Rattle.std.specs.Prelude.{IfOk};
 ghost use Rattle.opgp_frame.specs.declared.packet.Placed.{Placed};
-ghost use Rattle.opgp_engine.specs.PacketReader.{Ends, IsFedSo, IsUsed, PacketUse, given, handed};
-ghost use Rattle.opgp_engine.specs.PacketReader.{having, held_of, most_held, octets_given};
+ghost use Rattle.opgp_octets.specs.declared.limits.Limits.{Limits};
+ghost use Rattle.opgp_engine.specs.PacketReader.{Ends, IsFedSo, IsReading, IsUsed, PacketUse};
+ghost use Rattle.opgp_engine.specs.PacketReader.{given, handed, having, held_of, most_held, octets_given};
 ghost use Rattle.opgp_engine.specs.PacketReader.{shown_count, taken_count, taking, waits};
 ghost use Rattle.opgp_engine.specs.Pipeline.{count_of};
 
@@ -22,8 +23,9 @@ use std::marker::Brand;
 ///
 /// Between calls its readers hold at most `line + body + pieces + 32` octets of its limits. Beside
 /// that there are the packets that wait to be taken: those that the last piece completed, where the
-/// packets are taken after each piece. An armored block may have any of the four labels. Whether the
-/// input has a fault is known only at its end: a fault may follow the packets that were handed out.
+/// packets are taken after each piece; and memory that lines of armor use again, at most some three
+/// times `line`. An armored block may have any of the four labels. Whether the input has a fault is
+/// known only at its end: a fault may follow the packets that were handed out.
 ///
 /// The caller of `push` and `finish` states which packets were taken before. A loop can't: it calls
 /// `feed` and `end`, which say of these packets how many they are.
@@ -77,6 +79,9 @@ impl PacketReader {
             (octets_given self.new ≡ octets_given self.old + length octets.now) }
         ensures held { OnOk result ((so_far : PacketUse) → IsUsed so_far self.old
             → held_of self.new ≤ most_held so_far.limits) }
+        // So a loop keeps that it is used within its limits.
+        ensures going { OnOk result ((limits : Limits)
+            → IsReading limits self.old → IsReading limits self.new) }
     {
         push_on::<Brand>(&mut self.pipeline, octets)?;
         Ok(())
@@ -90,6 +95,7 @@ impl PacketReader {
             → IsUsed (taking so_far (handed result)) self.new }
         ensures count { octets_given self.new ≡ octets_given self.old }
         ensures held { held_of self.new ≡ held_of self.old }
+        ensures going { (limits : Limits) → IsReading limits self.old → IsReading limits self.new }
     {
         let blank = SoundPackets::over(self.malformed, HandedPackets::new(self.alloc));
         let mut top = self.pipeline.exchange(blank);

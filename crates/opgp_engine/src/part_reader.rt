@@ -2,10 +2,12 @@
 
 ghost use Rattle.std.specs.Prelude.{◌≡◌, ◌<◌, ◌≤◌, ◌+◌, ◌^◌, ◌++◌, [], List, length, None, OnOk};
 ghost use Rattle.std.specs.Prelude.{IfOk};
+ghost use Rattle.opgp_octets.specs.declared.limits.Limits.{Limits};
 ghost use Rattle.opgp_ring.specs.Composed.{PartValue};
 ghost use Rattle.opgp_ring.specs.State.{ready_parts};
-ghost use Rattle.opgp_engine.specs.PartReader.{Ends, IsFedSo, IsUsed, Use, given, having, held_of};
-ghost use Rattle.opgp_engine.specs.PartReader.{most_held, octets_given, taken_count, taking, waits};
+ghost use Rattle.opgp_engine.specs.PartReader.{Ends, IsFedSo, IsReading, IsUsed, Use, given};
+ghost use Rattle.opgp_engine.specs.PartReader.{having, held_of, most_held, octets_given};
+ghost use Rattle.opgp_engine.specs.PartReader.{taken_count, taking, waits};
 ghost use Rattle.opgp_engine.specs.Pipeline.{count_of};
 ghost use Rattle.opgp_engine.specs.Waiting.{shown_count};
 
@@ -23,8 +25,9 @@ use std::marker::Brand;
 ///
 /// Between calls its readers hold at most `line + body + pieces + cert + 32` octets of its limits.
 /// Beside that there are the parts that wait to be taken: those that the last piece completed, where
-/// the parts are taken after each piece. An armored block must be a `PUBLIC KEY BLOCK`. Whether the
-/// input is a keyring is known only at its end: a fault may follow the parts that were handed out.
+/// the parts are taken after each piece; and memory that lines of armor use again, at most some three
+/// times `line`. An armored block must be a `PUBLIC KEY BLOCK`. Whether the input is a keyring is known
+/// only at its end: a fault may follow the parts that were handed out.
 ///
 /// The caller of `push` and `finish` states which parts were taken before. A loop can't: it calls
 /// `feed` and `end`, which say of these parts how many they are.
@@ -78,6 +81,9 @@ impl PartReader {
             (octets_given self.new ≡ octets_given self.old + length octets.now) }
         ensures held { OnOk result ((so_far : Use) → IsUsed so_far self.old
             → held_of self.new ≤ most_held so_far.limits) }
+        // So a loop keeps that it is used within its limits.
+        ensures going { OnOk result ((limits : Limits)
+            → IsReading limits self.old → IsReading limits self.new) }
     {
         push_on::<Brand>(&mut self.pipeline, octets)?;
         Ok(())
@@ -91,6 +97,7 @@ impl PartReader {
             → IsUsed (taking so_far (ready_parts result)) self.new }
         ensures count { octets_given self.new ≡ octets_given self.old }
         ensures held { held_of self.new ≡ held_of self.old }
+        ensures going { (limits : Limits) → IsReading limits self.old → IsReading limits self.new }
     {
         let blank = Handing::new(self.alloc, self.limits);
         let mut handing = self.pipeline.exchange(blank);

@@ -62,29 +62,31 @@ fn absorb<T: Receiver + Drop>(
     }
 }
 
-/// Frames the octets that wait, and gives their memory back.
-fn pass_on<T: Receiver + Drop>(
-    dearmor: &mut Dearmor,
-    framer: &mut Framer<T>,
-    waiting: Vec<u8>,
-) -> Result<(), OutOfMemory>
-    requires { open_count framer.old + length waiting.items < 2 ^ 63 }
+/// Frames the octets that wait.
+fn pass_on<T: Receiver + Drop>(framer: &mut Framer<T>, waiting: &[u8]) -> Result<(), OutOfMemory>
+    requires { open_count framer.old + length waiting.now < 2 ^ 63 }
     ensures framed { OnOk result ((limits : Limits) (b : Built)
-        → FramesBut T.fed T.wanted limits framer.old waiting.items b
+        → FramesBut T.fed T.wanted limits framer.old waiting.now b
         → FramesBuilt T.fed T.wanted limits framer.new b) }
     ensures known { OnOk result
-        (has_begun framer.new ≡ true → is_known framer.old waiting.items ≡ true) }
-    ensures count { OnOk result
-        (open_count framer.new ≤ open_count framer.old + length waiting.items) }
+        (has_begun framer.new ≡ true → is_known framer.old waiting.now ≡ true) }
+    ensures count { OnOk result (open_count framer.new ≤ open_count framer.old + length waiting.now) }
     ensures number { OnOk result (number_of framer.new ≡ number_of framer.old) }
-    ensures same { SaysTheSame dearmor.old dearmor.new }
 {
     if waiting.is_empty() {
         return Ok(());
     }
-    framer.add(waiting.as_slice())?;
-    dearmor.reuse(waiting);
+    framer.add(waiting)?;
     Ok(())
+}
+
+/// Gives the memory of octets that were framed back to the reader, if there were any.
+fn give_back(dearmor: &mut Dearmor, octets: Vec<u8>)
+    ensures { SaysTheSame dearmor.old dearmor.new }
+{
+    if !octets.is_empty() {
+        dearmor.reuse(octets);
+    }
 }
 
 /// The octets of a line that waits, or any other event.
@@ -140,13 +142,16 @@ fn hold<T: Receiver + Drop>(
                 return Ok(());
             }
             let many = mem::replace(waiting, Vec::new(alloc));
-            pass_on(dearmor, framer, many)?;
+            pass_on(framer, many.as_slice())?;
+            give_back(dearmor, many);
             Ok(())
         }
         Err(other) => {
             let all = mem::replace(waiting, Vec::new(alloc));
-            pass_on(dearmor, framer, all)?;
+            pass_on(framer, all.as_slice())?;
             absorb(dearmor, framer, other)?;
+            // Behind that of the line, which is small: one vector is kept.
+            give_back(dearmor, all);
             Ok(())
         }
     }
@@ -180,7 +185,8 @@ pub(crate) fn unarmor<T: Receiver + Drop>(
         let waits = piece.len() - at >= FEW;
         hold(alloc, dearmor, framer, &mut waiting, event, waits)?;
     }
-    pass_on(dearmor, framer, waiting)?;
+    pass_on(framer, waiting.as_slice())?;
+    give_back(dearmor, waiting);
     Ok(())
 }
 

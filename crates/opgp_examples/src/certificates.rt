@@ -1,9 +1,8 @@
 //! The certificates of an armored text, each as soon as it is complete.
 
-ghost use Rattle.std.specs.Prelude.{◌≡◌, ℕ, [], List, OnOk};
-ghost use Rattle.opgp.specs.Engine.PartReader.{octets_given, waits};
+ghost use Rattle.std.specs.Prelude.{◌≡◌, [], OnOk};
+ghost use Rattle.opgp.specs.Engine.PartReader.{IsReading, octets_given, waits};
 ghost use Rattle.opgp.specs.Octets.declared.limits.Limits.{Limits};
-ghost use Rattle.opgp_examples.specs.Feeding.{IsReading};
 
 use anyhow::Result;
 use opgp::engine::{Mode, PartReader};

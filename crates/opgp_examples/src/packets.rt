@@ -1,9 +1,8 @@
 //! The packets of an input, each as soon as it is complete.
 
-ghost use Rattle.std.specs.Prelude.{◌≡◌, ℕ, [], List, OnOk};
-ghost use Rattle.opgp.specs.Engine.PacketReader.{octets_given, waits};
+ghost use Rattle.std.specs.Prelude.{◌≡◌, [], OnOk};
+ghost use Rattle.opgp.specs.Engine.PacketReader.{IsReading, octets_given, waits};
 ghost use Rattle.opgp.specs.Octets.declared.limits.Limits.{Limits};
-ghost use Rattle.opgp_examples.specs.Feeding.{IsReadingPackets};
 
 use anyhow::Result;
 use opgp::engine::{Mode, PacketReader};
@@ -39,9 +38,9 @@ fn read_packets<R: BufRead + Drop>(
     source: &mut R,
     reader: &mut PacketReader,
 ) -> Result<()>
-    requires reading { IsReadingPackets limits reader.old }
+    requires reading { IsReading limits reader.old }
     requires fresh { octets_given reader.old ≡ 0 }
-    ensures { OnOk result (IsReadingPackets limits reader.new) }
+    ensures { OnOk result (IsReading limits reader.new) }
 {
     let mut given = 0;
     'pieces: while given <= limits.input() {
@@ -61,8 +60,8 @@ fn read_packets<R: BufRead + Drop>(
 
 /// Takes all packets that wait, and shows them.
 fn show_waiting(rt: &(impl Print + AllocGlobal), reader: &mut PacketReader) -> Result<()>
-    ensures reading { OnOk result ((limits : Limits) → IsReadingPackets limits reader.old
-        → IsReadingPackets limits reader.new) }
+    ensures reading { OnOk result ((limits : Limits) → IsReading limits reader.old
+        → IsReading limits reader.new) }
     ensures count { OnOk result (octets_given reader.new ≡ octets_given reader.old) }
     ensures none { OnOk result (waits reader.new ≡ []) }
 {

@@ -17,6 +17,8 @@ use Rattle.opgp_frame.specs.Header.{is_type}
 use Rattle.opgp_packet.specs.SignatureBody.{SignatureValue, of_three, of_four, of_six, of_other}
 use Rattle.opgp_packet.specs.SignatureBody.{signature_at}
 use Rattle.opgp_stack.specs.Date.{date_words}
+use Rattle.opgp_stack.specs.declared.listing.Behind.{Behind}
+use Rattle.opgp_stack.specs.declared.listing.Behind.TheVariants.{End, Left}
 use Rattle.opgp_stream.specs.Texts.{escaped}
 
 -- ---- numbers of a body
@@ -75,6 +77,11 @@ abbrev pub typed_start : ℕ → ℕ → ℕ → ℕ → List ℕ
 typed_start version kind algorithm hash =
     codes "sig v" ++ decimal version ++ codes " type " ++ encode_upper (kind ∷ [])
     ++ codes " alg " ++ decimal algorithm ++ codes " hash " ++ decimal hash
+
+-- what follows that: the end of the line, or the left 16 bits of the hash
+abbrev pub behind_text : Behind → List ℕ
+behind_text End = codes "\n"
+behind_text Left = codes " left "
 
 abbrev pub typed_text : ℕ → ℕ → ℕ → ℕ → List ℕ
 typed_text version kind algorithm hash = typed_start version kind algorithm hash ++ codes "\n"

@@ -21,6 +21,7 @@ mod running;
 mod showing;
 mod shown_text;
 mod task;
+mod texts;
 mod valued;
 mod valued_listing;
 mod values;

@@ -7,10 +7,10 @@ ghost use Rattle.opgp_packet.specs.Parsed.{body_octets};
 ghost use Rattle.opgp_ring.specs.Packets.{IsLent, packets_left, part_packet};
 ghost use Rattle.opgp_packet.specs.Signature.{signature_octets};
 ghost use Rattle.opgp_packet.specs.SigView.{sig_view_value};
-ghost use Rattle.opgp_stack.specs.Listing.{attribute_line, dated_key_line, filler_line, key_line};
-ghost use Rattle.opgp_stack.specs.Listing.{key_start, listing};
+ghost use Rattle.opgp_stack.specs.Listing.{attribute_line, behind_text, dated_key_line, filler_line};
+ghost use Rattle.opgp_stack.specs.Listing.{key_line, key_start, listing};
 ghost use Rattle.opgp_stack.specs.Listing.{opaque_text, packet_line, signature_line};
-ghost use Rattle.opgp_stack.specs.Listing.{signature_text, typed_text};
+ghost use Rattle.opgp_stack.specs.Listing.{signature_text, typed_start};
 ghost use Rattle.opgp_stack.specs.Listing.{key_names, key_numbers, user_id_line};
 ghost use Rattle.opgp_stack.specs.Role.{role_name};
 ghost use Rattle.opgp_stream.specs.Output.{Extends, sink_of};
@@ -168,18 +168,32 @@ fn add_filler<W: Sink>(output: &mut Output<'_, W>, kind: u8, body: &[u8]) -> io:
     ])
 }
 
-/// Adds the line of a parsed signature.
-fn add_typed<W: Sink>(
+/// What follows the numbers in the line of a parsed signature.
+#[derive(Clone, Copy)]
+pub(crate) enum Behind {
+    /// The line's end.
+    End,
+    /// The word before the left 16 bits of a hash.
+    Left,
+}
+
+/// Adds what the line of a parsed signature begins with, and what follows.
+pub(crate) fn add_typed<W: Sink>(
     output: &mut Output<'_, W>,
     version: u8,
     kind: u8,
     algorithm: u8,
     hash: u8,
+    behind: Behind,
 ) -> io::Result<()>
     requires { W.has_failed (sink_of output.old) ≡ false }
     ensures { Extends W.held W.has_failed output.old output.new result
-        (typed_text version kind algorithm hash) }
+        (typed_start version kind algorithm hash ++ behind_text behind) }
 {
+    let last: &[u8] = match behind {
+        Behind::End => b"\n",
+        Behind::Left => b" left ",
+    };
     output.add_words(&[
         Word::Text(b"sig v"),
         Word::Decimal(version as u64),
@@ -189,7 +203,7 @@ fn add_typed<W: Sink>(
         Word::Decimal(algorithm as u64),
         Word::Text(b" hash "),
         Word::Decimal(hash as u64),
-        Word::Text(b"\n"),
+        Word::Text(last),
     ])
 }
 
@@ -216,9 +230,18 @@ pub(crate) fn add_signature<W: Sink>(
         (signature_text (sig_view_value signature.entry)) }
 {
     match signature {
-        SigView::Three(view) => add_typed(output, 3, view.kind(), view.algorithm(), view.hash()),
-        SigView::Four(view) => add_typed(output, 4, view.kind(), view.algorithm(), view.hash()),
-        SigView::Six(view) => add_typed(output, 6, view.kind(), view.algorithm(), view.hash()),
+        SigView::Three(view) => {
+            let (kind, algorithm, hash) = (view.kind(), view.algorithm(), view.hash());
+            add_typed(output, 3, kind, algorithm, hash, Behind::End)
+        }
+        SigView::Four(view) => {
+            let (kind, algorithm, hash) = (view.kind(), view.algorithm(), view.hash());
+            add_typed(output, 4, kind, algorithm, hash, Behind::End)
+        }
+        SigView::Six(view) => {
+            let (kind, algorithm, hash) = (view.kind(), view.algorithm(), view.hash());
+            add_typed(output, 6, kind, algorithm, hash, Behind::End)
+        }
         SigView::Other(view) => add_opaque(output, view.body()),
     }
 }

@@ -1,25 +1,22 @@
 //! What is written of a keyring, made part by part.
 
-ghost use Rattle.std.specs.Prelude.{◌≡◌, ◌++◌, ◌∷◌, [], ℕ, List, true, IfOk, IfSome, OnOk};
+ghost use Rattle.std.specs.Prelude.{◌++◌, ℕ, List, OnOk};
 ghost use Rattle.std.specs.List.{flat_map};
 ghost use Rattle.opgp_engine.specs.Draft.{DraftHas};
 ghost use Rattle.opgp_engine.specs.declared.out.Out.TheVariants as outs;
 ghost use Rattle.opgp_ring.specs.Composed.{PartValue};
-ghost use Rattle.opgp_ring.specs.Parts.{AreParts, part_packets};
 ghost use Rattle.opgp_ring.specs.State.{part_of};
-ghost use Rattle.opgp_frame.specs.Packet.{packets_octets};
 ghost use Rattle.opgp_ring.specs.Keyring.{certificate_packets};
 ghost use Rattle.opgp_engine.specs.Writing.{packets_text};
 ghost use Rattle.opgp_stack.specs.Parts.{certificate_text, normal_octets, part_lines, part_octets};
 ghost use Rattle.opgp_stack.specs.Parts.{part_valued_lines};
 
+use crate::texts::Texts;
 use crate::valued_listing::ValuedListingText;
 use crate::writing_listing::ListingText;
 use opgp_engine::{Draft, Out, PacketsText, Spool};
 use opgp_octets::OutOfMemory;
 use opgp_ring::{Certificate, Keeper, Packets, Ready};
-use std::alloc::Global;
-use std::marker::PhantomData;
 
 /// What is written of each part of a keyring.
 pub(crate) trait EachPart {
@@ -156,36 +153,8 @@ pub(crate) fn add_alone<S: Spool + Drop>(
     draft.add(PacketsText { out, packets })
 }
 
-/// What is written of the parts of a keyring that came so far. No part is kept.
-#[derive(Drop)]
-pub(crate) struct PartTexts<E, S> {
-    draft: Draft<S>,
-    each: PhantomData<E>,
-}
-
-impl<E: EachPart, S: Spool + Drop> PartTexts<E, S> {
-    /// Nothing yet, to be held in this spool, which is empty, or in memory. Fails only when out of
-    /// memory.
-    pub(crate) fn new(alloc: Global, spool: Option<S>) -> Result<PartTexts<E, S>, OutOfMemory>
-        requires { IfSome spool (λ s. (S.serves ≡ true) × (S.tells ≡ true → S.holds s ≡ [])) }
-        ensures { IfOk result (λ k. DraftHas S.serves S.tells S.holds S.has_failed k.draft []) }
-    {
-        let draft = Draft::new(alloc, spool)?;
-        Ok(PartTexts {
-            draft,
-            each: PhantomData,
-        })
-    }
-
-    /// What is written.
-    pub(crate) fn into_draft(self) -> Draft<S>
-        ensures { result ≡ self.draft }
-    {
-        self.draft
-    }
-}
-
-impl<E: EachPart, S: Spool + Drop> Keeper for PartTexts<E, S> {
+// What is written of the parts of a keyring that came so far. No part is kept.
+impl<E: EachPart, S: Spool + Drop> Keeper for Texts<E, S> {
     ghost kept = { λ k parts.
         DraftHas S.serves S.tells S.holds S.has_failed k.draft (flat_map E.text parts) };
 

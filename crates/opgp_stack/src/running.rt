@@ -32,12 +32,13 @@ use crate::hashing::{question_of, write_question};
 use crate::key_name::KeyName;
 use crate::one_part::{NthCertificate, Number, RowFound};
 use crate::part_texts::{
-    ArmoredAlone, AsTheyAre, BareAlone, EachPart, Lines, Normalised, PartTexts, ValuedLines,
+    ArmoredAlone, AsTheyAre, BareAlone, EachPart, Lines, Normalised, ValuedLines,
 };
 use crate::row_keeper::RowKeeper;
 use crate::run_fault::RunFault;
-use crate::shown_text::{EachPacket, Plain, ShownText, Valued};
+use crate::shown_text::{EachPacket, Plain, Valued};
 use crate::task::{Action, Task, Top};
+use crate::texts::Texts;
 use crate::writing_report::{write_fingerprinted_report, write_report};
 use opgp_engine::{
     Draft, DraftError, EngineError, NoSpool, Out, ReadError, Receiver, SoundPackets, Spool,
@@ -165,7 +166,7 @@ fn shown_of<R: Source, E: EachPacket, S: Spool + Drop>(
         task.now.limits octets answer))
         (R.has_failed reader.new ≡ true) (R.has_failed reader.new ≡ false) result }
 {
-    let text: ShownText<E, S> = match ShownText::new(alloc, spool) {
+    let text: Texts<E, S> = match Texts::new(alloc, spool) {
         Ok(text) => text,
         Err(_) => return Err(RunFault::Memory),
     };
@@ -201,7 +202,7 @@ fn text_of<R: Source, E: EachPart, S: Spool + Drop>(
         E.text) task.now.limits) task.now.mode task.now.limits octets answer))
         (R.has_failed reader.new ≡ true) (R.has_failed reader.new ≡ false) result }
 {
-    let texts: PartTexts<E, S> = match PartTexts::new(alloc, spool) {
+    let texts: Texts<E, S> = match Texts::new(alloc, spool) {
         Ok(texts) => texts,
         Err(_) => return Err(RunFault::Memory),
     };

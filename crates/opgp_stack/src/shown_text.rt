@@ -1,6 +1,6 @@
 //! What is written of an input's packets, made packet by packet.
 
-ghost use Rattle.std.specs.Prelude.{◌≡◌, ◌++◌, ◌∷◌, [], ℕ, true, List, OnOk, IfOk, IfSome};
+ghost use Rattle.std.specs.Prelude.{◌++◌, ℕ, List, OnOk};
 ghost use Rattle.std.specs.List.{flat_map};
 ghost use Rattle.opgp_frame.specs.declared.packet.Placed.{Placed};
 ghost use Rattle.opgp_engine.specs.Draft.{DraftHas};
@@ -8,14 +8,13 @@ ghost use Rattle.opgp_stack.specs.Showing.{packet_lines};
 ghost use Rattle.opgp_stack.specs.Values.{valued_lines};
 
 use crate::showing::add_packet;
+use crate::texts::Texts;
 use crate::valued::add_valued;
 use opgp_engine::{Draft, PacketKeeper, Spool, Text};
 use opgp_frame::Placed;
 use opgp_octets::OutOfMemory;
 use opgp_stream::{Output, Sink};
-use std::alloc::Global;
 use std::io;
-use std::marker::PhantomData;
 
 /// What is written of each packet.
 pub(crate) trait EachPacket {
@@ -79,36 +78,8 @@ impl Text for ValuedLines<'_> {
     }
 }
 
-/// The lines of the packets that came so far. No packet is kept.
-#[derive(Drop)]
-pub(crate) struct ShownText<E, S> {
-    draft: Draft<S>,
-    each: PhantomData<E>,
-}
-
-impl<E: EachPacket, S: Spool + Drop> ShownText<E, S> {
-    /// Nothing yet, to be held in this spool, which is empty, or in memory. Fails only when out of
-    /// memory.
-    pub(crate) fn new(alloc: Global, spool: Option<S>) -> Result<ShownText<E, S>, OutOfMemory>
-        requires { IfSome spool (λ s. (S.serves ≡ true) × (S.tells ≡ true → S.holds s ≡ [])) }
-        ensures { IfOk result (λ t. DraftHas S.serves S.tells S.holds S.has_failed t.draft []) }
-    {
-        let draft = Draft::new(alloc, spool)?;
-        Ok(ShownText {
-            draft,
-            each: PhantomData,
-        })
-    }
-
-    /// The lines.
-    pub(crate) fn into_draft(self) -> Draft<S>
-        ensures { result ≡ self.draft }
-    {
-        self.draft
-    }
-}
-
-impl<E: EachPacket, S: Spool + Drop> PacketKeeper for ShownText<E, S> {
+// The lines of the packets that came so far. No packet is kept.
+impl<E: EachPacket, S: Spool + Drop> PacketKeeper for Texts<E, S> {
     ghost kept = { λ t packets. DraftHas S.serves S.tells S.holds S.has_failed t.draft
         (flat_map E.lines packets) };
 

@@ -11,13 +11,13 @@ ghost use Rattle.opgp_report.specs.IssuerName.{name_value};
 ghost use Rattle.opgp_report.specs.Signer.{first_some};
 ghost use Rattle.opgp_ring.specs.Packets.{IsLent, packets_left, part_packet};
 ghost use Rattle.opgp_stack.specs.Listing.{signature_line, signature_text, typed_start};
-ghost use Rattle.opgp_stack.specs.ValuedListing.{created_in, created_words, issuer_words, left_words};
+ghost use Rattle.opgp_stack.specs.ValuedListing.{created_in, created_words, issuer_words};
 ghost use Rattle.opgp_stack.specs.ValuedListing.{valued_listing, valued_packet_line, value_words};
 ghost use Rattle.opgp_stack.specs.ValuedListing.{with_values};
 ghost use Rattle.opgp_stream.specs.Output.{Extends, sink_of};
 
 use crate::date::add_date_or_none;
-use crate::listing::{Role, add_dated_key, add_line, add_signature};
+use crate::listing::{Behind, Role, add_dated_key, add_line, add_signature, add_typed};
 use opgp_engine::Text;
 use opgp_hash::KeyId;
 use opgp_octets::SubpacketKind;
@@ -51,14 +51,6 @@ fn first_created(subpackets: Subs<'_>) -> Option<u32>
         }
     }
     None
-}
-
-/// Adds the left 16 bits of a hash.
-fn add_left<W: Sink>(output: &mut Output<'_, W>, left: &[u8]) -> io::Result<()>
-    requires { W.has_failed (sink_of output.old) ≡ false }
-    ensures { Extends W.held W.has_failed output.old output.new result (left_words left.now) }
-{
-    output.add_words(&[Word::Text(b" left "), Word::Hex(left)])
 }
 
 /// Adds a creation time, or `-` for none.
@@ -97,30 +89,6 @@ fn add_issuer<W: Sink>(output: &mut Output<'_, W>, name: IssuerName) -> io::Resu
     }
 }
 
-/// Adds what the line of a parsed signature has without values.
-fn add_typed_start<W: Sink>(
-    output: &mut Output<'_, W>,
-    version: u8,
-    kind: u8,
-    algorithm: u8,
-    hash: u8,
-) -> io::Result<()>
-    requires { W.has_failed (sink_of output.old) ≡ false }
-    ensures { Extends W.held W.has_failed output.old output.new result
-        (typed_start version kind algorithm hash) }
-{
-    output.add_words(&[
-        Word::Text(b"sig v"),
-        Word::Decimal(version as u64),
-        Word::Text(b" type "),
-        Word::Hex(&[kind]),
-        Word::Text(b" alg "),
-        Word::Decimal(algorithm as u64),
-        Word::Text(b" hash "),
-        Word::Decimal(hash as u64),
-    ])
-}
-
 /// Adds the line of a parsed signature, with its values.
 fn add_typed_values<W: Sink>(
     output: &mut Output<'_, W>,
@@ -137,8 +105,8 @@ fn add_typed_values<W: Sink>(
         (typed_start version kind algorithm hash
         ++ value_words left.now created (name_value issuer)) }
 {
-    add_typed_start(output, version, kind, algorithm, hash)?;
-    add_left(output, left)?;
+    add_typed(output, version, kind, algorithm, hash, Behind::Left)?;
+    output.add_hex(left)?;
     add_created(output, created)?;
     add_issuer(output, issuer)?;
     add_date_or_none(output, created)

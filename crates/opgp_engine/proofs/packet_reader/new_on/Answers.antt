@@ -1,4 +1,4 @@
-use Rattle.std.proofs.Common.{[], refl, sym}
+use Rattle.std.proofs.Common.{[], sym}
 use Rattle.opgp_engine.proofs.PacketEnds.{known_fed}
 use Rattle.opgp_engine.proofs.packet_reader.new_on.Goals as goal
 

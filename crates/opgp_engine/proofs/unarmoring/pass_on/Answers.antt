@@ -3,5 +3,5 @@ use Rattle.opgp_engine.proofs.unarmoring.pass_on.Goals as goal
 
 pub returns-clause-framed : goal.returns-clause-framed
 returns-clause-framed g c limits b x =
-    passed_on g.T.Receiver.fed g.T.Receiver.wanted limits c.args.framer.now c.add.new.self c.args.waiting.items b
-    (λ l done label octets f. rw (← c.as_slice.ensures.value) (c.in_ok-add.ensures.framed l done label octets f)) x
+    passed_on g.T.Receiver.fed g.T.Receiver.wanted limits c.args.framer.now c.add.new.self c.args.waiting.now b
+    (λ l done label octets f. c.in_ok-add.ensures.framed l done label octets f) x

@@ -81,7 +81,9 @@ pass_on-requires g c =
 pub returns : goal.returns
 returns g c limits input t0 =
     let t = c.pushes.invariant.through limits input t0 in
-    let s = c.in_ok-pass_on.ensures.same in
-    let all = through_all g.T.Receiver.fed g.T.Receiver.wanted limits c.pushes.dearmor c.pass_on.new.dearmor c.pushes.framer c.pass_on.new.framer c.pushes.waiting.items (input ++ take c.pushes.at c.args.piece.now) t ((s.fed _ _).0 t.fed)
-    c.in_ok-pass_on.ensures.framed c.in_ok-pass_on.ensures.known s.ready s.ended s.rule s.count in
-    subst (λ (l : List ℕ). Through g.T.Receiver.fed g.T.Receiver.wanted limits c.pass_on.new.dearmor c.pass_on.new.framer [] (input ++ l)) (take_all c.pushes.at c.args.piece.now (omega (arith, c.pushes-test.false))) all
+    let s = c.give_back.ensures in
+    let framed = c.in_ok-pass_on.ensures.framed in
+    let known = c.in_ok-pass_on.ensures.known in
+    let all = through_all g.T.Receiver.fed g.T.Receiver.wanted limits c.pushes.dearmor c.give_back.new.dearmor c.pushes.framer c.pass_on.new.framer c.pushes.waiting.items (input ++ take c.pushes.at c.args.piece.now) t ((s.fed _ _).0 t.fed)
+    (rw (c.as_slice.ensures.value) at framed) (rw (c.as_slice.ensures.value) at known) s.ready s.ended s.rule s.count in
+    subst (λ (l : List ℕ). Through g.T.Receiver.fed g.T.Receiver.wanted limits c.give_back.new.dearmor c.pass_on.new.framer [] (input ++ l)) (take_all c.pushes.at c.args.piece.now (omega (arith, c.pushes-test.false))) all

@@ -1,6 +1,5 @@
 use Rattle.std.proofs.Common.{arith}
 use Rattle.std.proofs.lemmas.Grind.{common_steps}
-use Rattle.opgp_examples.proofs.ReadingPackets.{goes_on}
 use Rattle.opgp_examples.proofs.packets.read_packets.Goals as goal
 
 -- the piece was given to the reader, and its packets were taken
@@ -11,5 +10,5 @@ pieces-preserved g c =
     let shown = c.in_ok-show_waiting.ensures in (
       omega (arith, shown.count, fed.count, i.0),
       grind (arith, common_steps),
-      shown.reading c.args.limits (goes_on c.args.limits c.pieces.reader c.feed.new.self _ i.2 fed.used fed.held),
+      shown.reading c.args.limits (fed.going c.args.limits i.2),
     )

@@ -1,12 +1,11 @@
 use Rattle.std.proofs.Common.{◌∙◌}
-use Rattle.opgp_examples.proofs.ReadingPackets.{handed}
 use Rattle.opgp_examples.proofs.packets.show_waiting.Goals as goal
 
 pub packets-preserved : goal.packets-preserved
 packets-preserved g c = (
-  λ limits r. handed limits c.packets.reader c.take.new.self _ (c.packets.invariant.0 limits r) c.in-Some.ensures.used c.take.ensures.held,
+  λ limits r. c.take.ensures.going limits (c.packets.invariant.0 limits r),
   c.take.ensures.count ∙ c.packets.invariant.1,
 )
 
 pub returns-clause-reading : goal.returns-clause-reading
-returns-clause-reading g c limits r = handed limits c.packets.reader c.take.new.self _ (c.packets.invariant.0 limits r) c.in_default.ensures.used c.take.ensures.held
+returns-clause-reading g c limits r = c.take.ensures.going limits (c.packets.invariant.0 limits r)

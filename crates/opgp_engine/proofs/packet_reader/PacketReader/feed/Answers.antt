@@ -1,5 +1,6 @@
 use Rattle.std.proofs.Common.{◌∙◌, sym}
-use Rattle.opgp_engine.specs.PacketReader.{given, having}
+use Rattle.opgp_engine.specs.PacketReader.{IsUsed, given, having, held_of, most_held}
+use Rattle.opgp_engine.proofs.Going.{goes_on}
 use Rattle.opgp_engine.proofs.Held.{packets_counted, packets_held_within}
 use Rattle.opgp_engine.proofs.packet_reader.PacketReader.feed.Goals as goal
 
@@ -18,3 +19,7 @@ pub returns-clause-held : goal.returns-clause-held
 returns-clause-held c u used =
     let k = returns-clause-used c u used in
     packets_held_within (given (having u k.0) c.args.octets.now) (record c.args.self.now { pipeline = c.push_on.new.pipeline }) k.2
+
+pub returns-clause-going : goal.returns-clause-going
+returns-clause-going c limits r =
+    goes_on IsUsed held_of most_held limits c.args.self.now (record c.args.self.now { pipeline = c.push_on.new.pipeline }) c.args.octets.now r (returns-clause-used c) (returns-clause-held c)

@@ -1,0 +1,267 @@
+//! Running out of memory, and how many allocations are made.
+
+use crate::ring::reading::{KEY, SIGNATURE};
+use opgp_frame::{Form, Packet, Placed};
+use opgp_merge::merge;
+use opgp_octets::{Fault, Layer, Limits, Malformed, PushFault, Reason};
+use opgp_report::{LeftOctets, Report, Reporting, check};
+use opgp_ring::{
+    BlockOf, Certificate, Composer, Keyring, Ready, SignedLiteral, compose, compose_signed,
+    end_fits, flatten, join, nth,
+};
+use std::alloc::Global;
+use std::process::Abort;
+
+// The bodies of a key, a user ID and a signature.
+fn bodies() -> [(u8, &'static [u8]); 3] {
+    [(6, &KEY[2..]), (13, b"a"), (2, &SIGNATURE[2..])]
+}
+
+/// A packet of the current format, unless memory runs out.
+fn packet(alloc: Global, kind: u8, body: &[u8]) -> Option<Placed> {
+    let body = body.to_vec(alloc).ok()?;
+    let packet = Packet::new(Form::NewOne, kind, body)?;
+    Some(Placed {
+        packet,
+        block: 0,
+        pos: 0,
+    })
+}
+
+/// Whether nothing was ready.
+fn is_nothing(ready: Option<Ready>) -> bool {
+    let nothing = ready.is_none();
+    drop(ready);
+    nothing
+}
+
+/// After running out of memory nothing more is taken or given.
+fn is_spent(rt: &impl Abort, mut composer: Composer, placed: Placed) {
+    assert!(rt; !composer.ready());
+    assert!(rt; composer.push(placed) == Err(PushFault::Spent));
+    assert!(rt; is_nothing(composer.take()));
+    assert!(rt; !composer.ready());
+    let spent = Fault {
+        layer: Layer::Composition,
+        reason: Reason::Spent,
+        block: 0,
+        pos: 0,
+        inner: 0,
+    };
+    match composer.finish() {
+        Ok(_) => panic!(rt; "not spent"),
+        Err(fault) => assert!(rt; fault == spent),
+    }
+}
+
+/// Whether the composer took the bodies; None where memory ran out before a packet was made.
+fn takes(rt: &impl Abort, alloc: Global, composer: &mut Composer) -> Option<bool> {
+    for (kind, body) in bodies() {
+        let placed = packet(alloc, kind, body)?;
+        assert!(rt; !composer.ready());
+        match composer.push(placed) {
+            Ok(()) => assert!(rt; is_nothing(composer.take())),
+            Err(fault) => {
+                assert!(rt; fault == PushFault::Memory);
+                return Some(false);
+            }
+        }
+    }
+    assert!(rt; !composer.ready());
+    Some(true)
+}
+
+/// The certificate of the bodies; None where memory runs out.
+fn certificate(rt: &impl Abort, alloc: Global) -> Option<Certificate> {
+    let mut composer = Composer::new(alloc, Limits::usual());
+    match takes(rt, alloc, &mut composer) {
+        Some(true) => certificate_of(rt, composer),
+        Some(false) => {
+            match packet(alloc, 13, b"a") {
+                Some(placed) => is_spent(rt, composer, placed),
+                None => drop(composer),
+            }
+            None
+        }
+        None => {
+            drop(composer);
+            None
+        }
+    }
+}
+
+/// The certificate that ends what the composer took.
+fn certificate_of(rt: &impl Abort, composer: Composer) -> Option<Certificate> {
+    assert!(rt; !composer.ready());
+    match composer.finish() {
+        Ok(Some(Ready::Certificate(certificate))) => Some(certificate),
+        _ => panic!(rt; "no certificate"),
+    }
+}
+
+// One allocation makes each body, one the components and one the packets on the user ID: no body is
+// copied.
+#[test]
+fn composing_moves_bodies_in_5_growths(rt: HostRuntime) {
+    if let Some(certificate) = certificate(&rt, rt.alloc()) {
+        assert_eq!(rt; certificate.key().created(), 1_408_458_507);
+        assert_eq!(rt; certificate.components().len(), 1);
+        drop(certificate);
+    }
+}
+
+/// The keyring of the bodies, this many times; None where memory runs out.
+fn ring(rt: &impl Abort, alloc: Global, times: usize) -> Option<Keyring> {
+    let mut packets = Vec::new(alloc);
+    for _ in 0..times {
+        for (kind, body) in bodies() {
+            packets.push(packet(alloc, kind, body)?).ok()?;
+        }
+    }
+    ring_of(rt, alloc, packets)
+}
+
+/// The keyring of the packets, whose malformed signatures are kept; None where memory runs out.
+fn ring_of(rt: &impl Abort, alloc: Global, packets: Vec<Placed>) -> Option<Keyring> {
+    let mut blocks = Vec::new(alloc);
+    blocks
+        .push(BlockOf {
+            block: 0,
+            label_fits: true,
+            packets,
+        })
+        .ok()?;
+    let limits = Limits::usual().with_malformed(Malformed::Keep);
+    match compose(alloc, blocks, &limits) {
+        Ok(Ok(ring)) => Some(ring),
+        Ok(Err(_)) => panic!(rt; "refused"),
+        Err(_) => None,
+    }
+}
+
+/// The keyring of a key and a malformed signature; None where memory runs out.
+fn malformed(rt: &impl Abort, alloc: Global) -> Option<Keyring> {
+    let mut packets = Vec::new(alloc);
+    for (kind, body) in [(6, &KEY[2..]), (2, b"\x04".as_slice())] {
+        packets.push(packet(alloc, kind, body)?).ok()?;
+    }
+    ring_of(rt, alloc, packets)
+}
+
+/// A signed literal of `a`; None where memory runs out.
+fn signed(rt: &impl Abort, alloc: Global) -> Option<SignedLiteral> {
+    let mut packets = Vec::new(alloc);
+    for (kind, body) in [
+        (4, b"".as_slice()),
+        (11, b"\x62\x00\x00\x00\x00\x00\x61"),
+        (2, &SIGNATURE[2..]),
+    ] {
+        packets.push(packet(alloc, kind, body)?).ok()?;
+    }
+    let mut blocks = Vec::new(alloc);
+    blocks
+        .push(BlockOf {
+            block: 0,
+            label_fits: true,
+            packets,
+        })
+        .ok()?;
+    if !end_fits(&blocks) {
+        panic!(rt; "past 2^64");
+    }
+    match compose_signed(alloc, blocks) {
+        Ok(Ok(literal)) => Some(literal),
+        Ok(Err(_)) => panic!(rt; "refused"),
+        Err(_) => None,
+    }
+}
+
+/// The keyring twice, one after the other.
+fn joins(rt: &impl Abort, alloc: Global, ring: Keyring) {
+    if let Ok(copy) = ring.copy(alloc) {
+        assert_eq!(rt; copy.certificates().len(), 1);
+        if let Ok(both) = join(ring, copy) {
+            assert_eq!(rt; both.certificates().len(), 2);
+        }
+    }
+}
+
+#[test]
+fn refused_growth(rt: HostRuntime) {
+    let alloc = rt.alloc();
+    if let Some(certificate) = certificate(&rt, alloc) {
+        assert_eq!(rt; certificate.components().len(), 1);
+        drop(certificate);
+    }
+    if let Some(ring) = ring(&rt, alloc, 1) {
+        assert_eq!(rt; ring.certificates().len(), 1);
+        if let Ok(packets) = flatten(alloc, &ring) {
+            assert_eq!(rt; packets.len(), 3);
+        }
+        if let Ok(one) = nth(alloc, &ring, 0) {
+            assert!(rt; one.is_some());
+            drop(one);
+        }
+        if let Ok(report) = check(alloc, &ring, &LeftOctets) {
+            assert_eq!(rt; report.rows().len(), 1);
+            drop(report);
+        }
+        joins(&rt, alloc, ring);
+    }
+    if let Some(literal) = signed(&rt, alloc) {
+        assert_eq!(rt; literal.literal().content(), b"a".as_slice());
+        if let Ok(copy) = literal.copy(alloc) {
+            assert_eq!(rt; copy.flat().len(), 3);
+            drop(copy);
+        }
+        drop(literal);
+    }
+}
+
+#[test]
+fn malformed_refused_growth(rt: HostRuntime) {
+    let alloc = rt.alloc();
+    if let Some(ring) = malformed(&rt, alloc) {
+        if let Ok(copy) = ring.copy(alloc) {
+            assert_eq!(rt; copy.certificates().len(), 1);
+            let hangs = copy.certificates()[0].hangs();
+            assert_eq!(rt; hangs.len(), 1);
+            assert_eq!(rt; hangs[0].body(), b"\x04".as_slice());
+            drop(copy);
+        }
+        drop(ring);
+    }
+}
+
+#[test]
+fn merging_refused_growth(rt: HostRuntime) {
+    if let Some(ring) = ring(&rt, rt.alloc(), 2) {
+        assert_eq!(rt; ring.certificates().len(), 2);
+        if let Ok(merged) = merge(ring) {
+            assert_eq!(rt; merged.certificates().len(), 1);
+            let certificate = &merged.certificates()[0];
+            assert_eq!(rt; certificate.components().len(), 1);
+            assert_eq!(rt; certificate.components()[0].hangs().len(), 1);
+        }
+    }
+}
+
+/// The report of the keyring, made of its certificates one by one; None where memory runs out.
+fn reported(alloc: Global, ring: &Keyring) -> Option<Report> {
+    let mut reporting = Reporting::new(alloc);
+    for certificate in ring.certificates() {
+        reporting = reporting.with(certificate).ok()?;
+    }
+    Some(reporting.report())
+}
+
+#[test]
+fn reporting_refused_growth(rt: HostRuntime) {
+    if let Some(ring) = ring(&rt, rt.alloc(), 2) {
+        if let Some(report) = reported(rt.alloc(), &ring) {
+            assert_eq!(rt; report.rows().len(), 2);
+            drop(report);
+        }
+        drop(ring);
+    }
+}

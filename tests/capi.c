@@ -8,12 +8,14 @@
  *     memory    each allocation failed in turn
  *     pieces    the input in pieces of several sizes
  *     wanting   the input in pieces, with each allocation failed in turn
+ *     holding   how much is held while octets are pushed, behind a fault, and by calls that only ask
  *     threads   keyrings in several threads, and one keyring in several
  *
  * All but `told` print what is wrong, and the program ends with 'N passed, M failed'. */
 #include <opgp.h>
 
 #include <inttypes.h>
+#include <malloc.h>
 #include <pthread.h>
 #include <stdio.h>
 #include <stdlib.h>
@@ -45,7 +47,14 @@ void *__wrap_realloc(void *block, size_t n);
 void __wrap_free(void *block);
 
 static _Thread_local unsigned long calls, fails_at;
-static _Thread_local long held;
+static _Thread_local long held, held_octets, most_octets;
+
+/* Counts a block that is there now, where so many octets were before. */
+static void count_octets(void *block, size_t before)
+{
+    held_octets += (long)malloc_usable_size(block) - (long)before;
+    most_octets = held_octets > most_octets ? held_octets : most_octets;
+}
 
 static bool fails(void)
 {
@@ -55,6 +64,7 @@ static bool fails(void)
 static void *kept(void *block)
 {
     held += block != NULL;
+    count_octets(block, 0);
     return block;
 }
 
@@ -70,14 +80,19 @@ void *__wrap_calloc(size_t count, size_t n)
 
 void *__wrap_realloc(void *block, size_t n)
 {
+    size_t before = malloc_usable_size(block);
     void *grown = fails() ? NULL : __real_realloc(block, n);
     held += !block && grown;
+    if (grown) {
+        count_octets(grown, before);
+    }
     return grown;
 }
 
 void __wrap_free(void *block)
 {
     held -= block != NULL;
+    held_octets -= (long)malloc_usable_size(block);
     __real_free(block);
 }
 
@@ -641,17 +656,45 @@ static bool everything(void)
     return is_well;
 }
 
-static void memory(void)
+/* Reads the input in one piece, and takes each part with its tables; whether it went well. */
+static bool take_everything(void)
+{
+    opgp_limits limits;
+    opgp_reader reader = {false, NULL};
+    opgp_keyring *part = NULL;
+    opgp_fault fault;
+    opgp_usual_limits(&limits);
+    uint32_t status = opgp_reader_open(&limits, &reader);
+    holds(status == OPGP_DONE ? reader.is_open : status == OPGP_MEMORY && !reader.is_open, "a reader where memory runs out");
+    status = status == OPGP_DONE ? opgp_reader_push(&reader, in, size) : status;
+    status = status == OPGP_DONE ? opgp_reader_end(&reader, &fault) : status;
+    while (status == OPGP_DONE) {
+        status = opgp_take(&reader, &part);
+        holds(status == OPGP_DONE ? opgp_packet_count(part) > 0 : !part, "a part where memory runs out");
+        opgp_close(part);
+    }
+    holds(status == OPGP_NO_ROW || status == OPGP_MEMORY, "what taking parts answers where memory runs out");
+    opgp_reader_close(reader);
+    return status == OPGP_NO_ROW;
+}
+
+static void wants_memory(bool (*run)(void))
 {
     bool is_well = false;
     for (unsigned long n = 1; !is_well && n < 100000; n++) {
         calls = 0;
         fails_at = n;
-        is_well = everything() && calls < n;
+        is_well = run() && calls < n;
         holds(held == 0, "what was held is let go where memory ran out");
     }
     fails_at = 0;
     holds(is_well, "with enough memory it goes well");
+}
+
+static void memory(void)
+{
+    wants_memory(everything);
+    wants_memory(take_everything);
 }
 
 /* ---- Reading in pieces */
@@ -797,6 +840,171 @@ static void wanting(void)
     holds(ended == status, "with enough memory reading in pieces goes well");
 }
 
+/* ---- What is held */
+
+enum { PIECE = 4096, FEW = 300, MANY = 20000, WIDE = 1 << 20, SLACK = 4096 };
+
+/* A certificate: the key of RFC 9580, A.1, and a user ID. */
+static const uint8_t certificate[] = {
+    0xC6, 0x33, 0x04, 0x53, 0xF3, 0x5F, 0x0B, 0x16, 0x09, 0x2B, 0x06, 0x01, 0x04, 0x01, 0xDA, 0x47, 0x0F, 0x01, 0x01,
+    0x07, 0x40, 0x3F, 0x09, 0x89, 0x94, 0xBD, 0xD9, 0x16, 0xED, 0x40, 0x53, 0x19, 0x79, 0x34, 0xE4, 0xA8, 0x7C, 0x80,
+    0x73, 0x3A, 0x12, 0x80, 0xD6, 0x2F, 0x80, 0x10, 0x99, 0x2E, 0x43, 0xEE, 0x3B, 0x24, 0x06, 0xCD, 0x01, 'a'};
+
+/* Octets that are pushed: a front, a user ID of so many octets behind a certificate if there are any, and copies of a certificate. */
+static uint8_t *stretched(const char *front, size_t front_size, size_t wide, size_t copies, size_t *n)
+{
+    const uint8_t head[] = {0xCD, 0xFF, (uint8_t)(wide >> 24), (uint8_t)(wide >> 16), (uint8_t)(wide >> 8), (uint8_t)wide};
+    size_t more = wide ? sizeof certificate + sizeof head + wide : 0, at = front_size;
+    uint8_t *octets = block_of(front_size + more + copies * sizeof certificate);
+    memcpy(octets, front, front_size);
+    if (wide) {
+        memcpy(octets + at, certificate, sizeof certificate);
+        memcpy(octets + at + sizeof certificate, head, sizeof head);
+        memset(octets + at + sizeof certificate + sizeof head, 'u', wide);
+        at += more;
+    }
+    for (size_t copy = 0; copy < copies; copy++) {
+        memcpy(octets + at, certificate, sizeof certificate);
+        at += sizeof certificate;
+    }
+    *n = at;
+    return octets;
+}
+
+/* How much a reader holds beside what is taken from it: at most, when all was pushed, and at the end. */
+struct holding {
+    long most, pushed, ended;
+};
+
+static struct holding pushed(const opgp_limits *limits, const uint8_t *octets, size_t n, uint32_t wanted)
+{
+    opgp_reader reader = {false, NULL};
+    opgp_ring part = {false, NULL};
+    opgp_fault fault;
+    const long before = held_octets;
+    struct holding found;
+    holds(opgp_reader_open(limits, &reader) == OPGP_DONE, "a reader");
+    most_octets = held_octets;
+    for (size_t at = 0; at < n; at += PIECE) {
+        holds(opgp_reader_push(&reader, octets + at, n - at < PIECE ? n - at : PIECE) == OPGP_DONE, "a piece");
+        uint32_t status = OPGP_DONE;
+        while (status == OPGP_DONE) {
+            status = opgp_reader_take(&reader, &part);
+        }
+        holds(status == OPGP_NO_ROW, "parts");
+    }
+    opgp_ring_close(part);
+    found.most = most_octets - before;
+    found.pushed = held_octets - before;
+    holds(opgp_reader_end(&reader, &fault) == wanted, "the end");
+    found.ended = held_octets - before;
+    opgp_reader_close(reader);
+    holds(held_octets == before, "what a reader held is let go");
+    return found;
+}
+
+/* What is held doesn't grow with what was taken, nor with what comes behind a fault; nor is a large part kept, or a large body that
+ * comes behind a fault. */
+static void held_while_pushed(void)
+{
+    static const struct {
+        const char *front;
+        size_t size;
+        uint32_t wanted;
+    } fronts[] = {
+        {"", 0, OPGP_DONE},
+        {"\xE8\x00", 2, OPGP_DONE},                                        /* a filler */
+        {"\xC6\x01\x03", 3, OPGP_REFUSED},                                 /* a body's fault */
+        {"\xC0\x00", 2, OPGP_REFUSED},                                     /* one of framing */
+        {"\xCD\x01" "a", 3, OPGP_REFUSED},                                 /* ones of composition */
+        {"\xC4\x00", 2, OPGP_REFUSED},
+        {"\xC6\x01\x03\xC0\x00", 5, OPGP_REFUSED},
+        {"a line", 6, OPGP_REFUSED},                                        /* ones of armor */
+        {"-----BEGIN PGP \n", 16, OPGP_REFUSED},
+        {"-----BEGIN PGP PUBLIC KEY BLOCK-----\nno header\n", 47, OPGP_REFUSED},
+        {"-----BEGIN PGP PUBLIC KEY BLOCK-----\n\nxgED!\n", 44, OPGP_REFUSED},
+        {"-----BEGIN PGP PUBLIC KEY BLOCK-----\n\nxgED\n-----END PGP PUBLIC KEY BLOCK-----\n", 78, OPGP_REFUSED},
+    };
+    opgp_limits limits;
+    opgp_usual_limits(&limits);
+    for (size_t i = 0; i <= sizeof fronts / sizeof *fronts; i++) {
+        /* The last time the input is past its limit. */
+        bool is_past = i == sizeof fronts / sizeof *fronts;
+        const char *front = is_past ? "" : fronts[i].front;
+        size_t size_of_front = is_past ? 0 : fronts[i].size, n[3];
+        uint32_t wanted = is_past ? OPGP_REFUSED : fronts[i].wanted;
+        uint8_t *octets[3] = {stretched(front, size_of_front, 0, FEW, &n[0]), stretched(front, size_of_front, 0, MANY, &n[1]),
+                              stretched(front, size_of_front, WIDE, FEW, &n[2])};
+        limits.input = is_past ? 100 : limits.input;
+        struct holding few = pushed(&limits, octets[0], n[0], wanted), many = pushed(&limits, octets[1], n[1], wanted);
+        struct holding wide = pushed(&limits, octets[2], n[2], wanted);
+        holds(many.most <= few.most + SLACK, "what is held at most");
+        holds(many.pushed <= few.pushed + SLACK && wide.pushed <= few.pushed + SLACK, "what is held when all was pushed");
+        holds(many.ended <= few.ended + SLACK && wide.ended <= few.ended + SLACK, "what is held at the end");
+        if (many.most > few.most + SLACK || many.pushed > few.pushed + SLACK || wide.pushed > few.pushed + SLACK
+            || many.ended > few.ended + SLACK || wide.ended > few.ended + SLACK) {
+            fprintf(stderr, "tests/capi: front %zu: %ld %ld %ld, then %ld %ld %ld, and %ld %ld %ld\n", i, few.most, few.pushed, few.ended,
+                    many.most, many.pushed, many.ended, wide.most, wide.pushed, wide.ended);
+        }
+        free(octets[0]);
+        free(octets[1]);
+        free(octets[2]);
+    }
+}
+
+/* A call that only asks, or that is refused, leaves as much held as before. */
+static void held_by_calls(void)
+{
+    opgp_limits limits;
+    opgp_ring ring = {false, NULL}, into = {false, NULL};
+    opgp_fault fault;
+    opgp_sizes sizes = {0, 0};
+    opgp_packet packet;
+    opgp_key key;
+    opgp_job job;
+    opgp_subpacket subpacket;
+    uint64_t wanted;
+    uint8_t byte;
+    size_t n;
+    opgp_usual_limits(&limits);
+    uint8_t *octets = stretched("\xE8\x00", 2, WIDE, FEW, &n);
+    const long nothing = held_octets;
+    holds(opgp_ring_open(octets, n, &limits, &ring, &fault) == OPGP_DONE, "a keyring");
+    const long before = held_octets;
+    opgp_ring_packets(&ring, &packet, 0, &byte, 0, &sizes);
+    opgp_ring_keys(&ring, &key, 0, &byte, 0, &sizes);
+    opgp_ring_jobs(&ring, &job, 0, &byte, 0, &sizes);
+    opgp_ring_subpackets(&ring, &subpacket, 0, &byte, 0, &sizes);
+    opgp_ring_octets(&ring, 0, &byte, 0, &wanted);
+    opgp_ring_write(&ring, 0, &byte, 0, &wanted);
+    opgp_ring_write(&ring, 1, &byte, 0, &wanted);
+    holds(opgp_ring_certificate(&ring, UINT64_MAX, &into) == OPGP_NO_ROW && !into.is_open, "no certificate");
+    holds(held_octets == before, "calls that ask hold nothing more");
+    holds(opgp_ring_open(octets, n - 1, &limits, &ring, &fault) == OPGP_REFUSED, "a refused input");
+    limits.body = 1;
+    holds(opgp_ring_open(octets, n, &limits, &ring, &fault) == OPGP_LIMITS, "a refused limit");
+    holds(held_octets == before, "a refused input holds nothing more");
+    for (int turn = 0; turn < 2; turn++) {
+        holds(opgp_ring_normalise(&ring, &into) == OPGP_DONE && opgp_ring_merge(&ring, &into) == OPGP_DONE
+                  && opgp_ring_certificate(&ring, 1, &into) == OPGP_DONE,
+              "keyrings in place of others");
+    }
+    opgp_ring_close(into);
+    holds(held_octets == before, "what others held is let go");
+    opgp_ring_close(ring);
+    holds(held_octets == nothing, "what a keyring held is let go");
+    opgp_keyring *keyring;
+    holds(opgp_open(octets, n - 1, NULL, &keyring, &fault) == OPGP_REFUSED && held_octets == nothing, "a refused keyring holds nothing");
+    free(octets);
+}
+
+static void holding(void)
+{
+    held_while_pushed();
+    held_by_calls();
+    holds(held == 0 && held_octets == 0, "what was held is let go");
+}
+
 /* ---- Threads */
 
 struct shared {
@@ -853,7 +1061,7 @@ int main(int argc, char **argv)
         const char *word;
         void (*run)(void);
     } runs[] = {{"rooms", rooms}, {"on_top", on_top}, {"memory", memory}, {"pieces", pieces}, {"wanting", wanting},
-                {"threads", threads}};
+                {"holding", holding}, {"threads", threads}};
     opgp_limits limits;
     const struct {
         const char *word;

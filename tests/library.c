@@ -1,7 +1,8 @@
 /* Reads inputs through libopgp, each in several ways. On standard input each comes behind its number of octets, as four octets,
  * big-endian. Words are ways: a number N is pieces of N octets, 0 is one call, and `odd` is pieces of 1, 3, 9 and so on up to 729
- * octets, again and again; `normalise`, `merge`, `first` (its first certificate) and `twice` (joined with itself) are keyrings that are
- * made of that of one call; `last` is what the last signature hashes. Standard output has for each input and each way, both behind
+ * octets, again and again; `normalise`, `merge`, `first` and `end` (its first and its last certificate) and `twice` (joined with itself)
+ * are keyrings that are made of that of one call; `armor` is its armor, `last` what the last signature hashes, `whole` what each of them
+ * hashes and `rows` the lines of their rows, as the program writes both. Standard output has for each input and each way, both behind
  * their sizes as those of inputs: the lines of the keys, or else the line of the fault or status; and the octets of the packets. */
 #define _POSIX_C_SOURCE 200809L
 
@@ -215,6 +216,76 @@ static void add_made(struct found *found, uint32_t status, opgp_keyring *made)
     }
 }
 
+/* Adds what each signature hashes that is hashed, behind a line with its row and how much that is. */
+static void add_whole(struct found *found, opgp_keyring *keyring)
+{
+    for (size_t row = 0; row < opgp_job_count(keyring); row++) {
+        uint8_t *octets;
+        size_t size;
+        uint32_t status = opgp_octets(keyring, row, &octets, &size);
+        if ((status != OPGP_DONE) != (opgp_job_at(keyring, row)->why != 0) || (status != OPGP_DONE && status != OPGP_NO_ROW)) {
+            fail("opgp_octets");
+        }
+        if (status == OPGP_DONE) {
+            fprintf(found->octets.file, "row %zu length %zu\n", row, size);
+            fwrite(octets, 1, size, found->octets.file);
+        }
+        free(octets);
+    }
+}
+
+/* What a row's line is made of. */
+struct lines {
+    FILE *file;
+    const opgp_keyring *keyring;
+};
+
+static void print_place(FILE *file, const char *word, uint64_t number)
+{
+    if (number == OPGP_NONE) {
+        fprintf(file, " %s -", word);
+    } else {
+        fprintf(file, " %s %" PRIu64, word, number);
+    }
+}
+
+static int print_row(void *context, size_t row, const opgp_job *job, opgp_verdict verdict)
+{
+    const struct lines *lines = context;
+    char why[OPGP_NAME_ROOM];
+    fprintf(lines->file, "row %zu", row);
+    print_place(lines->file, "cert", job->certificate);
+    print_place(lines->file, "part", job->component);
+    print_place(lines->file, "hang", job->hang);
+    print_place(lines->file, "nested", job->nested);
+    if (job->why != 0) {
+        fprintf(lines->file, " : none %s\n", opgp_name_text(OPGP_WHYS, job->why, why));
+        return 0;
+    }
+    fprintf(lines->file, " : asked type %02X hash %u signer ", job->kind, job->hash);
+    if (job->signer == OPGP_NONE) {
+        fputc('-', lines->file);
+    } else {
+        for (size_t i = 0; i < 8; i++) {
+            fprintf(lines->file, "%02X", opgp_key_at(lines->keyring, (size_t)job->signer)->key_id[i]);
+        }
+    }
+    fprintf(lines->file, " digest %02X%02X verdict %s\n", job->digest[0], job->digest[1], verdict == OPGP_BAD ? "bad" : "undecided");
+    return 0;
+}
+
+/* Adds the armor of a keyring. */
+static void add_armor(struct found *found, opgp_keyring *keyring)
+{
+    uint8_t *text;
+    size_t size;
+    if (opgp_write(keyring, true, &text, &size) != OPGP_DONE) {
+        fail("opgp_write");
+    }
+    fwrite(text, 1, size, found->octets.file);
+    free(text);
+}
+
 /* Adds what the last signature hashes, if there is one that is hashed. */
 static void add_last(struct found *found, opgp_keyring *keyring)
 {
@@ -239,8 +310,17 @@ static void make(struct found *found, const char *way, const uint8_t *in, size_t
         refuse(found, status, &fault);
         return;
     }
-    if (strcmp(way, "last") == 0) {
-        add_last(found, keyring);
+    if (strchr("lawr", way[0])) {
+        struct lines lines = {found->octets.file, keyring};
+        if (strcmp(way, "last") == 0) {
+            add_last(found, keyring);
+        } else if (strcmp(way, "armor") == 0) {
+            add_armor(found, keyring);
+        } else if (strcmp(way, "whole") == 0) {
+            add_whole(found, keyring);
+        } else if (opgp_check(keyring, NULL, print_row, &lines) != 0) {
+            fail("opgp_check");
+        }
         opgp_close(keyring);
         return;
     }
@@ -250,6 +330,8 @@ static void make(struct found *found, const char *way, const uint8_t *in, size_t
         status = opgp_merge(keyring, &made);
     } else if (strcmp(way, "first") == 0) {
         status = opgp_certificate(keyring, 0, &made);
+    } else if (strcmp(way, "end") == 0) {
+        status = opgp_certificate(keyring, opgp_packet_at(keyring, opgp_packet_count(keyring) - 1)->certificate, &made);
     } else if ((status = opgp_open(in, n, NULL, &other, &fault)) == OPGP_DONE) {
         status = opgp_join(keyring, other, &made);
         opgp_close(other);
@@ -265,7 +347,7 @@ static void read_by(const char *way, const uint8_t *in, size_t n)
     begin(&found.octets);
     if (strcmp(way, "0") == 0) {
         in_one_call(&found, in, n);
-    } else if (strchr("nmftl", way[0])) {
+    } else if (strchr("nmfetlawr", way[0])) {
         make(&found, way, in, n);
     } else {
         in_pieces(&found, in, n, strcmp(way, "odd") == 0 ? 0 : strtoul(way, NULL, 10));

@@ -657,6 +657,13 @@ def armor(octets, label=b"PUBLIC KEY BLOCK"):
     return b"-----BEGIN PGP " + label + b"-----\n\n" + b"".join(rows) + b"-----END PGP " + label + b"-----\n"
 
 
+def end_in_armor(octets, count, label=b"PUBLIC KEY BLOCK"):
+    """How much of their armor says the first so many of these octets: a line is known at its end."""
+    lines = -(-count // 48)
+    letters = len(base64.b64encode(octets[: 48 * lines]))
+    return len(b"-----BEGIN PGP " + label + b"-----\n\n") + letters + lines
+
+
 def as_it_is(blocks, packet):
     block, at, *_, n = packet
     return blocks[block][1][at : at + n]

@@ -48,6 +48,34 @@ struct run {
     struct finding *findings;  /* of each row so far */
 };
 
+/* Whether libcrypto was refused memory. It doesn't always say so, and then a good signature is bad to it. */
+static bool was_refused;
+
+static void *get(size_t size, const char *file, int line)
+{
+    (void)file, (void)line;
+    void *room = size > 0 ? malloc(size) : NULL;
+    was_refused = was_refused || (!room && size > 0);
+    return room;
+}
+
+static void let_go(void *room, const char *file, int line)
+{
+    (void)file, (void)line;
+    free(room);
+}
+
+static void *get_more(void *room, size_t size, const char *file, int line)
+{
+    if (size == 0) {
+        let_go(room, file, line);
+        return NULL;
+    }
+    void *more = realloc(room, size);
+    was_refused = was_refused || !more;
+    return more;
+}
+
 static opgp_verdict undecided(struct run *run, const char *why)
 {
     run->why = why;
@@ -68,11 +96,10 @@ static bool is_about_key(unsigned long error)
     }
 }
 
-/* Why a call of libcrypto failed: out of memory ends the run, else it doesn't take the key; else this is the verdict. */
+/* Why a call of libcrypto failed: it doesn't take the key, or this is the verdict. */
 static opgp_verdict failed(struct run *run, opgp_verdict verdict)
 {
     for (unsigned long error = ERR_get_error(); error != 0; error = ERR_get_error()) {
-        run->is_out_of_memory = run->is_out_of_memory || ERR_GET_REASON(error) == ERR_R_MALLOC_FAILURE;
         if (is_about_key(error)) {
             verdict = undecided(run, "key");
         }
@@ -374,7 +401,7 @@ static int keep(void *context, size_t row, const opgp_job *job, opgp_verdict ver
     const opgp_key *signer = job->signer == OPGP_NONE ? NULL : opgp_key_at(run->keyring, (size_t)job->signer);
     const char *why = !signer ? "absent" : signer->version != job->version ? "version" : run->why;
     run->findings[row] = (struct finding){verdict, why};
-    return run->is_out_of_memory;
+    return run->is_out_of_memory || was_refused;
 }
 
 /* ---- Lines */
@@ -569,6 +596,9 @@ int main(int argc, char **argv)
     if (opgp_abi() != OPGP_ABI) {
         return said(3, "the library is of another version");
     }
+    if (CRYPTO_set_mem_functions(get, get_more, let_go) != 1) {
+        return said(3, "libcrypto is in use already");
+    }
     if (has_word(words, "-h", "--help")) {
         fputs(help, stderr);
         return 2;
@@ -580,6 +610,10 @@ int main(int argc, char **argv)
     int status = take_words(&task, words);
     if (status != 0) {
         return status;
+    }
+    /* What libcrypto keeps for all its calls is made here, since it doesn't stand without. */
+    if (!OSSL_LIB_CTX_get0_global_default() || was_refused) {
+        return said(3, "out of memory");
     }
     const char *name = task.name && strcmp(task.name, "-") != 0 ? task.name : NULL;
     return verified_file(name, !task.policy || strcmp(task.policy, "usual") == 0);

@@ -3,8 +3,8 @@
 ghost use Rattle.std.specs.Prelude.{◌≡◌, ◌<◌, []};
 ghost use Rattle.opgp_tests.specs.Heap.{heap_octets};
 
-use crate::stack::ends::in_pieces;
 use crate::heap::Heap;
+use crate::stack::ends::in_pieces;
 use crate::stack::keys::KEYS;
 use crate::stack::running::{ACTIONS, output_of, task_of};
 use opgp_stack::{Action, RunFault, Watched, run_spooled};

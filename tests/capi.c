@@ -506,6 +506,10 @@ static void rooms(void)
     holds(opgp_ring_join(&ring, &other, &into) == OPGP_CLOSED && ring.is_open && !other.is_open && !into.is_open,
           "a keyring joined with a closed handle");
     holds(opgp_ring_open(in, size, &limits, &other, &fault) == OPGP_DONE, "another keyring");
+    opgp_ring gone = {false, NULL};
+    holds(opgp_ring_join(&other, &gone, &into) == OPGP_CLOSED && opgp_ring_join(&gone, &other, &into) == OPGP_CLOSED && !into.is_open
+              && !gone.is_open && opgp_ring_packets(&other, &packet, 0, &byte, 0, &sizes) == OPGP_ROOM,
+          "a keyring that could be joined with none is as it was");
     holds(opgp_ring_join(&ring, &other, &into) == OPGP_DONE && ring.is_open && other.is_open && into.is_open
               && opgp_ring_packets(&into, &packet, 0, &byte, 0, &sizes) == OPGP_ROOM,
           "a keyring in place of none");

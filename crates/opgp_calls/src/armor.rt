@@ -123,16 +123,22 @@ fn pushed(
     add_end(reader, answer)
 }
 
-/// Pushes texts, so many octets at a time, and adds the events.
+/// Pushes texts, so many octets at a time, and adds the events; and where the reader doesn't say so many
+/// octets as it was given.
 fn push_all(
     reader: &mut Dearmor,
     texts: &[Vec<u8>],
     size: u32,
     answer: &mut Answer,
 ) -> Result<(), End> {
+    let mut given = 0u64;
     for text in texts {
         for piece in text.chunks(size.max(1) as usize) {
             push(reader, piece, answer)?;
+            given = given.saturating_add(piece.len() as u64);
+            if reader.given() != given {
+                answer.word("miscounted");
+            }
         }
     }
     Ok(())

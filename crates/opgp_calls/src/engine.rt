@@ -5,7 +5,7 @@ use crate::end::End;
 use crate::given::Given;
 use crate::ring::{blocks_of, ring_of};
 use opgp_engine::{Out, Watched, write_certificates};
-use opgp_report::{LeftOctets, Report, check};
+use opgp_report::{Job, LeftOctets, Report, Verdict, Verifier, check};
 use opgp_stack::{write_listing, write_report, write_shown};
 use std::alloc::Global;
 
@@ -58,10 +58,26 @@ fn shown(alloc: Global, given: &Given, answer: &mut Answer) -> Result<(), End> {
     Ok(())
 }
 
-/// `write_report OCTETS`: the lines of a keyring's report, by the left octets.
+/// Says the same of each signature.
+struct Says(Verdict);
+
+impl Verifier for Says {
+    ghost says = { λ v _. v.0 };
+
+    fn verify(&self, _job: &Job<'_>) -> Verdict {
+        self.0
+    }
+}
+
+/// `write_report VERDICT OCTETS`: the lines of a keyring's report, by the left octets, or by a verifier that
+/// says `good` or `bad` of each signature.
 fn reported(alloc: Global, given: &Given, answer: &mut Answer) -> Result<(), End> {
     let ring = ring_of(alloc, given.octets(0)?)?;
-    let report = check(alloc, &ring, &LeftOctets)?;
+    let report = match given.name(0)? {
+        "good" => check(alloc, &ring, &Says(Verdict::Good))?,
+        "bad" => check(alloc, &ring, &Says(Verdict::Bad))?,
+        _ => check(alloc, &ring, &LeftOctets)?,
+    };
     add_report(alloc, &report, answer)
 }
 

@@ -64,9 +64,14 @@ fn push_all(
     size: u32,
     answer: &mut Answer,
 ) -> Result<(), End> {
+    let mut given = 0u64;
     for octets in words {
         for piece in octets.chunks(size.max(1) as usize) {
             push(alloc, reader, piece, answer)?;
+            given = given.saturating_add(piece.len() as u64);
+            if reader.given() != given {
+                answer.word("miscounted");
+            }
         }
     }
     answer.named("given", reader.given());

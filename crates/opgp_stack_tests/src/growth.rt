@@ -1,7 +1,7 @@
 //! Running out of memory.
 
-use crate::stack::ends::in_pieces;
-use crate::stack::keys::KEY_1;
+use crate::ends::in_pieces;
+use crate::keys::KEY_1;
 use opgp_octets::Limits;
 use opgp_stack::{
     Answer, EngineError, Mode, Out, ReadError, Watched, read_keyring, read_packets, write_keyring,

@@ -1,6 +1,6 @@
 -- A spool in memory.
 use Rattle.std.specs.Prelude.{ℕ, Bool, List, drop}
-use Rattle.opgp_tests.specs.declared.heap.Heap.{Heap}
+use Rattle.opgp_stack_tests.specs.declared.heap.Heap.{Heap}
 
 -- the octets that were put and not yet taken
 abbrev pub heap_octets : Heap → List ℕ

@@ -2,7 +2,7 @@
 
 ghost use Rattle.opgp_report.specs.declared.verifier.Verdict.TheVariants as verdict;
 
-use crate::ring::reading::{KEY, ring_of};
+use crate::reading::{KEY, ring_of};
 use byteorder::{BigEndian, WriteBytesExt};
 use opgp_hash::{Digest, digest};
 use opgp_report::{Finding, Job, Verdict, Verifier, check, question_at};

@@ -1,7 +1,7 @@
 use Rattle.std.proofs.Common.{◌≡◌, ℕ, ◌+◌, ◌-◌, ◌<◌, ◌≤◌, List, [], ◌++◌, length, take, drop, min, refl, sym, ap, subst, ◌∙◌, arith, length-append, length-drop}
 use Rattle.std.proofs.lemmas.List.{take_at, take_all, take-append-drop, drop-drop, length-take, length-take-le, nil_from_length}
-use Rattle.opgp_tests.specs.Heap.{heap_octets}
-use Rattle.opgp_tests.proofs.heap.HeapSpool.get.Goals as goal
+use Rattle.opgp_stack_tests.specs.Heap.{heap_octets}
+use Rattle.opgp_stack_tests.proofs.heap.HeapSpool.get.Goals as goal
 
 module _ (items buf a : List ℕ) (taken n : ℕ) where
   -- what is left, as the code cuts it

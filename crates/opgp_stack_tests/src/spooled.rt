@@ -1,12 +1,12 @@
 //! Runs whose text is held in a spool, which may fail at each call.
 
 ghost use Rattle.std.specs.Prelude.{◌≡◌, ◌<◌, []};
-ghost use Rattle.opgp_tests.specs.Heap.{heap_octets};
+ghost use Rattle.opgp_stack_tests.specs.Heap.{heap_octets};
 
+use crate::ends::in_pieces;
 use crate::heap::Heap;
-use crate::stack::ends::in_pieces;
-use crate::stack::keys::KEYS;
-use crate::stack::running::{ACTIONS, output_of, task_of};
+use crate::keys::KEYS;
+use crate::running::{ACTIONS, output_of, task_of};
 use opgp_stack::{Action, RunFault, Watched, run_spooled};
 use std::alloc::Global;
 use std::test::Fail;

@@ -1,7 +1,7 @@
 //! Runs of each action whose reads or writes fail.
 
-use crate::stack::ends::{Trouble, holds, in_drips, in_pieces};
-use crate::stack::keys::KEYS;
+use crate::ends::{Trouble, holds, in_drips, in_pieces};
+use crate::keys::KEYS;
 use opgp_octets::Limits;
 use opgp_stack::{Action, KeyName, Mode, Out, RunFault, Task, Watched, run};
 use std::alloc::Global;

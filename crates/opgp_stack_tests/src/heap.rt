@@ -21,7 +21,7 @@ pub struct Heap {
 
 impl Heap {
     ghost use Rattle.std.specs.Prelude.{[]};
-    ghost use Rattle.opgp_tests.specs.Heap.{heap_failed, heap_octets};
+    ghost use Rattle.opgp_stack_tests.specs.Heap.{heap_failed, heap_octets};
 
     pub fn new(alloc: Global, most: usize, fails_at: u64) -> Heap
         requires { 0 < most }
@@ -53,7 +53,7 @@ impl Heap {
 }
 
 impl Spool for Heap {
-    ghost use Rattle.opgp_tests.specs.Heap.{heap_failed, heap_octets};
+    ghost use Rattle.opgp_stack_tests.specs.Heap.{heap_failed, heap_octets};
 
     ghost serves = { true };
 

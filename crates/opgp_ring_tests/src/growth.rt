@@ -1,6 +1,6 @@
 //! Running out of memory, and how many allocations are made.
 
-use crate::ring::reading::{KEY, SIGNATURE};
+use crate::reading::{KEY, SIGNATURE};
 use opgp_frame::{Form, Packet, Placed};
 use opgp_merge::merge;
 use opgp_octets::{Fault, Layer, Limits, Malformed, PushFault, Reason};

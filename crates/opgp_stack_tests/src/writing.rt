@@ -1,7 +1,7 @@
 //! Writes that fail.
 
-use crate::stack::ends::{Trouble, holds, in_drips, ring_of};
-use crate::stack::keys::KEY_1;
+use crate::ends::{Trouble, holds, in_drips, ring_of};
+use crate::keys::KEY_1;
 use opgp_stack::{EngineError, Mode, Out, write_keyring};
 use std::test::Fail;
 

@@ -1,7 +1,7 @@
 //! Inputs cut into pieces, inputs of the limit, reads that fail, and packets and signed literals that are read.
 
-use crate::stack::ends::{in_pieces, is_written, read_of};
-use crate::stack::keys::{KEY_1, KEY_3, KEYS, TWO_BLOCKS};
+use crate::ends::{in_pieces, is_written, read_of};
+use crate::keys::{KEY_1, KEY_3, KEYS, TWO_BLOCKS};
 use opgp_octets::Limits;
 use opgp_stack::{Mode, Out, read_packets, read_signed};
 use std::alloc::Global;

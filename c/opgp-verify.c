@@ -96,10 +96,11 @@ static bool is_about_key(unsigned long error)
     }
 }
 
-/* Why a call of libcrypto failed: it doesn't take the key, or this is the verdict. */
+/* Why a call of libcrypto failed: out of memory ends the run, else it doesn't take the key; else this is the verdict. */
 static opgp_verdict failed(struct run *run, opgp_verdict verdict)
 {
     for (unsigned long error = ERR_get_error(); error != 0; error = ERR_get_error()) {
+        run->is_out_of_memory = run->is_out_of_memory || ERR_GET_REASON(error) == ERR_R_MALLOC_FAILURE;
         if (is_about_key(error)) {
             verdict = undecided(run, "key");
         }
@@ -596,9 +597,8 @@ int main(int argc, char **argv)
     if (opgp_abi() != OPGP_ABI) {
         return said(3, "the library is of another version");
     }
-    if (CRYPTO_set_mem_functions(get, get_more, let_go) != 1) {
-        return said(3, "libcrypto is in use already");
-    }
+    /* A libcrypto that took memory when it was loaded keeps its own functions; then it must say itself what was refused. */
+    CRYPTO_set_mem_functions(get, get_more, let_go);
     if (has_word(words, "-h", "--help")) {
         fputs(help, stderr);
         return 2;

@@ -51,8 +51,7 @@ mod text;
 use crate::calls::{put_octets, put_text, read_ring};
 use crate::making::{Merged, Normal, keep, keep_joined, keep_made, keep_nth};
 use crate::reader::Reader;
-use crate::reading::{begin, end, push_piece, take_part, tell_end};
-use crate::reading_slot::Reading;
+use crate::reading::{begin, end_input, push_piece, take_part};
 use crate::ring::Ring;
 use crate::sizes::Sizes;
 use crate::status::{DONE, LIMITS, MEMORY, NO_ROW};
@@ -500,9 +499,7 @@ pub extern "C" fn opgp_reader_end(alloc: Global, reader: &mut Reader, fault: &mu
         Ok(held) => held,
         Err(status) => return status,
     };
-    let ended = end(mem::replace(&mut *held, Reading::Lost));
-    let status = tell_end(&ended, fault);
-    drop(mem::replace(&mut *held, ended));
+    let status = end_input(&mut held, fault);
     reader.give(held);
     status
 }

@@ -54,7 +54,7 @@ pub(crate) fn push_piece(reading: &mut Reading, piece: &[u8]) -> u32
 }
 
 /// Ends the input, unless it has ended.
-pub(crate) fn end(held: Reading) -> Reading
+fn end(held: Reading) -> Reading
     ghost so_far: { Use }
     requires { IsReading so_far held }
     ensures { HasEnded so_far result }
@@ -73,7 +73,7 @@ pub(crate) fn end(held: Reading) -> Reading
 }
 
 /// How the input has ended.
-pub(crate) fn tell_end(held: &Reading, fault: &mut FaultRow) -> u32
+fn tell_end(held: &Reading, fault: &mut FaultRow) -> u32
     ghost so_far: { Use }
     requires { HasEnded so_far held.now }
     ensures done { result ≡ 0 → IsEnded so_far held.now }
@@ -92,6 +92,23 @@ pub(crate) fn tell_end(held: &Reading, fault: &mut FaultRow) -> u32
         Reading::Lost => MEMORY,
         Reading::Going(_) => unreachable!(),
     }
+}
+
+/// Ends the input, unless it has ended, and says how it has.
+pub(crate) fn end_input(reading: &mut Reading, fault: &mut FaultRow) -> u32
+    ghost so_far: { Use }
+    requires { IsReading so_far reading.old }
+    ensures done { result ≡ 0 → IsEnded so_far reading.new }
+    ensures refused { result ≡ 1
+        → (f : Fault) × IsRefused so_far reading.new f × (fault.new ≡ fault_row f) }
+    ensures fault { result ≢ 1 → fault.new ≡ fault.old }
+    ensures used { IsReading so_far reading.new }
+    ensures status { (result ≡ 0) ⊎ ((result ≡ 1) ⊎ (result ≡ 3)) }
+{
+    let ended = end(mem::replace(reading, Reading::Lost));
+    let status = tell_end(&ended, fault);
+    drop(mem::replace(reading, ended));
+    status
 }
 
 /// Takes the next part, if one waits.

@@ -1,15 +1,16 @@
 //! The answer to a line.
 
+use crate::end::End;
 use opgp_octets::{Fault, write_hexadecimal};
 use std::alloc::Global;
 use std::fmt::Display;
 
 /// The words of an answer, each with a space before it but for the first. Where memory is refused to
-/// it, it is no answer any more, and the calls that add to it needn't ask.
+/// it, or to what is to be shown, it is no answer any more, and the calls that add to it needn't ask.
 #[derive(Drop)]
 pub(crate) struct Answer {
     text: String,
-    refused: bool,
+    end: Option<End>,
 }
 
 impl Answer {
@@ -17,23 +18,42 @@ impl Answer {
     pub(crate) fn new(alloc: Global) -> Answer {
         Answer {
             text: String::new(alloc),
-            refused: false,
+            end: None,
         }
     }
 
-    /// The line: `memory` where it ran out of that.
+    /// The line.
     pub(crate) fn text(&self) -> &str {
-        if self.refused {
-            "memory"
-        } else {
-            self.text.as_str()
+        self.text.as_str()
+    }
+
+    /// Why it is no answer, if it is none.
+    pub(crate) fn end(&self) -> Option<End> {
+        self.end
+    }
+
+    /// Makes it no answer: the first reason stays.
+    pub(crate) fn refuse(&mut self, end: End) {
+        if self.end.is_none() {
+            self.end = Some(end);
         }
     }
 
-    /// Adds a text as it is.
+    /// What was made; where it wasn't, this is no answer.
+    pub(crate) fn made<T, E: Into<End>>(&mut self, made: Result<T, E>) -> Option<T> {
+        match made {
+            Ok(value) => Some(value),
+            Err(error) => {
+                self.refuse(error.into());
+                None
+            }
+        }
+    }
+
+    /// Adds a text as it is, if this is an answer.
     fn add(&mut self, text: &str) {
-        if self.text.push_str(text).is_err() {
-            self.refused = true;
+        if self.end.is_none() && self.text.push_str(text).is_err() {
+            self.refuse(End::Memory);
         }
     }
 
@@ -70,7 +90,7 @@ impl Answer {
     pub(crate) fn shown<T: Display>(&mut self, value: &T) {
         self.word("");
         if write!(self.text, "{value}").is_err() {
-            self.refused = true;
+            self.refuse(End::Memory);
         }
     }
 
@@ -78,7 +98,7 @@ impl Answer {
     pub(crate) fn octets(&mut self, octets: &[u8]) {
         self.word(if octets.is_empty() { "-" } else { "" });
         if self.text.reserve(octets.len().saturating_mul(2)).is_err() {
-            self.refused = true;
+            self.refuse(End::Memory);
             return;
         }
         for piece in octets.chunks(32) {

@@ -1,6 +1,6 @@
 //! The calls of `opgp_armor`.
 
-ghost use Rattle.std.specs.Prelude.{◌≤◌, IfOk, length};
+ghost use Rattle.std.specs.Prelude.{◌≤◌, IfSome, length};
 
 use crate::answer::Answer;
 use crate::end::End;
@@ -8,43 +8,37 @@ use crate::given::Given;
 use crate::headers::are_writable;
 use crate::octets::limits_of;
 use opgp_armor::{ArmorEvent, Block, Dearmor, Label, armor, dearmor};
-use opgp_octets::{Limits, OutOfMemory};
+use opgp_octets::Limits;
 use std::alloc::Global;
 
-/// The answer to a call of this crate; None where it has none of the name.
-pub(crate) fn answered(
-    alloc: Global,
-    name: &str,
-    given: &Given,
-    answer: &mut Answer,
-) -> Option<Result<(), End>> {
-    Some(match name {
+/// Adds the answer to a call of this crate; false where it has none of the name.
+pub(crate) fn answered(alloc: Global, name: &str, given: &Given, answer: &mut Answer) -> bool {
+    match name {
         "dearmor" => dearmored(alloc, given, answer),
         "dearmor_pushed" => dearmor_pushed(alloc, given, answer),
         "block_copies" => block_copies(alloc, given, answer),
         "event_copies" => event_copies(alloc, given, answer),
         "armor" => armored(alloc, given, answer),
-        _ => return None,
-    })
+        _ => return false,
+    }
+    true
 }
 
 /// `dearmor [POLICY].. LIMITS.. TEXT`: the blocks of a text, or its fault.
-fn dearmored(alloc: Global, given: &Given, answer: &mut Answer) -> Result<(), End> {
-    match dearmor(alloc, given.octets(0)?, &limits_of(given)?)? {
-        Ok(blocks) => add_blocks(blocks.as_slice(), answer),
-        Err(fault) => answer.fault(&fault),
+fn dearmored(alloc: Global, given: &Given, answer: &mut Answer) {
+    match dearmor(alloc, given.octets(0), &limits_of(given)) {
+        Ok(Ok(blocks)) => add_blocks(blocks.as_slice(), answer),
+        Ok(Err(fault)) => answer.fault(&fault),
+        Err(_) => answer.refuse(End::Memory),
     }
-    Ok(())
 }
 
 /// `block_copies [POLICY].. LIMITS.. TEXT`: copies of the blocks of a text.
-fn block_copies(alloc: Global, given: &Given, answer: &mut Answer) -> Result<(), End> {
-    match dearmor(alloc, given.octets(0)?, &limits_of(given)?)? {
-        Ok(blocks) => add_block_copies(alloc, blocks.as_slice(), answer),
-        Err(fault) => {
-            answer.fault(&fault);
-            Ok(())
-        }
+fn block_copies(alloc: Global, given: &Given, answer: &mut Answer) {
+    match dearmor(alloc, given.octets(0), &limits_of(given)) {
+        Ok(Ok(blocks)) => add_block_copies(alloc, blocks.as_slice(), answer),
+        Ok(Err(fault)) => answer.fault(&fault),
+        Err(_) => answer.refuse(End::Memory),
     }
 }
 
@@ -57,12 +51,13 @@ fn add_blocks(blocks: &[Block], answer: &mut Answer) {
 }
 
 /// Adds copies of blocks.
-fn add_block_copies(alloc: Global, blocks: &[Block], answer: &mut Answer) -> Result<(), End> {
+fn add_block_copies(alloc: Global, blocks: &[Block], answer: &mut Answer) {
     for block in blocks {
-        add_block(&block.copy(alloc)?, answer);
+        if let Some(copy) = answer.made(block.copy(alloc)) {
+            add_block(&copy, answer);
+        }
     }
     answer.word("end");
-    Ok(())
 }
 
 /// Adds the label of a block.
@@ -103,146 +98,147 @@ fn add_event(event: &ArmorEvent, answer: &mut Answer) {
 
 /// `dearmor_pushed [POLICY].. LIMITS.. SIZE TEXT..`: the events of texts that are pushed so many
 /// octets at a time.
-fn dearmor_pushed(alloc: Global, given: &Given, answer: &mut Answer) -> Result<(), End> {
-    let limits = limits_of(given)?;
-    let size = given.long(5)?.max(1);
+fn dearmor_pushed(alloc: Global, given: &Given, answer: &mut Answer) {
+    let limits = limits_of(given);
+    let size = given.long(5).max(1);
     pushed(alloc, limits, given.all_octets(), size, answer)
 }
 
 /// Adds the events of texts that are pushed so many octets at a time.
-fn pushed(
-    alloc: Global,
-    limits: Limits,
-    texts: &[Vec<u8>],
-    size: u32,
-    answer: &mut Answer,
-) -> Result<(), End> {
+fn pushed(alloc: Global, limits: Limits, texts: &[Vec<u8>], size: u32, answer: &mut Answer) {
     let mut reader = Dearmor::new(alloc, limits);
-    push_all(&mut reader, texts, size, answer)?;
-    add_last(&mut reader, answer)?;
+    push_all(&mut reader, texts, size, answer);
+    add_last(&mut reader, answer);
     add_end(reader, answer)
 }
 
 /// Pushes texts, so many octets at a time, and adds the events; and where the reader doesn't say so many
 /// octets as it was given.
-fn push_all(
-    reader: &mut Dearmor,
-    texts: &[Vec<u8>],
-    size: u32,
-    answer: &mut Answer,
-) -> Result<(), End> {
+fn push_all(reader: &mut Dearmor, texts: &[Vec<u8>], size: u32, answer: &mut Answer) {
     let mut given = 0u64;
     for text in texts {
         for piece in text.chunks(size.max(1) as usize) {
-            push(reader, piece, answer)?;
+            push(reader, piece, answer);
             given = given.saturating_add(piece.len() as u64);
             if reader.given() != given {
                 answer.word("miscounted");
             }
         }
     }
-    Ok(())
 }
 
 /// Adds the last event, if there is one, and how many octets were given.
-fn add_last(reader: &mut Dearmor, answer: &mut Answer) -> Result<(), End> {
+fn add_last(reader: &mut Dearmor, answer: &mut Answer) {
     if reader.ready() || reader.ended() {
-        return Err(End::Bad("events that were taken"));
+        return answer.refuse(End::Bad("events that were taken"));
     }
-    if let Some(event) = reader.last()? {
-        add_event(&event, answer);
+    match reader.last() {
+        Ok(Some(event)) => add_event(&event, answer),
+        Ok(None) => {}
+        Err(fault) => answer.refuse(End::from(fault)),
     }
     answer.named("given", reader.given());
-    Ok(())
 }
 
 /// Adds how the texts end.
-fn add_end(reader: Dearmor, answer: &mut Answer) -> Result<(), End> {
+fn add_end(reader: Dearmor, answer: &mut Answer) {
     if reader.ready() || !reader.ended() {
-        return Err(End::Bad("events that were taken"));
+        return answer.refuse(End::Bad("events that were taken"));
     }
     answer.ended(reader.finish());
-    Ok(())
 }
 
 /// Pushes octets, and adds the events.
-fn push(reader: &mut Dearmor, piece: &[u8], answer: &mut Answer) -> Result<(), End> {
+fn push(reader: &mut Dearmor, piece: &[u8], answer: &mut Answer) {
     let mut rest = piece;
     for _ in 0..=piece.len() {
         if rest.is_empty() {
             break;
         }
-        let count = push_some(reader, rest, answer)?;
+        let Some(count) = push_some(reader, rest, answer) else {
+            break;
+        };
         rest = &rest[count..];
     }
-    Ok(())
 }
 
 /// Pushes octets until an event is ready, adds that, and answers how many octets were taken.
-fn push_some(reader: &mut Dearmor, rest: &[u8], answer: &mut Answer) -> Result<usize, End>
-    ensures { IfOk result (λ n. n ≤ length rest.now) }
+fn push_some(reader: &mut Dearmor, rest: &[u8], answer: &mut Answer) -> Option<usize>
+    ensures { IfSome result (λ n. n ≤ length rest.now) }
 {
     if reader.ready() || reader.ended() || reader.given() > 1 << 40 || rest.len() > 1 << 40 {
-        return Err(End::Bad("fewer octets"));
+        answer.refuse(End::Bad("fewer octets"));
+        return None;
     }
-    let count = reader.push(rest)?;
-    if let Some(event) = reader.take() {
-        add_event(&event, answer);
+    match reader.push(rest) {
+        Ok(count) => {
+            if let Some(event) = reader.take() {
+                add_event(&event, answer);
+            }
+            Some(count)
+        }
+        Err(fault) => {
+            answer.refuse(End::from(fault));
+            None
+        }
     }
-    Ok(count)
 }
 
 /// `event_copies LABEL KEY VALUE OCTETS`: copies of events.
-fn event_copies(alloc: Global, given: &Given, answer: &mut Answer) -> Result<(), End> {
-    let label = label_of(given.name(0)?)?;
-    add_copy(alloc, ArmorEvent::Begin(label), answer)?;
-    add_header_copy(alloc, given, answer)?;
-    add_octets_copy(alloc, given.octets(2)?, answer)?;
+fn event_copies(alloc: Global, given: &Given, answer: &mut Answer) {
+    add_copy(alloc, ArmorEvent::Begin(label_of(given, 0)), answer);
+    add_header_copy(alloc, given.octets(0), given.octets(1), answer);
+    add_octets_copy(alloc, given.octets(2), answer);
     add_copy(alloc, ArmorEvent::End, answer)
 }
 
 /// Adds a copy of the event of a header.
-fn add_header_copy(alloc: Global, given: &Given, answer: &mut Answer) -> Result<(), End> {
-    let (key, value) = (given.octets(0)?, given.octets(1)?);
-    add_copy(alloc, header_event(alloc, key, value)?, answer)
+fn add_header_copy(alloc: Global, key: &[u8], value: &[u8], answer: &mut Answer) {
+    let Some(key) = answer.made(Vec::from_slice(alloc, key)) else {
+        return;
+    };
+    let Some(value) = answer.made(Vec::from_slice(alloc, value)) else {
+        return;
+    };
+    add_copy(alloc, ArmorEvent::Header(key, value), answer)
 }
 
 /// Adds a copy of the event of octets.
-fn add_octets_copy(alloc: Global, octets: &[u8], answer: &mut Answer) -> Result<(), End> {
-    let octets = Vec::from_slice(alloc, octets)?;
+fn add_octets_copy(alloc: Global, octets: &[u8], answer: &mut Answer) {
+    let Some(octets) = answer.made(Vec::from_slice(alloc, octets)) else {
+        return;
+    };
     add_copy(alloc, ArmorEvent::Octets(octets), answer)
 }
 
-/// The event of a header.
-fn header_event(alloc: Global, key: &[u8], value: &[u8]) -> Result<ArmorEvent, OutOfMemory> {
-    let key = Vec::from_slice(alloc, key)?;
-    let value = Vec::from_slice(alloc, value)?;
-    Ok(ArmorEvent::Header(key, value))
-}
-
 /// Adds a copy of an event.
-fn add_copy(alloc: Global, event: ArmorEvent, answer: &mut Answer) -> Result<(), End> {
-    add_event(&event.copy(alloc)?, answer);
-    Ok(())
+fn add_copy(alloc: Global, event: ArmorEvent, answer: &mut Answer) {
+    if let Some(copy) = answer.made(event.copy(alloc)) {
+        add_event(&copy, answer);
+    }
 }
 
-/// The label of this name.
-pub(crate) fn label_of(name: &str) -> Result<Label, End> {
-    match name {
-        "message" => Ok(Label::Message),
-        "public" => Ok(Label::PublicKeyBlock),
-        "private" => Ok(Label::PrivateKeyBlock),
-        "signature" => Ok(Label::Signature),
-        _ => Err(End::Bad("a label")),
+/// The label of a name.
+pub(crate) fn label_of(given: &Given, at: usize) -> Label {
+    match given.name(at) {
+        "message" => Label::Message,
+        "public" => Label::PublicKeyBlock,
+        "private" => Label::PrivateKeyBlock,
+        "signature" => Label::Signature,
+        _ => {
+            given.lack("a label");
+            Label::Message
+        }
     }
 }
 
 /// `armor LABEL OCTETS - [KEY VALUE]..`: a block as a text, which is written into just the room that
 /// it takes.
-fn armored(alloc: Global, given: &Given, answer: &mut Answer) -> Result<(), End> {
-    let label = label_of(given.name(0)?)?;
-    let headers = headers_of(alloc, given.all_octets())?;
-    add_armored(alloc, label, headers.as_slice(), given.octets(0)?, answer)
+fn armored(alloc: Global, given: &Given, answer: &mut Answer) {
+    let label = label_of(given, 0);
+    if let Some(headers) = headers_of(alloc, given.all_octets(), answer) {
+        add_armored(alloc, label, headers.as_slice(), given.octets(0), answer);
+    }
 }
 
 /// Adds a block as a text, and the room that it is in; or that its headers can't be written.
@@ -252,28 +248,44 @@ fn add_armored(
     headers: &[(Vec<u8>, Vec<u8>)],
     octets: &[u8],
     answer: &mut Answer,
-) -> Result<(), End> {
+) {
     if !are_writable(headers) {
         answer.word("unwritable");
-        return Ok(());
+        return;
     }
-    let text = armor(alloc, label, headers, octets)?;
+    let Some(text) = answer.made(armor(alloc, label, headers, octets)) else {
+        return;
+    };
     answer.octets(text.as_slice());
     answer.named("room", text.capacity() as u64);
-    Ok(())
 }
 
 /// The headers that words have behind the first two, in pairs.
-fn headers_of(alloc: Global, words: &[Vec<u8>]) -> Result<Vec<(Vec<u8>, Vec<u8>)>, End> {
+fn headers_of(
+    alloc: Global,
+    words: &[Vec<u8>],
+    answer: &mut Answer,
+) -> Option<Vec<(Vec<u8>, Vec<u8>)>> {
     let mut headers = Vec::new(alloc);
     for pair in words.chunks(2).skip(1) {
-        let [key, value] = pair else {
-            return Err(End::Bad("pairs"));
-        };
-        let header = (key.clone()?, value.clone()?);
+        let header = header_of(pair, answer)?;
         if headers.push(header).is_err() {
-            return Err(End::Memory);
+            answer.refuse(End::Memory);
+            return None;
         }
     }
-    Ok(headers)
+    Some(headers)
+}
+
+/// The header of a pair.
+fn header_of(pair: &[Vec<u8>], answer: &mut Answer) -> Option<(Vec<u8>, Vec<u8>)> {
+    let [key, value] = pair else {
+        answer.refuse(End::Bad("pairs"));
+        return None;
+    };
+    let key = answer.made(key.clone())?;
+    match answer.made(value.clone()) {
+        Some(value) => Some((key, value)),
+        None => None,
+    }
 }

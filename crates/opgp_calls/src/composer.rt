@@ -10,19 +10,15 @@ use opgp_octets::{Limits, OutOfMemory};
 use opgp_ring::{BlockOf, Composer, Packets, Part, Ready};
 use std::alloc::Global;
 
-/// The answer to a call of these; None where there is none of the name.
-pub(crate) fn answered(
-    alloc: Global,
-    name: &str,
-    given: &Given,
-    answer: &mut Answer,
-) -> Option<Result<(), End>> {
-    Some(match name {
+/// Adds the answer to a call of these; false where there is none of the name.
+pub(crate) fn answered(alloc: Global, name: &str, given: &Given, answer: &mut Answer) -> bool {
+    match name {
         "composer" => composed(alloc, given, Shown::AsItIs, answer),
         "composer_normal" => composed(alloc, given, Shown::Normal, answer),
         "composer_sizes" => composed(alloc, given, Shown::Size, answer),
-        _ => return None,
-    })
+        _ => return false,
+    }
+    true
 }
 
 /// How a part is shown: by its octets, by those in the current format, or by its size alone.
@@ -36,9 +32,10 @@ pub(crate) enum Shown {
 /// `composer LIMITS.. [LABEL OCTETS]..`: blocks whose packets are pushed one by one: each part, behind
 /// how many packets it was ready, and how the packets end. `composer_normal`: the parts in the current
 /// format. `composer_sizes`: without their octets.
-fn composed(alloc: Global, given: &Given, shown: Shown, answer: &mut Answer) -> Result<(), End> {
-    let limits = limits_of(given)?;
-    push_blocks(alloc, limits, blocks_of(alloc, given)?, shown, answer)
+fn composed(alloc: Global, given: &Given, shown: Shown, answer: &mut Answer) {
+    if let Some(blocks) = blocks_of(alloc, given, answer) {
+        push_blocks(alloc, limits_of(given), blocks, shown, answer);
+    }
 }
 
 /// Pushes the packets of blocks, and adds the parts and the end.
@@ -48,11 +45,11 @@ fn push_blocks(
     blocks: Vec<BlockOf>,
     shown: Shown,
     answer: &mut Answer,
-) -> Result<(), End> {
+) {
     let mut composer = Composer::new(alloc, limits);
     for block in blocks {
         composer.begin_block(block.block, block.label_fits);
-        push_all(alloc, &mut composer, block.packets, shown, answer)?;
+        push_all(alloc, &mut composer, block.packets, shown, answer);
     }
     add_end(alloc, composer, shown, answer)
 }
@@ -64,56 +61,44 @@ fn push_all(
     packets: Vec<Placed>,
     shown: Shown,
     answer: &mut Answer,
-) -> Result<(), End> {
+) {
     for (number, placed) in packets.into_iter().enumerate() {
         if composer.ready() {
-            return Err(End::Bad("parts that were taken"));
+            return answer.refuse(End::Bad("parts that were taken"));
         }
-        composer.push(placed)?;
+        answer.made(composer.push(placed));
         if let Some(part) = composer.take() {
             answer.named("behind", number as u64);
-            add_part(alloc, part, shown, answer)?;
+            add_part(alloc, part, shown, answer);
         }
     }
-    Ok(())
 }
 
 /// Adds the last part, if there is one, and how the packets end.
-fn add_end(
-    alloc: Global,
-    composer: Composer,
-    shown: Shown,
-    answer: &mut Answer,
-) -> Result<(), End> {
+fn add_end(alloc: Global, composer: Composer, shown: Shown, answer: &mut Answer) {
     if composer.ready() {
-        return Err(End::Bad("parts that were taken"));
+        return answer.refuse(End::Bad("parts that were taken"));
     }
     match composer.finish() {
-        Ok(Some(part)) => {
-            answer.word("last");
-            add_part(alloc, part, shown, answer)?;
-            answer.word("end");
-        }
+        Ok(Some(part)) => add_last(alloc, part, shown, answer),
         Ok(None) => answer.word("end"),
         Err(fault) => answer.fault(&fault),
     }
-    Ok(())
+}
+
+/// Adds the last part, and that it is the last.
+fn add_last(alloc: Global, part: Ready, shown: Shown, answer: &mut Answer) {
+    answer.word("last");
+    add_part(alloc, part, shown, answer);
+    answer.word("end");
 }
 
 /// Adds a part as it is to be shown.
-pub(crate) fn add_part(
-    alloc: Global,
-    part: Ready,
-    shown: Shown,
-    answer: &mut Answer,
-) -> Result<(), End> {
+pub(crate) fn add_part(alloc: Global, part: Ready, shown: Shown, answer: &mut Answer) {
     match shown {
         Shown::AsItIs => add_octets(alloc, &part, answer),
         Shown::Normal => add_octets(alloc, &part.normalise(), answer),
-        Shown::Size => {
-            add_size(&part, answer);
-            Ok(())
-        }
+        Shown::Size => add_size(&part, answer),
     }
 }
 
@@ -126,24 +111,24 @@ fn add_kind(part: &Ready, answer: &mut Answer) {
 }
 
 /// Adds what a part is, how many packets it has, and its octets.
-fn add_octets(alloc: Global, part: &Ready, answer: &mut Answer) -> Result<(), End> {
+fn add_octets(alloc: Global, part: &Ready, answer: &mut Answer) {
     let mut out = Vec::new(alloc);
     add_kind(part, answer);
-    answer.number(write_all(part.packets(), &mut out)?);
+    let count = write_all(part.packets(), &mut out, answer);
+    answer.number(count);
     answer.octets(out.as_slice());
-    Ok(())
 }
 
 /// Writes packets, and answers how many they are.
-fn write_all(packets: Packets<'_>, out: &mut Vec<u8>) -> Result<u64, OutOfMemory> {
+fn write_all(packets: Packets<'_>, out: &mut Vec<u8>, answer: &mut Answer) -> u64 {
     let mut packets = packets;
     for count in 0..u64::MAX {
-        match packets.next() {
-            Some(part) => write_part(part, out)?,
-            None => return Ok(count),
-        }
+        let Some(part) = packets.next() else {
+            return count;
+        };
+        answer.made(write_part(part, out));
     }
-    Ok(u64::MAX)
+    u64::MAX
 }
 
 /// Writes a packet.

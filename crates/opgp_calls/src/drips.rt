@@ -1,6 +1,6 @@
 //! A sink that takes little, and fails.
 
-ghost use Rattle.std.specs.Prelude.{◌≡◌, false, IfOk};
+ghost use Rattle.std.specs.Prelude.{◌≡◌, false};
 ghost use Rattle.opgp_stream.specs.Watch.{watched_failed};
 
 use crate::answer::Answer;
@@ -51,32 +51,29 @@ impl Write for Drips {
 
 /// The sink of the first name and the first two numbers: how it fails, how many octets it takes, and at
 /// which write it fails.
-pub(crate) fn drips_of(alloc: Global, given: &Given) -> Result<Watched<Drips>, End>
-    ensures { IfOk result (λ sink. watched_failed sink ≡ false) }
+pub(crate) fn drips_of(alloc: Global, given: &Given) -> Watched<Drips>
+    ensures { watched_failed result ≡ false }
 {
-    let by_error = given.name(0)? == "error";
-    let (most, fails_at) = (given.long(0)?, given.long(1)?);
-    Ok(Watched::new(Drips {
+    Watched::new(Drips {
         held: Vec::new(alloc),
         sizes: Vec::new(alloc),
-        most: most as usize,
-        fails_at: fails_at as usize,
-        by_error,
+        most: given.long(0) as usize,
+        fails_at: given.long(1) as usize,
+        by_error: given.name(0) == "error",
         refused: false,
-    }))
+    })
 }
 
 /// Adds whether all was put, whether the sink has failed, what it took, and the sizes of the writes.
-pub(crate) fn add_drips(sink: Watched<Drips>, put: bool, answer: &mut Answer) -> Result<(), End> {
+pub(crate) fn add_drips(sink: Watched<Drips>, put: bool, answer: &mut Answer) {
     answer.truth(put);
     answer.truth(sink.failed());
     let drips = sink.into_inner();
     if drips.refused {
-        return Err(End::Memory);
+        return answer.refuse(End::Memory);
     }
     answer.octets(drips.held.as_slice());
     for size in &drips.sizes {
         answer.number(*size as u64);
     }
-    Ok(())
 }

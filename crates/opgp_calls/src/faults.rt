@@ -53,66 +53,62 @@ const REASONS: &[Reason] = &[
     Reason::BlockLabel,
 ];
 
-/// The answer to a call of these; None where there is none of the name.
-pub(crate) fn answered(
-    alloc: Global,
-    name: &str,
-    given: &Given,
-    answer: &mut Answer,
-) -> Option<Result<(), End>> {
-    Some(match name {
+/// Adds the answer to a call of these; false where there is none of the name.
+pub(crate) fn answered(alloc: Global, name: &str, given: &Given, answer: &mut Answer) -> bool {
+    match name {
         "fault" => fault(alloc, given, answer),
         "errors" => {
             add_refusals(answer);
             add_errors(answer);
-            Ok(())
         }
         "hexadecimal" => hexadecimal(given, answer),
-        _ => return None,
-    })
+        _ => return false,
+    }
+    true
 }
 
 /// `fault LAYER NUMBER BLOCK PLACE INNER`: the fault whose reason is that of the number in the list of
 /// them, which is added too; and each error that holds it.
-fn fault(alloc: Global, given: &Given, answer: &mut Answer) -> Result<(), End> {
-    let Some(reason) = REASONS.get(given.small(0)? as usize) else {
-        return Err(End::Bad("a reason"));
+fn fault(alloc: Global, given: &Given, answer: &mut Answer) {
+    let Some(reason) = REASONS.get(given.small(0) as usize) else {
+        return given.lack("a reason");
     };
     let fault = Fault {
-        layer: layer_of(given.name(0)?)?,
+        layer: layer_of(given),
         reason: *reason,
-        block: given.number(1)?,
-        pos: given.number(2)?,
-        inner: given.number(3)?,
+        block: given.number(1),
+        pos: given.number(2),
+        inner: given.number(3),
     };
     answer.small(reason.number());
     answer.word(reason.name());
-    answer.word(fault_line(alloc, &fault)?.as_str());
-    add_padded(alloc, &fault, answer)?;
+    if let Some(line) = answer.made(fault_line(alloc, &fault)) {
+        answer.word(line.as_str());
+    }
+    add_padded(alloc, &fault, answer);
     add_holders(fault, answer);
-    Ok(())
 }
 
-/// The layer of this name.
-fn layer_of(name: &str) -> Result<Layer, End> {
-    match name {
-        "input" => Ok(Layer::Input),
-        "armor" => Ok(Layer::Armor),
-        "framing" => Ok(Layer::Framing),
-        "body" => Ok(Layer::Body),
-        "composition" => Ok(Layer::Composition),
-        _ => Err(End::Bad("a layer")),
+/// The layer of the first name.
+fn layer_of(given: &Given) -> Layer {
+    match given.name(0) {
+        "input" => Layer::Input,
+        "armor" => Layer::Armor,
+        "framing" => Layer::Framing,
+        "body" => Layer::Body,
+        "composition" => Layer::Composition,
+        _ => {
+            given.lack("a layer");
+            Layer::Input
+        }
     }
 }
 
 /// Adds a layer and a reason, with blanks before and behind them.
-fn add_padded(alloc: Global, fault: &Fault, answer: &mut Answer) -> Result<(), End> {
+fn add_padded(alloc: Global, fault: &Fault, answer: &mut Answer) {
     match format!(in alloc; "{:>12}|{:<20}|", fault.layer, fault.reason) {
-        Ok(names) => {
-            answer.word(names.as_str());
-            Ok(())
-        }
-        Err(_) => Err(End::Memory),
+        Ok(names) => answer.word(names.as_str()),
+        Err(_) => answer.refuse(End::Memory),
     }
 }
 
@@ -168,14 +164,13 @@ fn add_error(error: &EngineError, answer: &mut Answer) {
 }
 
 /// `hexadecimal OCTETS`: the digits of at most 32 octets, between bars.
-fn hexadecimal(given: &Given, answer: &mut Answer) -> Result<(), End> {
-    let octets = given.octets(0)?;
+fn hexadecimal(given: &Given, answer: &mut Answer) {
+    let octets = given.octets(0);
     if octets.len() > 32 {
-        return Err(End::Bad("at most 32 octets"));
+        return given.lack("at most 32 octets");
     }
     let mut digits = [0; 64];
     answer.word("|");
     answer.word(write_hexadecimal(octets, &mut digits[..2 * octets.len()]));
     answer.word("|");
-    Ok(())
 }

@@ -1,6 +1,6 @@
 //! The calls of `opgp_frame`.
 
-ghost use Rattle.std.specs.Prelude.{◌≤◌, IfOk, length};
+ghost use Rattle.std.specs.Prelude.{◌≤◌, IfSome, length};
 
 use crate::answer::Answer;
 use crate::end::End;
@@ -12,14 +12,9 @@ use opgp_frame::{
 };
 use std::alloc::Global;
 
-/// The answer to a call of this crate; None where it has none of the name.
-pub(crate) fn answered(
-    alloc: Global,
-    name: &str,
-    given: &Given,
-    answer: &mut Answer,
-) -> Option<Result<(), End>> {
-    Some(match name {
+/// Adds the answer to a call of this crate; false where it has none of the name.
+pub(crate) fn answered(alloc: Global, name: &str, given: &Given, answer: &mut Answer) -> bool {
+    match name {
         "deframe" => deframe(alloc, given, answer),
         "packet" => packet(alloc, given, answer),
         "packet_copy" => packet_copy(alloc, given, answer),
@@ -31,28 +26,23 @@ pub(crate) fn answered(
         "pieces" => pieces(alloc, given, answer),
         "form_copy" => form_copy(alloc, given, answer),
         "shortest_form" => shortest_form(given, answer),
-        _ => return None,
-    })
+        _ => return false,
+    }
+    true
 }
 
 /// `deframe LIMITS.. BLOCK SIZE OCTETS..`: pushes of so many octets.
-fn deframe(alloc: Global, given: &Given, answer: &mut Answer) -> Result<(), End> {
-    let limits = limits_of(given)?;
-    let block = given.number(5)?;
-    let size = given.long(6)?.max(1);
+fn deframe(alloc: Global, given: &Given, answer: &mut Answer) {
+    let limits = limits_of(given);
+    let block = given.number(5);
+    let size = given.long(6).max(1);
     let reader = Deframe::new(alloc, block, limits);
     pushed(alloc, reader, given.all_octets(), size, answer)
 }
 
 /// Adds the packets of octets that are pushed so many at a time, and how they end.
-fn pushed(
-    alloc: Global,
-    mut reader: Deframe,
-    words: &[Vec<u8>],
-    size: u32,
-    answer: &mut Answer,
-) -> Result<(), End> {
-    push_all(alloc, &mut reader, words, size, answer)?;
+fn pushed(alloc: Global, mut reader: Deframe, words: &[Vec<u8>], size: u32, answer: &mut Answer) {
+    push_all(alloc, &mut reader, words, size, answer);
     add_end(reader, answer)
 }
 
@@ -63,11 +53,11 @@ fn push_all(
     words: &[Vec<u8>],
     size: u32,
     answer: &mut Answer,
-) -> Result<(), End> {
+) {
     let mut given = 0u64;
     for octets in words {
         for piece in octets.chunks(size.max(1) as usize) {
-            push(alloc, reader, piece, answer)?;
+            push(alloc, reader, piece, answer);
             given = given.saturating_add(piece.len() as u64);
             if reader.given() != given {
                 answer.word("miscounted");
@@ -75,53 +65,59 @@ fn push_all(
         }
     }
     answer.named("given", reader.given());
-    Ok(())
 }
 
 /// Adds how the packets end.
-fn add_end(reader: Deframe, answer: &mut Answer) -> Result<(), End> {
+fn add_end(reader: Deframe, answer: &mut Answer) {
     if reader.ready() {
-        return Err(End::Bad("packets that were taken"));
+        return answer.refuse(End::Bad("packets that were taken"));
     }
     answer.ended(reader.finish());
-    Ok(())
 }
 
 /// Pushes octets, and adds the packets.
-fn push(alloc: Global, reader: &mut Deframe, piece: &[u8], answer: &mut Answer) -> Result<(), End> {
+fn push(alloc: Global, reader: &mut Deframe, piece: &[u8], answer: &mut Answer) {
     let mut rest = piece;
     for _ in 0..=piece.len() {
         if rest.is_empty() {
             break;
         }
-        let count = push_some(reader, rest)?;
+        let Some(count) = push_some(reader, rest, answer) else {
+            break;
+        };
         rest = &rest[count..];
         if let Some(placed) = reader.take() {
-            add_placed(alloc, &placed, answer)?;
+            add_placed(alloc, &placed, answer);
         }
     }
-    Ok(())
 }
 
 /// Pushes octets until a packet is ready, and answers how many were taken.
-pub(crate) fn push_some(reader: &mut Deframe, rest: &[u8]) -> Result<usize, End>
-    ensures { IfOk result (λ n. n ≤ length rest.now) }
+pub(crate) fn push_some(reader: &mut Deframe, rest: &[u8], answer: &mut Answer) -> Option<usize>
+    ensures { IfSome result (λ n. n ≤ length rest.now) }
 {
     if reader.ready() || reader.given() > 1 << 40 || rest.len() > 1 << 40 {
-        return Err(End::Bad("fewer octets"));
+        answer.refuse(End::Bad("fewer octets"));
+        return None;
     }
-    Ok(reader.push(rest)?)
+    match reader.push(rest) {
+        Ok(count) => Some(count),
+        Err(fault) => {
+            answer.refuse(End::from(fault));
+            None
+        }
+    }
 }
 
 /// Adds a packet: its place, block, header and octets.
-pub(crate) fn add_placed(alloc: Global, placed: &Placed, answer: &mut Answer) -> Result<(), End> {
+pub(crate) fn add_placed(alloc: Global, placed: &Placed, answer: &mut Answer) {
     answer.named("at", placed.pos);
     answer.number(placed.block);
     add_packet(alloc, &placed.packet, answer)
 }
 
 /// Adds a packet: its type, its form, how long its body and it are, and its octets.
-fn add_packet(alloc: Global, packet: &Packet, answer: &mut Answer) -> Result<(), End> {
+fn add_packet(alloc: Global, packet: &Packet, answer: &mut Answer) {
     answer.small(packet.kind());
     add_form(packet.form(), answer);
     answer.number(packet.body().len() as u64);
@@ -130,11 +126,10 @@ fn add_packet(alloc: Global, packet: &Packet, answer: &mut Answer) -> Result<(),
 }
 
 /// Adds the octets of a packet.
-fn add_written(alloc: Global, packet: &Packet, answer: &mut Answer) -> Result<(), End> {
+fn add_written(alloc: Global, packet: &Packet, answer: &mut Answer) {
     let mut written = Vec::new(alloc);
-    write_packet(packet, &mut written)?;
+    answer.made(write_packet(packet, &mut written));
     answer.octets(written.as_slice());
-    Ok(())
 }
 
 /// Adds the name of a form and the exponents of its pieces.
@@ -160,12 +155,11 @@ fn add_pieces(pieces: &Pieces, answer: &mut Answer) {
     answer.octets(pieces.exponents());
 }
 
-/// A form of this name, with the exponents that there are if it is partial.
-fn form_of(alloc: Global, given: &Given) -> Result<Option<Form>, End> {
-    let name = given.name(0)?;
-    match last_of(name) {
-        Some(last) => partial_of(alloc, given.octets(0)?, last),
-        None => Ok(Some(whole_of(name)?)),
+/// A form of the first name, with the exponents that there are if it is partial.
+fn form_of(alloc: Global, given: &Given, answer: &mut Answer) -> Option<Form> {
+    match last_of(given.name(0)) {
+        Some(last) => partial_of(alloc, given.octets(0), last, answer),
+        None => Some(whole_of(given)),
     }
 }
 
@@ -180,86 +174,91 @@ fn last_of(name: &str) -> Option<LastForm> {
 }
 
 /// A partial form, if there are such pieces.
-fn partial_of(alloc: Global, exponents: &[u8], last: LastForm) -> Result<Option<Form>, End> {
-    match Pieces::new(Vec::from_slice(alloc, exponents)?, last) {
-        Some(pieces) => Ok(Some(Form::Partial(pieces))),
-        None => Ok(None),
+fn partial_of(
+    alloc: Global,
+    exponents: &[u8],
+    last: LastForm,
+    answer: &mut Answer,
+) -> Option<Form> {
+    let exponents = answer.made(Vec::from_slice(alloc, exponents))?;
+    match Pieces::new(exponents, last) {
+        Some(pieces) => Some(Form::Partial(pieces)),
+        None => None,
     }
 }
 
-/// The form of this name that isn't partial.
-fn whole_of(name: &str) -> Result<Form, End> {
-    match name {
-        "old1" => Ok(Form::OldOne),
-        "old2" => Ok(Form::OldTwo),
-        "old4" => Ok(Form::OldFour),
-        "new1" => Ok(Form::NewOne),
-        "new2" => Ok(Form::NewTwo),
-        "new5" => Ok(Form::NewFive),
-        _ => Err(End::Bad("a form")),
+/// The form of the first name, which isn't partial.
+fn whole_of(given: &Given) -> Form {
+    match given.name(0) {
+        "old1" => Form::OldOne,
+        "old2" => Form::OldTwo,
+        "old4" => Form::OldFour,
+        "new1" => Form::NewOne,
+        "new2" => Form::NewTwo,
+        "new5" => Form::NewFive,
+        _ => {
+            given.lack("a form");
+            Form::OldOne
+        }
     }
 }
 
 /// The packet of these words: a form, exponents, a type and a body.
-fn packet_of(alloc: Global, given: &Given) -> Result<Option<Packet>, End> {
-    let kind = given.small(0)?;
-    let body = Vec::from_slice(alloc, given.octets(1)?)?;
-    match form_of(alloc, given)? {
-        Some(form) => Ok(Packet::new(form, kind, body)),
-        None => Ok(None),
+fn packet_of(alloc: Global, given: &Given, answer: &mut Answer) -> Option<Packet> {
+    let body = answer.made(Vec::from_slice(alloc, given.octets(1)))?;
+    match form_of(alloc, given, answer) {
+        Some(form) => Packet::new(form, given.small(0), body),
+        None => None,
     }
 }
 
-/// Adds that there is no such packet.
-fn none(answer: &mut Answer) -> Result<(), End> {
-    answer.word("none");
-    Ok(())
-}
-
 /// `packet FORM EXPONENTS TYPE BODY`: a packet of these parts, or that there is none.
-fn packet(alloc: Global, given: &Given, answer: &mut Answer) -> Result<(), End> {
-    match packet_of(alloc, given)? {
+fn packet(alloc: Global, given: &Given, answer: &mut Answer) {
+    match packet_of(alloc, given, answer) {
         Some(packet) => add_packet(alloc, &packet, answer),
-        None => none(answer),
+        None => answer.word("none"),
     }
 }
 
 /// `packet_copy FORM EXPONENTS TYPE BODY`: a copy of a packet.
-fn packet_copy(alloc: Global, given: &Given, answer: &mut Answer) -> Result<(), End> {
-    match packet_of(alloc, given)? {
+fn packet_copy(alloc: Global, given: &Given, answer: &mut Answer) {
+    match packet_of(alloc, given, answer) {
         Some(packet) => add_copy(alloc, &packet, answer),
-        None => none(answer),
+        None => answer.word("none"),
     }
 }
 
 /// Adds a copy of a packet.
-fn add_copy(alloc: Global, packet: &Packet, answer: &mut Answer) -> Result<(), End> {
-    let copy = packet.copy(alloc)?;
+fn add_copy(alloc: Global, packet: &Packet, answer: &mut Answer) {
+    let Some(copy) = answer.made(packet.copy(alloc)) else {
+        return;
+    };
     add_packet(alloc, &copy, answer)
 }
 
 /// `placed_copy FORM EXPONENTS TYPE BODY BLOCK PLACE`: a copy of a packet in a place.
-fn placed_copy(alloc: Global, given: &Given, answer: &mut Answer) -> Result<(), End> {
-    let (block, pos) = (given.number(1)?, given.number(2)?);
-    match packet_of(alloc, given)? {
+fn placed_copy(alloc: Global, given: &Given, answer: &mut Answer) {
+    let (block, pos) = (given.number(1), given.number(2));
+    match packet_of(alloc, given, answer) {
         Some(packet) => add_placed_copy(alloc, &Placed { packet, block, pos }, answer),
-        None => none(answer),
+        None => answer.word("none"),
     }
 }
 
 /// Adds a copy of a packet in a place.
-fn add_placed_copy(alloc: Global, placed: &Placed, answer: &mut Answer) -> Result<(), End> {
-    let copy = placed.copy(alloc)?;
+fn add_placed_copy(alloc: Global, placed: &Placed, answer: &mut Answer) {
+    let Some(copy) = answer.made(placed.copy(alloc)) else {
+        return;
+    };
     add_placed(alloc, &copy, answer)
 }
 
 /// `packet_parts FORM EXPONENTS TYPE BODY`: what a packet is taken apart into.
-fn packet_parts(alloc: Global, given: &Given, answer: &mut Answer) -> Result<(), End> {
-    match packet_of(alloc, given)? {
+fn packet_parts(alloc: Global, given: &Given, answer: &mut Answer) {
+    match packet_of(alloc, given, answer) {
         Some(packet) => add_parts(packet, answer),
         None => answer.word("none"),
     }
-    Ok(())
 }
 
 /// Adds what a packet is taken apart into.
@@ -271,38 +270,34 @@ fn add_parts(packet: Packet, answer: &mut Answer) {
 }
 
 /// `packet_behind FORM EXPONENTS TYPE BODY OCTETS`: a packet written behind octets.
-fn packet_behind(alloc: Global, given: &Given, answer: &mut Answer) -> Result<(), End> {
-    let before = given.octets(2)?;
-    match packet_of(alloc, given)? {
+fn packet_behind(alloc: Global, given: &Given, answer: &mut Answer) {
+    let before = given.octets(2);
+    match packet_of(alloc, given, answer) {
         Some(packet) => add_behind(alloc, before, &packet, answer),
-        None => none(answer),
+        None => answer.word("none"),
     }
 }
 
 /// Adds a packet, written behind octets.
-fn add_behind(
-    alloc: Global,
-    before: &[u8],
-    packet: &Packet,
-    answer: &mut Answer,
-) -> Result<(), End> {
-    let mut out = Vec::from_slice(alloc, before)?;
-    write_parts(packet.form(), packet.kind(), packet.body(), &mut out)?;
+fn add_behind(alloc: Global, before: &[u8], packet: &Packet, answer: &mut Answer) {
+    let Some(mut out) = answer.made(Vec::from_slice(alloc, before)) else {
+        return;
+    };
+    answer.made(write_parts(packet.form(), packet.kind(), packet.body(), &mut out));
     answer.octets(out.as_slice());
-    Ok(())
 }
 
 /// `reframe FORM EXPONENTS TYPE BODY`: a packet in the current format.
-fn reframed(alloc: Global, given: &Given, answer: &mut Answer) -> Result<(), End> {
-    match packet_of(alloc, given)? {
+fn reframed(alloc: Global, given: &Given, answer: &mut Answer) {
+    match packet_of(alloc, given, answer) {
         Some(packet) => add_packet(alloc, &reframe(packet), answer),
-        None => none(answer),
+        None => answer.word("none"),
     }
 }
 
 /// `spelling FORM EXPONENTS TYPE BODY`: the length headers of a packet, and how long each part is.
-fn spelling(alloc: Global, given: &Given, answer: &mut Answer) -> Result<(), End> {
-    match packet_of(alloc, given)? {
+fn spelling(alloc: Global, given: &Given, answer: &mut Answer) {
+    match packet_of(alloc, given, answer) {
         Some(packet) => {
             add_spelling(
                 Spelling::new(packet.form(), packet.kind(), packet.body()),
@@ -311,7 +306,6 @@ fn spelling(alloc: Global, given: &Given, answer: &mut Answer) -> Result<(), End
         }
         None => answer.word("none"),
     }
-    Ok(())
 }
 
 /// Adds the headers of a packet, each with the size of its part, and whether nothing comes after
@@ -328,34 +322,37 @@ fn add_spelling(mut spelling: Spelling, answer: &mut Answer) {
 }
 
 /// `pieces FORM EXPONENTS`: pieces and a copy of them, or that there are none.
-fn pieces(alloc: Global, given: &Given, answer: &mut Answer) -> Result<(), End> {
-    match form_of(alloc, given)? {
+fn pieces(alloc: Global, given: &Given, answer: &mut Answer) {
+    match form_of(alloc, given, answer) {
         Some(Form::Partial(pieces)) => add_pieces_twice(alloc, &pieces, answer),
-        _ => none(answer),
+        _ => answer.word("none"),
     }
 }
 
 /// Adds pieces and a copy of them.
-fn add_pieces_twice(alloc: Global, pieces: &Pieces, answer: &mut Answer) -> Result<(), End> {
+fn add_pieces_twice(alloc: Global, pieces: &Pieces, answer: &mut Answer) {
     add_pieces(pieces, answer);
-    add_pieces(&pieces.copy(alloc)?, answer);
-    Ok(())
+    if let Some(copy) = answer.made(pieces.copy(alloc)) {
+        add_pieces(&copy, answer);
+    }
 }
 
 /// `form_copy FORM EXPONENTS`: a copy of a form.
-fn form_copy(alloc: Global, given: &Given, answer: &mut Answer) -> Result<(), End> {
-    match form_of(alloc, given)? {
-        Some(form) => add_form(&form.copy(alloc)?, answer),
+fn form_copy(alloc: Global, given: &Given, answer: &mut Answer) {
+    match form_of(alloc, given, answer) {
+        Some(form) => {
+            if let Some(copy) = answer.made(form.copy(alloc)) {
+                add_form(&copy, answer);
+            }
+        }
         None => answer.word("none"),
     }
-    Ok(())
 }
 
 /// `shortest_form SIZE`: the shortest form of a body of so many octets, and how long its packet is.
-fn shortest_form(given: &Given, answer: &mut Answer) -> Result<(), End> {
-    let size = given.long(0)?;
+fn shortest_form(given: &Given, answer: &mut Answer) {
+    let size = given.long(0);
     let form = Form::shortest(size);
     add_form(&form, answer);
     answer.number(spelled_len_of(&form, u64::from(size)));
-    Ok(())
 }

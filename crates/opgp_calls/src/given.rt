@@ -3,14 +3,16 @@
 use crate::end::End;
 use hex::FromHexError;
 use std::alloc::Global;
+use std::cell::Cell;
 
 /// The words of a line behind its first, of each kind in their order: names, decimal numbers, and
-/// octets.
+/// octets. It keeps what is first asked for and isn't there, so that the calls needn't ask.
 #[derive(Drop)]
 pub(crate) struct Given<'a> {
     names: Vec<&'a str>,
     numbers: Vec<u64>,
     octets: Vec<Vec<u8>>,
+    lacks: Cell<Option<&'static str>>,
 }
 
 impl<'a> Given<'a> {
@@ -20,6 +22,7 @@ impl<'a> Given<'a> {
             names: Vec::new(alloc),
             numbers: Vec::new(alloc),
             octets: Vec::new(alloc),
+            lacks: Cell::new(None),
         };
         for word in line.split(' ') {
             given.add(alloc, word)?;
@@ -29,22 +32,47 @@ impl<'a> Given<'a> {
 
     /// Adds a word: `-` for no octets; `x` and octets in hexadecimal; a number; or a name.
     fn add(&mut self, alloc: Global, word: &'a str) -> Result<(), End> {
-        let refused = match word.strip_prefix('x') {
-            Some(parts) => self.octets.push(octets_of(alloc, parts)?).is_err(),
-            None if word == "-" => self.octets.push(Vec::new(alloc)).is_err(),
-            None => match word.parse::<u64>() {
-                Ok(number) => self.numbers.push(number).is_err(),
-                Err(_) => self.names.push(word).is_err(),
-            },
+        if let Some(parts) = word.strip_prefix('x') {
+            return self.add_octets(octets_of(alloc, parts)?);
+        }
+        if word == "-" {
+            return self.add_octets(Vec::new(alloc));
+        }
+        let refused = match word.parse::<u64>() {
+            Ok(number) => self.numbers.push(number).is_err(),
+            Err(_) => self.names.push(word).is_err(),
         };
         if refused { Err(End::Memory) } else { Ok(()) }
     }
 
-    /// A name.
-    pub(crate) fn name(&self, at: usize) -> Result<&'a str, End> {
+    /// Adds octets.
+    fn add_octets(&mut self, octets: Vec<u8>) -> Result<(), End> {
+        if self.octets.push(octets).is_err() {
+            return Err(End::Memory);
+        }
+        Ok(())
+    }
+
+    /// What was first wanted in place of what is there, if anything was.
+    pub(crate) fn lacks(&self) -> Option<&'static str> {
+        self.lacks.get()
+    }
+
+    /// Keeps what is wanted in place of what is there: the first stays.
+    pub(crate) fn lack(&self, wanted: &'static str) {
+        if self.lacks.get().is_none() {
+            self.lacks.set(Some(wanted));
+        }
+    }
+
+    /// A name; an empty one where it lacks.
+    pub(crate) fn name(&self, at: usize) -> &'a str {
         match self.names.get(at) {
-            Some(name) => Ok(*name),
-            None => Err(End::Bad("a name")),
+            Some(name) => *name,
+            None => {
+                self.lack("a name");
+                ""
+            }
         }
     }
 
@@ -53,11 +81,14 @@ impl<'a> Given<'a> {
         self.names.as_slice()
     }
 
-    /// A number.
-    pub(crate) fn number(&self, at: usize) -> Result<u64, End> {
+    /// A number; 0 where it lacks.
+    pub(crate) fn number(&self, at: usize) -> u64 {
         match self.numbers.get(at) {
-            Some(number) => Ok(*number),
-            None => Err(End::Bad("a number")),
+            Some(number) => *number,
+            None => {
+                self.lack("a number");
+                0
+            }
         }
     }
 
@@ -66,41 +97,55 @@ impl<'a> Given<'a> {
         self.numbers.as_slice()
     }
 
-    /// A number below 256.
-    pub(crate) fn small(&self, at: usize) -> Result<u8, End> {
-        let number = self.number(at)?;
+    /// A number below 256; 0 where it lacks.
+    pub(crate) fn small(&self, at: usize) -> u8 {
+        let number = self.number(at);
         if number < 256 {
-            Ok(number as u8)
+            number as u8
         } else {
-            Err(End::Bad("a number below 256"))
+            self.lack("a number below 256");
+            0
         }
     }
 
-    /// A number below 2^16.
-    pub(crate) fn short(&self, at: usize) -> Result<u16, End> {
-        let number = self.number(at)?;
+    /// A number below 2^16; 0 where it lacks.
+    pub(crate) fn short(&self, at: usize) -> u16 {
+        let number = self.number(at);
         if number < 65_536 {
-            Ok(number as u16)
+            number as u16
         } else {
-            Err(End::Bad("a number below 2^16"))
+            self.lack("a number below 2^16");
+            0
         }
     }
 
-    /// A number below 2^32.
-    pub(crate) fn long(&self, at: usize) -> Result<u32, End> {
-        let number = self.number(at)?;
+    /// A number below 2^32; 0 where it lacks.
+    pub(crate) fn long(&self, at: usize) -> u32 {
+        let number = self.number(at);
         if number < 4_294_967_296 {
-            Ok(number as u32)
+            number as u32
         } else {
-            Err(End::Bad("a number below 2^32"))
+            self.lack("a number below 2^32");
+            0
         }
     }
 
-    /// Octets.
-    pub(crate) fn octets(&self, at: usize) -> Result<&[u8], End> {
+    /// Octets; none where they lack.
+    pub(crate) fn octets(&self, at: usize) -> &[u8] {
         match self.octets.get(at) {
-            Some(octets) => Ok(octets.as_slice()),
-            None => Err(End::Bad("octets")),
+            Some(octets) => octets.as_slice(),
+            None => {
+                self.lack("octets");
+                &[]
+            }
+        }
+    }
+
+    /// The first octets, if there are any.
+    pub(crate) fn first_octets(&self) -> Option<&[u8]> {
+        match self.octets.get(0) {
+            Some(octets) => Some(octets.as_slice()),
+            None => None,
         }
     }
 
@@ -115,12 +160,17 @@ impl<'a> Given<'a> {
 fn octets_of(alloc: Global, parts: &str) -> Result<Vec<u8>, End> {
     let mut octets = Vec::new(alloc);
     for part in parts.split('+') {
-        match part.split_once('*') {
-            Some((digits, copies)) => add(alloc, digits, copies_of(copies)?, &mut octets)?,
-            None => add(alloc, part, 1, &mut octets)?,
-        }
+        add_part(alloc, part, &mut octets)?;
     }
     Ok(octets)
+}
+
+/// Adds the octets of a part.
+fn add_part(alloc: Global, part: &str, octets: &mut Vec<u8>) -> Result<(), End> {
+    match part.split_once('*') {
+        Some((digits, copies)) => add(alloc, digits, copies_of(copies)?, octets),
+        None => add(alloc, part, 1, octets),
+    }
 }
 
 /// How many copies there are.

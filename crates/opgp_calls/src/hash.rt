@@ -3,41 +3,40 @@
 ghost use Rattle.opgp_octets.specs.Octets.{IsBodySized};
 
 use crate::answer::Answer;
-use crate::end::End;
 use crate::given::Given;
 use opgp_hash::{Digest, Fingerprint, KeyId, fingerprint, fingerprint_of_view, key_id};
 use opgp_packet::{Key, KeyView};
 use std::alloc::Global;
 
-/// The answer to a call of this crate; None where it has none of the name.
-pub(crate) fn answered(
-    alloc: Global,
-    name: &str,
-    given: &Given,
-    answer: &mut Answer,
-) -> Option<Result<(), End>> {
-    let octets = match given.octets(0) {
-        Ok(octets) if octets.len() <= 4_294_967_295 => octets,
-        _ => return None,
+/// Adds the answer to a call of this crate; false where it has none of the name.
+pub(crate) fn answered(alloc: Global, name: &str, given: &Given, answer: &mut Answer) -> bool {
+    let octets = match given.first_octets() {
+        Some(octets) if octets.len() <= 4_294_967_295 => octets,
+        _ => return false,
     };
-    Some(match name {
+    match name {
         "key_names" => key_names(alloc, octets, answer),
-        "digest" => digest(octets, answer),
-        _ => return None,
-    })
+        "digest" => match digest_of(octets) {
+            Some(digest) => add_digest(&digest, answer),
+            None => given.lack("20, 28, 32, 48 or 64 octets"),
+        },
+        _ => return false,
+    }
+    true
 }
 
 /// `key_names BODY`: the fingerprint and the key ID of a key, of a view and of a value.
-fn key_names(alloc: Global, body: &[u8], answer: &mut Answer) -> Result<(), End>
+fn key_names(alloc: Global, body: &[u8], answer: &mut Answer)
     requires { IsBodySized body.now }
 {
     let Ok(view) = KeyView::parse_body(body) else {
         answer.word("refused");
-        return Ok(());
+        return;
     };
     add_print(&fingerprint_of_view(view), answer);
-    add_names(&view.copy(alloc)?, answer);
-    Ok(())
+    if let Some(copy) = answer.made(view.copy(alloc)) {
+        add_names(&copy, answer);
+    }
 }
 
 /// Adds the fingerprint and the key ID of a key.
@@ -62,17 +61,6 @@ fn add_id(id: &KeyId, answer: &mut Answer) {
     answer.word(id.write_digits(&mut [0; 16]));
 }
 
-/// `digest OCTETS`: a digest of 20, 28, 32, 48 or 64 octets.
-fn digest(octets: &[u8], answer: &mut Answer) -> Result<(), End> {
-    match digest_of(octets) {
-        Some(digest) => {
-            add_digest(&digest, answer);
-            Ok(())
-        }
-        None => Err(End::Bad("20, 28, 32, 48 or 64 octets")),
-    }
-}
-
 /// The digest of these octets, by the hash algorithm that gives so many.
 fn digest_of(octets: &[u8]) -> Option<Digest> {
     if let Ok(octets) = <[u8; 20]>::try_from(octets) {
@@ -93,7 +81,7 @@ fn digest_of(octets: &[u8]) -> Option<Digest> {
     }
 }
 
-/// Adds a digest: its octets and its digits.
+/// `digest OCTETS`: a digest of 20, 28, 32, 48 or 64 octets, and its digits.
 fn add_digest(digest: &Digest, answer: &mut Answer) {
     answer.octets(digest.octets());
     answer.shown(digest);

@@ -54,100 +54,60 @@ fn read_all(rt: &HostRuntime) -> Result<String> {
 fn answer_line(rt: &(impl Print + AllocGlobal), number: usize, line: &str) -> Result<()> {
     let mut answer = Answer::new(rt.alloc());
     match answered(rt.alloc(), line, &mut answer) {
-        Ok(()) => rt.println(answer.text())?,
-        Err(End::Memory) => rt.println("memory")?,
-        Err(End::Bad(wanted)) => bail!("line {number}: {wanted}"),
+        None => rt.println(answer.text())?,
+        Some(End::Memory) => rt.println("memory")?,
+        Some(End::Bad(wanted)) => bail!("line {number}: {wanted}"),
     }
     Ok(())
 }
 
-/// The answer to a line.
-fn answered(alloc: Global, line: &str, answer: &mut Answer) -> Result<(), End> {
+/// Adds the answer to a line; why there is none.
+fn answered(alloc: Global, line: &str, answer: &mut Answer) -> Option<End> {
     let (name, words) = match line.split_once(' ') {
         Some(parts) => parts,
         None => (line, ""),
     };
-    let given = Given::of(alloc, words)?;
-    match called(alloc, name, &given, answer) {
-        Some(ended) => ended,
-        None => Err(End::Bad("the name of a call")),
+    match Given::of(alloc, words) {
+        Ok(given) => ended(alloc, name, &given, answer),
+        Err(end) => Some(end),
     }
 }
 
-/// The answer to the call of this name; None where there is none of the name.
-fn called(
-    alloc: Global,
-    name: &str,
-    given: &Given,
-    answer: &mut Answer,
-) -> Option<Result<(), End>> {
-    match called_of_octets(alloc, name, given, answer) {
-        Some(ended) => Some(ended),
-        None => called_of_keyrings(alloc, name, given, answer),
+/// Adds the answer to a call; why there is none.
+fn ended(alloc: Global, name: &str, given: &Given, answer: &mut Answer) -> Option<End> {
+    if !called_of_octets(alloc, name, given, answer)
+        && !called_of_keyrings(alloc, name, given, answer)
+    {
+        return Some(End::Bad("the name of a call"));
+    }
+    match given.lacks() {
+        Some(wanted) => Some(End::Bad(wanted)),
+        None => answer.end(),
     }
 }
 
-/// The same of numbers and names, octets, texts, packets and their bodies, and what is hashed.
-fn called_of_octets(
-    alloc: Global,
-    name: &str,
-    given: &Given,
-    answer: &mut Answer,
-) -> Option<Result<(), End>> {
-    if let Some(ended) = numbers::answered(name, given, answer) {
-        return Some(ended);
-    }
-    if let Some(ended) = octets::answered(alloc, name, given, answer) {
-        return Some(ended);
-    }
-    if let Some(ended) = faults::answered(alloc, name, given, answer) {
-        return Some(ended);
-    }
-    if let Some(ended) = armor::answered(alloc, name, given, answer) {
-        return Some(ended);
-    }
-    if let Some(ended) = output::answered(alloc, name, given, answer) {
-        return Some(ended);
-    }
-    if let Some(ended) = frame::answered(alloc, name, given, answer) {
-        return Some(ended);
-    }
-    if let Some(ended) = packet::answered(alloc, name, given, answer) {
-        return Some(ended);
-    }
-    if let Some(ended) = signature::answered(alloc, name, given, answer) {
-        return Some(ended);
-    }
-    if let Some(ended) = hash::answered(alloc, name, given, answer) {
-        return Some(ended);
-    }
-    asked::answered(alloc, name, given, answer)
+/// Adds the answer to a call about numbers and names, octets, texts, packets and their bodies, or what
+/// is hashed; false where there is none of the name.
+fn called_of_octets(alloc: Global, name: &str, given: &Given, answer: &mut Answer) -> bool {
+    numbers::answered(name, given, answer)
+        || octets::answered(alloc, name, given, answer)
+        || faults::answered(alloc, name, given, answer)
+        || armor::answered(alloc, name, given, answer)
+        || output::answered(alloc, name, given, answer)
+        || frame::answered(alloc, name, given, answer)
+        || packet::answered(alloc, name, given, answer)
+        || signature::answered(alloc, name, given, answer)
+        || hash::answered(alloc, name, given, answer)
+        || asked::answered(alloc, name, given, answer)
 }
 
 /// The same of keyrings, and of what reads them.
-fn called_of_keyrings(
-    alloc: Global,
-    name: &str,
-    given: &Given,
-    answer: &mut Answer,
-) -> Option<Result<(), End>> {
-    if let Some(ended) = ring::answered(alloc, name, given, answer) {
-        return Some(ended);
-    }
-    if let Some(ended) = composer::answered(alloc, name, given, answer) {
-        return Some(ended);
-    }
-    if let Some(ended) = signed::answered(alloc, name, given, answer) {
-        return Some(ended);
-    }
-    if let Some(ended) = engine::answered(alloc, name, given, answer) {
-        return Some(ended);
-    }
-    if let Some(ended) = reading::answered(alloc, name, given, answer) {
-        return Some(ended);
-    }
-    if let Some(ended) = pieces::answered(alloc, name, given, answer) {
-        return Some(ended);
-    }
-    report::answered(alloc, name, given, answer)
+fn called_of_keyrings(alloc: Global, name: &str, given: &Given, answer: &mut Answer) -> bool {
+    ring::answered(alloc, name, given, answer)
+        || composer::answered(alloc, name, given, answer)
+        || signed::answered(alloc, name, given, answer)
+        || engine::answered(alloc, name, given, answer)
+        || reading::answered(alloc, name, given, answer)
+        || pieces::answered(alloc, name, given, answer)
+        || report::answered(alloc, name, given, answer)
 }

@@ -1,24 +1,20 @@
 //! The registered numbers.
 
 use crate::answer::Answer;
-use crate::end::End;
 use crate::given::Given;
 use opgp_octets::{HashAlgorithm, KeyAlgorithm, PacketType, SignatureType, SubpacketKind};
 
-/// The answer to a call about a registered number; None where there is none of the name.
-pub(crate) fn answered(name: &str, given: &Given, answer: &mut Answer) -> Option<Result<(), End>> {
-    let Ok(number) = given.small(0) else {
-        return None;
-    };
+/// Adds the answer to a call about a registered number; false where there is none of the name.
+pub(crate) fn answered(name: &str, given: &Given, answer: &mut Answer) -> bool {
     match name {
-        "packet_type" => add_packet_type(PacketType::from(number), answer),
-        "key_algorithm" => add_key_algorithm(KeyAlgorithm::from(number), answer),
-        "signature_type" => add_signature_type(SignatureType::from(number), answer),
-        "subpacket_kind" => add_subpacket_kind(SubpacketKind::from(number), answer),
-        "hash_algorithm" => add_hash(HashAlgorithm::from(number), answer),
-        _ => return None,
+        "packet_type" => add_packet_type(PacketType::from(given.small(0)), answer),
+        "key_algorithm" => add_key_algorithm(KeyAlgorithm::from(given.small(0)), answer),
+        "signature_type" => add_signature_type(SignatureType::from(given.small(0)), answer),
+        "subpacket_kind" => add_subpacket_kind(SubpacketKind::from(given.small(0)), answer),
+        "hash_algorithm" => add_hash(HashAlgorithm::from(given.small(0)), answer),
+        _ => return false,
     }
-    Some(Ok(()))
+    true
 }
 
 /// Adds the type of a packet: its number, its name.

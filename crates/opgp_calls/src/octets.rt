@@ -9,14 +9,9 @@ use opgp_octets::{
 };
 use std::alloc::Global;
 
-/// The answer to a call of this crate; None where it has none of the name.
-pub(crate) fn answered(
-    alloc: Global,
-    name: &str,
-    given: &Given,
-    answer: &mut Answer,
-) -> Option<Result<(), End>> {
-    Some(match name {
+/// Adds the answer to a call of this crate; false where it has none of the name.
+pub(crate) fn answered(alloc: Global, name: &str, given: &Given, answer: &mut Answer) -> bool {
+    match name {
         "read_len" => packet_len(given, answer),
         "write_len" => written_len(alloc, given, answer),
         "shortest" => shortest_len(given, answer),
@@ -25,21 +20,18 @@ pub(crate) fn answered(
         "mpi_view" => mpi_view(given, answer),
         "mpi" => mpi(alloc, given, answer),
         "limits" => limits(given, answer),
-        "usual_limits" => {
-            add_limits(Limits::usual(), answer);
-            Ok(())
-        }
-        _ => return None,
-    })
+        "usual_limits" => add_limits(Limits::usual(), answer),
+        _ => return false,
+    }
+    true
 }
 
 /// `read_len OCTETS`: the length of a packet.
-fn packet_len(given: &Given, answer: &mut Answer) -> Result<(), End> {
-    match read_len(given.octets(0)?) {
+fn packet_len(given: &Given, answer: &mut Answer) {
+    match read_len(given.octets(0)) {
         Some((len, count)) => add_len(len, count, answer),
         None => answer.word("none"),
     }
-    Ok(())
 }
 
 /// Adds a packet's length, its form, and how many octets it takes.
@@ -54,39 +46,42 @@ fn add_len(len: PacketLen, count: usize, answer: &mut Answer) {
 }
 
 /// `write_len FORM NUMBER OCTETS`: a packet's length, behind octets.
-fn written_len(alloc: Global, given: &Given, answer: &mut Answer) -> Result<(), End> {
-    let len = len_of(given)?;
+fn written_len(alloc: Global, given: &Given, answer: &mut Answer) {
+    let len = len_of(given);
     if !len.fits() {
         answer.word("unfit");
-        return Ok(());
+        return;
     }
-    let mut out = Vec::from_slice(alloc, given.octets(0)?)?;
-    write_len(&len, &mut out)?;
+    let Some(mut out) = answer.made(Vec::from_slice(alloc, given.octets(0))) else {
+        return;
+    };
+    answer.made(write_len(&len, &mut out));
     answer.octets(out.as_slice());
-    Ok(())
 }
 
 /// A packet's length in the form of this name.
-fn len_of(given: &Given) -> Result<PacketLen, End> {
-    match given.name(0)? {
-        "one" => Ok(PacketLen::One(given.small(0)?)),
-        "two" => Ok(PacketLen::Two(given.short(0)?)),
-        "five" => Ok(PacketLen::Five(given.long(0)?)),
-        "partial" => Ok(PacketLen::Partial(given.small(0)?)),
-        _ => Err(End::Bad("the form of a length")),
+fn len_of(given: &Given) -> PacketLen {
+    match given.name(0) {
+        "one" => PacketLen::One(given.small(0)),
+        "two" => PacketLen::Two(given.short(0)),
+        "five" => PacketLen::Five(given.long(0)),
+        "partial" => PacketLen::Partial(given.small(0)),
+        _ => {
+            given.lack("the form of a length");
+            PacketLen::One(0)
+        }
     }
 }
 
 /// `read_sub_len OCTETS`: the length of a subpacket.
-fn sub_len(given: &Given, answer: &mut Answer) -> Result<(), End> {
-    match read_sub_len(given.octets(0)?) {
+fn sub_len(given: &Given, answer: &mut Answer) {
+    match read_sub_len(given.octets(0)) {
         Some((len, count)) => {
             add_sub_len(len, answer);
             answer.named("of", count as u64);
         }
         None => answer.word("none"),
     }
-    Ok(())
 }
 
 /// Adds the length of a subpacket, its form, and what it announces.
@@ -100,36 +95,39 @@ pub(crate) fn add_sub_len(len: SubLen, answer: &mut Answer) {
 }
 
 /// `write_sub_len FORM NUMBER OCTETS`: the length of a subpacket, behind octets.
-fn written_sub_len(alloc: Global, given: &Given, answer: &mut Answer) -> Result<(), End> {
-    let len = sub_len_of(given)?;
+fn written_sub_len(alloc: Global, given: &Given, answer: &mut Answer) {
+    let len = sub_len_of(given);
     if !len.fits() {
         answer.word("unfit");
-        return Ok(());
+        return;
     }
-    let mut out = Vec::from_slice(alloc, given.octets(0)?)?;
-    write_sub_len(&len, &mut out)?;
+    let Some(mut out) = answer.made(Vec::from_slice(alloc, given.octets(0))) else {
+        return;
+    };
+    answer.made(write_sub_len(&len, &mut out));
     answer.octets(out.as_slice());
-    Ok(())
 }
 
 /// The length of a subpacket in the form of this name.
-fn sub_len_of(given: &Given) -> Result<SubLen, End> {
-    match given.name(0)? {
-        "one" => Ok(SubLen::One(given.small(0)?)),
-        "two" => Ok(SubLen::Two(given.short(0)?)),
-        "five" => Ok(SubLen::Five(given.long(0)?)),
-        _ => Err(End::Bad("the form of a length")),
+fn sub_len_of(given: &Given) -> SubLen {
+    match given.name(0) {
+        "one" => SubLen::One(given.small(0)),
+        "two" => SubLen::Two(given.short(0)),
+        "five" => SubLen::Five(given.long(0)),
+        _ => {
+            given.lack("the form of a length");
+            SubLen::One(0)
+        }
     }
 }
 
 /// `mpi_view STRICT OCTETS`: the integer that begins the octets, how many it takes, and whether its
 /// count of bits is exact; or why there is none.
-fn mpi_view(given: &Given, answer: &mut Answer) -> Result<(), End> {
-    match MpiView::read(given.octets(0)?, given.number(0)? == 1) {
+fn mpi_view(given: &Given, answer: &mut Answer) {
+    match MpiView::read(given.octets(0), given.number(0) == 1) {
         Ok((integer, count)) => add_view(integer, count, answer),
         Err(reason) => answer.word(reason.name()),
     }
-    Ok(())
 }
 
 /// Adds an integer, whether its count of bits is exact, and how many octets it takes.
@@ -141,32 +139,22 @@ fn add_view(integer: MpiView<'_>, count: usize, answer: &mut Answer) {
 }
 
 /// `mpi STRICT OCTETS`: the same as a value, and a copy of it.
-fn mpi(alloc: Global, given: &Given, answer: &mut Answer) -> Result<(), End> {
-    match Mpi::read(alloc, given.octets(0)?, given.number(0)? == 1) {
+fn mpi(alloc: Global, given: &Given, answer: &mut Answer) {
+    match Mpi::read(alloc, given.octets(0), given.number(0) == 1) {
         Ok((integer, count)) => add_integers(alloc, &integer, count, answer),
-        Err(MpiFault::Short) => {
-            answer.word("Short");
-            Ok(())
-        }
-        Err(MpiFault::MpiBits) => {
-            answer.word("MpiBits");
-            Ok(())
-        }
-        Err(MpiFault::Memory) => Err(End::Memory),
+        Err(MpiFault::Short) => answer.word("Short"),
+        Err(MpiFault::MpiBits) => answer.word("MpiBits"),
+        Err(MpiFault::Memory) => answer.refuse(End::Memory),
     }
 }
 
 /// Adds an integer, a copy of it, and how many octets it takes.
-fn add_integers(
-    alloc: Global,
-    integer: &Mpi,
-    count: usize,
-    answer: &mut Answer,
-) -> Result<(), End> {
+fn add_integers(alloc: Global, integer: &Mpi, count: usize, answer: &mut Answer) {
     add_integer(integer, answer);
-    add_integer(&integer.copy(alloc)?, answer);
+    if let Some(copy) = answer.made(integer.copy(alloc)) {
+        add_integer(&copy, answer);
+    }
     answer.named("of", count as u64);
-    Ok(())
 }
 
 /// Adds the bits and the octets of an integer.
@@ -176,25 +164,24 @@ fn add_integer(integer: &Mpi, answer: &mut Answer) {
 }
 
 /// `limits [POLICY].. LINE BODY CERT INPUT PIECES`: these limits, or that they aren't allowed.
-fn limits(given: &Given, answer: &mut Answer) -> Result<(), End> {
-    match limits_if_allowed(given)? {
+fn limits(given: &Given, answer: &mut Answer) {
+    match limits_if_allowed(given) {
         Some(limits) => add_limits(limits, answer),
         None => answer.word("none"),
     }
-    Ok(())
 }
 
 /// The limits of the first five numbers, if they are allowed, with the policies that are named.
-fn limits_if_allowed(given: &Given) -> Result<Option<Limits>, End> {
-    let line = given.number(0)?;
-    let body = given.number(1)?;
-    let cert = given.number(2)?;
-    let input = given.number(3)?;
-    let pieces = given.number(4)?;
-    Ok(match Limits::new(line, body, cert, input, pieces) {
+fn limits_if_allowed(given: &Given) -> Option<Limits> {
+    let line = given.number(0);
+    let body = given.number(1);
+    let cert = given.number(2);
+    let input = given.number(3);
+    let pieces = given.number(4);
+    match Limits::new(line, body, cert, input, pieces) {
         Some(limits) => Some(with_policies(limits, given.names())),
         None => None,
-    })
+    }
 }
 
 /// The limits with these policies, one after the other: `refuse` or `skip` of lines outside of
@@ -219,10 +206,13 @@ fn with_policy(limits: Limits, name: &str) -> Limits {
 }
 
 /// The limits of the first five numbers.
-pub(crate) fn limits_of(given: &Given) -> Result<Limits, End> {
-    match limits_if_allowed(given)? {
-        Some(limits) => Ok(limits),
-        None => Err(End::Bad("limits that are allowed")),
+pub(crate) fn limits_of(given: &Given) -> Limits {
+    match limits_if_allowed(given) {
+        Some(limits) => limits,
+        None => {
+            given.lack("limits that are allowed");
+            Limits::usual()
+        }
     }
 }
 
@@ -244,7 +234,6 @@ fn add_limits(limits: Limits, answer: &mut Answer) {
 }
 
 /// `shortest NUMBER`: the shortest length of a packet of so many octets.
-fn shortest_len(given: &Given, answer: &mut Answer) -> Result<(), End> {
-    add_len(shortest(given.long(0)?), 0, answer);
-    Ok(())
+fn shortest_len(given: &Given, answer: &mut Answer) {
+    add_len(shortest(given.long(0)), 0, answer);
 }

@@ -15,14 +15,9 @@ use opgp_stream::{Armoring, Buffer, Held, Output, Sink, Source, Watched, Word, p
 use std::alloc::Global;
 use std::{io, mem};
 
-/// The answer to a call of these; None where there is none of the name.
-pub(crate) fn answered(
-    alloc: Global,
-    name: &str,
-    given: &Given,
-    answer: &mut Answer,
-) -> Option<Result<(), End>> {
-    Some(match name {
+/// Adds the answer to a call of these; false where there is none of the name.
+pub(crate) fn answered(alloc: Global, name: &str, given: &Given, answer: &mut Answer) -> bool {
+    match name {
         "output" => output(alloc, given, answer),
         "line" => line(alloc, given, answer),
         "block" => block(alloc, given, answer),
@@ -30,8 +25,9 @@ pub(crate) fn answered(
         "put_all" => all_put(alloc, given, answer),
         "held" => held(alloc, given, answer),
         "pull" => pulled(alloc, given, answer),
-        _ => return None,
-    })
+        _ => return false,
+    }
+    true
 }
 
 /// What is done with an output.
@@ -55,51 +51,50 @@ struct Taken {
 
 impl Taken {
     /// The next number.
-    fn number(&mut self, given: &Given) -> Result<u64, End> {
-        let number = given.number(self.numbers)?;
+    fn number(&mut self, given: &Given) -> u64 {
+        let number = given.number(self.numbers);
         self.numbers = self.numbers.saturating_add(1);
-        Ok(number)
+        number
     }
 
     /// The next octets.
-    fn octets<'a>(&mut self, given: &'a Given<'_>) -> Result<&'a [u8], End> {
-        let octets = given.octets(self.octets)?;
+    fn octets<'a>(&mut self, given: &'a Given<'_>) -> &'a [u8] {
+        let octets = given.octets(self.octets);
         self.octets = self.octets.saturating_add(1);
-        Ok(octets)
+        octets
     }
 
     /// The step of this name.
-    fn step<'a>(&mut self, given: &'a Given<'_>, name: &str) -> Result<Step<'a>, End> {
+    fn step<'a>(&mut self, given: &'a Given<'_>, name: &str) -> Step<'a> {
         match name {
-            "finish" => return Ok(Step::Finish),
-            "decimal" => return Ok(Step::Decimal(self.number(given)?)),
-            _ => {}
-        }
-        let first = self.octets(given)?;
-        match name {
-            "add" => Ok(Step::Add(first)),
-            "hex" => Ok(Step::Hex(first)),
-            "escaped" => Ok(Step::Escaped(first)),
-            "both" => Ok(Step::Both(first, self.octets(given)?)),
-            "hold" => Ok(Step::Hold(first, self.octets(given)?)),
-            _ => Err(End::Bad("what is done with an output")),
+            "finish" => Step::Finish,
+            "decimal" => Step::Decimal(self.number(given)),
+            "add" => Step::Add(self.octets(given)),
+            "hex" => Step::Hex(self.octets(given)),
+            "escaped" => Step::Escaped(self.octets(given)),
+            "both" => Step::Both(self.octets(given), self.octets(given)),
+            "hold" => Step::Hold(self.octets(given), self.octets(given)),
+            _ => {
+                given.lack("what is done with an output");
+                Step::Finish
+            }
         }
     }
 
     /// The word of this name.
-    fn word<'a>(&mut self, given: &'a Given<'_>, name: &str) -> Result<Word<'a>, End> {
+    fn word<'a>(&mut self, given: &'a Given<'_>, name: &str) -> Word<'a> {
         match name {
-            "decimal" => Ok(Word::Decimal(self.number(given)?)),
-            "hex" => Ok(Word::Hex(self.octets(given)?)),
-            "escaped" => Ok(Word::Escaped(self.octets(given)?)),
-            _ => Ok(Word::Text(self.octets(given)?)),
+            "decimal" => Word::Decimal(self.number(given)),
+            "hex" => Word::Hex(self.octets(given)),
+            "escaped" => Word::Escaped(self.octets(given)),
+            _ => Word::Text(self.octets(given)),
         }
     }
 }
 
 /// `output SINK.. STEP..`: what a sink takes of an output, which is finished; behind `anew` that is
 /// another output through the same buffer, and the one before isn't finished.
-fn output(alloc: Global, given: &Given, answer: &mut Answer) -> Result<(), End> {
+fn output(alloc: Global, given: &Given, answer: &mut Answer) {
     let mut taken = Taken {
         numbers: 2,
         octets: 0,
@@ -109,19 +104,26 @@ fn output(alloc: Global, given: &Given, answer: &mut Answer) -> Result<(), End> 
     for name in given.names().iter().skip(1) {
         if *name == "anew" {
             left = mem::replace(&mut steps, Vec::new(alloc));
-        } else if steps.push(taken.step(given, name)?).is_err() {
-            return Err(End::Memory);
+        } else if steps.push(taken.step(given, name)).is_err() {
+            return answer.refuse(End::Memory);
         }
     }
-    let mut buffer = Buffer::new(alloc)?;
-    let mut sink = drips_of(alloc, given)?;
-    let put = both_put(
-        &mut sink,
-        &mut buffer,
-        left.as_slice(),
-        steps.as_slice(),
-        answer,
-    );
+    add_output(alloc, given, left.as_slice(), steps.as_slice(), answer)
+}
+
+/// Adds what a sink takes of an output by these steps, behind another one.
+fn add_output(
+    alloc: Global,
+    given: &Given,
+    left: &[Step<'_>],
+    steps: &[Step<'_>],
+    answer: &mut Answer,
+) {
+    let Some(mut buffer) = answer.made(Buffer::new(alloc)) else {
+        return;
+    };
+    let mut sink = drips_of(alloc, given);
+    let put = both_put(&mut sink, &mut buffer, left, steps, answer);
     add_drips(sink, put, answer)
 }
 
@@ -181,20 +183,27 @@ fn done(output: &mut Output<'_, Watched<Drips>>, step: Step<'_>, answer: &mut An
 
 /// `line SINK.. WORD.. OCTETS OCTETS..`: what a sink takes of octets and of words behind them, all of
 /// which are added at once.
-fn line(alloc: Global, given: &Given, answer: &mut Answer) -> Result<(), End> {
+fn line(alloc: Global, given: &Given, answer: &mut Answer) {
     let mut taken = Taken {
         numbers: 2,
         octets: 1,
     };
     let mut words = Vec::new(alloc);
     for name in given.names().iter().skip(1) {
-        if words.push(taken.word(given, name)?).is_err() {
-            return Err(End::Memory);
+        if words.push(taken.word(given, name)).is_err() {
+            return answer.refuse(End::Memory);
         }
     }
-    let mut buffer = Buffer::new(alloc)?;
-    let mut sink = drips_of(alloc, given)?;
-    let put = line_put(&mut sink, &mut buffer, given.octets(0)?, words.as_slice());
+    add_line(alloc, given, words.as_slice(), answer)
+}
+
+/// Adds what a sink takes of octets and of these words.
+fn add_line(alloc: Global, given: &Given, words: &[Word<'_>], answer: &mut Answer) {
+    let Some(mut buffer) = answer.made(Buffer::new(alloc)) else {
+        return;
+    };
+    let mut sink = drips_of(alloc, given);
+    let put = line_put(&mut sink, &mut buffer, given.octets(0), words);
     add_drips(sink, put.is_ok(), answer)
 }
 
@@ -214,10 +223,12 @@ fn line_put(
 }
 
 /// `block SINK.. LABEL OCTETS..`: what a sink takes of a block of armor, whose octets come piece by piece.
-fn block(alloc: Global, given: &Given, answer: &mut Answer) -> Result<(), End> {
-    let label = label_of(given.name(1)?)?;
-    let mut buffer = Buffer::new(alloc)?;
-    let mut sink = drips_of(alloc, given)?;
+fn block(alloc: Global, given: &Given, answer: &mut Answer) {
+    let label = label_of(given, 1);
+    let Some(mut buffer) = answer.made(Buffer::new(alloc)) else {
+        return;
+    };
+    let mut sink = drips_of(alloc, given);
     let put = block_put(&mut sink, &mut buffer, label, given.all_octets());
     add_drips(sink, put.is_ok(), answer)
 }
@@ -241,9 +252,9 @@ fn block_put(
 }
 
 /// `put SINK.. OCTETS`: what a sink takes of octets in one write, and how many it says.
-fn put(alloc: Global, given: &Given, answer: &mut Answer) -> Result<(), End> {
-    let octets = given.octets(0)?;
-    let mut sink = drips_of(alloc, given)?;
+fn put(alloc: Global, given: &Given, answer: &mut Answer) {
+    let octets = given.octets(0);
+    let mut sink = drips_of(alloc, given);
     let put = sink.put(octets);
     match put {
         Ok(count) => answer.named("put", count as u64),
@@ -253,51 +264,64 @@ fn put(alloc: Global, given: &Given, answer: &mut Answer) -> Result<(), End> {
 }
 
 /// `put_all SINK.. OCTETS`: what a sink takes of octets, write by write.
-fn all_put(alloc: Global, given: &Given, answer: &mut Answer) -> Result<(), End> {
-    let octets = given.octets(0)?;
-    let mut sink = drips_of(alloc, given)?;
+fn all_put(alloc: Global, given: &Given, answer: &mut Answer) {
+    let octets = given.octets(0);
+    let mut sink = drips_of(alloc, given);
     let put = put_all(&mut sink, octets);
     add_drips(sink, put.is_ok(), answer)
 }
 
 /// `held SIZE OCTETS`: how many octets are put where there are none, and the pieces that hold octets which
 /// are put so many at a time.
-fn held(alloc: Global, given: &Given, answer: &mut Answer) -> Result<(), End> {
-    let (size, octets) = (given.long(0)?.max(1), given.octets(0)?);
-    let mut held = Held::new(alloc)?;
+fn held(alloc: Global, given: &Given, answer: &mut Answer) {
+    let (size, octets) = (given.long(0).max(1), given.octets(0));
+    let mut held = match Held::new(alloc) {
+        Ok(held) => held,
+        Err(_) => return answer.refuse(End::Memory),
+    };
     match held.put(&[]) {
         Ok(count) => answer.number(count as u64),
-        Err(_) => return Err(End::Memory),
+        Err(_) => return answer.refuse(End::Memory),
     }
     for piece in octets.chunks(size as usize) {
         if held.failed() || put_all(&mut held, piece).is_err() {
-            return Err(End::Memory);
+            return answer.refuse(End::Memory);
         }
     }
     answer.truth(held.failed());
+    add_held(&held, answer);
+}
+
+/// Adds the pieces that hold octets.
+fn add_held(held: &Held, answer: &mut Answer) {
     let (full, last) = held.pieces();
     for piece in full {
         answer.octets(piece.as_slice());
     }
     answer.octets(last);
-    Ok(())
 }
 
 /// `pull SIZE.. OCTETS`: what is read of octets into rooms of these sizes, each of stars, one after the
 /// other.
-fn pulled(alloc: Global, given: &Given, answer: &mut Answer) -> Result<(), End> {
-    let mut source = Watched::new(given.octets(0)?);
+fn pulled(alloc: Global, given: &Given, answer: &mut Answer) {
+    let mut source = Watched::new(given.octets(0));
     for size in given.numbers() {
-        let mut room = vec![in alloc; b'*'; *size as usize]?;
-        if source.failed() {
-            return Err(End::Bad("a source that hasn't failed"));
-        }
-        match source.pull(room.as_mut_slice()) {
-            Ok(count) => answer.number(count as u64),
-            Err(_) => answer.word("refused"),
-        }
-        answer.truth(source.failed());
-        answer.octets(room.as_slice());
+        add_pulled(alloc, &mut source, *size as usize, answer);
     }
-    Ok(())
+}
+
+/// Adds what is read into a room of this size.
+fn add_pulled(alloc: Global, source: &mut Watched<&[u8]>, size: usize, answer: &mut Answer) {
+    let Some(mut room) = answer.made(vec![in alloc; b'*'; size]) else {
+        return;
+    };
+    if source.failed() {
+        return answer.refuse(End::Bad("a source that hasn't failed"));
+    }
+    match source.pull(room.as_mut_slice()) {
+        Ok(count) => answer.number(count as u64),
+        Err(_) => answer.word("refused"),
+    }
+    answer.truth(source.failed());
+    answer.octets(room.as_slice());
 }

@@ -20,18 +20,13 @@ const MOST: usize = 4_294_967_295;
 /// What the written bodies stand behind.
 const BEFORE: &[u8] = b"so far";
 
-/// The answer to a call of this crate; None where it has none of the name.
-pub(crate) fn answered(
-    alloc: Global,
-    name: &str,
-    given: &Given,
-    answer: &mut Answer,
-) -> Option<Result<(), End>> {
-    let body = match given.octets(0) {
-        Ok(body) if body.len() <= MOST => body,
-        _ => return None,
+/// Adds the answer to a call of this crate; false where it has none of the name.
+pub(crate) fn answered(alloc: Global, name: &str, given: &Given, answer: &mut Answer) -> bool {
+    let body = match given.first_octets() {
+        Some(body) if body.len() <= MOST => body,
+        _ => return false,
     };
-    Some(match name {
+    match name {
         "key" => key(alloc, body, answer),
         "key_fields" => key_fields(alloc, body, answer),
         "attribute" => attribute(alloc, body, answer),
@@ -39,12 +34,10 @@ pub(crate) fn answered(
         "literal" => literal(alloc, body, answer),
         "literal_fields" => literal_fields(alloc, body, answer),
         "user_id" => user_id(alloc, body, answer),
-        "area" => {
-            add_refusal(fault_in_area(body, body.len()), answer);
-            Ok(())
-        }
-        _ => return None,
-    })
+        "area" => add_refusal(fault_in_area(body, body.len()), answer),
+        _ => return false,
+    }
+    true
 }
 
 /// Adds a fault of a body, or that there is none.
@@ -61,36 +54,42 @@ pub(crate) fn add_fault(fault: BodyFault, answer: &mut Answer) {
 }
 
 /// `key BODY`: a key's body, or its fault, in each way to read it.
-fn key(alloc: Global, body: &[u8], answer: &mut Answer) -> Result<(), End>
+fn key(alloc: Global, body: &[u8], answer: &mut Answer)
     requires { IsBodySized body.now }
 {
     add_refusal(Key::check_body(body), answer);
     add_view(KeyView::parse_body(body), answer);
-    add_parsed(alloc, Key::parse_body(alloc, body), answer)?;
-    let body = Vec::from_slice(alloc, body)?;
-    add_kept(alloc, Key::from_body(body), answer)
+    add_parsed(alloc, Key::parse_body(alloc, body), answer);
+    match Vec::from_slice(alloc, body) {
+        Ok(body) => add_kept(alloc, Key::from_body(body), answer),
+        Err(_) => answer.refuse(End::Memory),
+    }
 }
 
 /// `attribute BODY`: the same of an attribute.
-fn attribute(alloc: Global, body: &[u8], answer: &mut Answer) -> Result<(), End>
+fn attribute(alloc: Global, body: &[u8], answer: &mut Answer)
     requires { IsBodySized body.now }
 {
     add_refusal(Attribute::check_body(body), answer);
     add_view(AttributeView::parse_body(body), answer);
-    add_parsed(alloc, Attribute::parse_body(alloc, body), answer)?;
-    let body = Vec::from_slice(alloc, body)?;
-    add_kept(alloc, Attribute::from_body(body), answer)
+    add_parsed(alloc, Attribute::parse_body(alloc, body), answer);
+    match Vec::from_slice(alloc, body) {
+        Ok(body) => add_kept(alloc, Attribute::from_body(body), answer),
+        Err(_) => answer.refuse(End::Memory),
+    }
 }
 
 /// `literal BODY`: the same of a literal.
-fn literal(alloc: Global, body: &[u8], answer: &mut Answer) -> Result<(), End>
+fn literal(alloc: Global, body: &[u8], answer: &mut Answer)
     requires { IsBodySized body.now }
 {
     add_refusal(Literal::check_body(body), answer);
     add_view(LiteralView::parse_body(body), answer);
-    add_parsed(alloc, Literal::parse_body(alloc, body), answer)?;
-    let body = Vec::from_slice(alloc, body)?;
-    add_kept(alloc, Literal::from_body(body), answer)
+    add_parsed(alloc, Literal::parse_body(alloc, body), answer);
+    match Vec::from_slice(alloc, body) {
+        Ok(body) => add_kept(alloc, Literal::from_body(body), answer),
+        Err(_) => answer.refuse(End::Memory),
+    }
 }
 
 /// Adds what a view has, or its fault.
@@ -109,28 +108,24 @@ fn add_parsed<F: Body + Drop>(
     alloc: Global,
     parsed: Result<Parsed<Vec<u8>, F>, ParseFault>,
     answer: &mut Answer,
-) -> Result<(), End> {
+) {
     match parsed {
         Ok(value) => add_value(alloc, &value, answer),
-        Err(ParseFault::Body(fault)) => {
-            add_fault(fault, answer);
-            Ok(())
-        }
-        Err(ParseFault::Memory) => Err(End::Memory),
+        Err(ParseFault::Body(fault)) => add_fault(fault, answer),
+        Err(ParseFault::Memory) => answer.refuse(End::Memory),
     }
 }
 
 /// Adds a body, how long it is, and the bodies of copies of the value and of its view.
-fn add_value<F: Body + Drop>(
-    alloc: Global,
-    value: &Parsed<Vec<u8>, F>,
-    answer: &mut Answer,
-) -> Result<(), End> {
+fn add_value<F: Body + Drop>(alloc: Global, value: &Parsed<Vec<u8>, F>, answer: &mut Answer) {
     answer.octets(value.body());
     answer.number(value.body_len());
-    answer.octets(value.copy(alloc)?.body());
-    answer.octets(Parsed::of(alloc, value.view())?.body());
-    Ok(())
+    if let Some(copy) = answer.made(value.copy(alloc)) {
+        answer.octets(copy.body());
+    }
+    if let Some(copy) = answer.made(Parsed::of(alloc, value.view())) {
+        answer.octets(copy.body());
+    }
 }
 
 /// Adds a body, written behind octets and then given back, or its fault.
@@ -138,43 +133,38 @@ fn add_kept<F: Body + Drop>(
     alloc: Global,
     kept: Result<Parsed<Vec<u8>, F>, BodyFault>,
     answer: &mut Answer,
-) -> Result<(), End> {
+) {
     match kept {
         Ok(value) => add_behind(alloc, value, answer),
-        Err(fault) => {
-            add_fault(fault, answer);
-            Ok(())
-        }
+        Err(fault) => add_fault(fault, answer),
     }
 }
 
 /// Adds a body, written behind octets and then given back.
-fn add_behind<F: Body + Drop>(
-    alloc: Global,
-    value: Parsed<Vec<u8>, F>,
-    answer: &mut Answer,
-) -> Result<(), End> {
-    let mut out = Vec::from_slice(alloc, BEFORE)?;
-    value.write_body(&mut out)?;
+fn add_behind<F: Body + Drop>(alloc: Global, value: Parsed<Vec<u8>, F>, answer: &mut Answer) {
+    let Some(mut out) = answer.made(Vec::from_slice(alloc, BEFORE)) else {
+        return;
+    };
+    answer.made(value.write_body(&mut out));
     answer.octets(out.as_slice());
     answer.octets(value.into_body().as_slice());
-    Ok(())
 }
 
 /// `key_fields BODY`: the fields of a key, as a view has them and as a value has them.
-fn key_fields(alloc: Global, body: &[u8], answer: &mut Answer) -> Result<(), End>
+fn key_fields(alloc: Global, body: &[u8], answer: &mut Answer)
     requires { IsBodySized body.now }
 {
     let Ok(view) = KeyView::parse_body(body) else {
         answer.word("refused");
-        return Ok(());
+        return;
     };
     answer.small(view.version());
     answer.number(u64::from(view.created()));
     answer.small(view.algorithm());
     add_material(view.material(), answer);
-    add_key(&view.copy(alloc)?, answer);
-    Ok(())
+    if let Some(copy) = answer.made(view.copy(alloc)) {
+        add_key(&copy, answer);
+    }
 }
 
 /// Adds the fields of a key.
@@ -187,16 +177,17 @@ fn add_key(key: &Key, answer: &mut Answer) {
 
 /// `attribute_subpackets BODY`: the subpackets of an attribute, as a view has them and as a value has
 /// them.
-fn attribute_subpackets(alloc: Global, body: &[u8], answer: &mut Answer) -> Result<(), End>
+fn attribute_subpackets(alloc: Global, body: &[u8], answer: &mut Answer)
     requires { IsBodySized body.now }
 {
     let Ok(view) = AttributeView::parse_body(body) else {
         answer.word("refused");
-        return Ok(());
+        return;
     };
     add_subpackets(view.subpackets(), answer);
-    add_subpackets(view.copy(alloc)?.subpackets(), answer);
-    Ok(())
+    if let Some(copy) = answer.made(view.copy(alloc)) {
+        add_subpackets(copy.subpackets(), answer);
+    }
 }
 
 /// Adds subpackets: the form and the number of the length, the kind, the octets.
@@ -210,19 +201,20 @@ fn add_subpackets(subpackets: Walk<'_>, answer: &mut Answer) {
 }
 
 /// `literal_fields BODY`: the fields of a literal, as a view has them and as a value has them.
-fn literal_fields(alloc: Global, body: &[u8], answer: &mut Answer) -> Result<(), End>
+fn literal_fields(alloc: Global, body: &[u8], answer: &mut Answer)
     requires { IsBodySized body.now }
 {
     let Ok(view) = LiteralView::parse_body(body) else {
         answer.word("refused");
-        return Ok(());
+        return;
     };
     answer.small(view.format());
     answer.octets(view.name());
     answer.number(u64::from(view.date()));
     answer.octets(view.content());
-    add_literal(&view.copy(alloc)?, answer);
-    Ok(())
+    if let Some(copy) = answer.made(view.copy(alloc)) {
+        add_literal(&copy, answer);
+    }
 }
 
 /// Adds the fields of a literal.
@@ -234,26 +226,30 @@ fn add_literal(literal: &Literal, answer: &mut Answer) {
 }
 
 /// `user_id BODY`: the octets of a user ID, of a copy, written behind octets, and given back.
-fn user_id(alloc: Global, body: &[u8], answer: &mut Answer) -> Result<(), End>
+fn user_id(alloc: Global, body: &[u8], answer: &mut Answer)
     requires { IsBodySized body.now }
 {
     match UserId::parse_body(alloc, body) {
-        Ok(user_id) => add_user_id(alloc, &user_id, answer)?,
-        Err(_) => return Err(End::Memory),
+        Ok(user_id) => add_user_id(alloc, &user_id, answer),
+        Err(_) => answer.refuse(End::Memory),
     }
-    let kept = UserId::from_body(Vec::from_slice(alloc, body)?);
-    answer.octets(kept.into_body().as_slice());
-    Ok(())
+    match Vec::from_slice(alloc, body) {
+        Ok(body) => answer.octets(UserId::from_body(body).into_body().as_slice()),
+        Err(_) => answer.refuse(End::Memory),
+    }
 }
 
 /// Adds the octets of a user ID, of a copy, and written behind octets.
-fn add_user_id(alloc: Global, user_id: &UserId, answer: &mut Answer) -> Result<(), End> {
+fn add_user_id(alloc: Global, user_id: &UserId, answer: &mut Answer) {
     answer.octets(user_id.octets());
     answer.octets(user_id.body());
     answer.number(user_id.body_len());
-    answer.octets(user_id.copy(alloc)?.octets());
-    let mut out = Vec::from_slice(alloc, BEFORE)?;
-    user_id.write_body(&mut out)?;
+    if let Some(copy) = answer.made(user_id.copy(alloc)) {
+        answer.octets(copy.octets());
+    }
+    let Some(mut out) = answer.made(Vec::from_slice(alloc, BEFORE)) else {
+        return;
+    };
+    answer.made(user_id.write_body(&mut out));
     answer.octets(out.as_slice());
-    Ok(())
 }

@@ -1,9 +1,7 @@
 //! What a keyring is made of.
 
 use crate::answer::Answer;
-use crate::end::End;
 use crate::frame::add_form;
-use opgp_octets::OutOfMemory;
 use opgp_ring::{Certificate, Component, Content, Head, Keyring, Member};
 use std::alloc::Global;
 
@@ -81,28 +79,29 @@ fn add_content(content: &Content, answer: &mut Answer) {
 }
 
 /// Adds copies of the certificates of a keyring.
-pub(crate) fn add_part_copies(
-    alloc: Global,
-    ring: &Keyring,
-    answer: &mut Answer,
-) -> Result<(), End> {
+pub(crate) fn add_part_copies(alloc: Global, ring: &Keyring, answer: &mut Answer) {
     for certificate in ring.certificates() {
-        add_certificate_copies(alloc, certificate, answer)?;
+        add_certificate_copies(alloc, certificate, answer);
     }
     answer.word("end");
-    Ok(())
 }
 
 /// Adds copies of a certificate, of its primary key and of its components.
-fn add_certificate_copies(
-    alloc: Global,
-    certificate: &Certificate,
-    answer: &mut Answer,
-) -> Result<(), OutOfMemory> {
-    add_certificate(&certificate.copy(alloc)?, answer);
-    add_member(&certificate.primary().copy(alloc)?, answer);
-    for component in certificate.components() {
-        add_component(&component.copy(alloc)?, answer);
+fn add_certificate_copies(alloc: Global, certificate: &Certificate, answer: &mut Answer) {
+    if let Some(copy) = answer.made(certificate.copy(alloc)) {
+        add_certificate(&copy, answer);
     }
-    Ok(())
+    if let Some(copy) = answer.made(certificate.primary().copy(alloc)) {
+        add_member(&copy, answer);
+    }
+    add_component_copies(alloc, certificate.components(), answer);
+}
+
+/// Adds copies of components.
+fn add_component_copies(alloc: Global, components: &[Component], answer: &mut Answer) {
+    for component in components {
+        if let Some(copy) = answer.made(component.copy(alloc)) {
+            add_component(&copy, answer);
+        }
+    }
 }

@@ -8,27 +8,23 @@ ghost use Rattle.opgp_octets.specs.declared.limits.Limits.{Limits};
 
 use crate::answer::Answer;
 use crate::composer::{Shown, add_part};
-use crate::end::End;
 use crate::frame::add_placed;
 use crate::given::Given;
 use crate::octets::limits_of;
 use crate::reading::mode_of;
-use opgp_engine::{PacketReader, PartReader};
+use opgp_engine::{PacketReader, PartReader, Waiting, WaitingPackets};
 use opgp_octets::{Limits, OutOfMemory};
 use std::alloc::Global;
 
-/// The answer to a call of these; None where there is none of the name.
-pub(crate) fn answered(
-    alloc: Global,
-    name: &str,
-    given: &Given,
-    answer: &mut Answer,
-) -> Option<Result<(), End>> {
-    Some(match name {
+/// Adds the answer to a call of these; false where there is none of the name.
+pub(crate) fn answered(alloc: Global, name: &str, given: &Given, answer: &mut Answer) -> bool {
+    let read = match name {
         "part_reader" => parts(alloc, given, answer),
         "packet_reader" => packets(alloc, given, answer),
-        _ => return None,
-    })
+        _ => return false,
+    };
+    answer.made(read);
+    true
 }
 
 /// A reader that hands out what is complete.
@@ -47,9 +43,9 @@ trait Reader {
         ensures count { OnOk result (given self.new ≡ given self.old + length octets.now) };
 
     /// Takes all that waits behind so many octets, and adds it.
-    fn add_waiting(&mut self, alloc: Global, behind: u64, answer: &mut Answer) -> Result<(), End>
-        ensures reading { OnOk result ((limits : Limits) → reading limits self.old → reading limits self.new) }
-        ensures count { OnOk result (given self.new ≡ given self.old) };
+    fn add_waiting(&mut self, alloc: Global, behind: u64, answer: &mut Answer)
+        ensures reading { (limits : Limits) → reading limits self.old → reading limits self.new }
+        ensures count { given self.new ≡ given self.old };
 }
 
 impl Reader for PartReader {
@@ -62,13 +58,12 @@ impl Reader for PartReader {
         Ok(())
     }
 
-    fn add_waiting(&mut self, alloc: Global, behind: u64, answer: &mut Answer) -> Result<(), End> {
+    fn add_waiting(&mut self, alloc: Global, behind: u64, answer: &mut Answer) {
         'parts: while let Some(part) = self.take() {
             answer.named("behind", behind);
             answer.named("as", self.taken());
-            add_part(alloc, part, Shown::AsItIs, answer)?;
+            add_part(alloc, part, Shown::AsItIs, answer);
         }
-        Ok(())
     }
 }
 
@@ -82,13 +77,12 @@ impl Reader for PacketReader {
         Ok(())
     }
 
-    fn add_waiting(&mut self, alloc: Global, behind: u64, answer: &mut Answer) -> Result<(), End> {
+    fn add_waiting(&mut self, alloc: Global, behind: u64, answer: &mut Answer) {
         'packets: while let Some(placed) = self.take() {
             answer.named("behind", behind);
             answer.named("as", self.taken());
-            add_placed(alloc, &placed, answer)?;
+            add_placed(alloc, &placed, answer);
         }
-        Ok(())
     }
 }
 
@@ -101,7 +95,7 @@ fn feed_all<R: Reader>(
     size: u32,
     reader: &mut R,
     answer: &mut Answer,
-) -> Result<(), End>
+) -> Result<(), OutOfMemory>
     requires reading { R.reading limits reader.old }
     requires fresh { R.given reader.old ≡ 0 }
     ensures { OnOk result (R.reading limits reader.new) }
@@ -117,48 +111,54 @@ fn feed_all<R: Reader>(
         reader.feed_piece(piece)?;
         rest = &rest[count..];
         given += count as u64;
-        reader.add_waiting(alloc, given, answer)?;
+        reader.add_waiting(alloc, given, answer);
     }
     Ok(())
 }
 
 /// `part_reader MODE POLICY.. LIMITS.. SIZE OCTETS`: octets that are pushed so many at a time: each part,
 /// behind how many octets it came and as which, how many were taken, those at the end, and how it ends.
-fn parts(alloc: Global, given: &Given, answer: &mut Answer) -> Result<(), End> {
-    let limits = limits_of(given)?;
-    let mut reader = PartReader::new(alloc, mode_of(given)?, limits);
-    let (octets, size) = (given.octets(0)?, given.long(5)?);
+fn parts(alloc: Global, given: &Given, answer: &mut Answer) -> Result<(), OutOfMemory> {
+    let limits = limits_of(given);
+    let mut reader = PartReader::new(alloc, mode_of(given), limits);
+    let (octets, size) = (given.octets(0), given.long(5));
     feed_all(alloc, limits, octets, size, &mut reader, answer)?;
     answer.named("taken", reader.taken());
     match reader.end()? {
-        Ok(mut waiting) => {
-            'rest: while let Some(part) = waiting.take() {
-                answer.word("last");
-                add_part(alloc, part, Shown::AsItIs, answer)?;
-            }
-            answer.word("end");
-        }
+        Ok(waiting) => add_last_parts(alloc, waiting, answer),
         Err(fault) => answer.fault(&fault),
     }
     Ok(())
 }
 
+/// Adds the parts that weren't taken.
+fn add_last_parts(alloc: Global, mut waiting: Waiting, answer: &mut Answer) {
+    'rest: while let Some(part) = waiting.take() {
+        answer.word("last");
+        add_part(alloc, part, Shown::AsItIs, answer);
+    }
+    answer.word("end");
+}
+
 /// `packet_reader MODE POLICY.. LIMITS.. SIZE OCTETS`: the same of packets.
-fn packets(alloc: Global, given: &Given, answer: &mut Answer) -> Result<(), End> {
-    let limits = limits_of(given)?;
-    let mut reader = PacketReader::new(alloc, mode_of(given)?, limits);
-    let (octets, size) = (given.octets(0)?, given.long(5)?);
+fn packets(alloc: Global, given: &Given, answer: &mut Answer) -> Result<(), OutOfMemory> {
+    let limits = limits_of(given);
+    let mut reader = PacketReader::new(alloc, mode_of(given), limits);
+    let (octets, size) = (given.octets(0), given.long(5));
     feed_all(alloc, limits, octets, size, &mut reader, answer)?;
     answer.named("taken", reader.taken());
     match reader.end()? {
-        Ok(mut waiting) => {
-            'rest: while let Some(placed) = waiting.take() {
-                answer.word("last");
-                add_placed(alloc, &placed, answer)?;
-            }
-            answer.word("end");
-        }
+        Ok(waiting) => add_last_packets(alloc, waiting, answer),
         Err(fault) => answer.fault(&fault),
     }
     Ok(())
+}
+
+/// Adds the packets that weren't taken.
+fn add_last_packets(alloc: Global, mut waiting: WaitingPackets, answer: &mut Answer) {
+    'rest: while let Some(placed) = waiting.take() {
+        answer.word("last");
+        add_placed(alloc, &placed, answer);
+    }
+    answer.word("end");
 }

@@ -32,37 +32,36 @@ impl Read for Slowly<'_> {
     }
 }
 
-/// The answer to a call of these; None where there is none of the name.
-pub(crate) fn answered(
-    alloc: Global,
-    name: &str,
-    given: &Given,
-    answer: &mut Answer,
-) -> Option<Result<(), End>> {
-    Some(match name {
+/// Adds the answer to a call of these; false where there is none of the name.
+pub(crate) fn answered(alloc: Global, name: &str, given: &Given, answer: &mut Answer) -> bool {
+    match name {
         "read_keyring" => keyring(alloc, given, answer),
         "read_packets" => packets(alloc, given, answer),
         "read_signed" => signed(alloc, given, answer),
-        _ => return None,
-    })
+        _ => return false,
+    }
+    true
 }
 
 /// The octets, of which a read gives so many as the number behind the limits says.
-fn source_of<'a>(given: &'a Given) -> Result<Slowly<'a>, End> {
-    Ok(Slowly {
-        rest: given.octets(0)?,
-        most: given.long(5)? as usize,
+fn source_of<'a>(given: &'a Given) -> Slowly<'a> {
+    Slowly {
+        rest: given.octets(0),
+        most: given.long(5) as usize,
         reads: 0,
-    })
+    }
 }
 
 /// What the first name says of an input.
-pub(crate) fn mode_of(given: &Given) -> Result<Mode, End> {
-    match given.name(0)? {
-        "auto" => Ok(Mode::Auto),
-        "armor" => Ok(Mode::Armor),
-        "binary" => Ok(Mode::Binary),
-        _ => Err(End::Bad("auto, armor or binary")),
+pub(crate) fn mode_of(given: &Given) -> Mode {
+    match given.name(0) {
+        "auto" => Mode::Auto,
+        "armor" => Mode::Armor,
+        "binary" => Mode::Binary,
+        _ => {
+            given.lack("auto, armor or binary");
+            Mode::Auto
+        }
     }
 }
 
@@ -73,62 +72,56 @@ fn add_rest(source: Slowly<'_>, answer: &mut Answer) {
 }
 
 /// `read_keyring MODE POLICY.. LIMITS.. SIZE OCTETS`: the keyring of a source, or its fault.
-fn keyring(alloc: Global, given: &Given, answer: &mut Answer) -> Result<(), End> {
-    let limits = limits_of(given)?;
-    let mode = mode_of(given)?;
-    let mut source = Watched::new(source_of(given)?);
-    match read_keyring(alloc, &mut source, mode, &limits)? {
-        Said::Ring(ring) => add_ring(alloc, &ring, answer)?,
-        Said::Refused(fault) => answer.fault(&fault),
+fn keyring(alloc: Global, given: &Given, answer: &mut Answer) {
+    let limits = limits_of(given);
+    let mode = mode_of(given);
+    let mut source = Watched::new(source_of(given));
+    match read_keyring(alloc, &mut source, mode, &limits) {
+        Ok(Said::Ring(ring)) => add_ring(alloc, &ring, answer),
+        Ok(Said::Refused(fault)) => answer.fault(&fault),
+        Err(error) => answer.refuse(End::from(error)),
     }
     add_rest(source.into_inner(), answer);
-    Ok(())
 }
 
 /// `read_packets MODE POLICY.. LIMITS.. SIZE OCTETS`: the blocks of a source, or its fault.
-fn packets(alloc: Global, given: &Given, answer: &mut Answer) -> Result<(), End> {
-    let limits = limits_of(given)?;
-    let mode = mode_of(given)?;
-    let mut source = Watched::new(source_of(given)?);
+fn packets(alloc: Global, given: &Given, answer: &mut Answer) {
+    let limits = limits_of(given);
+    let mode = mode_of(given);
+    let mut source = Watched::new(source_of(given));
     match read_packets(alloc, &mut source, mode, &limits) {
-        Ok(blocks) => add_blocks(alloc, &blocks, answer)?,
-        Err(error) => add_error(error, answer)?,
+        Ok(blocks) => add_blocks(alloc, &blocks, answer),
+        Err(error) => add_error(error, answer),
     }
     add_rest(source.into_inner(), answer);
-    Ok(())
 }
 
 /// Adds blocks.
-fn add_blocks(alloc: Global, blocks: &[BlockOf], answer: &mut Answer) -> Result<(), End> {
+fn add_blocks(alloc: Global, blocks: &[BlockOf], answer: &mut Answer) {
     for block in blocks {
-        add_block(alloc, block, answer)?;
+        add_block(alloc, block, answer);
     }
     answer.word("end");
-    Ok(())
 }
 
 /// `read_signed MODE POLICY.. LIMITS.. SIZE OCTETS`: the signed literal of a source, and a copy of it,
 /// or its fault.
-fn signed(alloc: Global, given: &Given, answer: &mut Answer) -> Result<(), End> {
-    let limits = limits_of(given)?;
-    let mode = mode_of(given)?;
-    let mut source = Watched::new(source_of(given)?);
+fn signed(alloc: Global, given: &Given, answer: &mut Answer) {
+    let limits = limits_of(given);
+    let mode = mode_of(given);
+    let mut source = Watched::new(source_of(given));
     match read_signed(alloc, &mut source, mode, &limits) {
-        Ok(literal) => add_both(alloc, &literal, answer)?,
-        Err(error) => add_error(error, answer)?,
+        Ok(literal) => add_both(alloc, &literal, answer),
+        Err(error) => add_error(error, answer),
     }
     add_rest(source.into_inner(), answer);
-    Ok(())
 }
 
 /// Adds why nothing was read.
-fn add_error(error: ReadError, answer: &mut Answer) -> Result<(), End> {
+fn add_error(error: ReadError, answer: &mut Answer) {
     match error {
-        ReadError::Refused(fault) => {
-            answer.fault(&fault);
-            Ok(())
-        }
-        ReadError::Read => Err(End::Bad("a source that can be read")),
-        ReadError::Memory => Err(End::Memory),
+        ReadError::Refused(fault) => answer.fault(&fault),
+        ReadError::Read => answer.refuse(End::Bad("a source that can be read")),
+        ReadError::Memory => answer.refuse(End::Memory),
     }
 }

@@ -1,26 +1,20 @@
 //! The calls of `opgp_report`, and what a question of it hashes.
 
 use crate::answer::Answer;
-use crate::end::End;
 use crate::given::Given;
 use crate::ring::ring_of;
 use opgp_hash::{Question, Subject, digest, reopen, write_octets};
 use opgp_octets::OutOfMemory;
 use opgp_report::{
-    Finding, FingerprintedReporting, KeyIndex, LeftOctets, Place, Reporting, Row, Verdict, check,
-    index_keys, question_at,
+    Finding, FingerprintedReport, FingerprintedReporting, KeyIndex, LeftOctets, Place, Reporting,
+    Row, Verdict, check, index_keys, question_at,
 };
 use opgp_ring::Certificate;
 use std::alloc::Global;
 
-/// The answer to a call of this crate; None where it has none of the name.
-pub(crate) fn answered(
-    alloc: Global,
-    name: &str,
-    given: &Given,
-    answer: &mut Answer,
-) -> Option<Result<(), End>> {
-    Some(match name {
+/// Adds the answer to a call of this crate; false where it has none of the name.
+pub(crate) fn answered(alloc: Global, name: &str, given: &Given, answer: &mut Answer) -> bool {
+    match name {
         "check" => checked(alloc, given, answer),
         "reporting" => reported(alloc, given, answer),
         "fingerprinted" => fingerprinted(alloc, given, answer),
@@ -28,30 +22,45 @@ pub(crate) fn answered(
         "reopen" => reopened(alloc, given, answer),
         "first_by_key_id" => key_of_id(alloc, given, answer),
         "first_by_fingerprint" => key_of_fingerprint(alloc, given, answer),
-        _ => return None,
-    })
+        _ => return false,
+    }
+    true
 }
 
 /// `check OCTETS`: the rows of a keyring's report, by the left octets.
-fn checked(alloc: Global, given: &Given, answer: &mut Answer) -> Result<(), End> {
-    let ring = ring_of(alloc, given.octets(0)?)?;
-    let report = check(alloc, &ring, &LeftOctets)?;
+fn checked(alloc: Global, given: &Given, answer: &mut Answer) {
+    let Some(ring) = ring_of(alloc, given.octets(0), answer) else {
+        return;
+    };
+    let Some(report) = answer.made(check(alloc, &ring, &LeftOctets)) else {
+        return;
+    };
     add_rows(report.rows(), answer);
-    Ok(())
 }
 
 /// `reporting OCTETS`: the same, made of one certificate after the other.
-fn reported(alloc: Global, given: &Given, answer: &mut Answer) -> Result<(), End> {
-    let ring = ring_of(alloc, given.octets(0)?)?;
-    let reporting = reporting_of(alloc, ring.certificates())?;
+fn reported(alloc: Global, given: &Given, answer: &mut Answer) {
+    let Some(ring) = ring_of(alloc, given.octets(0), answer) else {
+        return;
+    };
+    let Some(reporting) = answer.made(reporting_of(alloc, ring.certificates())) else {
+        return;
+    };
     add_rows(reporting.report().rows(), answer);
-    Ok(())
 }
 
 /// `fingerprinted OCTETS`: the same, each row with the fingerprints of its certificate and its signer.
-fn fingerprinted(alloc: Global, given: &Given, answer: &mut Answer) -> Result<(), End> {
-    let ring = ring_of(alloc, given.octets(0)?)?;
-    let report = fingerprinting_of(alloc, ring.certificates())?.report();
+fn fingerprinted(alloc: Global, given: &Given, answer: &mut Answer) {
+    let Some(ring) = ring_of(alloc, given.octets(0), answer) else {
+        return;
+    };
+    if let Some(reporting) = answer.made(fingerprinting_of(alloc, ring.certificates())) {
+        add_fingerprinted(&reporting.report(), answer);
+    }
+}
+
+/// Adds the rows of a report with fingerprints.
+fn add_fingerprinted(report: &FingerprintedReport, answer: &mut Answer) {
     for row in report.rows() {
         add_place(row.row.place, answer);
         add_finding(&row.row.finding, answer);
@@ -62,7 +71,6 @@ fn fingerprinted(alloc: Global, given: &Given, answer: &mut Answer) -> Result<()
         }
     }
     answer.word("end");
-    Ok(())
 }
 
 /// The report in the making of certificates, with fingerprints.
@@ -147,44 +155,42 @@ fn add_verdict(verdict: Verdict, answer: &mut Answer) {
 
 /// `question_at ROW OCTETS OCTETS`: what a row of a keyring asks, what it hashes, written behind other
 /// octets, and its digest; or that there is none.
-fn question(alloc: Global, given: &Given, answer: &mut Answer) -> Result<(), End> {
-    let row = given.long(0)? as usize;
-    let before = given.octets(1)?;
-    let ring = ring_of(alloc, given.octets(0)?)?;
+fn question(alloc: Global, given: &Given, answer: &mut Answer) {
+    let row = given.long(0) as usize;
+    let before = given.octets(1);
+    let Some(ring) = ring_of(alloc, given.octets(0), answer) else {
+        return;
+    };
     match question_at(&ring, row) {
         Some(question) => add_question(alloc, &question, before, answer),
-        None => {
-            answer.word("none");
-            Ok(())
-        }
+        None => answer.word("none"),
     }
 }
 
 /// `reopen OCTETS`: the question that hashed octets are of, these again, and their digest; or that there
 /// is none.
-fn reopened(alloc: Global, given: &Given, answer: &mut Answer) -> Result<(), End> {
-    match reopen(given.octets(0)?) {
+fn reopened(alloc: Global, given: &Given, answer: &mut Answer) {
+    match reopen(given.octets(0)) {
         Some(question) => add_question(alloc, &question, &[], answer),
-        None => {
-            answer.word("none");
-            Ok(())
-        }
+        None => answer.word("none"),
     }
 }
 
 /// `first_by_key_id OCTETS OCTETS`: the number of a keyring's first key with a key ID, by an index of the
 /// keyring and by one that is made of its certificates.
-fn key_of_id(alloc: Global, given: &Given, answer: &mut Answer) -> Result<(), End> {
-    let ring = ring_of(alloc, given.octets(0)?)?;
-    let Ok(id) = <[u8; 8]>::try_from(given.octets(1)?) else {
-        return Err(End::Bad("a key ID"));
+fn key_of_id(alloc: Global, given: &Given, answer: &mut Answer) {
+    let Some(ring) = ring_of(alloc, given.octets(0), answer) else {
+        return;
     };
-    add_number(index_keys(alloc, &ring)?.first_by_key_id(id), answer);
-    add_number(
-        index_of(alloc, ring.certificates())?.first_by_key_id(id),
-        answer,
-    );
-    Ok(())
+    let Ok(id) = <[u8; 8]>::try_from(given.octets(1)) else {
+        return given.lack("a key ID");
+    };
+    if let Some(index) = answer.made(index_keys(alloc, &ring)) {
+        add_number(index.first_by_key_id(id), answer);
+    }
+    if let Some(index) = answer.made(index_of(alloc, ring.certificates())) {
+        add_number(index.first_by_key_id(id), answer);
+    }
 }
 
 /// The index of the keys of certificates.
@@ -197,15 +203,14 @@ fn index_of(alloc: Global, certificates: &[Certificate]) -> Result<KeyIndex, Out
 }
 
 /// `first_by_fingerprint VERSION OCTETS OCTETS`: that of its first key of a version with a fingerprint.
-fn key_of_fingerprint(alloc: Global, given: &Given, answer: &mut Answer) -> Result<(), End> {
-    let version = given.small(0)?;
-    let ring = ring_of(alloc, given.octets(0)?)?;
-    let print = given.octets(1)?;
-    add_number(
-        index_keys(alloc, &ring)?.first_by_fingerprint(version, print),
-        answer,
-    );
-    Ok(())
+fn key_of_fingerprint(alloc: Global, given: &Given, answer: &mut Answer) {
+    let version = given.small(0);
+    let Some(ring) = ring_of(alloc, given.octets(0), answer) else {
+        return;
+    };
+    if let Some(index) = answer.made(index_keys(alloc, &ring)) {
+        add_number(index.first_by_fingerprint(version, given.octets(1)), answer);
+    }
 }
 
 /// Adds a question: its fields, what it hashes, written behind octets, and its digest.
@@ -214,13 +219,14 @@ pub(crate) fn add_question(
     question: &Question<'_>,
     before: &[u8],
     answer: &mut Answer,
-) -> Result<(), End> {
+) {
     add_fields(question, answer);
-    let mut out = Vec::from_slice(alloc, before)?;
-    write_octets(question, &mut out)?;
+    let Some(mut out) = answer.made(Vec::from_slice(alloc, before)) else {
+        return;
+    };
+    answer.made(write_octets(question, &mut out));
     answer.octets(out.as_slice());
     answer.octets(digest(question).octets());
-    Ok(())
 }
 
 /// Adds the fields of a question.

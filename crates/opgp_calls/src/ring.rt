@@ -10,18 +10,14 @@ use opgp_frame::{Deframe, Packet, Placed, write_packet};
 use opgp_merge::{Choice, choose, choose_certificate, merge};
 use opgp_octets::{Fault, Limits, Malformed};
 use opgp_ring::{
-    BlockOf, Keyring, check_bodies, check_bodies_by, compose, flatten, join, normalise, nth,
+    BlockOf, Certificate, Keyring, check_bodies, check_bodies_by, compose, flatten, join,
+    normalise, nth,
 };
 use std::alloc::Global;
 
-/// The answer to a call of these; None where there is none of the name.
-pub(crate) fn answered(
-    alloc: Global,
-    name: &str,
-    given: &Given,
-    answer: &mut Answer,
-) -> Option<Result<(), End>> {
-    Some(match name {
+/// Adds the answer to a call of these; false where there is none of the name.
+pub(crate) fn answered(alloc: Global, name: &str, given: &Given, answer: &mut Answer) -> bool {
+    match name {
         "compose" => composed(alloc, given, answer),
         "ring" => ring(alloc, given, answer),
         "ring_copy" => ring_copy(alloc, given, answer),
@@ -35,152 +31,190 @@ pub(crate) fn answered(
         "nth" => one(alloc, given, answer),
         "block_copy" => block_copy(alloc, given, answer),
         "check_bodies" => bodies_checked(alloc, given, answer),
-        _ => return None,
-    })
+        _ => return false,
+    }
+    true
 }
 
 /// The packets of a block's octets.
-fn packets_of(alloc: Global, block: u64, octets: &[u8]) -> Result<Vec<Placed>, End> {
+fn packets_of(
+    alloc: Global,
+    block: u64,
+    octets: &[u8],
+    answer: &mut Answer,
+) -> Option<Vec<Placed>> {
     let mut reader = Deframe::new(alloc, block, Limits::usual());
     let mut packets = Vec::new(alloc);
-    read_all(&mut reader, octets, &mut packets)?;
+    read_all(&mut reader, octets, &mut packets, answer);
     if reader.ready() || reader.finish().is_err() {
-        return Err(End::Bad("packets"));
+        answer.refuse(End::Bad("packets"));
+        return None;
     }
-    Ok(packets)
+    Some(packets)
 }
 
 /// Reads packets, one after the other.
-fn read_all(reader: &mut Deframe, octets: &[u8], packets: &mut Vec<Placed>) -> Result<(), End> {
+fn read_all(reader: &mut Deframe, octets: &[u8], packets: &mut Vec<Placed>, answer: &mut Answer) {
     let mut rest = octets;
     for _ in 0..=octets.len() {
         if rest.is_empty() {
             break;
         }
-        let count = push_some(reader, rest)?;
+        let Some(count) = push_some(reader, rest, answer) else {
+            break;
+        };
         rest = &rest[count..];
         if let Some(placed) = reader.take() {
             if packets.push(placed).is_err() {
-                return Err(End::Memory);
+                return answer.refuse(End::Memory);
             }
         }
     }
-    Ok(())
 }
 
 /// The block of octets, whose label fits where its name is `fits`.
-fn block_of(alloc: Global, number: u64, name: &str, octets: &[u8]) -> Result<BlockOf, End> {
-    Ok(BlockOf {
-        block: number,
-        label_fits: name == "fits",
-        packets: packets_of(alloc, number, octets)?,
-    })
+fn block_of(
+    alloc: Global,
+    number: u64,
+    name: &str,
+    octets: &[u8],
+    answer: &mut Answer,
+) -> Option<BlockOf> {
+    match packets_of(alloc, number, octets, answer) {
+        Some(packets) => Some(BlockOf {
+            block: number,
+            label_fits: name == "fits",
+            packets,
+        }),
+        None => None,
+    }
 }
 
 /// The blocks of all octets, each of which has a name.
-pub(crate) fn blocks_of(alloc: Global, given: &Given) -> Result<Vec<BlockOf>, End> {
+pub(crate) fn blocks_of(alloc: Global, given: &Given, answer: &mut Answer) -> Option<Vec<BlockOf>> {
     let mut blocks = Vec::new(alloc);
     for (number, octets) in given.all_octets().iter().enumerate() {
-        let name = given.name(number)?;
-        let block = block_of(alloc, number as u64, name, octets.as_slice())?;
+        let name = given.name(number);
+        let block = block_of(alloc, number as u64, name, octets.as_slice(), answer)?;
         if blocks.push(block).is_err() {
-            return Err(End::Memory);
+            answer.refuse(End::Memory);
+            return None;
         }
     }
-    Ok(blocks)
+    Some(blocks)
 }
 
 /// `compose LIMITS.. [LABEL OCTETS]..`: the keyring of blocks, or its fault.
-fn composed(alloc: Global, given: &Given, answer: &mut Answer) -> Result<(), End> {
-    let limits = limits_of(given)?;
-    match compose(alloc, blocks_of(alloc, given)?, &limits)? {
-        Ok(ring) => add_ring(alloc, &ring, answer),
-        Err(fault) => {
-            answer.fault(&fault);
-            Ok(())
-        }
+fn composed(alloc: Global, given: &Given, answer: &mut Answer) {
+    let Some(blocks) = blocks_of(alloc, given, answer) else {
+        return;
+    };
+    match compose(alloc, blocks, &limits_of(given)) {
+        Ok(Ok(ring)) => add_ring(alloc, &ring, answer),
+        Ok(Err(fault)) => answer.fault(&fault),
+        Err(_) => answer.refuse(End::Memory),
     }
 }
 
 /// Adds a keyring: how many packets come before how many certificates, and its octets.
-pub(crate) fn add_ring(alloc: Global, ring: &Keyring, answer: &mut Answer) -> Result<(), End> {
+pub(crate) fn add_ring(alloc: Global, ring: &Keyring, answer: &mut Answer) {
     answer.named("lead", ring.lead().len() as u64);
     answer.named("certificates", ring.certificates().len() as u64);
-    let packets = flatten(alloc, ring)?;
+    let Some(packets) = answer.made(flatten(alloc, ring)) else {
+        return;
+    };
     add_packets(alloc, packets.as_slice(), answer)
 }
 
 /// Adds the octets of packets.
-pub(crate) fn add_packets(
-    alloc: Global,
-    packets: &[Packet],
-    answer: &mut Answer,
-) -> Result<(), End> {
+pub(crate) fn add_packets(alloc: Global, packets: &[Packet], answer: &mut Answer) {
     let mut out = Vec::new(alloc);
     for packet in packets {
-        write_packet(packet, &mut out)?;
+        answer.made(write_packet(packet, &mut out));
     }
     answer.octets(out.as_slice());
-    Ok(())
 }
 
 /// The block of octets, alone.
-pub(crate) fn one_block(alloc: Global, octets: &[u8]) -> Result<Vec<BlockOf>, End> {
-    let block = block_of(alloc, 0, "fits", octets)?;
+pub(crate) fn one_block(alloc: Global, octets: &[u8], answer: &mut Answer) -> Option<Vec<BlockOf>> {
+    let block = block_of(alloc, 0, "fits", octets, answer)?;
     let mut blocks = Vec::new(alloc);
     if blocks.push(block).is_err() {
-        return Err(End::Memory);
+        answer.refuse(End::Memory);
+        return None;
     }
-    Ok(blocks)
+    Some(blocks)
 }
 
 /// The keyring of octets, whose malformed signatures are kept.
-pub(crate) fn ring_of(alloc: Global, octets: &[u8]) -> Result<Keyring, End> {
+pub(crate) fn ring_of(alloc: Global, octets: &[u8], answer: &mut Answer) -> Option<Keyring> {
+    let blocks = one_block(alloc, octets, answer)?;
     let limits = Limits::usual().with_malformed(Malformed::Keep);
-    match compose(alloc, one_block(alloc, octets)?, &limits)? {
-        Ok(ring) => Ok(ring),
-        Err(_) => Err(End::Bad("a keyring")),
+    match answer.made(compose(alloc, blocks, &limits)) {
+        Some(Ok(ring)) => Some(ring),
+        Some(Err(_)) => {
+            answer.refuse(End::Bad("a keyring"));
+            None
+        }
+        None => None,
     }
 }
 
 /// `ring OCTETS`: the keyring of octets.
-fn ring(alloc: Global, given: &Given, answer: &mut Answer) -> Result<(), End> {
-    let ring = ring_of(alloc, given.octets(0)?)?;
+fn ring(alloc: Global, given: &Given, answer: &mut Answer) {
+    let Some(ring) = ring_of(alloc, given.octets(0), answer) else {
+        return;
+    };
     add_ring(alloc, &ring, answer)
 }
 
 /// `ring_copy OCTETS`: a copy of it.
-fn ring_copy(alloc: Global, given: &Given, answer: &mut Answer) -> Result<(), End> {
-    let copy = ring_of(alloc, given.octets(0)?)?.copy(alloc)?;
-    add_ring(alloc, &copy, answer)
+fn ring_copy(alloc: Global, given: &Given, answer: &mut Answer) {
+    if let Some(copy) = copy_of(alloc, given.octets(0), answer) {
+        add_ring(alloc, &copy, answer);
+    }
+}
+
+/// A copy of the keyring of octets, which itself is let go.
+fn copy_of(alloc: Global, octets: &[u8], answer: &mut Answer) -> Option<Keyring> {
+    let ring = ring_of(alloc, octets, answer)?;
+    answer.made(ring.copy(alloc))
 }
 
 /// `normalise OCTETS`: the keyring in the current format, and that again.
-fn normalised(alloc: Global, given: &Given, answer: &mut Answer) -> Result<(), End> {
-    let ring = normalise(ring_of(alloc, given.octets(0)?)?);
-    add_ring(alloc, &ring, answer)?;
-    add_ring(alloc, &normalise(ring), answer)
+fn normalised(alloc: Global, given: &Given, answer: &mut Answer) {
+    if let Some(ring) = ring_of(alloc, given.octets(0), answer) {
+        let ring = normalise(ring);
+        add_ring(alloc, &ring, answer);
+        add_ring(alloc, &normalise(ring), answer);
+    }
 }
 
 /// `join OCTETS OCTETS`: two keyrings, joined.
-fn joined(alloc: Global, given: &Given, answer: &mut Answer) -> Result<(), End> {
-    let (first, second) = (given.octets(0)?, given.octets(1)?);
-    let ring = both(alloc, ring_of(alloc, first)?, second)?;
-    add_ring(alloc, &ring, answer)
-}
-
-/// A keyring, and that of octets.
-fn both(alloc: Global, first: Keyring, second: &[u8]) -> Result<Keyring, End> {
-    let second = ring_of(alloc, second)?;
-    Ok(join(first, second)?)
+fn joined(alloc: Global, given: &Given, answer: &mut Answer) {
+    let Some(first) = ring_of(alloc, given.octets(0), answer) else {
+        return;
+    };
+    let Some(second) = ring_of(alloc, given.octets(1), answer) else {
+        return;
+    };
+    if let Some(ring) = answer.made(join(first, second)) {
+        add_ring(alloc, &ring, answer);
+    }
 }
 
 /// `merge OCTETS`: a keyring whose equal parts are joined, and that again.
-fn merged(alloc: Global, given: &Given, answer: &mut Answer) -> Result<(), End> {
-    let ring = merge(ring_of(alloc, given.octets(0)?)?)?;
-    add_ring(alloc, &ring, answer)?;
-    let again = merge(ring)?;
-    add_ring(alloc, &again, answer)
+fn merged(alloc: Global, given: &Given, answer: &mut Answer) {
+    let Some(ring) = ring_of(alloc, given.octets(0), answer) else {
+        return;
+    };
+    let Some(ring) = answer.made(merge(ring)) else {
+        return;
+    };
+    add_ring(alloc, &ring, answer);
+    if let Some(again) = answer.made(merge(ring)) {
+        add_ring(alloc, &again, answer);
+    }
 }
 
 /// `own` and `bare` say which signatures and whether attributes are left out, a number which user ID
@@ -194,98 +228,121 @@ fn choice_of(given: &Given) -> Choice {
             _ => (),
         }
     }
-    if let Ok(number) = given.number(0) {
-        choice.user_id = Some(number);
+    if let Some(number) = given.numbers().first() {
+        choice.user_id = Some(*number);
     }
     choice
 }
 
 /// `choose CHOICE.. OCTETS`: whether a choice is that of everything, and what is chosen of a keyring.
-fn chosen(alloc: Global, given: &Given, answer: &mut Answer) -> Result<(), End> {
+fn chosen(alloc: Global, given: &Given, answer: &mut Answer) {
     let choice = choice_of(given);
     answer.truth(choice.is_everything());
-    let ring = choose(ring_of(alloc, given.octets(0)?)?, choice)?;
-    add_ring(alloc, &ring, answer)
+    let Some(ring) = ring_of(alloc, given.octets(0), answer) else {
+        return;
+    };
+    if let Some(chosen) = answer.made(choose(ring, choice)) {
+        add_ring(alloc, &chosen, answer);
+    }
 }
 
 /// `choose_certificate CHOICE.. OCTETS`: what is chosen of each certificate of a keyring, as a keyring.
-fn chosen_certificate(alloc: Global, given: &Given, answer: &mut Answer) -> Result<(), End> {
-    let (lead, certificates, _) = ring_of(alloc, given.octets(0)?)?.into_parts();
+fn chosen_certificate(alloc: Global, given: &Given, answer: &mut Answer) {
+    let Some(ring) = ring_of(alloc, given.octets(0), answer) else {
+        return;
+    };
+    let (lead, certificates, _) = ring.into_parts();
     drop(lead);
     for certificate in certificates {
-        let chosen = choose_certificate(alloc, certificate, choice_of(given))?;
-        let ring = Keyring::of(alloc, chosen)?;
-        add_ring(alloc, &ring, answer)?;
+        add_chosen(alloc, certificate, choice_of(given), answer);
     }
     answer.word("end");
-    Ok(())
+}
+
+/// Adds what is chosen of a certificate, as a keyring.
+fn add_chosen(alloc: Global, certificate: Certificate, choice: Choice, answer: &mut Answer) {
+    let Some(chosen) = answer.made(choose_certificate(alloc, certificate, choice)) else {
+        return;
+    };
+    if let Some(ring) = answer.made(Keyring::of(alloc, chosen)) {
+        add_ring(alloc, &ring, answer);
+    }
 }
 
 /// `nth NUMBER OCTETS`: a keyring with one of its certificates, or that there is none.
-fn one(alloc: Global, given: &Given, answer: &mut Answer) -> Result<(), End> {
-    let number = given.long(0)? as usize;
-    match nth_of(alloc, given.octets(0)?, number)? {
+fn one(alloc: Global, given: &Given, answer: &mut Answer) {
+    let number = given.long(0) as usize;
+    match nth_of(alloc, given.octets(0), number, answer) {
         Some(ring) => add_ring(alloc, &ring, answer),
-        None => {
-            answer.word("none");
-            Ok(())
+        None => answer.word("none"),
+    }
+}
+
+/// The certificate of this number, of the keyring of octets, which itself is let go.
+fn nth_of(alloc: Global, octets: &[u8], number: usize, answer: &mut Answer) -> Option<Keyring> {
+    let ring = ring_of(alloc, octets, answer)?;
+    match nth(alloc, &ring, number) {
+        Ok(one) => one,
+        Err(_) => {
+            answer.refuse(End::Memory);
+            None
         }
     }
 }
 
-/// The certificate of this number, of the keyring of octets.
-fn nth_of(alloc: Global, octets: &[u8], number: usize) -> Result<Option<Keyring>, End> {
-    let ring = ring_of(alloc, octets)?;
-    Ok(nth(alloc, &ring, number)?)
-}
-
 /// `ring_parts OCTETS`: the packets before the first certificate of a keyring, and its certificates.
-fn ring_parts(alloc: Global, given: &Given, answer: &mut Answer) -> Result<(), End> {
-    let ring = ring_of(alloc, given.octets(0)?)?;
+fn ring_parts(alloc: Global, given: &Given, answer: &mut Answer) {
+    let Some(ring) = ring_of(alloc, given.octets(0), answer) else {
+        return;
+    };
     add_parts(&ring, answer);
-    Ok(())
 }
 
 /// `ring_part_copies OCTETS`: copies of its certificates, of their primary keys and components.
-fn ring_part_copies(alloc: Global, given: &Given, answer: &mut Answer) -> Result<(), End> {
-    let ring = ring_of(alloc, given.octets(0)?)?;
+fn ring_part_copies(alloc: Global, given: &Given, answer: &mut Answer) {
+    let Some(ring) = ring_of(alloc, given.octets(0), answer) else {
+        return;
+    };
     add_part_copies(alloc, &ring, answer)
 }
 
 /// `block_copy [LABEL OCTETS]..`: copies of blocks.
-fn block_copy(alloc: Global, given: &Given, answer: &mut Answer) -> Result<(), End> {
-    let blocks = blocks_of(alloc, given)?;
+fn block_copy(alloc: Global, given: &Given, answer: &mut Answer) {
+    let Some(blocks) = blocks_of(alloc, given, answer) else {
+        return;
+    };
     for block in &blocks {
-        add_block_copy(alloc, block, answer)?;
+        add_block_copy(alloc, block, answer);
     }
     answer.word("end");
-    Ok(())
 }
 
 /// Adds a copy of a block.
-fn add_block_copy(alloc: Global, block: &BlockOf, answer: &mut Answer) -> Result<(), End> {
-    let copy = block.copy(alloc)?;
+fn add_block_copy(alloc: Global, block: &BlockOf, answer: &mut Answer) {
+    let Some(copy) = answer.made(block.copy(alloc)) else {
+        return;
+    };
     add_block(alloc, &copy, answer)
 }
 
 /// Adds a block: its number, whether its label fits, its packets and where they are.
-pub(crate) fn add_block(alloc: Global, block: &BlockOf, answer: &mut Answer) -> Result<(), End> {
+pub(crate) fn add_block(alloc: Global, block: &BlockOf, answer: &mut Answer) {
     answer.named("block", block.block);
     answer.truth(block.label_fits);
     for placed in &block.packets {
-        add_placed(alloc, placed, answer)?;
+        add_placed(alloc, placed, answer);
     }
-    Ok(())
 }
 
 /// `check_bodies [LABEL OCTETS]..`: the first fault of the bodies of blocks, and that by each policy for
 /// malformed signatures.
-fn bodies_checked(alloc: Global, given: &Given, answer: &mut Answer) -> Result<(), End> {
-    let blocks = blocks_of(alloc, given)?;
+fn bodies_checked(alloc: Global, given: &Given, answer: &mut Answer) {
+    let Some(blocks) = blocks_of(alloc, given, answer) else {
+        return;
+    };
     add_fault(check_bodies(&blocks), answer);
     add_fault(check_bodies_by(&blocks, Malformed::Refuse), answer);
     add_fault(check_bodies_by(&blocks, Malformed::Keep), answer);
-    Ok(())
 }
 
 /// Adds a fault, or that there is none.

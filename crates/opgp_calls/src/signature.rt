@@ -13,87 +13,78 @@ use opgp_octets::ParseFault;
 use opgp_packet::{AreasView, SigView, Signature, Subs, ThreeView};
 use std::alloc::Global;
 
-/// The answer to a call about signatures; None where there is none of the name.
-pub(crate) fn answered(
-    alloc: Global,
-    name: &str,
-    given: &Given,
-    answer: &mut Answer,
-) -> Option<Result<(), End>> {
-    let body = match given.octets(0) {
-        Ok(body) if body.len() <= 4_294_967_295 => body,
-        _ => return None,
+/// Adds the answer to a call about signatures; false where there is none of the name.
+pub(crate) fn answered(alloc: Global, name: &str, given: &Given, answer: &mut Answer) -> bool {
+    let body = match given.first_octets() {
+        Some(body) if body.len() <= 4_294_967_295 => body,
+        _ => return false,
     };
-    Some(match name {
+    match name {
         "signature" => signature(alloc, body, answer),
-        "signature_fields" => {
-            signature_fields(body, answer);
-            Ok(())
-        }
+        "signature_fields" => signature_fields(body, answer),
         "signature_copy" => signature_copy(alloc, body, answer),
-        "subpackets" => {
-            subpackets(body, answer);
-            Ok(())
-        }
-        _ => return None,
-    })
+        "subpackets" => subpackets(body, answer),
+        _ => return false,
+    }
+    true
 }
 
 /// `signature BODY`: a signature's body, or its fault, in each way to read it.
-fn signature(alloc: Global, body: &[u8], answer: &mut Answer) -> Result<(), End>
+fn signature(alloc: Global, body: &[u8], answer: &mut Answer)
     requires { IsBodySized body.now }
 {
     match SigView::parse_body(body) {
         Ok(view) => answer.octets(view.body()),
         Err(fault) => add_fault(fault, answer),
     }
-    parsed(alloc, body, answer)?;
+    parsed(alloc, body, answer);
     kept(alloc, body, answer)
 }
 
 /// Adds what a signature has that is parsed, or its fault.
-fn parsed(alloc: Global, body: &[u8], answer: &mut Answer) -> Result<(), End>
+fn parsed(alloc: Global, body: &[u8], answer: &mut Answer)
     requires { IsBodySized body.now }
 {
     match Signature::parse_body(alloc, body) {
         Ok(signature) => add_value(alloc, &signature, answer),
-        Err(ParseFault::Body(fault)) => {
-            add_fault(fault, answer);
-            Ok(())
-        }
-        Err(ParseFault::Memory) => Err(End::Memory),
+        Err(ParseFault::Body(fault)) => add_fault(fault, answer),
+        Err(ParseFault::Memory) => answer.refuse(End::Memory),
     }
 }
 
 /// Adds a body, how long it is, and the bodies of copies of the signature and of its view.
-fn add_value(alloc: Global, signature: &Signature, answer: &mut Answer) -> Result<(), End> {
+fn add_value(alloc: Global, signature: &Signature, answer: &mut Answer) {
     answer.octets(signature.body());
     answer.number(signature.body_len());
-    answer.octets(signature.copy(alloc)?.body());
-    answer.octets(Signature::of(alloc, signature.view())?.body());
-    Ok(())
+    if let Some(copy) = answer.made(signature.copy(alloc)) {
+        answer.octets(copy.body());
+    }
+    if let Some(copy) = answer.made(Signature::of(alloc, signature.view())) {
+        answer.octets(copy.body());
+    }
 }
 
 /// Adds a signature's body that is kept, or its fault.
-fn kept(alloc: Global, body: &[u8], answer: &mut Answer) -> Result<(), End>
+fn kept(alloc: Global, body: &[u8], answer: &mut Answer)
     requires { IsBodySized body.now }
 {
-    match Signature::from_body(Vec::from_slice(alloc, body)?) {
-        Ok(signature) => add_behind(alloc, signature, answer),
-        Err(fault) => {
-            add_fault(fault, answer);
-            Ok(())
-        }
+    match Vec::from_slice(alloc, body) {
+        Ok(body) => match Signature::from_body(body) {
+            Ok(signature) => add_behind(alloc, signature, answer),
+            Err(fault) => add_fault(fault, answer),
+        },
+        Err(_) => answer.refuse(End::Memory),
     }
 }
 
 /// Adds a body, written behind octets and then given back.
-fn add_behind(alloc: Global, signature: Signature, answer: &mut Answer) -> Result<(), End> {
-    let mut out = Vec::from_slice(alloc, b"so far")?;
-    signature.write_body(&mut out)?;
+fn add_behind(alloc: Global, signature: Signature, answer: &mut Answer) {
+    let Some(mut out) = answer.made(Vec::from_slice(alloc, b"so far")) else {
+        return;
+    };
+    answer.made(signature.write_body(&mut out));
     answer.octets(out.as_slice());
     answer.octets(signature.into_body().as_slice());
-    Ok(())
 }
 
 /// `signature_fields BODY`: the fields of a signature.
@@ -107,33 +98,36 @@ fn signature_fields(body: &[u8], answer: &mut Answer)
 }
 
 /// `signature_copy BODY`: the fields of a signature that was parsed, of one that is kept, and of a copy.
-fn signature_copy(alloc: Global, body: &[u8], answer: &mut Answer) -> Result<(), End>
+fn signature_copy(alloc: Global, body: &[u8], answer: &mut Answer)
     requires { IsBodySized body.now }
 {
     match Signature::parse_body(alloc, body) {
         Ok(signature) => add_fields(signature.view(), answer),
         Err(ParseFault::Body(_)) => answer.word("refused"),
-        Err(ParseFault::Memory) => return Err(End::Memory),
+        Err(ParseFault::Memory) => answer.refuse(End::Memory),
     }
-    match Signature::from_body(Vec::from_slice(alloc, body)?) {
-        Ok(signature) => add_copied(alloc, &signature, answer),
-        Err(_) => {
-            answer.word("refused");
-            Ok(())
-        }
+    match Vec::from_slice(alloc, body) {
+        Ok(body) => match Signature::from_body(body) {
+            Ok(signature) => add_copied(alloc, &signature, answer),
+            Err(_) => answer.word("refused"),
+        },
+        Err(_) => answer.refuse(End::Memory),
     }
 }
 
 /// Adds the fields of a signature, and those of a copy; of one that is kept as it is, a copy of that
 /// alone.
-fn add_copied(alloc: Global, signature: &Signature, answer: &mut Answer) -> Result<(), End> {
+fn add_copied(alloc: Global, signature: &Signature, answer: &mut Answer) {
     add_fields(signature.view(), answer);
-    let copy = signature.copy(alloc)?;
+    let Some(copy) = answer.made(signature.copy(alloc)) else {
+        return;
+    };
     add_fields(copy.view(), answer);
     if let Signature::Other(other) = signature {
-        answer.octets(other.copy(alloc)?.body());
+        if let Some(copy) = answer.made(other.copy(alloc)) {
+            answer.octets(copy.body());
+        }
     }
-    Ok(())
 }
 
 /// Adds the fields of a signature of each version.

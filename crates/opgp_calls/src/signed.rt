@@ -9,66 +9,54 @@ use opgp_octets::Malformed;
 use opgp_ring::{BlockOf, Signatures, SignedLiteral, compose_signed, compose_signed_by, end_fits};
 use std::alloc::Global;
 
-/// The answer to a call of these; None where there is none of the name.
-pub(crate) fn answered(
-    alloc: Global,
-    name: &str,
-    given: &Given,
-    answer: &mut Answer,
-) -> Option<Result<(), End>> {
-    Some(match name {
+/// Adds the answer to a call of these; false where there is none of the name.
+pub(crate) fn answered(alloc: Global, name: &str, given: &Given, answer: &mut Answer) -> bool {
+    match name {
         "signed" => composed(alloc, given, Malformed::Refuse, answer),
         "signed_kept" => composed(alloc, given, Malformed::Keep, answer),
         "end_fits" => ends(alloc, given, answer),
-        _ => return None,
-    })
+        _ => return false,
+    }
+    true
 }
 
 /// `signed [LABEL OCTETS]..`: the signed literal of blocks, and a copy of it, or the fault; of
 /// `signed_kept` malformed signatures are kept.
-fn composed(
-    alloc: Global,
-    given: &Given,
-    malformed: Malformed,
-    answer: &mut Answer,
-) -> Result<(), End> {
-    let blocks = blocks_of(alloc, given)?;
+fn composed(alloc: Global, given: &Given, malformed: Malformed, answer: &mut Answer) {
+    let Some(blocks) = blocks_of(alloc, given, answer) else {
+        return;
+    };
     if !end_fits(&blocks) {
-        return Err(End::Bad("blocks that end"));
+        return answer.refuse(End::Bad("blocks that end"));
     }
     let composed = match malformed {
-        Malformed::Refuse => compose_signed(alloc, blocks)?,
-        Malformed::Keep => compose_signed_by(alloc, blocks, malformed)?,
+        Malformed::Refuse => compose_signed(alloc, blocks),
+        Malformed::Keep => compose_signed_by(alloc, blocks, malformed),
     };
     match composed {
-        Ok(literal) => add_both(alloc, &literal, answer),
-        Err(fault) => {
-            answer.fault(&fault);
-            Ok(())
-        }
+        Ok(Ok(literal)) => add_both(alloc, &literal, answer),
+        Ok(Err(fault)) => answer.fault(&fault),
+        Err(_) => answer.refuse(End::Memory),
     }
 }
 
 /// Adds a signed literal, a copy of it, and the packets of that.
-pub(crate) fn add_both(
-    alloc: Global,
-    literal: &SignedLiteral,
-    answer: &mut Answer,
-) -> Result<(), End> {
-    add_signed(alloc, literal, answer)?;
-    let copy = literal.copy(alloc)?;
-    add_signed(alloc, &copy, answer)?;
+pub(crate) fn add_both(alloc: Global, literal: &SignedLiteral, answer: &mut Answer) {
+    add_signed(alloc, literal, answer);
+    let Some(copy) = answer.made(literal.copy(alloc)) else {
+        return;
+    };
+    add_signed(alloc, &copy, answer);
     let packets = copy.into_packets();
     add_packets(alloc, packets.as_slice(), answer)
 }
 
 /// Adds a signed literal: its packets, its literal, its signatures.
-fn add_signed(alloc: Global, signed: &SignedLiteral, answer: &mut Answer) -> Result<(), End> {
+fn add_signed(alloc: Global, signed: &SignedLiteral, answer: &mut Answer) {
     answer.named("packets", signed.flat().len() as u64);
-    add_packets(alloc, signed.flat(), answer)?;
+    add_packets(alloc, signed.flat(), answer);
     answer.named_octets("literal", signed.literal().body());
     add_signatures(signed.signatures(), answer);
-    Ok(())
 }
 
 /// Adds the bodies of signatures, or their faults.
@@ -85,13 +73,14 @@ fn add_signatures(mut signatures: Signatures<'_>, answer: &mut Answer) {
 
 /// `end_fits PLACE OCTETS`: whether a block ends at 2^64 - 1 at most, each of whose packets is in this
 /// place.
-fn ends(alloc: Global, given: &Given, answer: &mut Answer) -> Result<(), End> {
-    let mut blocks = one_block(alloc, given.octets(0)?)?;
+fn ends(alloc: Global, given: &Given, answer: &mut Answer) {
+    let Some(mut blocks) = one_block(alloc, given.octets(0), answer) else {
+        return;
+    };
     for block in &mut blocks {
-        move_to(block, given.number(0)?);
+        move_to(block, given.number(0));
     }
     answer.truth(end_fits(&blocks));
-    Ok(())
 }
 
 /// Moves the packets of a block to this place.

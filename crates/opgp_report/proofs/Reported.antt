@@ -1,5 +1,5 @@
 -- A report in the making, with one more certificate, and at the end.
-use Rattle.std.proofs.Common.{◌≡◌, ◌∙◌, ℕ, ◌+◌, List, [], ◌∷◌, ◌++◌, length, map, Ok, refl, sym, ap, arith, append-nil, length-append}
+use Rattle.std.proofs.Common.{◌≡◌, ◌∙◌, ℕ, ◌+◌, List, [], ◌∷◌, ◌++◌, length, map, Ok, sym, ap, arith, append-nil, length-append}
 use Rattle.std.specs.List.{flat_map}
 use Rattle.std.proofs.lemmas.List.{map-append}
 use Rattle.std.proofs.lemmas.List.Concat.{flat_map-append}
@@ -14,7 +14,7 @@ use Rattle.opgp_report.specs.Left.{says_left}
 use Rattle.opgp_report.specs.Report.{certificate_keys, keys_in, report_of}
 use Rattle.opgp_report.specs.Reporting.{Reports}
 use Rattle.opgp_report.specs.Row.{row_value}
-use Rattle.opgp_report.specs.RowMaker.{AddsUnsigned, Keeps, names_at, signed_rows, unsigned_row}
+use Rattle.opgp_report.specs.RowMaker.{AddsUnsigned, names_at, signed_rows, unsigned_row}
 use Rattle.opgp_report.specs.RowValue.{RowValue}
 use Rattle.opgp_report.specs.Signer.{NameValue}
 use Rattle.opgp_report.specs.Standing.{Standing, by_number, certificate_standing, standing_in}

@@ -9,13 +9,12 @@ use Rattle.opgp_octets.specs.declared.fault.BodyFault.{BodyFault}
 use Rattle.opgp_packet.specs.SignatureBody.{SignatureValue, signature_at}
 use Rattle.opgp_hash.specs.Digest.{digest_of}
 use Rattle.opgp_hash.specs.KeyId.{id_of}
-use Rattle.opgp_hash.specs.QuestionValue.{QuestionValue}
 use Rattle.opgp_hash.specs.declared.fingerprints.Fingerprint.{Fingerprint}
 use Rattle.opgp_report.specs.declared.place.Place.{Place}
 use Rattle.opgp_report.specs.declared.row.Row.{Row}
 use Rattle.opgp_report.specs.Asked.{Asked, asked_by}
 use Rattle.opgp_report.specs.First.{print_of}
-use Rattle.opgp_report.specs.Left.{left_in, left_verdict, says_left}
+use Rattle.opgp_report.specs.Left.{says_left}
 use Rattle.opgp_report.specs.Report.{finding_at, row_of, signer_in}
 use Rattle.opgp_report.specs.Row.{row_value}
 use Rattle.opgp_report.specs.RowMaker.{names_at, names_if, signed_rows, unsigned_row}

@@ -1,5 +1,5 @@
 -- A report in the making: what is kept of the certificates that came.
-use Rattle.std.specs.Prelude.{◌≡◌, ℕ, List, length, map}
+use Rattle.std.specs.Prelude.{◌≡◌, List, length, map}
 use Rattle.std.specs.List.{flat_map}
 use Rattle.opgp_ring.specs.Keyring.{CertificateValue}
 use Rattle.opgp_report.specs.declared.reporting.Reporting.{Reporting}

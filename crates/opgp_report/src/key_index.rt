@@ -172,11 +172,8 @@ impl KeyIndex {
         ensures { option_map (λ id. id.0) result
             ≡ id_named (prints_shown self.now) (name_value name) }
     {
-        match self.find(name) {
-            Some(place) => match self.prints.get(place) {
-                Some(print) => Some(print.key_id()),
-                None => None,
-            },
+        match self.print_named(name) {
+            Some(print) => Some(print.key_id()),
             None => None,
         }
     }

@@ -220,14 +220,16 @@ pub(crate) fn visit_certificate<'a, V: Visitor<'a>>(
 {
     let primary = certificate.key().view();
     let mut hasher = CertificateHasher::new(primary);
-    visit_hangs(visitor, &mut hasher, number, None, certificate.hangs())?;
-    visit_components(
-        visitor,
-        &mut hasher,
-        primary,
-        number,
-        certificate.components(),
-    )
+    match visit_hangs(visitor, &mut hasher, number, None, certificate.hangs()) {
+        Ok(()) => visit_components(
+            visitor,
+            &mut hasher,
+            primary,
+            number,
+            certificate.components(),
+        ),
+        Err(stop) => Err(stop),
+    }
 }
 
 /// Visits the signatures of a keyring, in the order of its report: each signature packet of a

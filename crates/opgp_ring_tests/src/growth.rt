@@ -110,27 +110,36 @@ fn composing_moves_bodies_in_5_growths(rt: HostRuntime) {
     }
 }
 
-/// The keyring of the bodies, this many times; None where memory runs out.
-fn ring(rt: &impl Abort, alloc: Global, times: usize) -> Option<Keyring> {
+/// A block of packets of these bodies, this many times; None where memory runs out.
+fn blocks_of(alloc: Global, bodies: &[(u8, &[u8])], times: usize) -> Option<Vec<BlockOf>> {
     let mut packets = Vec::new(alloc);
     for _ in 0..times {
-        for (kind, body) in bodies() {
-            packets.push(packet(alloc, kind, body)?).ok()?;
+        for (kind, body) in bodies {
+            packets.push(packet(alloc, *kind, body)?).ok()?;
         }
     }
-    ring_of(rt, alloc, packets)
+    one_block(alloc, packets)
 }
 
-/// The keyring of the packets, whose malformed signatures are kept; None where memory runs out.
-fn ring_of(rt: &impl Abort, alloc: Global, packets: Vec<Placed>) -> Option<Keyring> {
+/// The packets as one block; None where memory runs out.
+fn one_block(alloc: Global, packets: Vec<Placed>) -> Option<Vec<BlockOf>> {
     let mut blocks = Vec::new(alloc);
-    blocks
-        .push(BlockOf {
-            block: 0,
-            label_fits: true,
-            packets,
-        })
-        .ok()?;
+    let block = BlockOf {
+        block: 0,
+        label_fits: true,
+        packets,
+    };
+    blocks.push(block).ok()?;
+    Some(blocks)
+}
+
+/// The keyring of the bodies, this many times; None where memory runs out.
+fn ring(rt: &impl Abort, alloc: Global, times: usize) -> Option<Keyring> {
+    ring_of(rt, alloc, blocks_of(alloc, &bodies(), times)?)
+}
+
+/// The keyring of a block, whose malformed signatures are kept; None where memory runs out.
+fn ring_of(rt: &impl Abort, alloc: Global, blocks: Vec<BlockOf>) -> Option<Keyring> {
     let limits = Limits::usual().with_malformed(Malformed::Keep);
     match compose(alloc, blocks, &limits) {
         Ok(Ok(ring)) => Some(ring),
@@ -141,31 +150,18 @@ fn ring_of(rt: &impl Abort, alloc: Global, packets: Vec<Placed>) -> Option<Keyri
 
 /// The keyring of a key and a malformed signature; None where memory runs out.
 fn malformed(rt: &impl Abort, alloc: Global) -> Option<Keyring> {
-    let mut packets = Vec::new(alloc);
-    for (kind, body) in [(6, &KEY[2..]), (2, b"\x04".as_slice())] {
-        packets.push(packet(alloc, kind, body)?).ok()?;
-    }
-    ring_of(rt, alloc, packets)
+    let bodies = [(6, &KEY[2..]), (2, b"\x04".as_slice())];
+    ring_of(rt, alloc, blocks_of(alloc, &bodies, 1)?)
 }
 
 /// A signed literal of `a`; None where memory runs out.
 fn signed(rt: &impl Abort, alloc: Global) -> Option<SignedLiteral> {
-    let mut packets = Vec::new(alloc);
-    for (kind, body) in [
+    let bodies = [
         (4, b"".as_slice()),
         (11, b"\x62\x00\x00\x00\x00\x00\x61"),
         (2, &SIGNATURE[2..]),
-    ] {
-        packets.push(packet(alloc, kind, body)?).ok()?;
-    }
-    let mut blocks = Vec::new(alloc);
-    blocks
-        .push(BlockOf {
-            block: 0,
-            label_fits: true,
-            packets,
-        })
-        .ok()?;
+    ];
+    let blocks = blocks_of(alloc, &bodies, 1)?;
     if !end_fits(&blocks) {
         panic!(rt; "past 2^64");
     }

@@ -3,7 +3,6 @@
 ghost use Rattle.opgp_report.specs.declared.verifier.Verdict.TheVariants as verdict;
 
 use crate::reading::{KEY, ring_of};
-use byteorder::{BigEndian, WriteBytesExt};
 use opgp_hash::{Digest, digest};
 use opgp_report::{Finding, Job, Verdict, Verifier, check, question_at};
 use std::alloc::Global;
@@ -74,17 +73,19 @@ struct Signature {
 impl Signature {
     /// Its body, with these areas.
     fn body(self, alloc: Global, hashed: &[u8], unhashed: &[u8]) -> Result<Vec<u8>, Fail> {
-        let mut body = Vec::new(alloc);
-        body.extend_from_slice(&[4, self.kind, 22, self.hash])?;
-        for area in [hashed, unhashed] {
-            body.write_u16::<BigEndian>(u16::try_from(area.len())?)?;
-            body.extend_from_slice(area)?;
-        }
-        body.extend_from_slice(&self.left)?;
-        for _ in 0..2 {
-            body.write_u16::<BigEndian>(0)?;
-        }
-        Ok(body)
+        let first = u16::try_from(hashed.len())?.to_be_bytes();
+        let second = u16::try_from(unhashed.len())?.to_be_bytes();
+        let fields = [4, self.kind, 22, self.hash];
+        let parts = [
+            fields.as_slice(),
+            &first,
+            hashed,
+            &second,
+            unhashed,
+            &self.left,
+            b"\x00\x00\x00\x00",
+        ];
+        Ok(parts.concat(alloc)?)
     }
 }
 
@@ -93,8 +94,8 @@ fn embedding(alloc: Global, signatures: &[Signature]) -> Result<Vec<u8>, Fail> {
     let mut area = Vec::new(alloc);
     for signature in signatures {
         let body = signature.body(alloc, b"", b"")?;
-        area.push(u8::try_from(body.len())?.saturating_add(1))?;
-        area.push(32)?;
+        let size = u8::try_from(body.len())?.saturating_add(1);
+        area.extend_from_slice(&[size, 32])?;
         area.extend_from_slice(&body)?;
     }
     Ok(area)
@@ -102,10 +103,8 @@ fn embedding(alloc: Global, signatures: &[Signature]) -> Result<Vec<u8>, Fail> {
 
 /// The body of the standard's key, made at this time.
 fn key_body(alloc: Global, created: u32) -> Result<Vec<u8>, Fail> {
-    let mut body = Vec::new(alloc);
-    body.push(4)?;
-    body.write_u32::<BigEndian>(created)?;
-    body.extend_from_slice(&KEY[7..])?;
+    let mut body = KEY[2..].to_vec(alloc)?;
+    body[1..5].copy_from_slice(&created.to_be_bytes());
     Ok(body)
 }
 

@@ -81,6 +81,14 @@ unspooled {left} {has_failed} held failed {task} {reader} {reader'} {writer} {wr
 unspooled held failed (fails e f g) = fails e f g
 unspooled held failed (lacks e f g) = lacks e f g
 
+-- what was made with no spool
+pub spooled : {R W : Type 0} {left : R → Option (List ℕ)} {has_failed : R → Bool} (held : W → Option (List ℕ)) (failed : W → Bool) {task : Task} {reader reader' : R} {writer writer' : W} {result : Result Unit RunFault} (serves tells : Bool)
+    → RunsAs left has_failed held failed task reader reader' writer writer' result → RunsSpooled serves tells left has_failed held failed task reader reader' writer writer' result
+spooled {left} {has_failed} held failed {task} {reader} {reader'} serves tells (makes h) =
+    makes (of_all left has_failed reader reader' task.limits _ _ (λ octets k. (k.0, k.1, inl k.2)) h)
+spooled held failed serves tells (fails e f g) = fails e f g
+spooled held failed serves tells (lacks e f g) = lacks e f g
+
 -- what keeps a keyring's parts as they are reads the keyring
 pub ring_read : {R : Type 0} (left : R → Option (List ℕ)) (has_failed : R → Bool) (old new : R) (task : Task) (result : Result KeyringValue RunFault)
     → ReadsFor (λ answer. OfAll left has_failed old new task.limits (λ octets. AnswerOf key_label (KeepsAll HasParts task.limits) task.mode task.limits octets answer)) (has_failed new ≡ true) (has_failed new ≡ false) result

@@ -83,13 +83,19 @@ impl<N: Sought, S: Spool + Drop> Keeper for NamedCertificates<N, S> {
 
     fn keep(&mut self, part: Ready) -> Result<(), OutOfMemory> {
         let certificate = match part {
-            Ready::Lead(_) => return Ok(()),
+            Ready::Lead(lead) => {
+                drop(lead);
+                return Ok(());
+            }
             Ready::Certificate(certificate) => certificate,
         };
         if !self.key.is_in(&certificate) {
+            drop(certificate);
             return Ok(());
         }
-        add_alone(&mut self.draft, self.out, &certificate)?;
+        let added = add_alone(&mut self.draft, self.out, &certificate);
+        drop(certificate);
+        added?;
         self.found = true;
         Ok(())
     }

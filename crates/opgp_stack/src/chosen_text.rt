@@ -86,7 +86,9 @@ impl<N: Chosen, S: Spool + Drop> Keeper for ChosenText<N, S> {
 
     fn keep(&mut self, part: Ready) -> Result<(), OutOfMemory> {
         let chosen = chosen_of(self.alloc, part, self.choice)?;
-        add_packets(&mut self.draft, &chosen)?;
+        let added = add_packets(&mut self.draft, &chosen);
+        drop(chosen);
+        added?;
         Ok(())
     }
 }

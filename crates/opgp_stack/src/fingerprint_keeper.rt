@@ -48,11 +48,16 @@ impl Keeper for FingerprintKeeper {
 
     fn keep(&mut self, part: Ready) -> Result<(), OutOfMemory> {
         let certificate = match part {
-            Ready::Lead(_) => return Ok(()),
+            Ready::Lead(lead) => {
+                drop(lead);
+                return Ok(());
+            }
             Ready::Certificate(certificate) => certificate,
         };
         let rows = mem::replace(&mut self.rows, FingerprintedReporting::new(self.alloc));
-        self.rows = rows.with(&certificate)?;
+        let rows = rows.with(&certificate);
+        drop(certificate);
+        drop(mem::replace(&mut self.rows, rows?));
         Ok(())
     }
 }

@@ -56,14 +56,19 @@ impl<N: Number> Keeper for NthCertificate<N> {
 
     fn keep(&mut self, part: Ready) -> Result<(), OutOfMemory> {
         let certificate = match part {
-            Ready::Lead(_) => return Ok(()),
+            Ready::Lead(lead) => {
+                drop(lead);
+                return Ok(());
+            }
             Ready::Certificate(certificate) => certificate,
         };
         if self.found.is_some() {
+            drop(certificate);
             return Ok(());
         }
         if self.left > 0 {
             self.left -= 1;
+            drop(certificate);
             return Ok(());
         }
         drop(mem::replace(&mut self.found, Some(certificate)));
@@ -108,15 +113,20 @@ impl<N: Number> Keeper for RowFound<N> {
 
     fn keep(&mut self, part: Ready) -> Result<(), OutOfMemory> {
         let certificate = match part {
-            Ready::Lead(_) => return Ok(()),
+            Ready::Lead(lead) => {
+                drop(lead);
+                return Ok(());
+            }
             Ready::Certificate(certificate) => certificate,
         };
         if self.found.is_some() {
+            drop(certificate);
             return Ok(());
         }
         match rows_left(&certificate, self.left) {
             Some(left) => {
                 self.left = left;
+                drop(certificate);
                 Ok(())
             }
             None => {

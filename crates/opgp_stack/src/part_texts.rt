@@ -39,7 +39,9 @@ impl EachPart for Lines {
 
     fn add<S: Spool + Drop>(draft: &mut Draft<S>, part: Ready) -> Result<(), OutOfMemory> {
         let packets = part.packets();
-        draft.add(ListingText { packets })
+        let added = draft.add(ListingText { packets });
+        drop(part);
+        added
     }
 }
 
@@ -52,7 +54,9 @@ impl EachPart for ValuedLines {
 
     fn add<S: Spool + Drop>(draft: &mut Draft<S>, part: Ready) -> Result<(), OutOfMemory> {
         let packets = part.packets();
-        draft.add(ValuedListingText { packets })
+        let added = draft.add(ValuedListingText { packets });
+        drop(part);
+        added
     }
 }
 
@@ -64,7 +68,9 @@ impl EachPart for AsTheyAre {
     ghost text = { part_octets };
 
     fn add<S: Spool + Drop>(draft: &mut Draft<S>, part: Ready) -> Result<(), OutOfMemory> {
-        add_packets(draft, &part)
+        let added = add_packets(draft, &part);
+        drop(part);
+        added
     }
 }
 
@@ -76,7 +82,10 @@ impl EachPart for Normalised {
     ghost text = { normal_octets };
 
     fn add<S: Spool + Drop>(draft: &mut Draft<S>, part: Ready) -> Result<(), OutOfMemory> {
-        add_packets(draft, &part.normalise())
+        let normal = part.normalise();
+        let added = add_packets(draft, &normal);
+        drop(normal);
+        added
     }
 }
 
@@ -134,7 +143,11 @@ fn add_certificate<S: Spool + Drop>(
             drop(lead);
             Ok(())
         }
-        Ready::Certificate(certificate) => add_alone(draft, out, &certificate),
+        Ready::Certificate(certificate) => {
+            let added = add_alone(draft, out, &certificate);
+            drop(certificate);
+            added
+        }
     }
 }
 

@@ -47,11 +47,16 @@ impl Keeper for RowKeeper {
 
     fn keep(&mut self, part: Ready) -> Result<(), OutOfMemory> {
         let certificate = match part {
-            Ready::Lead(_) => return Ok(()),
+            Ready::Lead(lead) => {
+                drop(lead);
+                return Ok(());
+            }
             Ready::Certificate(certificate) => certificate,
         };
         let rows = mem::replace(&mut self.rows, Reporting::new(self.alloc));
-        self.rows = rows.with(&certificate)?;
+        let rows = rows.with(&certificate);
+        drop(certificate);
+        drop(mem::replace(&mut self.rows, rows?));
         Ok(())
     }
 }

@@ -1,8 +1,10 @@
 //! Runs a task.
 
-ghost use Rattle.std.specs.Prelude.{◌≡◌, ◌⊎◌, ℕ, List, [], true, false, IfSome};
+ghost use Rattle.std.specs.Prelude.{◌≡◌, ◌⊎◌, ℕ, List, [], true, false, IfSome, Some};
+ghost use Rattle.std.specs.List.{flat_map};
 ghost use Rattle.opgp_octets.specs.declared.limits.Limits.{Limits};
-ghost use Rattle.opgp_ring.specs.Keyring.{flat};
+ghost use Rattle.opgp_ring.specs.Composed.{parts_of};
+ghost use Rattle.opgp_ring.specs.Keyring.{KeyringValue, flat};
 ghost use Rattle.opgp_ring.specs.Composition.{placed_in};
 ghost use Rattle.opgp_report.specs.Fingerprinting.{fingerprinted_rows_of};
 ghost use Rattle.opgp_report.specs.Row.{report_rows};
@@ -20,8 +22,12 @@ ghost use Rattle.opgp_stack.specs.Parts.{HasText, OfKeyring, chosen_octets};
 ghost use Rattle.opgp_stack.specs.Report.{HasFingerprintedReport, HasReport};
 ghost use Rattle.opgp_stack.specs.Report.{fingerprinted_lines, report_lines};
 ghost use Rattle.opgp_octets.specs.Limits.{malformed_of};
+ghost use Rattle.opgp_stack.specs.Showing.{lines_of};
 ghost use Rattle.opgp_stack.specs.Shown.{IsShown};
-ghost use Rattle.opgp_stack.specs.Running.{IsMade, IsSpooled, Made, ReadsFor, RunsAs, RunsSpooled};
+ghost use Rattle.opgp_stack.specs.Running.{IsMade, IsSpooled, Made, Makes, OfPackets, OfRing};
+ghost use Rattle.opgp_stack.specs.Running.{ReadsFor, RunsAs, RunsSpooled};
+ghost use Rattle.opgp_stack.specs.declared.task.Action.TheVariants as action;
+ghost use Rattle.opgp_stack.specs.declared.task.Top.TheVariants as tops;
 ghost use Rattle.opgp_stack.specs.Running.{ended, found_made, one_text, question_made};
 
 use crate::all_octets::AllOctets;
@@ -393,48 +399,30 @@ fn run_and<R: Source, W: Sink, S: Spool + Drop>(
         reader.new writer.old writer.new result }
 {
     match task.action {
-        Action::Show => {
-            let text = shown_of::<R, Plain, S>(alloc, task, spool, reader)?;
-            write_draft(text, Out::Binary, writer)
-        }
-        Action::ShowValues => {
-            let text = shown_of::<R, Valued, S>(alloc, task, spool, reader)?;
-            write_draft(text, Out::Binary, writer)
-        }
+        Action::Show => write_packets::<R, W, Plain, S>(alloc, task, spool, reader, writer),
+        Action::ShowValues => write_packets::<R, W, Valued, S>(alloc, task, spool, reader, writer),
         Action::List => {
-            let text = text_of::<R, Lines, S>(alloc, task, spool, reader)?;
-            write_draft(text, Out::Binary, writer)
+            write_parts::<R, W, Lines, S>(alloc, task, spool, reader, Out::Binary, writer)
         }
         Action::ListValues => {
-            let text = text_of::<R, ValuedLines, S>(alloc, task, spool, reader)?;
-            write_draft(text, Out::Binary, writer)
+            write_parts::<R, W, ValuedLines, S>(alloc, task, spool, reader, Out::Binary, writer)
         }
         Action::Check => {
             drop(spool);
-            let report = rows_of(alloc, task, reader)?;
-            done(write_rows(alloc, &report, writer), report, after)
+            write_check(alloc, task, reader, writer, after)
         }
         Action::CheckFingerprints => {
             drop(spool);
-            let report = fingerprinted_of(alloc, task, reader)?;
-            done(write_fingerprinted(alloc, &report, writer), report, after)
+            write_check_fingerprints(alloc, task, reader, writer, after)
         }
         Action::Octets { row, top } => match top {
             Top::Ring => {
                 drop(spool);
-                let found = row_of::<R, Brand>(alloc, task, reader, row)?;
-                done(write_row(alloc, &found, writer), found, after)
+                write_row_octets(alloc, task, reader, writer, row, after)
             }
             Top::Literal => {
                 drop(spool);
-                let message = ask(
-                    alloc,
-                    task,
-                    reader,
-                    SignedGathering::new(alloc, task.limits.malformed()),
-                )?;
-                let question = question_of(&message, row);
-                done(write_question(alloc, question, writer), message, after)
+                write_message_octets(alloc, task, reader, writer, row, after)
             }
         },
         Action::OctetsAll => {
@@ -442,32 +430,41 @@ fn run_and<R: Source, W: Sink, S: Spool + Drop>(
             write_draft(text, Out::Binary, writer)
         }
         Action::Write { out } => {
-            let text = text_of::<R, AsTheyAre, S>(alloc, task, spool, reader)?;
-            write_draft(text, out, writer)
+            write_parts::<R, W, AsTheyAre, S>(alloc, task, spool, reader, out, writer)
         }
         Action::WriteChosen { out, choice } => {
             let text = chosen_of::<R, Brand, S>(alloc, task, spool, reader, choice)?;
             write_draft(text, out, writer)
         }
         Action::Normalise { out } => {
-            let text = text_of::<R, Normalised, S>(alloc, task, spool, reader)?;
-            write_draft(text, out, writer)
+            write_parts::<R, W, Normalised, S>(alloc, task, spool, reader, out, writer)
         }
         Action::Split { out, nth } => match nth {
             None => match out {
                 Out::Armor => {
-                    let text = text_of::<R, ArmoredAlone, S>(alloc, task, spool, reader)?;
-                    write_draft(text, Out::Binary, writer)
+                    write_parts::<R, W, ArmoredAlone, S>(
+                        alloc,
+                        task,
+                        spool,
+                        reader,
+                        Out::Binary,
+                        writer,
+                    )
                 }
                 Out::Binary => {
-                    let text = text_of::<R, BareAlone, S>(alloc, task, spool, reader)?;
-                    write_draft(text, Out::Binary, writer)
+                    write_parts::<R, W, BareAlone, S>(
+                        alloc,
+                        task,
+                        spool,
+                        reader,
+                        Out::Binary,
+                        writer,
+                    )
                 }
             },
             Some(n) => {
                 drop(spool);
-                let found = nth_of::<R, Brand>(alloc, task, reader, n)?;
-                done(write_one(alloc, out, &found, writer), found, after)
+                write_nth(alloc, task, reader, writer, out, n, after)
             }
         },
         Action::SplitKey { out, key } => {
@@ -477,17 +474,174 @@ fn run_and<R: Source, W: Sink, S: Spool + Drop>(
         Action::Join { out, merge: merges } => {
             if merges {
                 drop(spool);
-                let ring = ring_of(alloc, task, reader)?;
-                match merge(ring) {
-                    Ok(ring) => done(end(write_keyring(alloc, &ring, out, writer)), ring, after),
-                    Err(_) => end(Err(EngineError::Memory)),
-                }
+                write_merged(alloc, task, reader, writer, out, after)
             } else {
-                let text = text_of::<R, AsTheyAre, S>(alloc, task, spool, reader)?;
-                write_draft(text, out, writer)
+                write_parts::<R, W, AsTheyAre, S>(alloc, task, spool, reader, out, writer)
             }
         }
     }
+}
+
+/// Reads a keyring, and writes its report.
+fn write_check<R: Source, W: Sink>(
+    alloc: Global,
+    task: &Task,
+    reader: &mut R,
+    writer: &mut W,
+    after: After,
+) -> Result<(), RunFault>
+    requires reader { R.has_failed reader.old ≡ false }
+    requires writer { W.has_failed writer.old ≡ false }
+    requires action { task.now.action ≡ action.Check }
+    ensures { RunsAs R.left R.has_failed W.held W.has_failed task.now reader.old reader.new
+        writer.old writer.new result }
+{
+    let report = rows_of(alloc, task, reader)?;
+    done(write_rows(alloc, &report, writer), report, after)
+}
+
+/// Reads a keyring, and writes its report with fingerprints.
+fn write_check_fingerprints<R: Source, W: Sink>(
+    alloc: Global,
+    task: &Task,
+    reader: &mut R,
+    writer: &mut W,
+    after: After,
+) -> Result<(), RunFault>
+    requires reader { R.has_failed reader.old ≡ false }
+    requires writer { W.has_failed writer.old ≡ false }
+    requires action { task.now.action ≡ action.CheckFingerprints }
+    ensures { RunsAs R.left R.has_failed W.held W.has_failed task.now reader.old reader.new
+        writer.old writer.new result }
+{
+    let report = fingerprinted_of(alloc, task, reader)?;
+    done(write_fingerprinted(alloc, &report, writer), report, after)
+}
+
+/// Reads a keyring, and writes the hashed octets of a row of its report.
+fn write_row_octets<R: Source, W: Sink>(
+    alloc: Global,
+    task: &Task,
+    reader: &mut R,
+    writer: &mut W,
+    row: u64,
+    after: After,
+) -> Result<(), RunFault>
+    requires reader { R.has_failed reader.old ≡ false }
+    requires writer { W.has_failed writer.old ≡ false }
+    requires action { task.now.action ≡ action.Octets row tops.Ring }
+    ensures { RunsAs R.left R.has_failed W.held W.has_failed task.now reader.old reader.new
+        writer.old writer.new result }
+{
+    let found = row_of::<R, Brand>(alloc, task, reader, row)?;
+    done(write_row(alloc, &found, writer), found, after)
+}
+
+/// Reads a signed literal, and writes the octets that one of its signatures hashes.
+fn write_message_octets<R: Source, W: Sink>(
+    alloc: Global,
+    task: &Task,
+    reader: &mut R,
+    writer: &mut W,
+    row: u64,
+    after: After,
+) -> Result<(), RunFault>
+    requires reader { R.has_failed reader.old ≡ false }
+    requires writer { W.has_failed writer.old ≡ false }
+    requires action { task.now.action ≡ action.Octets row tops.Literal }
+    ensures { RunsAs R.left R.has_failed W.held W.has_failed task.now reader.old reader.new
+        writer.old writer.new result }
+{
+    let top = SignedGathering::new(alloc, task.limits.malformed());
+    let message = ask(alloc, task, reader, top)?;
+    let question = question_of(&message, row);
+    done(write_question(alloc, question, writer), message, after)
+}
+
+/// Reads a keyring, and writes its certificate of this number.
+fn write_nth<R: Source, W: Sink>(
+    alloc: Global,
+    task: &Task,
+    reader: &mut R,
+    writer: &mut W,
+    out: Out,
+    number: u64,
+    after: After,
+) -> Result<(), RunFault>
+    requires reader { R.has_failed reader.old ≡ false }
+    requires writer { W.has_failed writer.old ≡ false }
+    requires action { task.now.action ≡ action.Split out (Some number) }
+    ensures { RunsAs R.left R.has_failed W.held W.has_failed task.now reader.old reader.new
+        writer.old writer.new result }
+{
+    let found = nth_of::<R, Brand>(alloc, task, reader, number)?;
+    done(write_one(alloc, out, &found, writer), found, after)
+}
+
+/// Reads a keyring, merges its certificates, and writes it.
+fn write_merged<R: Source, W: Sink>(
+    alloc: Global,
+    task: &Task,
+    reader: &mut R,
+    writer: &mut W,
+    out: Out,
+    after: After,
+) -> Result<(), RunFault>
+    requires reader { R.has_failed reader.old ≡ false }
+    requires writer { W.has_failed writer.old ≡ false }
+    requires action { task.now.action ≡ action.Join out true }
+    ensures { RunsAs R.left R.has_failed W.held W.has_failed task.now reader.old reader.new
+        writer.old writer.new result }
+{
+    let ring = ring_of(alloc, task, reader)?;
+    match merge(ring) {
+        Ok(ring) => done(end(write_keyring(alloc, &ring, out, writer)), ring, after),
+        Err(_) => end(Err(EngineError::Memory)),
+    }
+}
+
+/// Reads packets, and writes what is shown of them.
+fn write_packets<R: Source, W: Sink, E: EachPacket, S: Spool + Drop>(
+    alloc: Global,
+    task: &Task,
+    spool: Option<S>,
+    reader: &mut R,
+    writer: &mut W,
+) -> Result<(), RunFault>
+    requires reader { R.has_failed reader.old ≡ false }
+    requires writer { W.has_failed writer.old ≡ false }
+    requires empty { IfSome spool (λ s. (S.serves ≡ true) × (S.tells ≡ true → S.holds s ≡ [])) }
+    ensures { ((octets : List ℕ) (made : Made)
+        → OfPackets (λ blocks. Made.Text (lines_of E.lines blocks)) task.now octets made
+        → Makes task.now octets made)
+        → RunsSpooled S.serves S.tells R.left R.has_failed W.held W.has_failed task.now reader.old
+        reader.new writer.old writer.new result }
+{
+    let text = shown_of::<R, E, S>(alloc, task, spool, reader)?;
+    write_draft(text, Out::Binary, writer)
+}
+
+/// Reads a keyring, and writes what is written of its parts.
+fn write_parts<R: Source, W: Sink, E: EachPart, S: Spool + Drop>(
+    alloc: Global,
+    task: &Task,
+    spool: Option<S>,
+    reader: &mut R,
+    out: Out,
+    writer: &mut W,
+) -> Result<(), RunFault>
+    requires reader { R.has_failed reader.old ≡ false }
+    requires writer { W.has_failed writer.old ≡ false }
+    requires empty { IfSome spool (λ s. (S.serves ≡ true) × (S.tells ≡ true → S.holds s ≡ [])) }
+    ensures { (make : KeyringValue → List ℕ)
+        → ((r : KeyringValue) → octets_text out (flat_map E.text (parts_of r)) ≡ make r)
+        → ((octets : List ℕ) (made : Made)
+        → OfRing (λ r. Made.Text (make r)) task.now octets made → Makes task.now octets made)
+        → RunsSpooled S.serves S.tells R.left R.has_failed W.held W.has_failed task.now reader.old
+        reader.new writer.old writer.new result }
+{
+    let text = text_of::<R, E, S>(alloc, task, spool, reader)?;
+    write_draft(text, out, writer)
 }
 
 /// Writes a text that was held.

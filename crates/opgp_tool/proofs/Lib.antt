@@ -1,3 +1,4 @@
+mod Adding
 mod OneTask
 mod Parsing
 mod Reading

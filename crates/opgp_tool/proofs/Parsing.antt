@@ -1,19 +1,11 @@
 -- What a parse by the program gives.
-use Rattle.std.proofs.Common.{◌≡◌, ◌⊎◌, inl, inr, ap, subst, ◌∙◌, refl, Bool, true, false, List, Option}
+use Rattle.std.proofs.Common.{◌≡◌, ◌⊎◌, inl, inr, ap, subst, ◌∙◌, refl, ◌&&◌, Bool, true, false, List, Option}
 use Rattle.std.proofs.Common.{Some, None}
 use Rattle.std.specs.Prelude.{IfSome, option_map}
 use Rattle.clap.specs.Words.{App, Row, Text, is_simple, is_simple_and_free, subcommand_of, takes}
 use Rattle.clap.proofs.OnLiterals.{clap_on_literals}
 use Rattle.opgp_tool.specs.Program.{Choice, Choices, IsProgram, SaysNone, program_of}
 use Rattle.opgp_tool.specs.Words.{Asked, IsRequest}
-
-program_is_simple : (show list check octets write normalise split join : Choices)
-    → (tops write_outs normalise_outs split_outs join_outs : Choice)
-    → is_simple (program_of show list check octets write normalise split join tops
-    write_outs normalise_outs split_outs join_outs) ≡ true
-unfolding clap_on_literals
-program_is_simple show list check octets write normalise split join tops
-    write_outs normalise_outs split_outs join_outs = refl
 
 program_is_free : (show list check octets write normalise split join : Choices)
     → (tops write_outs normalise_outs split_outs join_outs : Choice)
@@ -28,10 +20,12 @@ free a p = ap is_simple_and_free p.is ∙ program_is_free p.show_choices p.list_
     p.octets_choices p.write_choices p.normalise_choices p.split_choices p.join_choices p.tops p.write_outs
     p.normalise_outs p.split_outs p.join_outs
 
+first : (a b : Bool) → (a && b) ≡ true → a ≡ true
+first true b is = refl
+first false b is = is
+
 pub simple : (a : App) → IsProgram a → is_simple a ≡ true
-simple a p = ap is_simple p.is ∙ program_is_simple p.show_choices p.list_choices p.check_choices
-    p.octets_choices p.write_choices p.normalise_choices p.split_choices p.join_choices p.tops p.write_outs
-    p.normalise_outs p.split_outs p.join_outs
+simple a p = first (is_simple a) _ (free a p)
 
 -- a name and its rows, from both apart
 pub both : {A : Type 0} (o : Option A) (f : A → Text) (g : A → List Row)

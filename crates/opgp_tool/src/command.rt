@@ -5,6 +5,7 @@ ghost use Rattle.clap.specs.Words.{rule_of, app_of, shape_of, with_rule, with_su
 ghost use Rattle.opgp_tool.specs.Program.{Choice, AreModes, ArePolicies, AreSignaturePolicies, AreOuts, AreTops};
 ghost use Rattle.opgp_tool.specs.Program.{mode_rule, outside_rule, malformed_rule, out_rule};
 ghost use Rattle.opgp_tool.specs.Program.{of_rule, limit_rule, row_rule, nth_rule, flag_rule, merge_rule, key_rule};
+ghost use Rattle.opgp_tool.specs.Program.{choice_rule, number_rule, valued_rule};
 ghost use Rattle.opgp_tool.specs.Program.{text_rule, values_rule, fingerprints_rule, all_rule, with_limits};
 ghost use Rattle.opgp_tool.specs.Program.{own_signatures_rule, no_attributes_rule, user_id_rule};
 ghost use Rattle.opgp_tool.specs.Program.{IsCommand, IsProgram, bare_program};
@@ -28,18 +29,47 @@ static OUTS: [&str; 2] = ["armor", "binary"];
 
 static TOPS: [&str; 2] = ["ring", "literal"];
 
+/// An option with one value, which this parser checks.
+fn valued_option<'a>(
+    alloc: Global,
+    name: &'a str,
+    value: &'a str,
+    parser: ValueParser<'a>,
+    help: &'a str,
+) -> Arg<'a>
+    ensures rule { rule_of result ≡ valued_rule name.entry.now parser.entry }
+    ensures own { result.global ≡ false }
+{
+    Arg::new(alloc, name)
+        .long(name)
+        .value_name(value)
+        .action(ArgAction::Set)
+        .value_parser(parser)
+        .help(help)
+}
+
+/// An option whose value is one of some words, or `usual` if the option isn't given.
+fn choice_option<'a>(
+    alloc: Global,
+    name: &'a str,
+    value: &'a str,
+    words: &'a [&'a str],
+    usual: &'a str,
+    help: &'a str,
+) -> Arg<'a>
+    ensures rule { rule_of result ≡ choice_rule name.entry.now words.entry usual.entry.now }
+    ensures own { result.global ≡ false }
+{
+    valued_option(alloc, name, value, ValueParser::Names(words), help).default_value(usual)
+}
+
 /// `--mode`: how the input is read.
 fn mode_option<'a>(alloc: Global) -> Arg<'a>
     ensures rule { (words : Choice) × AreModes words × (rule_of result ≡ mode_rule words) }
     ensures own { result.global ≡ false }
 {
-    Arg::new(alloc, "mode")
-        .long("mode")
-        .value_name("MODE")
-        .action(ArgAction::Set)
-        .value_parser(MODES.as_slice())
-        .default_value("auto")
-        .help("How the input is read")
+    let help = "How the input is read";
+    choice_option(alloc, "mode", "MODE", MODES.as_slice(), "auto", help)
 }
 
 /// `--outside`: what becomes of lines outside of armored blocks.
@@ -47,13 +77,15 @@ fn outside_option<'a>(alloc: Global) -> Arg<'a>
     ensures rule { (words : Choice) × ArePolicies words × (rule_of result ≡ outside_rule words) }
     ensures own { result.global ≡ false }
 {
-    Arg::new(alloc, "outside")
-        .long("outside")
-        .value_name("POLICY")
-        .action(ArgAction::Set)
-        .value_parser(POLICIES.as_slice())
-        .default_value("skip")
-        .help("What becomes of lines outside of armored blocks")
+    let help = "What becomes of lines outside of armored blocks";
+    choice_option(
+        alloc,
+        "outside",
+        "POLICY",
+        POLICIES.as_slice(),
+        "skip",
+        help,
+    )
 }
 
 /// `--malformed`: what becomes of malformed signatures.
@@ -61,13 +93,15 @@ fn malformed_option<'a>(alloc: Global) -> Arg<'a>
     ensures rule { (words : Choice) × AreSignaturePolicies words × (rule_of result ≡ malformed_rule words) }
     ensures own { result.global ≡ false }
 {
-    Arg::new(alloc, "malformed")
-        .long("malformed")
-        .value_name("POLICY")
-        .action(ArgAction::Set)
-        .value_parser(SIGNATURE_POLICIES.as_slice())
-        .default_value("refuse")
-        .help("What becomes of malformed signatures")
+    let help = "What becomes of malformed signatures";
+    choice_option(
+        alloc,
+        "malformed",
+        "POLICY",
+        SIGNATURE_POLICIES.as_slice(),
+        "refuse",
+        help,
+    )
 }
 
 /// `--out`: how keyrings are written.
@@ -75,13 +109,8 @@ fn out_option<'a>(alloc: Global) -> Arg<'a>
     ensures rule { (words : Choice) × AreOuts words × (rule_of result ≡ out_rule words) }
     ensures own { result.global ≡ false }
 {
-    Arg::new(alloc, "out")
-        .long("out")
-        .value_name("OUT")
-        .action(ArgAction::Set)
-        .value_parser(OUTS.as_slice())
-        .default_value("armor")
-        .help("How keyrings are written")
+    let help = "How keyrings are written";
+    choice_option(alloc, "out", "OUT", OUTS.as_slice(), "armor", help)
 }
 
 /// `--of`: what the input is read as.
@@ -89,13 +118,8 @@ fn of_option<'a>(alloc: Global) -> Arg<'a>
     ensures rule { (words : Choice) × AreTops words × (rule_of result ≡ of_rule words) }
     ensures own { result.global ≡ false }
 {
-    Arg::new(alloc, "of")
-        .long("of")
-        .value_name("TOP")
-        .action(ArgAction::Set)
-        .value_parser(TOPS.as_slice())
-        .default_value("ring")
-        .help("What the input is read as")
+    let help = "What the input is read as";
+    choice_option(alloc, "of", "TOP", TOPS.as_slice(), "ring", help)
 }
 
 /// A limit: a number in its range, or `usual` if the option isn't given.
@@ -109,73 +133,40 @@ fn limit_option<'a>(
     ensures rule { rule_of result ≡ limit_rule name.entry.now range usual.entry.now }
     ensures own { result.global ≡ false }
 {
-    Arg::new(alloc, name)
-        .long(name)
-        .value_name("N")
-        .action(ArgAction::Set)
-        .value_parser(ValueParser::unsigned(range.least, range.most))
-        .default_value(usual)
-        .help(help)
+    let parser = ValueParser::Unsigned(range.least, range.most);
+    valued_option(alloc, name, "N", parser, help).default_value(usual)
 }
 
-/// The command with the options of the limits added, as its last.
-fn with_limits<'a>(alloc: Global, command: Command<'a>) -> Result<Command<'a>, OutOfMemory>
-    ensures { IfOk result (λ r. app_of r ≡ with_limits (app_of command.entry)) }
+/// The command with the options of the limits added, as its last, if it could be made.
+fn with_limits<'a>(
+    alloc: Global,
+    command: Result<Command<'a>, OutOfMemory>,
+) -> Result<Command<'a>, OutOfMemory>
+    ensures { IfOk result (λ r. IsOkAnd command.entry (λ c. app_of r ≡ with_limits (app_of c))) }
 {
     let help = "The most octets of an armored line, 128 to 1048576";
     let line = limit_option(alloc, "line", Limits::LINE, "8192", help);
-    let command = with_option(command, line)?;
+    let command = with_option(command, line);
     let help = "The most octets of a packet's body, 512 to 4294967295";
     let body = limit_option(alloc, "body", Limits::BODY, "16777216", help);
-    let command = with_option(command, body)?;
+    let command = with_option(command, body);
     let help = "The most octets of a certificate, 512 to 1099511627776";
     let cert = limit_option(alloc, "cert", Limits::CERT, "67108864", help);
-    let command = with_option(command, cert)?;
+    let command = with_option(command, cert);
     let help = "The most octets of the input, 0 to 4611686018427387904";
     let input = limit_option(alloc, "input", Limits::INPUT, "1099511627776", help);
-    let command = with_option(command, input)?;
+    let command = with_option(command, input);
     let help = "The most partial lengths of a packet, 1 to 16777216";
     let pieces = limit_option(alloc, "pieces", Limits::PIECES, "1048576", help);
     with_option(command, pieces)
 }
 
-/// `--row`: any `u64`.
-fn row_option<'a>(alloc: Global) -> Arg<'a>
-    ensures rule { rule_of result ≡ row_rule }
+/// An option whose value is any `u64`.
+fn number_option<'a>(alloc: Global, name: &'a str, help: &'a str) -> Arg<'a>
+    ensures rule { rule_of result ≡ number_rule name.entry.now }
     ensures own { result.global ≡ false }
 {
-    Arg::new(alloc, "row")
-        .long("row")
-        .value_name("N")
-        .action(ArgAction::Set)
-        .value_parser(clap::value_parser!(u64))
-        .help("The number of the signature's row, from 0")
-}
-
-/// `--nth`: any `u64`.
-fn nth_option<'a>(alloc: Global) -> Arg<'a>
-    ensures rule { rule_of result ≡ nth_rule }
-    ensures own { result.global ≡ false }
-{
-    Arg::new(alloc, "nth")
-        .long("nth")
-        .value_name("N")
-        .action(ArgAction::Set)
-        .value_parser(clap::value_parser!(u64))
-        .help("The number of the one certificate that is written, from 0")
-}
-
-/// `--user-id`: any `u64`.
-fn user_id_option<'a>(alloc: Global) -> Arg<'a>
-    ensures rule { rule_of result ≡ user_id_rule }
-    ensures own { result.global ≡ false }
-{
-    Arg::new(alloc, "user-id")
-        .long("user-id")
-        .value_name("N")
-        .action(ArgAction::Set)
-        .value_parser(clap::value_parser!(u64))
-        .help("The number of the one user ID that stays in each certificate, from 0")
+    valued_option(alloc, name, "N", ValueParser::Unsigned(0, u64::MAX), help)
 }
 
 /// A flag, which takes no value.
@@ -194,21 +185,19 @@ fn text_option<'a>(alloc: Global, name: &'a str, value: &'a str, help: &'a str) 
     ensures rule { rule_of result ≡ text_rule name.entry.now }
     ensures own { result.global ≡ false }
 {
-    Arg::new(alloc, name)
-        .long(name)
-        .value_name(value)
-        .action(ArgAction::Set)
-        .value_parser(ValueParser::NonEmptyString)
-        .help(help)
+    valued_option(alloc, name, value, ValueParser::NonEmptyString, help)
 }
 
-/// The command with this option added, as its last.
-fn with_option<'a>(command: Command<'a>, option: Arg<'a>) -> Result<Command<'a>, OutOfMemory>
+/// The command with this option added, as its last, if it could be made.
+fn with_option<'a>(
+    command: Result<Command<'a>, OutOfMemory>,
+    option: Arg<'a>,
+) -> Result<Command<'a>, OutOfMemory>
     requires own { option.global ≡ false }
-    ensures { IfOk result (λ r. app_of r ≡ with_rule (app_of command.entry)
-        (rule_of option.entry)) }
+    ensures { IfOk result (λ r. IsOkAnd command.entry (λ c. app_of r ≡ with_rule (app_of c)
+        (rule_of option.entry))) }
 {
-    command.arg(option)
+    command?.arg(option)
 }
 
 /// The program with this command added, as its last, if it could be made.
@@ -232,13 +221,13 @@ fn new_command<'a>(
 ) -> Result<Command<'a>, OutOfMemory>
     ensures { IfOk result (IsCommand name.entry.now []) }
 {
-    let command = Command::new(alloc, name).about(about).after_help(more);
-    let command = with_option(command, mode_option(alloc))?;
-    let command = with_option(command, outside_option(alloc))?;
-    let command = with_option(command, malformed_option(alloc))?;
-    let command = with_limits(alloc, command)?;
+    let command = Ok(Command::new(alloc, name).about(about).after_help(more));
+    let command = with_option(command, mode_option(alloc));
+    let command = with_option(command, outside_option(alloc));
+    let command = with_option(command, malformed_option(alloc));
+    let command = with_limits(alloc, command);
     let help = "Shows on standard error how much was read";
-    let command = with_option(command, flag_option(alloc, "progress", help))?;
+    let command = with_option(command, flag_option(alloc, "progress", help));
     let help = "Holds the output in a file in this directory";
     with_option(command, text_option(alloc, "spool", "DIR", help))
 }
@@ -247,7 +236,7 @@ fn show_command<'a>(alloc: Global) -> Result<Command<'a>, OutOfMemory>
     ensures { IfOk result (IsCommand (codes "show") (values_rule ∷ [])) }
 {
     let about = "Lists every packet and every subpacket";
-    let command = new_command(alloc, "show", about, SHOW_HELP)?;
+    let command = new_command(alloc, "show", about, SHOW_HELP);
     let help = "Shows the fields of each packet, and what each subpacket means";
     with_option(command, flag_option(alloc, "values", help))
 }
@@ -256,7 +245,7 @@ fn list_command<'a>(alloc: Global) -> Result<Command<'a>, OutOfMemory>
     ensures { IfOk result (IsCommand (codes "list") (values_rule ∷ [])) }
 {
     let about = "Lists the packets of a keyring";
-    let command = new_command(alloc, "list", about, LIST_HELP)?;
+    let command = new_command(alloc, "list", about, LIST_HELP);
     let help = "Shows the left 16 bits, the creation time and the issuer of each signature";
     with_option(command, flag_option(alloc, "values", help))
 }
@@ -265,7 +254,7 @@ fn check_command<'a>(alloc: Global) -> Result<Command<'a>, OutOfMemory>
     ensures { IfOk result (IsCommand (codes "check") (fingerprints_rule ∷ [])) }
 {
     let about = "Lists the signatures of a keyring";
-    let command = new_command(alloc, "check", about, CHECK_HELP)?;
+    let command = new_command(alloc, "check", about, CHECK_HELP);
     let help = "Shows the fingerprints of each signature's certificate and signer";
     with_option(command, flag_option(alloc, "fingerprints", help))
 }
@@ -275,9 +264,10 @@ fn octets_command<'a>(alloc: Global) -> Result<Command<'a>, OutOfMemory>
         × IsCommand (codes "octets") (row_rule ∷ of_rule tops ∷ all_rule ∷ []) c) }
 {
     let about = "Writes the octets that signatures hash";
-    let command = new_command(alloc, "octets", about, OCTETS_HELP)?;
-    let command = with_option(command, row_option(alloc))?;
-    let command = with_option(command, of_option(alloc))?;
+    let command = new_command(alloc, "octets", about, OCTETS_HELP);
+    let help = "The number of the signature's row, from 0";
+    let command = with_option(command, number_option(alloc, "row", help));
+    let command = with_option(command, of_option(alloc));
     let help = "Writes those of every row, each behind a line of its own";
     with_option(command, flag_option(alloc, "all", help))
 }
@@ -292,7 +282,7 @@ fn writing_command<'a>(
     ensures { IfOk result (λ c. (outs : Choice) × AreOuts outs
         × IsCommand name.entry.now (out_rule outs ∷ []) c) }
 {
-    with_option(new_command(alloc, name, about, more)?, out_option(alloc))
+    with_option(new_command(alloc, name, about, more), out_option(alloc))
 }
 
 fn write_command<'a>(alloc: Global) -> Result<Command<'a>, OutOfMemory>
@@ -300,12 +290,13 @@ fn write_command<'a>(alloc: Global) -> Result<Command<'a>, OutOfMemory>
         (out_rule outs ∷ own_signatures_rule ∷ no_attributes_rule ∷ user_id_rule ∷ []) c) }
 {
     let about = "Writes a keyring, its framing kept";
-    let command = writing_command(alloc, "write", about, WRITE_HELP)?;
+    let command = writing_command(alloc, "write", about, WRITE_HELP);
     let help = "Leaves out signatures that don't name the primary key as their issuer";
-    let command = with_option(command, flag_option(alloc, "own-signatures", help))?;
+    let command = with_option(command, flag_option(alloc, "own-signatures", help));
     let help = "Leaves out user attributes";
-    let command = with_option(command, flag_option(alloc, "no-attributes", help))?;
-    with_option(command, user_id_option(alloc))
+    let command = with_option(command, flag_option(alloc, "no-attributes", help));
+    let help = "The number of the one user ID that stays in each certificate, from 0";
+    with_option(command, number_option(alloc, "user-id", help))
 }
 
 fn split_command<'a>(alloc: Global) -> Result<Command<'a>, OutOfMemory>
@@ -313,8 +304,9 @@ fn split_command<'a>(alloc: Global) -> Result<Command<'a>, OutOfMemory>
         × IsCommand (codes "split") (out_rule outs ∷ nth_rule ∷ key_rule ∷ []) c) }
 {
     let about = "Writes each certificate apart, or some of them";
-    let command = writing_command(alloc, "split", about, SPLIT_HELP)?;
-    let command = with_option(command, nth_option(alloc))?;
+    let command = writing_command(alloc, "split", about, SPLIT_HELP);
+    let help = "The number of the one certificate that is written, from 0";
+    let command = with_option(command, number_option(alloc, "nth", help));
     let help = "The fingerprint or key ID of a key of the certificates that are written";
     with_option(command, text_option(alloc, "key", "KEY", help))
 }
@@ -324,7 +316,7 @@ fn join_command<'a>(alloc: Global) -> Result<Command<'a>, OutOfMemory>
         × IsCommand (codes "join") (out_rule outs ∷ merge_rule ∷ []) c) }
 {
     let about = "Writes all blocks of the input as one keyring";
-    let command = writing_command(alloc, "join", about, JOIN_HELP)?;
+    let command = writing_command(alloc, "join", about, JOIN_HELP);
     let help = "Makes certificates of one primary key one";
     with_option(command, flag_option(alloc, "merge", help))
 }

@@ -70,7 +70,9 @@ impl<R: Source, W: Write + Drop> Progress<R, W> {
     }
 
     /// Shows the last counts, and ends the line.
-    pub fn end(&mut self) {
+    pub fn end(&mut self)
+        ensures { read_of self.new ≡ read_of self.old }
+    {
         self.show("\n");
     }
 }

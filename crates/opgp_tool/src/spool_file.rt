@@ -35,7 +35,9 @@ pub fn open_spool<R: Files>(
     alloc: Global,
     files: &R,
     dir: &str,
-) -> Result<SpoolFile<R::File>, RunFault> {
+) -> Result<SpoolFile<R::File>, RunFault>
+    ensures { IfOk result (λ spool. spool_failed spool ≡ false) }
+{
     let waiting = match Vec::with_capacity(alloc, WAITING) {
         Ok(waiting) => waiting,
         Err(_) => return Err(RunFault::Memory),

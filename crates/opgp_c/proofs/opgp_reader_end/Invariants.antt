@@ -1,7 +1,4 @@
 use Rattle.opgp_c.proofs.opgp_reader_end.Given as goal
 
-abbrev pub ghost-end : goal.ghost-end
-ghost-end g a = g.so_far
-
-abbrev pub ghost-tell_end : goal.ghost-tell_end
-ghost-tell_end g a = g.so_far
+abbrev pub ghost-end_input : goal.ghost-end_input
+ghost-end_input g a = g.so_far

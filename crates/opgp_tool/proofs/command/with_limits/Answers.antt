@@ -1,12 +1,21 @@
-use Rattle.std.proofs.Common.{ap₂, refl, ◌∙◌}
-use Rattle.std.proofs.lemmas.Result.{IfOk-weaker}
 use Rattle.clap.specs.Words.{with_rule}
+use Rattle.opgp_tool.specs.Program.{body_rule, cert_rule, input_rule, line_rule, pieces_rule}
+use Rattle.opgp_tool.proofs.Adding.{after, itself}
 use Rattle.opgp_tool.proofs.command.with_limits.Goals as goal
 
 pub returns : goal.returns
 returns c =
-    let one = c.in_ok-command.ensures ∙ ap₂ with_rule refl c.limit_option-line.ensures.rule in
-    let two = c.in_ok-command-2.ensures ∙ ap₂ with_rule one c.limit_option-body.ensures.rule in
-    let three = c.in_ok-command-3.ensures ∙ ap₂ with_rule two c.limit_option-cert.ensures.rule in
-    let four = c.in_ok-command-4.ensures ∙ ap₂ with_rule three c.limit_option-input.ensures.rule in
-    IfOk-weaker c.with_option-5.result _ _ (λ r last. last ∙ ap₂ with_rule four c.limit_option-pieces.ensures.rule) c.with_option-5.ensures
+    let first = c.args.command in
+    let one = after first first c.with_option-command.result _ line_rule (λ a. a)
+    c.limit_option-line.ensures.rule (itself first) c.with_option-command.ensures in
+    let two = after first c.with_option-command.result c.with_option-command-2.result _ body_rule
+    (λ a. with_rule a line_rule) c.limit_option-body.ensures.rule one c.with_option-command-2.ensures in
+    let three = after first c.with_option-command-2.result c.with_option-command-3.result _ cert_rule
+    (λ a. with_rule (with_rule a line_rule) body_rule)
+    c.limit_option-cert.ensures.rule two c.with_option-command-3.ensures in
+    let four = after first c.with_option-command-3.result c.with_option-command-4.result _ input_rule
+    (λ a. with_rule (with_rule (with_rule a line_rule) body_rule) cert_rule)
+    c.limit_option-input.ensures.rule three c.with_option-command-4.ensures in
+    after first c.with_option-command-4.result c.with_option.result _ pieces_rule
+    (λ a. with_rule (with_rule (with_rule (with_rule a line_rule) body_rule) cert_rule) input_rule)
+    c.limit_option-pieces.ensures.rule four c.with_option.ensures

@@ -1,4 +1,4 @@
-use Rattle.std.proofs.Common.{List, [], ◌++◌, Ok, append-nil, refl, subst}
+use Rattle.std.proofs.Common.{List, [], Ok, append-nil, refl, subst}
 use Rattle.std.specs.declared.alloc.AllocError.{AllocError}
 use Rattle.opgp_report.specs.RowMaker.{AddsUnsigned}
 use Rattle.opgp_report.specs.Standing.{Standing, certificate_standing}

@@ -18,4 +18,4 @@ returns-then-not-is_in g c =
 pub returns : goal.returns
 returns g c =
     let holds : c.is_in.result ≡ true = search rules in
-    rw c.in-Certificate.is (λ parts h a. (h.0, h.1, named_here (DraftHas g.S.Spool.serves g.S.Spool.tells g.S.Spool.holds g.S.Spool.has_failed) g.N.Sought.out g.N.Sought.name _ _ _ _ parts _ (ap (λ (n : List ℕ). has_key n c.in-Certificate.certificate) (sym h.1) ∙ sym c.is_in.ensures ∙ holds) refl (λ given has. subst (λ (o : Out). DraftHas g.S.Spool.serves g.S.Spool.tells g.S.Spool.holds g.S.Spool.has_failed c.add_alone.new.draft (given ++ packets_text o (certificate_packets c.in-Certificate.certificate))) h.0 (c.in_ok-add_alone.ensures given has)) h.2))
+    rw c.in-Certificate.is (λ parts h a. (h.0, h.1, named_here (DraftHas g.S.Spool.serves g.S.Spool.tells g.S.Spool.holds g.S.Spool.has_failed) g.N.Sought.out g.N.Sought.name _ _ _ _ parts _ (ap (λ (n : List ℕ). has_key n c.in-Certificate.certificate) (sym h.1) ∙ sym c.is_in.ensures ∙ holds) refl (λ given has. subst (λ (o : Out). DraftHas g.S.Spool.serves g.S.Spool.tells g.S.Spool.holds g.S.Spool.has_failed c.add_alone-added.new.draft (given ++ packets_text o (certificate_packets c.in-Certificate.certificate))) h.0 (c.in_ok-added.ensures given has)) h.2))

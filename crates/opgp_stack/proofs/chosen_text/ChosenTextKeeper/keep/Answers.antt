@@ -16,6 +16,6 @@ returns g c parts h some =
     c.in_ok-chosen.ensures ∙ ap (λ (x : Choice). chosen_part x (part_of c.args.part)) h.0 in
     let given : List ℕ = flat_map (chosen_octets choice) parts in (
       h.0,
-      subst (λ (o : List ℕ). DraftHas g.S.Spool.serves g.S.Spool.tells g.S.Spool.holds g.S.Spool.has_failed c.add_packets.new.draft o) (text_push (chosen_octets choice) parts (part_of c.args.part))
-          (subst (λ (p : PartValue). DraftHas g.S.Spool.serves g.S.Spool.tells g.S.Spool.holds g.S.Spool.has_failed c.add_packets.new.draft (given ++ part_octets p)) same (c.in_ok-add_packets.ensures given h.1)),
+      subst (λ (o : List ℕ). DraftHas g.S.Spool.serves g.S.Spool.tells g.S.Spool.holds g.S.Spool.has_failed c.add_packets-added.new.draft o) (text_push (chosen_octets choice) parts (part_of c.args.part))
+          (subst (λ (p : PartValue). DraftHas g.S.Spool.serves g.S.Spool.tells g.S.Spool.holds g.S.Spool.has_failed c.add_packets-added.new.draft (given ++ part_octets p)) same (c.in_ok-added.ensures given h.1)),
     )

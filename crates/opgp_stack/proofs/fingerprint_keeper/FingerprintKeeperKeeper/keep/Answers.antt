@@ -1,4 +1,5 @@
-use Rattle.std.proofs.Common.{List, sym, subst}
+use Rattle.std.proofs.Common.{List, [], ◌∷◌, ◌++◌, sym, subst}
+use Rattle.opgp_ring.specs.Composed.{of_certificate}
 use Rattle.opgp_ring.specs.Keyring.{CertificateValue}
 use Rattle.opgp_report.specs.Fingerprinting.{ReportsPrints}
 use Rattle.opgp_report.specs.declared.fingerprinting.FingerprintedReporting.{FingerprintedReporting}
@@ -10,5 +11,5 @@ pub returns-in-Lead : goal.returns-in-Lead
 returns-in-Lead c = rw c.in-Lead.is (λ parts h a. subst (λ (cs : List CertificateValue). ReportsPrints c.args.self.now.rows cs) (sym (lead_push parts _)) h)
 
 pub returns : goal.returns
-returns c = rw c.in-Certificate.is (λ parts h a. subst (λ (cs : List CertificateValue). ReportsPrints c.in_ok-self.field-0 cs) (sym (certificate_push parts c.in-Certificate.certificate))
-    (c.in_ok-self.ensures (certificates_in parts) (subst (λ (k : FingerprintedReporting). ReportsPrints k (certificates_in parts)) (sym c.replace-rows.ensures.value) h)))
+returns c = rw c.in-Certificate.is (λ parts h a. subst (λ (k : FingerprintedReporting). ReportsPrints k (certificates_in (parts ++ of_certificate c.in-Certificate.certificate ∷ []))) (sym c.replace.ensures.after) (subst (λ (cs : List CertificateValue). ReportsPrints c.in_ok-rows.field-0 cs) (sym (certificate_push parts c.in-Certificate.certificate))
+    (c.in_ok-rows.ensures (certificates_in parts) (subst (λ (k : FingerprintedReporting). ReportsPrints k (certificates_in parts)) (sym c.replace-rows.ensures.value) h))))

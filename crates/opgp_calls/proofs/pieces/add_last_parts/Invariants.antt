@@ -1,6 +1,6 @@
 use Rattle.std.proofs.Common.{length}
 use Rattle.opgp_engine.specs.Waiting.{parts_in}
-use Rattle.opgp_calls.proofs.pieces.parts.Given as goal
+use Rattle.opgp_calls.proofs.pieces.add_last_parts.Given as goal
 
 abbrev pub decreases-rest : goal.decreases-rest
 decreases-rest l = length (parts_in l.waiting)

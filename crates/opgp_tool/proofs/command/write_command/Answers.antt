@@ -1,0 +1,13 @@
+use Rattle.std.proofs.Common.{[], ◌∷◌, codes}
+use Rattle.opgp_tool.specs.Program.{no_attributes_rule, own_signatures_rule, user_id_rule}
+use Rattle.opgp_tool.proofs.Adding.{behind_out}
+use Rattle.opgp_tool.proofs.command.write_command.Goals as goal
+
+pub returns : goal.returns
+returns c =
+    let own = behind_out c.writing_command-command.result c.with_option-command.result (codes "write") []
+    _ own_signatures_rule c.flag_option.ensures.rule c.writing_command-command.ensures c.with_option-command.ensures in
+    let bare = behind_out c.with_option-command.result c.with_option-command-2.result (codes "write")
+    (own_signatures_rule ∷ []) _ no_attributes_rule c.flag_option-2.ensures.rule own c.with_option-command-2.ensures in
+    behind_out c.with_option-command-2.result c.with_option.result (codes "write")
+    (own_signatures_rule ∷ no_attributes_rule ∷ []) _ user_id_rule c.number_option.ensures.rule bare c.with_option.ensures

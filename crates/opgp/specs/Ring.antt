@@ -7,6 +7,7 @@ pub use Rattle.opgp_ring.specs.Composition
 pub use Rattle.opgp_ring.specs.Content
 pub use Rattle.opgp_ring.specs.Fed
 pub use Rattle.opgp_ring.specs.Gathering
+pub use Rattle.opgp_ring.specs.Grouped
 pub use Rattle.opgp_ring.specs.Keyring
 pub use Rattle.opgp_ring.specs.Member
 pub use Rattle.opgp_ring.specs.Sorted
@@ -15,9 +16,11 @@ pub use Rattle.opgp_ring.specs.Taken
 pub use Rattle.opgp_ring.specs.Joining
 pub use Rattle.opgp_ring.specs.Lent
 pub use Rattle.opgp_ring.specs.Normal
+pub use Rattle.opgp_ring.specs.Packed
 pub use Rattle.opgp_ring.specs.PacketBody
 pub use Rattle.opgp_ring.specs.Packets
 pub use Rattle.opgp_ring.specs.Parts
+pub use Rattle.opgp_ring.specs.Place
 pub use Rattle.opgp_ring.specs.Shape
 pub use Rattle.opgp_ring.specs.Signed
 pub use Rattle.opgp_ring.specs.SignedGathering

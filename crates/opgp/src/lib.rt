@@ -76,10 +76,10 @@ pub mod report {
 /// Keyrings, certificates and signed literals (RFC 9580, 10).
 pub mod ring {
     pub use opgp_ring::{
-        BlockOf, Certificate, Component, Composer, Content, Gathering, Head, Keeper, Keyring, Lead,
-        Member, Packets, Part, Ready, Signatures, SignedGathering, SignedLiteral, body_fault,
-        check_bodies, check_bodies_by, compose, compose_signed, compose_signed_by, end_fits,
-        flatten, join, laws, normalise, nth, packet_fault,
+        BlockOf, Certificate, Component, Components, Composer, Content, Gathering, Hangs, Head,
+        Keeper, Keyring, Lead, Member, Members, Packets, Ready, Signatures, SignedGathering,
+        SignedLiteral, body_fault, check_bodies, check_bodies_by, compose, compose_signed,
+        compose_signed_by, end_fits, flatten, join, laws, normalise, nth, packet_fault,
     };
 }
 

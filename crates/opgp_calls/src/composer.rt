@@ -5,9 +5,9 @@ use crate::end::End;
 use crate::given::Given;
 use crate::octets::limits_of;
 use crate::ring::blocks_of;
-use opgp_frame::{Placed, write_packet, write_parts};
-use opgp_octets::{Limits, OutOfMemory};
-use opgp_ring::{BlockOf, Composer, Packets, Part, Ready};
+use opgp_frame::{Placed, write_parts};
+use opgp_octets::Limits;
+use opgp_ring::{BlockOf, Composer, Packets, Ready};
 use std::alloc::Global;
 
 /// Adds the answer to a call of these; false where there is none of the name.
@@ -123,20 +123,12 @@ fn add_octets(alloc: Global, part: &Ready, answer: &mut Answer) {
 fn write_all(packets: Packets<'_>, out: &mut Vec<u8>, answer: &mut Answer) -> u64 {
     let mut packets = packets;
     for count in 0..u64::MAX {
-        let Some(part) = packets.next() else {
+        let Some(member) = packets.next() else {
             return count;
         };
-        answer.made(write_part(part, out));
+        answer.made(write_parts(&member.form(), member.kind(), member.body(), out));
     }
     u64::MAX
-}
-
-/// Writes a packet.
-fn write_part(part: Part<'_>, out: &mut Vec<u8>) -> Result<(), OutOfMemory> {
-    match part {
-        Part::Lead(packet) => write_packet(packet, out),
-        Part::Member(member) => write_parts(member.form(), member.kind(), member.body(), out),
-    }
 }
 
 /// Adds what a part is, and how many octets its packets have.
@@ -145,8 +137,7 @@ fn add_size(part: &Ready, answer: &mut Answer) {
     let mut size = 0u64;
     for _ in 0..u64::MAX {
         match packets.next() {
-            Some(Part::Lead(packet)) => size = size.saturating_add(packet.spelled_len()),
-            Some(Part::Member(member)) => size = size.saturating_add(member.spelled_len()),
+            Some(member) => size = size.saturating_add(member.spelled_len()),
             None => break,
         }
     }

@@ -1,15 +1,16 @@
 //! Packets on their way to an output, in binary or as armor, without an allocation.
 
 ghost use Rattle.std.specs.Prelude.{◌≡◌, ◌++◌, [], ℕ, List, if◌then◌else◌, true, false};
-ghost use Rattle.opgp_frame.specs.Packet.{IsPacket, packets_octets, spelling};
-ghost use Rattle.opgp_ring.specs.Packets.{packets_left, part_packet};
+ghost use Rattle.opgp_frame.specs.Packet.{packets_octets, spelling};
+ghost use Rattle.opgp_ring.specs.Member.{member_packet};
+ghost use Rattle.opgp_ring.specs.Packets.{packets_left};
 ghost use Rattle.opgp_engine.specs.Via.{AddsVia, ExtendsVia};
 ghost use Rattle.opgp_stream.specs.Added.{Adds};
 ghost use Rattle.opgp_stream.specs.Held.{held_octets, pieces_octets};
 ghost use Rattle.opgp_stream.specs.Output.{sink_name, sink_of, state_of};
 
-use opgp_frame::{Form, Spelling};
-use opgp_ring::{Packets, Part};
+use opgp_frame::Spelling;
+use opgp_ring::{Member, Packets};
 use opgp_stream::{Armoring, Held, Output, Sink};
 use std::io;
 
@@ -48,99 +49,60 @@ fn add_part<W: Sink>(
     Ok(())
 }
 
-/// Adds the packet of this form, type and body (RFC 9580, 4.2). The condition is that there is such
-/// a packet.
+/// Adds a packet of a keyring (RFC 9580, 4.2).
 fn add_packet<W: Sink>(
     output: &mut Output<'_, W>,
     armoring: &mut Option<Armoring>,
-    form: &Form,
-    kind: u8,
-    body: &[u8],
+    packet: Member<'_>,
 ) -> io::Result<()>
-    requires packet { IsPacket (record { form = form.now; kind = kind; body = body.now }) }
-    requires sound { W.has_failed (sink_of output.old) ≡ false }
+    requires { W.has_failed (sink_of output.old) ≡ false }
     ensures { ExtendsVia W.held W.has_failed output.old armoring.old output.new armoring.new result
-        (spelling (record { form = form.now; kind = kind; body = body.now })) }
+        (spelling (member_packet packet.entry)) }
 {
-    let mut spelling = Spelling::new(form, kind, body);
+    let form = packet.form();
+    let mut spelling = Spelling::new(&form, packet.kind(), packet.body());
     'parts: while let Some((header, piece)) = spelling.next() {
         add_part(output, armoring, header.as_slice(), piece)?;
     }
     Ok(())
 }
 
-/// Adds the packet of this form, type and body if it has one header and the output has room for
-/// it, and returns true; else changes nothing and returns false.
+/// Adds a packet if it has one header and the output has room for it, and returns true; else
+/// changes nothing and returns false.
 #[inline(always)]
-fn hold_packet<W: Sink>(output: &mut Output<'_, W>, form: &Form, kind: u8, body: &[u8]) -> bool
-    requires packet { IsPacket (record { form = form.now; kind = kind; body = body.now }) }
-    requires sound { W.has_failed (sink_of output.old) ≡ false }
+fn hold_packet<W: Sink>(output: &mut Output<'_, W>, packet: Member<'_>) -> bool
+    requires { W.has_failed (sink_of output.old) ≡ false }
     ensures same { sink_name output.new ≡ sink_name output.old }
     ensures held { result ≡ true → Adds (state_of W.held W.has_failed output.old)
-        (state_of W.held W.has_failed output.new)
-        (spelling (record { form = form.now; kind = kind; body = body.now })) }
+        (state_of W.held W.has_failed output.new) (spelling (member_packet packet.entry)) }
     ensures left { result ≡ false → state_of W.held W.has_failed output.new
         ≡ state_of W.held W.has_failed output.old }
 {
-    let mut spelling = Spelling::new(form, kind, body);
+    let form = packet.form();
+    let mut spelling = Spelling::new(&form, packet.kind(), packet.body());
     match (spelling.next(), spelling.next()) {
         (Some((header, piece)), None) => output.hold_both(header.as_slice(), piece),
         _ => false,
     }
 }
 
-/// Adds a packet of a keyring if the output is binary and has room for it, and returns true; else
-/// adds nothing and returns false. So nearly all packets are added without an `io::Result`, which is
-/// large and would be moved from call to call.
+/// Adds a packet if the output is binary and has room for it, and returns true; else adds nothing
+/// and returns false. So nearly all packets are added without an `io::Result`, which is large and
+/// would be moved from call to call.
 #[inline(always)]
 fn hold_one<W: Sink>(
     output: &mut Output<'_, W>,
     armoring: &Option<Armoring>,
-    part: Part<'_>,
+    packet: Member<'_>,
 ) -> bool
     requires { W.has_failed (sink_of output.old) ≡ false }
     ensures { AddsVia W.held W.has_failed output.old armoring.now output.new armoring.now
-        (if result then spelling (part_packet part.entry) else []) }
+        (if result then spelling (member_packet packet.entry) else []) }
 {
     if armoring.is_some() {
         return false;
     }
-    match part {
-        Part::Lead(packet) => hold_packet(output, packet.form(), packet.kind(), packet.body()),
-        Part::Member(member) => hold_packet(output, member.form(), member.kind(), member.body()),
-    }
-}
-
-/// Adds a packet of a keyring.
-fn add_one<W: Sink>(
-    output: &mut Output<'_, W>,
-    armoring: &mut Option<Armoring>,
-    part: Part<'_>,
-) -> io::Result<()>
-    requires { W.has_failed (sink_of output.old) ≡ false }
-    ensures { ExtendsVia W.held W.has_failed output.old armoring.old output.new armoring.new result
-        (spelling (part_packet part.entry)) }
-{
-    match part {
-        Part::Lead(packet) => {
-            add_packet(
-                output,
-                armoring,
-                packet.form(),
-                packet.kind(),
-                packet.body(),
-            )
-        }
-        Part::Member(member) => {
-            add_packet(
-                output,
-                armoring,
-                member.form(),
-                member.kind(),
-                member.body(),
-            )
-        }
-    }
+    hold_packet(output, packet)
 }
 
 /// Octets that go to an output, as they are or as rows of armor.
@@ -213,9 +175,9 @@ fn add_packets<W: Sink>(
     ensures { ExtendsVia W.held W.has_failed output.old armoring.old output.new armoring.new result
         (packets_octets (packets_left packets.entry)) }
 {
-    'packets: while let Some(part) = packets.next() {
-        if !hold_one(output, armoring, part) {
-            add_one(output, armoring, part)?;
+    'packets: while let Some(packet) = packets.next() {
+        if !hold_one(output, armoring, packet) {
+            add_packet(output, armoring, packet)?;
         }
     }
     Ok(())

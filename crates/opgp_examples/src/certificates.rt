@@ -6,7 +6,7 @@ ghost use Rattle.opgp.specs.Octets.declared.limits.Limits.{Limits};
 
 use anyhow::Result;
 use opgp::engine::{Mode, PartReader};
-use opgp::hash::fingerprint;
+use opgp::hash::fingerprint_of_view;
 use opgp::octets::Limits;
 use opgp::ring::{Certificate, Head, Ready};
 use std::io::BufRead;
@@ -84,11 +84,12 @@ fn show(rt: &(impl Print + AllocGlobal), part: Ready) -> Result<()> {
 
 /// A line for a certificate: its fingerprint and its user IDs.
 fn show_certificate(rt: &(impl Print + AllocGlobal), certificate: &Certificate) -> Result<()> {
-    let print = fingerprint(certificate.key());
+    let print = fingerprint_of_view(certificate.key());
     print!(rt; "{print}")?;
-    for component in certificate.components() {
+    let mut components = certificate.components();
+    'components: while let Some(component) = components.next() {
         if let Head::UserId(id) = component.head().head() {
-            let text = String::from_utf8_lossy(rt.alloc(), id.octets())?;
+            let text = String::from_utf8_lossy(rt.alloc(), id)?;
             let text = text.as_str();
             print!(rt; " {text:?}")?;
         }

@@ -3,6 +3,8 @@
 ghost use Rattle.std.specs.Prelude.{◌≡◌, ◌++◌, ◌∷◌, [], ◌+◌, ◌<◌, ◌^◌, length, map, OnOk, IfOk};
 ghost use Rattle.std.specs.List.{flat_map};
 ghost use Rattle.opgp_packet.specs.Parsed.{body_octets};
+ghost use Rattle.opgp_ring.specs.Grouped.{component_of, components_left};
+ghost use Rattle.opgp_ring.specs.Keyring.{component_packets};
 ghost use Rattle.opgp_report.specs.First.{print_of};
 ghost use Rattle.opgp_flat.specs.Keys.{key_material, key_row, component_keys, component_material};
 ghost use Rattle.opgp_flat.specs.Keys.{components_keys, certificate_rows, certificate_material};
@@ -10,10 +12,10 @@ ghost use Rattle.opgp_flat.specs.Keys.{certificates_rows, key_rows, key_bytes};
 
 use crate::key_row::{KeyRow, NONE, print_padded};
 use crate::parts::key_parts;
-use opgp_hash::{Fingerprint, KeyId, fingerprint};
+use opgp_hash::{Fingerprint, KeyId, fingerprint_of_view};
 use opgp_octets::OutOfMemory;
-use opgp_packet::Key;
-use opgp_ring::{Certificate, Component, Head, Keyring};
+use opgp_packet::KeyView;
+use opgp_ring::{Certificate, Component, Components, Head, Keyring};
 use std::alloc::Global;
 
 /// Adds four pieces. Fails only when out of memory.
@@ -30,13 +32,13 @@ fn add_four(bytes: &mut Vec<u8>, a: &[u8], b: &[u8], c: &[u8], d: &[u8]) -> Resu
 }
 
 /// The fingerprint of a key.
-fn print_of(key: &Key) -> Fingerprint
-    ensures { result ≡ print_of (body_octets key.now) }
+fn print_of(key: KeyView<'_>) -> Fingerprint
+    ensures { result ≡ print_of (body_octets key.entry) }
 {
     // Called for their contracts, which tie the version that is hashed to the body's first octet.
     let _body = key.body();
     let _version = key.version();
-    fingerprint(key)
+    fingerprint_of_view(key)
 }
 
 /// Adds a key's row and its material. Fails only when out of memory.
@@ -45,14 +47,14 @@ fn add_key(
     bytes: &mut Vec<u8>,
     certificate: u64,
     component: u64,
-    key: &Key,
+    key: KeyView<'_>,
 ) -> Result<(), OutOfMemory>
     ensures rows { OnOk result (rows.new.items ≡ rows.old.items
-        ++ key_row certificate component (length bytes.old.items) (body_octets key.now) ∷ []) }
+        ++ key_row certificate component (length bytes.old.items) (body_octets key.entry) ∷ []) }
     ensures bytes { OnOk result
-        (bytes.new.items ≡ bytes.old.items ++ key_material (body_octets key.now)) }
+        (bytes.new.items ≡ bytes.old.items ++ key_material (body_octets key.entry)) }
 {
-    opgp_packet::key_laws::written(key);
+    opgp_packet::key_laws::written(&key);
     let at = bytes.len() as u64;
     let [a, b, c, d] = key_parts(key.material());
     add_four(bytes, a, b, c, d)?;
@@ -88,12 +90,13 @@ fn add_component(
     bytes: &mut Vec<u8>,
     certificate: u64,
     number: u64,
-    component: &Component,
+    component: Component<'_>,
 ) -> Result<(), OutOfMemory>
     ensures rows { OnOk result (rows.new.items ≡ rows.old.items
-        ++ component_keys certificate number (length bytes.old.items) component.now) }
+        ++ component_keys certificate number (length bytes.old.items)
+        (component_of component.entry)) }
     ensures bytes { OnOk result
-        (bytes.new.items ≡ bytes.old.items ++ component_material component.now) }
+        (bytes.new.items ≡ bytes.old.items ++ component_material (component_of component.entry)) }
 {
     match component.head().head() {
         Head::Subkey(key) => add_key(rows, bytes, certificate, number, key),
@@ -106,19 +109,19 @@ fn add_components(
     rows: &mut Vec<KeyRow>,
     bytes: &mut Vec<u8>,
     certificate: u64,
-    components: &[Component],
+    mut components: Components<'_>,
 ) -> Result<(), OutOfMemory>
+    requires { length (flat_map component_packets (components_left components)) < 2 ^ 64 }
     ensures rows { OnOk result (rows.new.items ≡ rows.old.items
-        ++ components_keys certificate 0 (length bytes.old.items) components.now) }
-    ensures bytes { OnOk result
-        (bytes.new.items ≡ bytes.old.items ++ flat_map component_material components.now) }
+        ++ components_keys certificate 0 (length bytes.old.items)
+        (components_left components.entry)) }
+    ensures bytes { OnOk result (bytes.new.items ≡ bytes.old.items
+        ++ flat_map component_material (components_left components.entry)) }
 {
     let mut number = 0usize;
-    let mut rest = components;
-    'components: while let [component, more @ ..] = rest {
+    'components: while let Some(component) = components.next() {
         add_component(rows, bytes, certificate, number as u64, component)?;
         number += 1;
-        rest = more;
     }
     Ok(())
 }
@@ -135,6 +138,8 @@ fn add_certificate(
     ensures bytes { OnOk result
         (bytes.new.items ≡ bytes.old.items ++ certificate_material certificate.now) }
 {
+    // Called for its contract: its packets can be counted.
+    let _count = certificate.packets().len();
     add_key(rows, bytes, number, NONE, certificate.key())?;
     add_components(rows, bytes, number, certificate.components())
 }

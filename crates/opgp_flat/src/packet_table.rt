@@ -1,17 +1,18 @@
 //! The table of a keyring's packets.
 
-ghost use Rattle.std.specs.Prelude.{◌≡◌, ◌++◌, ◌∷◌, [], length, OnOk, IfOk};
+ghost use Rattle.std.specs.Prelude.{◌≡◌, ◌++◌, ◌∷◌, [], ◌<◌, ◌^◌, length, OnOk, IfOk};
 ghost use Rattle.std.specs.List.{flat_map};
+ghost use Rattle.opgp_ring.specs.Grouped.{component_of, components_left, hangs_left};
 ghost use Rattle.opgp_ring.specs.Keyring.{certificate_packets, component_packets};
+ghost use Rattle.opgp_ring.specs.Member.{member_packet, members_left};
 ghost use Rattle.opgp_flat.specs.Packets.{bodies, packet_row, hangs_packets, component_rows};
 ghost use Rattle.opgp_flat.specs.Packets.{components_rows, certificate_rows, certificates_rows};
 ghost use Rattle.opgp_flat.specs.Packets.{packet_rows, packet_bytes};
 
 use crate::key_row::NONE;
 use crate::packet_row::PacketRow;
-use opgp_frame::Packet;
 use opgp_octets::OutOfMemory;
-use opgp_ring::{Certificate, Component, Keyring, Member};
+use opgp_ring::{Certificate, Component, Components, Hangs, Keyring, Member, Members};
 use std::alloc::Global;
 
 /// A table that grows.
@@ -29,13 +30,13 @@ struct Spot {
     hang: u64,
 }
 
-/// Adds a packet that is a member. Fails only when out of memory.
-fn add_member(table: &mut Table, spot: Spot, member: &Member) -> Result<(), OutOfMemory>
+/// Adds a packet. Fails only when out of memory.
+fn add_member(table: &mut Table, spot: Spot, member: Member<'_>) -> Result<(), OutOfMemory>
     ensures rows { OnOk result (table.new.rows.items ≡ table.old.rows.items
         ++ packet_row spot.certificate spot.component spot.hang (length table.old.bytes.items)
-        member.now ∷ []) }
-    ensures bytes { OnOk result
-        (table.new.bytes.items ≡ table.old.bytes.items ++ member.now.body) }
+        (member_packet member.entry) ∷ []) }
+    ensures bytes { OnOk result (table.new.bytes.items
+        ≡ table.old.bytes.items ++ (member_packet member.entry).body) }
 {
     let at = table.bytes.len() as u64;
     let body = member.body();
@@ -52,42 +53,25 @@ fn add_member(table: &mut Table, spot: Spot, member: &Member) -> Result<(), OutO
     Ok(())
 }
 
-/// Adds a filler that leads the keyring. Fails only when out of memory.
-fn add_packet(table: &mut Table, number: u64, packet: &Packet) -> Result<(), OutOfMemory>
-    ensures rows { OnOk result (table.new.rows.items ≡ table.old.rows.items
-        ++ packet_row 18446744073709551615 18446744073709551615 number
-        (length table.old.bytes.items) packet.now ∷ []) }
-    ensures bytes { OnOk result
-        (table.new.bytes.items ≡ table.old.bytes.items ++ packet.now.body) }
-{
-    let at = table.bytes.len() as u64;
-    let body = packet.body();
-    table.bytes.extend_from_slice(body)?;
-    table.rows.push(PacketRow {
-        certificate: NONE,
-        component: NONE,
-        hang: number,
-        at,
-        size: body.len() as u64,
-        kind: packet.kind(),
-        reserved: [0; 7],
-    })?;
-    Ok(())
-}
-
 /// Adds all that leads the keyring. Fails only when out of memory.
-fn add_lead(table: &mut Table, lead: &[Packet]) -> Result<(), OutOfMemory>
+fn add_lead(table: &mut Table, mut lead: Members<'_>) -> Result<(), OutOfMemory>
     ensures rows { OnOk result (table.new.rows.items ≡ table.old.rows.items
         ++ hangs_packets 18446744073709551615 18446744073709551615 0
-        (length table.old.bytes.items) lead.now) }
-    ensures bytes { OnOk result (table.new.bytes.items ≡ table.old.bytes.items ++ bodies lead.now) }
+        (length table.old.bytes.items) (members_left lead.entry)) }
+    ensures bytes { OnOk result (table.new.bytes.items
+        ≡ table.old.bytes.items ++ bodies (members_left lead.entry)) }
 {
+    // Called for its contract: they can be counted.
+    let _count = lead.len();
     let mut number = 0usize;
-    let mut rest = lead;
-    'lead: while let [packet, more @ ..] = rest {
-        add_packet(table, number as u64, packet)?;
+    'lead: while let Some(member) = lead.next() {
+        let spot = Spot {
+            certificate: NONE,
+            component: NONE,
+            hang: number as u64,
+        };
+        add_member(table, spot, member)?;
         number += 1;
-        rest = more;
     }
     Ok(())
 }
@@ -97,16 +81,17 @@ fn add_hangs(
     table: &mut Table,
     certificate: u64,
     component: u64,
-    hangs: &[Member],
+    mut hangs: Hangs<'_>,
 ) -> Result<(), OutOfMemory>
+    requires { length (hangs_left hangs) < 2 ^ 64 }
     ensures rows { OnOk result (table.new.rows.items ≡ table.old.rows.items
-        ++ hangs_packets certificate component 0 (length table.old.bytes.items) hangs.now) }
-    ensures bytes { OnOk result
-        (table.new.bytes.items ≡ table.old.bytes.items ++ bodies hangs.now) }
+        ++ hangs_packets certificate component 0 (length table.old.bytes.items)
+        (hangs_left hangs.entry)) }
+    ensures bytes { OnOk result (table.new.bytes.items
+        ≡ table.old.bytes.items ++ bodies (hangs_left hangs.entry)) }
 {
     let mut number = 0usize;
-    let mut rest = hangs;
-    'hangs: while let [member, more @ ..] = rest {
+    'hangs: while let Some(member) = hangs.next() {
         let spot = Spot {
             certificate,
             component,
@@ -114,7 +99,6 @@ fn add_hangs(
         };
         add_member(table, spot, member)?;
         number += 1;
-        rest = more;
     }
     Ok(())
 }
@@ -124,12 +108,14 @@ fn add_component(
     table: &mut Table,
     certificate: u64,
     number: u64,
-    component: &Component,
+    component: Component<'_>,
 ) -> Result<(), OutOfMemory>
+    requires { length (component_packets (component_of component)) < 2 ^ 64 }
     ensures rows { OnOk result (table.new.rows.items ≡ table.old.rows.items
-        ++ component_rows certificate number (length table.old.bytes.items) component.now) }
+        ++ component_rows certificate number (length table.old.bytes.items)
+        (component_of component.entry)) }
     ensures bytes { OnOk result (table.new.bytes.items
-        ≡ table.old.bytes.items ++ bodies (component_packets component.now)) }
+        ≡ table.old.bytes.items ++ bodies (component_packets (component_of component.entry))) }
 {
     let spot = Spot {
         certificate,
@@ -144,19 +130,19 @@ fn add_component(
 fn add_components(
     table: &mut Table,
     certificate: u64,
-    components: &[Component],
+    mut components: Components<'_>,
 ) -> Result<(), OutOfMemory>
+    requires { length (flat_map component_packets (components_left components)) < 2 ^ 64 }
     ensures rows { OnOk result (table.new.rows.items ≡ table.old.rows.items
-        ++ components_rows certificate 0 (length table.old.bytes.items) components.now) }
-    ensures bytes { OnOk result (table.new.bytes.items
-        ≡ table.old.bytes.items ++ bodies (flat_map component_packets components.now)) }
+        ++ components_rows certificate 0 (length table.old.bytes.items)
+        (components_left components.entry)) }
+    ensures bytes { OnOk result (table.new.bytes.items ≡ table.old.bytes.items
+        ++ bodies (flat_map component_packets (components_left components.entry))) }
 {
     let mut number = 0usize;
-    let mut rest = components;
-    'components: while let [component, more @ ..] = rest {
+    'components: while let Some(component) = components.next() {
         add_component(table, certificate, number as u64, component)?;
         number += 1;
-        rest = more;
     }
     Ok(())
 }
@@ -172,6 +158,8 @@ fn add_certificate(
     ensures bytes { OnOk result (table.new.bytes.items
         ≡ table.old.bytes.items ++ bodies (certificate_packets certificate.now)) }
 {
+    // Called for its contract: its packets can be counted.
+    let _count = certificate.packets().len();
     let spot = Spot {
         certificate: number,
         component: NONE,

@@ -1,5 +1,5 @@
 -- What is merged of a keyring is a keyring.
-use Rattle.std.proofs.Common.{List, [], ◌∷◌, All, inl, inr, refl, subst}
+use Rattle.std.proofs.Common.{List, [], ◌∷◌, map, All, inl, inr, refl, subst}
 use Rattle.std.specs.List.{flat_map}
 use Rattle.std.proofs.lemmas.List.Elements.{All-cons, All-contains, All-nil}
 use Rattle.opgp_frame.specs.Packet.{PacketValue}
@@ -44,10 +44,13 @@ certificates_stay cs h c w = record {
       each IsComponent member.0.components p (h member.0 found.0).components member.2);
 }
 
+abbrev pub merged : List CertificateValue → List CertificateValue
+merged cs = map (united_certificate cs) (firsts same_primary cs)
+
+pub merged_are_certificates : (cs : List CertificateValue) → All IsCertificate cs → All IsCertificate (merged cs)
+merged_are_certificates cs h = all_of IsCertificate (merged cs) (λ d w.
+    let made = from_map (united_certificate cs) (firsts same_primary cs) d w in
+    subst IsCertificate made.2 (certificates_stay cs (λ c v. each IsCertificate cs c h v) made.0 made.1))
+
 pub merged_is_keyring : (r : KeyringValue) → IsKeyring r → IsKeyring (merged_of r)
-merged_is_keyring r h = record {
-  lead = h.lead;
-  certificates = all_of IsCertificate (merged_of r).certificates (λ d w.
-      let made = from_map (united_certificate r.certificates) (firsts same_primary r.certificates) d w in
-      subst IsCertificate made.2 (certificates_stay r.certificates (λ c v. each IsCertificate r.certificates c h.certificates v) made.0 made.1));
-}
+merged_is_keyring r h = record { lead = h.lead; certificates = merged_are_certificates r.certificates h.certificates }

@@ -5,7 +5,7 @@ use Rattle.std.specs.List.{filter, flat_map, fold}
 use Rattle.std.specs.Str.{bytes_eq}
 use Rattle.std.proofs.lemmas.Bool.{eq-eqb}
 use Rattle.std.proofs.lemmas.List.{map-append}
-use Rattle.std.proofs.lemmas.List.Elements.{All-cons, All-head, All-tail, All-filter, All-push}
+use Rattle.std.proofs.lemmas.List.Elements.{All-push}
 use Rattle.std.proofs.lemmas.Slice.Eq.{bytes_eq-Decides}
 use Rattle.opgp_frame.specs.Packet.{PacketValue}
 use Rattle.opgp_ring.specs.Keyring.{CertificateValue, ComponentValue}
@@ -179,11 +179,6 @@ packet_whole k (x ∷ xs) = packet_whole k xs
 
 pub packets_joined : (ps : List PacketValue) → joined_all packet_name stays ps ≡ firsts same_packet ps
 packets_joined ps = sym (joined_is packet_name stays (λ k x. refl) ps) ∙ gathered_is same_packet (λ p. itself (packet_name p)) (alike packet_name) stays (λ k x. refl) (λ k l. k) packet_whole ps ∙ map_same (firsts same_packet ps)
-
-pub firsts_all : (P : PacketValue → Type 0) (ps : List PacketValue) → All P ps → All P (firsts same_packet ps)
-firsts_all P [] all = all
-firsts_all P (p ∷ ps) all =
-    All-cons P p _ (All-head P p ps all) (All-filter (λ q. not (same_packet p q)) P (firsts same_packet ps) (firsts_all P ps (All-tail P p ps all)))
 
 -- ---- components
 abbrev whole_component : ComponentValue → List ComponentValue → ComponentValue

@@ -1,21 +1,25 @@
 //! Choosing parts of certificates.
 
-ghost use Rattle.std.specs.Prelude.{◌≡◌, ◌+◌, ◌<◌, ◌^◌, ◌++◌, ◌∷◌, [], All, map, IfOk, OnOk, if◌then◌else◌};
-ghost use Rattle.opgp_ring.specs.Keyring.{IsCertificate, IsComponent};
+ghost use Rattle.std.specs.Prelude.{◌≡◌, ◌+◌, ◌<◌, ◌^◌, ◌++◌, ◌∷◌, [], All, length, map, IfOk, OnOk, if◌then◌else◌};
+ghost use Rattle.std.specs.List.{flat_map};
+ghost use Rattle.opgp_ring.specs.Grouped.{component_of, components_left};
+ghost use Rattle.opgp_ring.specs.Keyring.{IsCertificate, IsComponent, certificate_packets};
+ghost use Rattle.opgp_ring.specs.Keyring.{component_packets};
 ghost use Rattle.opgp_merge.specs.Chosen.{chosen_certificate, chosen_component, chosen_keyring};
 ghost use Rattle.opgp_merge.specs.Chosen.{component_stays, components_from, next_number, owner};
 
 use crate::choice::Choice;
-use crate::own::keep_own;
+use crate::own::add_own;
 use opgp_hash::{Fingerprint, fingerprint_of_view};
 use opgp_octets::OutOfMemory;
-use opgp_ring::{Certificate, Component, Head, Keyring};
+use opgp_ring::{Certificate, Component, Components, Head, Keyring};
 use std::alloc::Global;
 
 /// The keyring of whose certificates the chosen parts stay, in their order and as they are framed. A
 /// certificate stays even if only its primary key does, and what precedes the first one as it is.
 ///
-/// Nothing is copied. Fails only when out of memory.
+/// What stays of a certificate is copied, and then the certificate is freed. Fails only when out of
+/// memory.
 pub fn choose(ring: Keyring, choice: Choice) -> Result<Keyring, OutOfMemory>
     ensures { IfOk result (λ r. r ≡ chosen_keyring choice ring) }
 {
@@ -29,7 +33,7 @@ pub fn choose(ring: Keyring, choice: Choice) -> Result<Keyring, OutOfMemory>
 
 /// The certificate whose chosen parts stay, in their order and as they are framed.
 ///
-/// Nothing is copied. Fails only when out of memory.
+/// What stays is copied. Fails only when out of memory.
 pub fn choose_certificate(
     alloc: Global,
     certificate: Certificate,
@@ -39,15 +43,15 @@ pub fn choose_certificate(
     ensures certificate { IfOk result (λ c. IsCertificate c) }
 {
     let own = owner(&certificate, choice);
-    let (primary, mut hangs, components) = certificate.into_parts();
-    keep_own(&mut hangs, own);
-    match choose_components(alloc, components, choice, own) {
-        Ok(components) => Ok(Certificate::from_parts(primary, hangs, components)),
-        Err(refused) => {
-            drop(primary);
-            Err(refused)
-        }
-    }
+    let mut chosen = Certificate::new(alloc, certificate.primary())?;
+    add_own(&mut chosen, certificate.hangs(), own)?;
+    // Called for its contract: there are fewer components than packets.
+    let _count = certificate.packets().len();
+    add_components(&mut chosen, certificate.components(), choice, own)?;
+    // Called for its contract: what was added makes a certificate.
+    let _packets = chosen.packets();
+    opgp_ring::laws::one_certificate();
+    Ok(chosen)
 }
 
 /// The key whose signatures alone stay, if all others go: the primary key.
@@ -57,37 +61,38 @@ fn owner(certificate: &Certificate, choice: Choice) -> Option<Fingerprint>
     if !choice.own_signatures {
         return None;
     }
-    let key = certificate.key().view();
+    let key = certificate.key();
     // Called for their contracts, which tie the version that is hashed to the body's first octet.
     let _body = key.body();
     let _version = key.version();
     Some(fingerprint_of_view(key))
 }
 
-/// The components that stay, each with the signatures that stay.
-fn choose_components(
-    alloc: Global,
-    components: Vec<Component>,
+/// Adds copies of the components that stay, each with the signatures that stay.
+fn add_components(
+    chosen: &mut Certificate,
+    mut components: Components<'_>,
     choice: Choice,
     own: Option<Fingerprint>,
-) -> Result<Vec<Component>, OutOfMemory>
-    ensures value { IfOk result (λ v. v.items
-        ≡ map (chosen_component own) (components_from 0 choice components.items)) }
-    ensures sound { IfOk result (λ v. All IsComponent v.items) }
+) -> Result<(), OutOfMemory>
+    requires few { length (components_left components) < 2 ^ 64 }
+    requires sound { All IsComponent (components_left components) }
+    ensures { OnOk result (certificate_packets chosen.new ≡ certificate_packets chosen.old
+        ++ flat_map component_packets (map (chosen_component own)
+        (components_from 0 choice (components_left components.entry)))) }
 {
-    let mut chosen = Vec::new(alloc);
     let mut number = 0;
-    for component in components {
-        let stays = component_stays(choice, number, &component);
-        number = next_number(number, &component);
-        keep_component(&mut chosen, component, stays, own)?;
+    'components: while let Some(component) = components.next() {
+        let stays = component_stays(choice, number, component);
+        number = next_number(number, component);
+        add_component(chosen, component, stays, own)?;
     }
-    Ok(chosen)
+    Ok(())
 }
 
 /// Whether a component stays, before which this many user IDs are.
-fn component_stays(choice: Choice, number: u64, component: &Component) -> bool
-    ensures { result ≡ component_stays choice number component.now }
+fn component_stays(choice: Choice, number: u64, component: Component<'_>) -> bool
+    ensures { result ≡ component_stays choice number (component_of component.entry) }
 {
     match component.head().head() {
         Head::UserId(_) => match choice.user_id {
@@ -100,9 +105,9 @@ fn component_stays(choice: Choice, number: u64, component: &Component) -> bool
 }
 
 /// How many user IDs there are up to a component, before which this many are.
-fn next_number(number: u64, component: &Component) -> u64
+fn next_number(number: u64, component: Component<'_>) -> u64
     requires { number + 1 < 2 ^ 64 }
-    ensures { result ≡ next_number number component.now }
+    ensures { result ≡ next_number number (component_of component.entry) }
 {
     match component.head().head() {
         Head::UserId(_) => number + 1,
@@ -110,29 +115,21 @@ fn next_number(number: u64, component: &Component) -> u64
     }
 }
 
-/// Keeps a component, with the signatures that stay, if it stays itself.
-fn keep_component(
-    chosen: &mut Vec<Component>,
-    component: Component,
+/// Adds a copy of a component, with the signatures that stay, if it stays itself.
+fn add_component(
+    chosen: &mut Certificate,
+    component: Component<'_>,
     stays: bool,
     own: Option<Fingerprint>,
 ) -> Result<(), OutOfMemory>
-    ensures value { OnOk result (chosen.new.items ≡ chosen.old.items
-        ++ map (chosen_component own) (if stays then component ∷ [] else [])) }
-    ensures sound { OnOk result (All IsComponent chosen.old.items → All IsComponent chosen.new.items) }
+    requires { IsComponent (component_of component) }
+    ensures { OnOk result (certificate_packets chosen.new ≡ certificate_packets chosen.old
+        ++ flat_map component_packets (map (chosen_component own)
+        (if stays then component_of component.entry ∷ [] else []))) }
 {
     if stays {
-        chosen.push(choose_component(component, own))?;
+        chosen.add(component.head())?;
+        add_own(chosen, component.hangs(), own)?;
     }
     Ok(())
-}
-
-/// A component with the signatures that stay.
-fn choose_component(component: Component, own: Option<Fingerprint>) -> Component
-    ensures value { result ≡ chosen_component own component }
-    ensures component { IsComponent result }
-{
-    let (head, mut hangs) = component.into_parts();
-    keep_own(&mut hangs, own);
-    Component::from_parts(head, hangs)
 }

@@ -4,8 +4,8 @@ ghost use Rattle.std.specs.Prelude.{◌≡◌, refl, OnOk};
 ghost use Rattle.opgp_merge.specs.Slots.{Name, head_name, packet_name, primary_name};
 ghost use Rattle.opgp_merge.specs.Slots.{stays, with_hangs, with_parts};
 
+use crate::open::{OpenCertificate, OpenComponent, OpenPacket};
 use opgp_octets::{OutOfMemory, PacketType};
-use opgp_ring::{Certificate, Component, Member};
 
 /// An item that can be joined with others of the same type and body.
 pub(crate) trait Joining: Drop {
@@ -28,7 +28,7 @@ pub(crate) trait Joining: Drop {
     ghost keeps: { (x y : Self) → name (both x y) ≡ name x };
 }
 
-impl Joining for Member {
+impl Joining for OpenPacket<'_> {
     ghost name = { packet_name };
 
     ghost both = { stays };
@@ -36,16 +36,16 @@ impl Joining for Member {
     ghost keeps = { λ x y. refl };
 
     fn name(&self) -> (u8, &[u8]) {
-        (self.kind(), self.body())
+        (self.member.kind(), self.member.body())
     }
 
-    fn take_in(&mut self, member: Member) -> Result<(), OutOfMemory> {
-        drop(member);
+    fn take_in(&mut self, packet: Self) -> Result<(), OutOfMemory> {
+        drop(packet);
         Ok(())
     }
 }
 
-impl Joining for Component {
+impl Joining for OpenComponent<'_> {
     ghost name = { head_name };
 
     ghost both = { with_hangs };
@@ -53,16 +53,17 @@ impl Joining for Component {
     ghost keeps = { λ x y. refl };
 
     fn name(&self) -> (u8, &[u8]) {
-        let head = self.head();
-        (head.kind(), head.body())
+        self.head.name()
     }
 
-    fn take_in(&mut self, component: Component) -> Result<(), OutOfMemory> {
-        self.absorb(component)
+    fn take_in(&mut self, component: Self) -> Result<(), OutOfMemory> {
+        let mut hangs = component.hangs;
+        self.hangs.append(&mut hangs)?;
+        Ok(())
     }
 }
 
-impl Joining for Certificate {
+impl Joining for OpenCertificate<'_> {
     ghost name = { primary_name };
 
     ghost both = { with_parts };
@@ -70,10 +71,17 @@ impl Joining for Certificate {
     ghost keeps = { λ x y. refl };
 
     fn name(&self) -> (u8, &[u8]) {
-        (PacketType::PublicKey.number(), self.primary().body())
+        (PacketType::PublicKey.number(), self.primary.member.body())
     }
 
-    fn take_in(&mut self, certificate: Certificate) -> Result<(), OutOfMemory> {
-        self.absorb(certificate)
+    fn take_in(&mut self, certificate: Self) -> Result<(), OutOfMemory> {
+        let OpenCertificate {
+            primary: _,
+            mut hangs,
+            mut components,
+        } = certificate;
+        self.components.append(&mut components)?;
+        self.hangs.append(&mut hangs)?;
+        Ok(())
     }
 }

@@ -4,10 +4,12 @@
 
 mod choice;
 mod choosing;
+mod closing;
 mod gathering;
 mod joining;
 pub mod laws;
 mod merging;
+mod open;
 mod own;
 mod slots;
 

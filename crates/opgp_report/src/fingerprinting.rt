@@ -47,7 +47,7 @@ impl FingerprintedReporting {
             reporting,
             mut primaries,
         } = self;
-        let primary = print_of(&certificate.key().view());
+        let primary = print_of(&certificate.key());
         primaries.push(primary)?;
         let reporting = reporting.with_named(certificate, primary)?;
         Ok(FingerprintedReporting {

@@ -15,7 +15,7 @@ use crate::issuer_name::IssuerName;
 use crate::signers::print_of;
 use opgp_hash::{Fingerprint, KeyId};
 use opgp_octets::OutOfMemory;
-use opgp_ring::{Certificate, Component, Head};
+use opgp_ring::{Certificate, Components, Head};
 use std::alloc::Global;
 use std::collections::BTreeMap;
 
@@ -39,6 +39,7 @@ impl KeyIndex {
     ghost use Rattle.std.specs.Prelude.{length, map};
     ghost use Rattle.std.specs.List.{flat_map};
     ghost use Rattle.std.specs.Option.{option_map};
+    ghost use Rattle.opgp_ring.specs.Grouped.{components_left};
     ghost use Rattle.opgp_report.specs.First.{print_of};
     ghost use Rattle.opgp_report.specs.IssuerName.{name_value};
     ghost use Rattle.opgp_report.specs.KeyIndex.{prints_shown};
@@ -102,7 +103,7 @@ impl KeyIndex {
         ensures { IfOk result (λ n. prints_shown n
             ≡ prints_shown self ++ map print_of (certificate_keys certificate.now)) }
     {
-        self.with_named(certificate, print_of(&certificate.key().view()))
+        self.with_named(certificate, print_of(&certificate.key()))
     }
 
     /// The same, where this is the fingerprint of the certificate's primary key. Fails only when out
@@ -122,17 +123,15 @@ impl KeyIndex {
     }
 
     /// The index with the subkeys of components appended. Fails only when out of memory.
-    fn with_components(self, components: &[Component]) -> Result<KeyIndex, OutOfMemory>
-        ensures { IfOk result (λ n. prints_shown n
-            ≡ prints_shown self ++ map print_of (flat_map subkey_bodies components.now)) }
+    fn with_components(self, mut components: Components<'_>) -> Result<KeyIndex, OutOfMemory>
+        ensures { IfOk result (λ n. prints_shown n ≡ prints_shown self
+            ++ map print_of (flat_map subkey_bodies (components_left components.entry))) }
     {
         let mut names = self;
-        let mut rest = components;
-        'components: while let [component, more @ ..] = rest {
+        'components: while let Some(component) = components.next() {
             if let Head::Subkey(key) = component.head().head() {
-                names = names.with(print_of(&key.view()))?;
+                names = names.with(print_of(&key))?;
             }
-            rest = more;
         }
         Ok(names)
     }

@@ -55,7 +55,7 @@ impl Reporting {
         ensures { IfOk result (λ r. (cs : List CertificateValue) → Reports self cs
             → Reports r (cs ++ certificate.now ∷ [])) }
     {
-        self.with_named(certificate, print_of(&certificate.key().view()))
+        self.with_named(certificate, print_of(&certificate.key()))
     }
 
     /// The same, where this is the fingerprint of the certificate's primary key. Fails only when out

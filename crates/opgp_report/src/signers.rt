@@ -6,6 +6,7 @@ ghost use Rattle.std.specs.Option.{option_map};
 ghost use Rattle.opgp_hash.specs.KeyId.{id_of};
 ghost use Rattle.opgp_packet.specs.Parsed.{body_octets};
 ghost use Rattle.opgp_packet.specs.SigView.{sig_view_value};
+ghost use Rattle.opgp_ring.specs.Grouped.{components_left};
 ghost use Rattle.opgp_report.specs.First.{print_of};
 ghost use Rattle.opgp_report.specs.KeyIndex.{prints_shown};
 ghost use Rattle.opgp_report.specs.Report.{certificate_keys, keys_in, signer_in, subkey_bodies};
@@ -15,7 +16,7 @@ use crate::signing::signer;
 use opgp_hash::{Fingerprint, KeyId, fingerprint_of_view};
 use opgp_octets::OutOfMemory;
 use opgp_packet::{KeyView, SigView};
-use opgp_ring::{Certificate, Component, Head, Keyring};
+use opgp_ring::{Certificate, Components, Head, Keyring};
 use std::alloc::Global;
 
 /// A key, with its key ID.
@@ -63,17 +64,15 @@ impl<'a> Signers<'a> {
     }
 
     /// With the subkeys of components. Fails only when out of memory.
-    fn with_components(self, components: &'a [Component]) -> Result<Signers<'a>, OutOfMemory>
-        ensures { IfOk result (λ s. signers_keys s
-            ≡ signers_keys self.entry ++ flat_map subkey_bodies components.now) }
+    fn with_components(self, mut components: Components<'a>) -> Result<Signers<'a>, OutOfMemory>
+        ensures { IfOk result (λ s. signers_keys s ≡ signers_keys self.entry
+            ++ flat_map subkey_bodies (components_left components.entry)) }
     {
         let mut signers = self;
-        let mut rest = components;
-        'components: while let [component, more @ ..] = rest {
+        'components: while let Some(component) = components.next() {
             if let Head::Subkey(key) = component.head().head() {
-                signers = signers.with(key.view())?;
+                signers = signers.with(key)?;
             }
-            rest = more;
         }
         Ok(signers)
     }
@@ -83,7 +82,7 @@ impl<'a> Signers<'a> {
         ensures { IfOk result (λ s. signers_keys s
             ≡ signers_keys self.entry ++ certificate_keys certificate.now) }
     {
-        let signers = self.with(certificate.key().view())?;
+        let signers = self.with(certificate.key())?;
         let signers = signers.with_components(certificate.components())?;
         Ok(signers)
     }

@@ -2,6 +2,7 @@
 
 ghost use Rattle.std.specs.Prelude.{◌≡◌, ◌∷◌, ◌++◌, [], ◌+◌, ◌<◌, ◌≤◌, ◌^◌, length, List, ℕ};
 ghost use Rattle.std.specs.Prelude.{Ok, Result, IfOk, Some, true};
+ghost use Rattle.std.specs.List.{flat_map};
 ghost use Rattle.opgp_octets.specs.Reading.{Reads};
 ghost use Rattle.opgp_packet.specs.Parsed.{body_octets};
 ghost use Rattle.opgp_packet.specs.SignatureBody.{signature_at};
@@ -10,6 +11,8 @@ ghost use Rattle.opgp_packet.specs.Subs.{subs_to_come};
 ghost use Rattle.opgp_hash.specs.CertificateHasher.{hasher_subject};
 ghost use Rattle.opgp_hash.specs.Subject.{subject_value};
 ghost use Rattle.opgp_hash.specs.SubjectValue.{first_key, is_within};
+ghost use Rattle.opgp_ring.specs.Grouped.{component_of, components_left, hangs_left};
+ghost use Rattle.opgp_ring.specs.Keyring.{component_packets};
 ghost use Rattle.opgp_report.specs.Standing.{Standing, bodies_within, by_number};
 ghost use Rattle.opgp_report.specs.Standing.{certificate_standing, component_standing};
 ghost use Rattle.opgp_report.specs.Standing.{hangs_standing, held_bodies};
@@ -20,7 +23,7 @@ use crate::place::Place;
 use opgp_hash::{CertificateHasher, Site, Subject};
 use opgp_octets::{BodyFault, SignatureType, SubpacketKind};
 use opgp_packet::{KeyView, SigView, Subs};
-use opgp_ring::{Certificate, Component, Content, Head, Keyring, Member};
+use opgp_ring::{Certificate, Component, Components, Content, Hangs, Head, Keyring};
 
 /// A visitor of the signatures of a keyring, one after the other.
 pub trait Visitor<'a> {
@@ -132,16 +135,16 @@ fn visit_hangs<'a, V: Visitor<'a>>(
     hasher: &mut CertificateHasher<'a>,
     certificate: usize,
     component: Option<usize>,
-    hangs: &'a [Member],
+    mut hangs: Hangs<'a>,
 ) -> Result<(), V::Stop>
+    requires few { length (hangs_left hangs) < 2 ^ 64 }
     ensures subject { hasher_subject hasher.new ≡ hasher_subject hasher.old }
     ensures shown { Shown V.becomes visitor.old (hangs_standing certificate component
-        (hasher_subject hasher.old) hangs.now) result visitor.new }
+        (hasher_subject hasher.old) (hangs_left hangs.entry)) result visitor.new }
 {
-    opgp_packet::signature_laws::written_signature();
+    opgp_packet::signature_laws::signatures_are_read();
     let mut number = 0usize;
-    let mut rest = hangs;
-    'hangs: while let [hang, more @ ..] = rest {
+    'hangs: while let Some(hang) = hangs.next() {
         let place = Place {
             certificate,
             component,
@@ -150,9 +153,10 @@ fn visit_hangs<'a, V: Visitor<'a>>(
         };
         match hang.content() {
             Content::Signature(signature) => {
-                let view = signature.view();
-                visitor.meet(hasher, Site::Hung, place, &Ok(view))?;
-                visit_embedded(visitor, hasher, place, view)?;
+                // Called for its contract: the body is that of this signature.
+                let _body = signature.body();
+                visitor.meet(hasher, Site::Hung, place, &Ok(signature))?;
+                visit_embedded(visitor, hasher, place, signature)?;
             }
             Content::Malformed(body) => {
                 visitor.meet(hasher, Site::Hung, place, &SigView::parse_body(body))?;
@@ -160,22 +164,21 @@ fn visit_hangs<'a, V: Visitor<'a>>(
             _ => {}
         }
         number += 1;
-        rest = more;
     }
     Ok(())
 }
 
 /// What signatures on a component are made over.
-fn subject_on<'a>(primary: KeyView<'a>, component: &'a Component) -> Subject<'a>
+fn subject_on<'a>(primary: KeyView<'a>, component: Component<'a>) -> Subject<'a>
     ensures value { subject_value result
-        ≡ on_head (body_octets primary.entry) component.now.head }
+        ≡ on_head (body_octets primary.entry) (component_of component.entry).head }
     ensures first { first_key (subject_value result) ≡ Some (body_octets primary.entry) }
     ensures within { is_within (subject_value result) ≡ true }
 {
     match component.head().head() {
-        Head::UserId(id) => Subject::OnUserId(primary, id.octets()),
-        Head::Attribute(attribute) => Subject::OnAttribute(primary, attribute.view()),
-        Head::Subkey(key) => Subject::Two(primary, key.view()),
+        Head::UserId(id) => Subject::OnUserId(primary, id),
+        Head::Attribute(attribute) => Subject::OnAttribute(primary, attribute),
+        Head::Subkey(key) => Subject::Two(primary, key),
     }
 }
 
@@ -185,16 +188,16 @@ fn visit_components<'a, V: Visitor<'a>>(
     hasher: &mut CertificateHasher<'a>,
     primary: KeyView<'a>,
     certificate: usize,
-    components: &'a [Component],
+    mut components: Components<'a>,
 ) -> Result<(), V::Stop>
-    requires { first_key (hasher_subject hasher.old) ≡ Some (body_octets primary) }
+    requires first { first_key (hasher_subject hasher.old) ≡ Some (body_octets primary) }
+    requires few { length (flat_map component_packets (components_left components)) < 2 ^ 64 }
     ensures { Shown V.becomes visitor.old (by_number
-        (component_standing (body_octets primary.entry) certificate) 0 components.now) result
-        visitor.new }
+        (component_standing (body_octets primary.entry) certificate) 0
+        (components_left components.entry)) result visitor.new }
 {
     let mut number = 0usize;
-    let mut rest = components;
-    'components: while let [component, more @ ..] = rest {
+    'components: while let Some(component) = components.next() {
         hasher.turn_to(subject_on(primary, component));
         visit_hangs(
             visitor,
@@ -204,7 +207,6 @@ fn visit_components<'a, V: Visitor<'a>>(
             component.hangs(),
         )?;
         number += 1;
-        rest = more;
     }
     Ok(())
 }
@@ -218,7 +220,9 @@ pub(crate) fn visit_certificate<'a, V: Visitor<'a>>(
     ensures { Shown V.becomes visitor.old (certificate_standing number certificate.now) result
         visitor.new }
 {
-    let primary = certificate.key().view();
+    // Called for its contract: its packets can be counted.
+    let _count = certificate.packets().len();
+    let primary = certificate.key();
     let mut hasher = CertificateHasher::new(primary);
     match visit_hangs(visitor, &mut hasher, number, None, certificate.hangs()) {
         Ok(()) => visit_components(

@@ -1,5 +1,5 @@
 -- The first fault of bodies, in parts of a list.
-use Rattle.std.proofs.Common.{◌≡◌, ℕ, ◌<◌, List, [], ◌∷◌, ◌++◌, length, take, drop, get_or, All, refl, sym, ap, subst, ◌∙◌, append_assoc, drop-cons, suc}
+use Rattle.std.proofs.Common.{◌≡◌, ℕ, ◌<◌, List, ◌∷◌, ◌++◌, length, take, drop, get_or, All, sym, ap, subst, ◌∙◌, append_assoc, drop-cons, suc}
 use Rattle.std.proofs.lemmas.List.{take-append-drop}
 use Rattle.std.proofs.lemmas.List.Concat.{flat_map-append}
 use Rattle.std.proofs.lemmas.List.Elements.{All-append}
@@ -28,10 +28,6 @@ first_at policy ps i p f h e sound k = record {
   here = k.here;
   is = k.is;
 }
-
--- the same where it is the last, and where more follow
-pub first_last : (policy : Malformed) (ps : List Placed) (p : Placed) (f : Fault) → All (IsSound policy) ps → IsPlacedFault policy p f → IsFirstBodyFault policy (ps ++ p ∷ []) f
-first_last policy ps p f sound k = record { before = ps; at = p; after = []; why = k.why; whole = refl; sound = sound; octets = k.octets; here = k.here; is = k.is }
 
 pub first_more : (policy : Malformed) (ps more : List Placed) (f : Fault) → IsFirstBodyFault policy ps f → IsFirstBodyFault policy (ps ++ more) f
 first_more policy ps more f b = record {

@@ -1,6 +1,8 @@
 -- What the tests on types exclude.
 use Rattle.std.proofs.Common.{◌≡◌, ℕ, Bool, true, false, ◌||◌, ◌==◌, ◌⊎◌, inl, inr, refl, ap, subst, ◌∙◌}
 use Rattle.std.proofs.lemmas.Bool.{eqb-true}
+use Rattle.opgp_frame.specs.Header.{is_data_kind}
+use Rattle.opgp_ring.specs.Composition.{stands_in_keyring}
 use Rattle.opgp_ring.specs.Keyring.{is_filler, is_primary, is_head, is_hung}
 
 -- one of two tests passes
@@ -42,3 +44,6 @@ primary_needs_none k p = or_false (k == 2) (is_head k) (excluded is_primary 2 k 
 
 pub primary_no_data : (k : ℕ) → is_primary k ≡ true → (((k == 9) || (k == 11)) || (k == 18)) ≡ false
 primary_no_data k p = or_false ((k == 9) || (k == 11)) (k == 18) (or_false (k == 9) (k == 11) (excluded is_primary 9 k refl p) (excluded is_primary 11 k refl p)) (excluded is_primary 18 k refl p)
+
+pub stands_no_data : (k : ℕ) → stands_in_keyring k ≡ true → is_data_kind k ≡ false
+stands_no_data k h = or_false ((k == 9) || (k == 11)) (k == 18) (or_false (k == 9) (k == 11) (excluded stands_in_keyring 9 k refl h) (excluded stands_in_keyring 11 k refl h)) (excluded stands_in_keyring 18 k refl h)

@@ -4,6 +4,7 @@ pub mod BlockEnds
 pub mod Faults
 pub mod Feeding
 pub mod Gathered
+pub mod Grouping
 pub mod HandedOut
 pub mod Hanging
 pub mod Holding
@@ -14,6 +15,7 @@ pub mod Longer
 pub mod Normalised
 pub mod OneBodyFault
 pub mod OneFault
+pub mod Packing
 pub mod Parts
 pub mod Prefixes
 pub mod SomeAnswer

@@ -87,11 +87,5 @@ pub record Closes (limits : Limits) (given : List Item) (before last : List Part
 closes_as : (limits : Limits) (given : List Item) (s r : KeyringValue) → IsKeyringOf limits given r → parts_of r ≡ parts_of s → IsKeyringOf limits given s
 closes_as limits given s r k e = subst (IsKeyringOf limits given) (same_parts r s e) k
 
-pub closed_none : (limits : Limits) (given : List Item) (l : List PacketValue) (cs : List CertificateValue) → Closes limits given (parts_of (keyring l cs)) [] → IsKeyringOf limits given (keyring l cs)
-closed_none limits given l cs x = closes_as limits given (keyring l cs) x.ring x.stands (x.parts ∙ append-nil (parts_of (keyring l cs)))
-
 pub closed_lead : (limits : Limits) (given : List Item) (l m : List PacketValue) (cs : List CertificateValue) → Closes limits given (parts_of (keyring l cs)) (of_lead m ∷ []) → IsKeyringOf limits given (keyring m cs)
 closed_lead limits given l m cs x = closes_as limits given (keyring m cs) x.ring x.stands (x.parts ∙ lead_alone l m cs x.ring (sym x.parts))
-
-pub closed_certificate : (limits : Limits) (given : List Item) (l : List PacketValue) (cs : List CertificateValue) (c : CertificateValue) → Closes limits given (parts_of (keyring l cs)) (of_certificate c ∷ []) → IsKeyringOf limits given (keyring l (cs ++ c ∷ []))
-closed_certificate limits given l cs c x = closes_as limits given (keyring l (cs ++ c ∷ [])) x.ring x.stands (x.parts ∙ parts_push l cs c)

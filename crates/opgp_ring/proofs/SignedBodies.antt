@@ -94,7 +94,7 @@ kept_fault policy LiteralData o f h = h
 kept_fault policy UserAttribute o f h = h
 kept_fault policy other o f h = absurd h
 
-sound_kept : (policy : Malformed) (p : PacketValue) → HasNoFault policy p → HasNoFault Keep p
+pub sound_kept : (policy : Malformed) (p : PacketValue) → HasNoFault policy p → HasNoFault Keep p
 sound_kept policy p sound = λ f h. sound f (kept_fault policy (packet_type_of p.kind) p.body f h)
 
 pub all_kept : (policy : Malformed) (ps : List PacketValue) → All (HasNoFault policy) ps → All (HasNoFault Keep) ps

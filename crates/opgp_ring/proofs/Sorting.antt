@@ -1,29 +1,17 @@
 -- Which packets have bodies that are read, and which stand in no keyring.
-use Rattle.std.proofs.Common.{◌≡◌, ℕ, true, false, ◌||◌, ◌==◌, List, length, refl, sym, ap, subst, ◌∙◌}
+use Rattle.std.proofs.Common.{◌≡◌, ℕ, true, false, ◌||◌, ◌==◌, List, refl, ap, subst, ◌∙◌}
 use Rattle.std.proofs.lemmas.Bool.{eqb-true}
 use Rattle.opgp_octets.specs.declared.malformed.Malformed.{Malformed}
 use Rattle.opgp_octets.specs.PacketType.{packet_type_of}
 use Rattle.opgp_octets.specs.declared.fault.BodyFault.{BodyFault}
 use Rattle.opgp_octets.specs.declared.packet_type.PacketType.{PacketType}
-use Rattle.opgp_octets.specs.declared.packet_type.PacketType.TheVariants.{Signature, PublicKey, PublicSubkey, LiteralData, UserId, UserAttribute}
-use Rattle.opgp_octets.specs.Octets.{IsOctets}
-use Rattle.opgp_packet.specs.Fields.{Grammar, Field, Body, FirstFault}
+use Rattle.opgp_octets.specs.declared.packet_type.PacketType.TheVariants.{Signature, PublicKey, PublicSubkey, UserId, UserAttribute}
 use Rattle.opgp_frame.specs.Packet.{PacketValue}
 use Rattle.opgp_ring.specs.Bodies.{HasFault}
 use Rattle.opgp_ring.specs.PacketBody.{HasBodyFault}
 use Rattle.opgp_ring.specs.Composition.{stands_in_keyring}
 use Rattle.opgp_ring.specs.Keyring.{is_filler, is_head, is_hung, is_primary}
 use Rattle.opgp_ring.proofs.KindTests.{or_false}
-
--- of other types nothing is read
-pub unread : (policy : Malformed) (t : PacketType) (o : List ℕ) (f : BodyFault) → (t ≡ Signature → ⊥) → (t ≡ PublicKey → ⊥) → (t ≡ PublicSubkey → ⊥) → (t ≡ LiteralData → ⊥) → (t ≡ UserAttribute → ⊥)
-    → HasBodyFault policy t o f → ⊥
-unread policy Signature o f a b c d e h = a refl
-unread policy PublicKey o f a b c d e h = b refl
-unread policy PublicSubkey o f a b c d e h = c refl
-unread policy LiteralData o f a b c d e h = d refl
-unread policy UserAttribute o f a b c d e h = e refl
-unread policy other o f a b c d e h = h
 
 -- the types of some numbers
 is_signature : packet_type_of 2 ≡ Signature
@@ -60,15 +48,13 @@ stray t k of signature key user_id subkey attribute filler =
     let hung : is_hung k ≡ false = or_false (k == 2) (is_filler k) (another t Signature k 2 of is_signature signature) filler in
     or_false (is_primary k) (is_head k || is_hung k) (another t PublicKey k 6 of is_key key) (or_false (is_head k) (is_hung k) head hung)
 
+-- a type that stands in a keyring, and is none of these, is a filler's
+pub filler_left : (t : PacketType) (k : ℕ) → t ≡ packet_type_of k → (t ≡ Signature → ⊥) → (t ≡ PublicKey → ⊥) → (t ≡ UserId → ⊥) → (t ≡ PublicSubkey → ⊥) → (t ≡ UserAttribute → ⊥)
+    → stands_in_keyring k ≡ true → is_filler k ≡ true
+filler_left t k of signature key user_id subkey attribute stands =
+    elim (is_filler k) as (λ b. is_filler k ≡ b → b ≡ true) [ true ↦ λ e. refl | false ↦ λ e. absurd (let none : stands_in_keyring k ≡ false = stray t k of signature key user_id subkey attribute e in cc) ] refl
+
 -- ---- what a body's type says of its faults
-
-pub typed : (policy : Malformed) (p : PacketValue) (k : ℕ) (t : PacketType) (f : BodyFault) → k ≡ p.kind → t ≡ packet_type_of k → HasFault policy p f → HasBodyFault policy t p.body f
-typed policy p k t f same of h = subst (λ (x : PacketType). HasBodyFault policy x p.body f) (ap packet_type_of (sym same) ∙ sym of) h
-
--- octets that are fields have no fault of them
-pub fields_sound : (law : (grammar : Grammar) (fields : List Field) (o : List ℕ) (f : BodyFault) → IsOctets o → Body grammar fields o → FirstFault (length o) grammar o f → ⊥)
-    (grammar : Grammar) (fields : List Field) (o body : List ℕ) (f : BodyFault) → o ≡ body → IsOctets body → Body grammar fields o → FirstFault (length body) grammar body f → ⊥
-fields_sound law grammar fields o body f same octets found h = law grammar fields body f octets (subst (Body grammar fields) same found) h
 
 pub untyped : (policy : Malformed) (p : PacketValue) (k : ℕ) (t : PacketType) (o : List ℕ) (f : BodyFault) → k ≡ p.kind → t ≡ packet_type_of k → o ≡ p.body → HasBodyFault policy t o f → HasFault policy p f
 untyped policy p k t o f same of body h =

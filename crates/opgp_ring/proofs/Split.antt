@@ -2,7 +2,7 @@
 -- to the first.
 use Rattle.std.proofs.Common.{◌≡◌, Bool, true, false, List, [], ◌∷◌, ◌++◌, refl, sym, ap, ◌∙◌, append_assoc, append-nil}
 use Rattle.std.specs.List.{flat_map, AllByRecursion}
-use Rattle.std.proofs.lemmas.List.Elements.{recursion_from_All}
+use Rattle.std.proofs.lemmas.List.Elements.{All-cons, All-nil, recursion_from_All}
 use Rattle.opgp_frame.specs.Packet.{PacketValue}
 use Rattle.opgp_ring.specs.Keyring.{KeyringValue, CertificateValue, ComponentValue, IsKeyring, IsCertificate, IsComponent, component_packets, certificate_packets, flat, is_primary, is_head, is_hung, IsHung, IsFiller}
 use Rattle.opgp_ring.proofs.KindTests.{hung_no_primary, hung_no_head, head_no_primary, filler_hung}
@@ -84,3 +84,14 @@ keyring_in r = record { lead = r.hangs; certificates = r.certificates }
 -- one list of packets is the flat list of one keyring at most
 pub one_keyring : (r s : KeyringValue) → IsKeyring r → IsKeyring s → flat r ≡ flat s → r ≡ s
 one_keyring r s p q e = sym (ap keyring_in (split-flat r p)) ∙ ap (λ (ps : List PacketValue). keyring_in (split ps)) e ∙ ap keyring_in (split-flat s q)
+
+abbrev first_or : CertificateValue → List CertificateValue → CertificateValue
+first_or c [] = c
+first_or c (d ∷ ds) = d
+
+-- and that of one certificate at most
+pub one_certificate : (c d : CertificateValue) → IsCertificate c → IsCertificate d → certificate_packets c ≡ certificate_packets d → c ≡ d
+one_certificate c d p q e =
+    let alone : CertificateValue → KeyringValue = λ x. record { lead = []; certificates = x ∷ [] } in
+    let is : (x : CertificateValue) → IsCertificate x → IsKeyring (alone x) = λ x k. record { lead = All-nil IsFiller; certificates = All-cons IsCertificate x [] k (All-nil IsCertificate) } in
+    ap (λ (r : KeyringValue). first_or c r.certificates) (one_keyring (alone c) (alone d) (is c p) (is d q) (ap (λ (ps : List PacketValue). ps ++ []) e))

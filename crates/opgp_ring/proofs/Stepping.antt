@@ -14,7 +14,7 @@ use Rattle.opgp_ring.specs.Composition.{Item, of_packet, packets_in, IsFaultAt, 
 use Rattle.opgp_ring.specs.Keyring.{CertificateValue, IsCertificate, IsFiller, IsPrimary, certificate_packets, octets_of, is_primary, is_head, is_hung, is_filler}
 use Rattle.opgp_ring.specs.declared.sorted.Sorted.{Sorted}
 use Rattle.opgp_ring.specs.declared.sorted.Sorted.TheVariants.{Primary, Behind, Filler, Stray}
-use Rattle.opgp_ring.specs.Sorted.{IsSorted, sorted_packet}
+use Rattle.opgp_ring.specs.Sorted.{IsSorted}
 use Rattle.opgp_ring.specs.State.{has_begun, is_open, is_spent_state, ready_parts}
 use Rattle.opgp_ring.proofs.Adding.{fillers_lack, certificates_front, certificate_last, octets_of-push}
 use Rattle.opgp_ring.proofs.Feeding.{leads, leads_too_long, grows, grows_too_long, begins_first, begins_next, lacking_fault, long_fault, begun}
@@ -121,12 +121,12 @@ pub grown_octets : (c d : CertificateValue) (p : PacketValue) (size octets : ℕ
     → octets_of (certificate_packets d) ≡ size + octets
 grown_octets c d p size octets packets before own = omega (arith, ap octets_of packets, octets_of-push (certificate_packets c) p, before, own)
 
--- a packet that was sorted out
-pub strayed : (s : Sorted) (p : PacketValue) → s ≡ Stray p → IsSorted s → stands_in_keyring (sorted_packet s).kind ≡ false
-strayed (Stray q) p e h = h
-strayed (Primary q) p e h = absurd cc
-strayed (Behind q) p e h = absurd cc
-strayed (Filler q) p e h = absurd cc
+-- a type that stands nowhere in a keyring
+pub strayed : (s : Sorted) (kind : ℕ) → s ≡ Stray → IsSorted s kind → stands_in_keyring kind ≡ false
+strayed Stray kind e h = h
+strayed Primary kind e h = absurd cc
+strayed Behind kind e h = absurd cc
+strayed Filler kind e h = absurd cc
 
 pub spent_is : (s : State) → is_spent_state s ≡ true → s ≡ Spent
 spent_is Spent e = refl

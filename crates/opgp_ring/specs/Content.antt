@@ -4,9 +4,8 @@ use Rattle.opgp_octets.specs.PacketType.{packet_type_number}
 use Rattle.opgp_octets.specs.declared.fault.BodyFault.{BodyFault}
 use Rattle.opgp_octets.specs.declared.packet_type.PacketType.TheVariants as packet
 use Rattle.opgp_packet.specs.Parsed.{body_octets}
-use Rattle.opgp_packet.specs.UserId.{user_id_octets}
-use Rattle.opgp_packet.specs.Signature.{signature_octets}
 use Rattle.opgp_packet.specs.SignatureBody.{signature_at}
+use Rattle.opgp_packet.specs.SigView.{sig_view_octets}
 use Rattle.opgp_ring.specs.declared.content.Content.{Content}
 use Rattle.opgp_ring.specs.declared.content.Content.TheVariants as content
 use Rattle.opgp_ring.specs.Keyring.{is_filler}
@@ -23,11 +22,11 @@ content_kind (content.Filler kind body) = kind
 abbrev pub content_octets : Content → List ℕ
 content_octets (content.Primary key) = body_octets key
 content_octets (content.Subkey key) = body_octets key
-content_octets (content.UserId id) = user_id_octets id
+content_octets (content.UserId id) = id.now
 content_octets (content.Attribute attribute) = body_octets attribute
-content_octets (content.Signature signature) = signature_octets signature
-content_octets (content.Malformed body) = body.items
-content_octets (content.Filler kind body) = body.items
+content_octets (content.Signature signature) = sig_view_octets signature
+content_octets (content.Malformed body) = body.now
+content_octets (content.Filler kind body) = body.now
 
 -- octets that are no signature's: they have a fault as one (5.2.5)
 abbrev pub IsMalformed : List ℕ → Type 0
@@ -35,6 +34,6 @@ IsMalformed o = (f : BodyFault) × (signature_at o ≡ Err f)
 
 -- a body that is kept as it is: no signature's, or one of a type that isn't read
 abbrev pub IsKept : Content → Type 0
-IsKept (content.Malformed body) = IsMalformed body.items
+IsKept (content.Malformed body) = IsMalformed body.now
 IsKept (content.Filler kind body) = is_filler kind ≡ true
 IsKept c = Unit {0}

@@ -5,6 +5,7 @@ pub mod Composition
 pub mod Content
 pub mod Fed
 pub mod Gathering
+pub mod Grouped
 pub mod Keyring
 pub mod Member
 pub mod Sorted
@@ -13,9 +14,11 @@ pub mod Taken
 pub mod Joining
 pub mod Lent
 pub mod Normal
+pub mod Packed
 pub mod PacketBody
 pub mod Packets
 pub mod Parts
+pub mod Place
 pub mod Shape
 pub mod Signed
 pub mod SignedGathering

@@ -1,18 +1,14 @@
--- The value of a packet of a keyring, its body read.
-use Rattle.std.specs.Prelude.{ℕ, List}
-use Rattle.opgp_frame.specs.declared.form.Form.{Form}
-use Rattle.opgp_frame.specs.Packet.{PacketValue, IsPacket}
-use Rattle.opgp_ring.specs.declared.content.Content.{Content}
-use Rattle.opgp_ring.specs.Content.{content_kind, content_octets, IsKept}
-
-abbrev pub packet_with : Form → ℕ → List ℕ → PacketValue
-packet_with form kind body = record { form = form; kind = kind; body = body }
+-- A packet of a keyring, borrowed, and those that are left to be visited.
+use Rattle.std.specs.Prelude.{List}
+use Rattle.opgp_frame.specs.Packet.{PacketValue}
+use Rattle.opgp_ring.specs.declared.member.Member.{Member}
+use Rattle.opgp_ring.specs.declared.members.Members.{Members}
+use Rattle.opgp_ring.specs.Place.{packet_at, packets_at}
 
 -- the packet as it is framed
-abbrev pub packet_of : Form → Content → PacketValue
-packet_of form c = packet_with form (content_kind c) (content_octets c)
+abbrev pub member_packet : Member → PacketValue
+member_packet m = packet_at m.place m.body.now
 
--- its form encodes the body
-pub record IsMember (form : Form) (c : Content) : Type 0 where
-  pub packet : IsPacket (packet_of form c)
-  pub kept : IsKept c
+-- the packets that are left, in order
+abbrev pub members_left : Members → List PacketValue
+members_left m = packets_at m.bodies.now m.places.now

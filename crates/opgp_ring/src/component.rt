@@ -1,128 +1,68 @@
-//! A component of a certificate.
+//! The components of a certificate.
 
-ghost use Rattle.std.specs.Prelude.{◌≡◌, ◌++◌, ◌∷◌, [], All, OnOk, OnErr, IfOk};
-ghost use Rattle.opgp_ring.specs.Keyring.{ComponentValue, IsComponent, IsHead};
-ghost use Rattle.opgp_ring.specs.Keyring.{IsHung};
+ghost use Rattle.std.specs.Prelude.{◌≡◌, ◌∷◌, [], MatchOption};
+ghost use Rattle.opgp_ring.specs.Keyring.{IsHead};
+ghost use Rattle.opgp_ring.specs.Member.{member_packet, members_left};
 
-use crate::copying::copy_all;
+use crate::hangs::Hangs;
 use crate::member::Member;
-use crate::reframing::{Reframe, reframe_all};
-use opgp_octets::OutOfMemory;
-use std::alloc::Global;
-use std::marker::Model;
+use crate::members::Members;
 
 /// A user ID, an attribute or a subkey of a certificate, and the signatures and fillers on it (RFC
-/// 9580, 10.1).
-#[derive(Drop)]
-pub struct Component {
-    head: Member,
-    hangs: Vec<Member>,
+/// 9580, 10.1), borrowed.
+#[derive(Clone, Copy)]
+pub struct Component<'a> {
+    head: Member<'a>,
+    hangs: Hangs<'a>,
+    ghost begins: { IsHead (member_packet head) },
 }
 
-impl Model for Component {
-    ghost use Rattle.opgp_ring.specs.Keyring.{ComponentValue, IsComponent};
-
-    ghost Value = { ComponentValue };
-
-    ghost view = { λ c. record { head = c.head; hangs = c.hangs.items } };
-
-    ghost invariant = { λ c. IsComponent (record { head = c.head; hangs = c.hangs.items }) };
-}
-
-impl Component {
-    /// A component without signatures. Allocates nothing.
-    pub(crate) fn new(alloc: Global, head: Member) -> Component
-        requires { IsHead head }
-        ensures { result ≡ record { head = head; hangs = [] } }
-    {
-        Component {
-            head,
-            hangs: Vec::new(alloc),
-        }
-    }
-
-    /// Adds a signature or filler. Fails only when out of memory; the component is then unchanged.
-    #[inline(always)]
-    pub(crate) fn hang(&mut self, packet: Member) -> Result<(), OutOfMemory>
-        requires { IsHung packet }
-        ensures head { self.new.head ≡ self.old.head }
-        ensures ok { OnOk result (self.new.hangs ≡ self.old.hangs ++ packet ∷ []) }
-        ensures err { OnErr result (self.new ≡ self.old) }
-        ensures component { IsComponent self.new }
-    {
-        self.hangs.push(packet)?;
-        Ok(())
-    }
-
-    /// A component of its parts. The conditions are that the head is a user ID, an attribute or a
-    /// subkey, and that the packets on it are signatures and fillers.
-    pub fn from_parts(head: Member, hangs: Vec<Member>) -> Component
-        requires head { IsHead head }
-        requires hangs { All IsHung hangs.items }
-        ensures { result ≡ record { head = head; hangs = hangs.items } }
-    {
-        Component { head, hangs }
-    }
-
-    /// The head, and the packets on it.
-    pub fn into_parts(self) -> (Member, Vec<Member>)
-        ensures head { result.0 ≡ self.head }
-        ensures hangs { result.1.items ≡ self.hangs }
-        ensures component { IsComponent self }
-    {
-        let Component { head, hangs } = self;
-        (head, hangs)
-    }
-
-    /// Adds the packets on another component, after those on this one. Nothing is copied.
-    ///
-    /// Fails only when out of memory; this component is then unchanged.
-    pub fn absorb(&mut self, other: Component) -> Result<(), OutOfMemory>
-        ensures ok { OnOk result (self.new ≡ record {
-          head = self.old.head;
-          hangs = self.old.hangs ++ other.hangs;
-        }) }
-        ensures err { OnErr result (self.new ≡ self.old) }
-    {
-        let (head, mut hangs) = other.into_parts();
-        drop(head);
-        self.hangs.append(&mut hangs)?;
-        Ok(())
-    }
+impl<'a> Component<'a> {
+    ghost use Rattle.opgp_ring.specs.Grouped.{component_of, hangs_left};
 
     /// The user ID, attribute or subkey.
-    pub fn head(&self) -> &Member
-        ensures value { result.now ≡ self.now.head }
-        ensures component { IsComponent self.now }
+    pub fn head(self) -> Member<'a>
+        ensures value { member_packet result ≡ (component_of self.entry).head }
+        ensures head { IsHead (member_packet result) }
     {
-        &self.head
+        self.head
     }
 
     /// The signatures and fillers on it, in order.
-    pub fn hangs(&self) -> &[Member]
-        ensures value { result.now ≡ self.now.hangs }
-        ensures component { IsComponent self.now }
+    pub fn hangs(self) -> Hangs<'a>
+        ensures { hangs_left result ≡ (component_of self.entry).hangs }
     {
-        &self.hangs
-    }
-
-    /// A copy of this component. Fails only when out of memory.
-    pub fn copy(&self, alloc: Global) -> Result<Component, OutOfMemory>
-        ensures { IfOk result (λ c. c ≡ self.now) }
-    {
-        let hangs = copy_all(alloc, &self.hangs, |member| member.copy(alloc))?;
-        let head = self.head.copy(alloc)?;
-        Ok(Component { head, hangs })
+        self.hangs
     }
 }
 
-impl Reframe for Component {
-    ghost use Rattle.opgp_ring.specs.Normal.{normal_component};
+/// The components of a certificate that are left to be visited, in order. Allocates nothing.
+#[derive(Clone, Copy)]
+pub struct Components<'a> {
+    left: Members<'a>,
+}
 
-    ghost normal = { normal_component };
+impl<'a> Components<'a> {
+    ghost use Rattle.opgp_ring.specs.Grouped.{component_of, components_behind, components_left};
 
-    fn reframe(&mut self) {
-        self.head.reframe();
-        reframe_all(&mut self.hangs);
+    /// Those from the next user ID, attribute or subkey on.
+    pub(crate) fn new(left: Members<'a>) -> Components<'a>
+        ensures { components_left result ≡ components_behind (members_left left.entry) }
+    {
+        Components { left }
+    }
+
+    /// The next component, or None at the end.
+    pub fn next(&mut self) -> Option<Component<'a>>
+        ensures { MatchOption result (components_left self.old ≡ [])
+            (λ c. components_left self.old ≡ component_of c ∷ components_left self.new) }
+    {
+        'packets: while let Some(head) = self.left.next() {
+            if head.begins_component() {
+                let hangs = Hangs::new(self.left);
+                return Some(Component { head, hangs });
+            }
+        }
+        None
     }
 }

@@ -12,18 +12,22 @@ ghost use Rattle.opgp_octets.specs.Octets.{IsOctets};
 ghost use Rattle.opgp_frame.specs.Packet.{PacketValue, spelling};
 ghost use Rattle.opgp_ring.specs.Bodies.{HasFault, HasNoFault};
 ghost use Rattle.opgp_ring.specs.Composed.{IsFault, IsKeyringOf, PartValue, parts_of, lead_parts};
-ghost use Rattle.opgp_ring.specs.Composition.{Item, of_label, of_packet};
+ghost use Rattle.opgp_ring.specs.Composition.{Item, of_label, of_packet, stands_in_keyring};
 ghost use Rattle.opgp_ring.specs.Keyring.{KeyringValue, IsPrimary, IsFiller, octets_of};
 ghost use Rattle.opgp_ring.specs.Keyring.{is_head, is_hung};
+ghost use Rattle.opgp_ring.specs.Member.{member_packet};
 ghost use Rattle.opgp_ring.specs.State.{open_octets, ready_octets, ready_parts};
 
 use crate::certificate::Certificate;
 use crate::lead::Lead;
 use crate::member::Member;
+use crate::packet_body::body_fault;
 use crate::ready::Ready;
 use crate::sorted::{Sorted, sort};
 use opgp_frame::{Packet, Placed};
-use opgp_octets::{BodyFault, Fault, Layer, Limits, OutOfMemory, PushFault, Reason};
+use opgp_octets::{
+    BodyFault, Fault, Layer, Limits, Malformed, OutOfMemory, PacketType, PushFault, Reason,
+};
 use std::alloc::Global;
 use std::mem;
 
@@ -62,7 +66,6 @@ impl Composer {
     ghost use Rattle.opgp_frame.specs.declared.packet.Placed.{Placed};
     ghost use Rattle.opgp_ring.specs.Fed.{Fed, KeepsFed, TakesIn, StaysFaulty, is_spent, is_ready};
     ghost use Rattle.opgp_ring.specs.Fed.{fault_of, is_broken, limits_of, held_of};
-    ghost use Rattle.opgp_ring.specs.Sorted.{IsSorted, sorted_packet};
     ghost use Rattle.opgp_ring.specs.State.{is_open, has_begun};
     ghost use Rattle.opgp_ring.specs.Composed.{IsSoundItem};
     ghost use Rattle.opgp_ring.specs.Composition.{IsFaultAt, fault_at, packets_in, needs_primary};
@@ -174,19 +177,19 @@ impl Composer {
             return Err(PushFault::Spent);
         }
         let Placed { packet, block, pos } = placed;
-        let octets = packet.spelled_len();
-        match sort(packet, self.limits.malformed()) {
-            Ok(sorted) => match self.add(sorted, octets, block, pos) {
+        let kind = PacketType::from(packet.kind());
+        match body_fault(kind, packet.body(), self.limits.malformed()) {
+            Some(fault) => {
+                self.break_off(fault, block, pos);
+                Ok(())
+            }
+            None => match self.add(&packet, block, pos) {
                 Ok(()) => Ok(()),
                 Err(_) => {
                     self.spend();
                     Err(PushFault::Memory)
                 }
             },
-            Err(fault) => {
-                self.break_off(fault, block, pos);
-                Ok(())
-            }
         }
     }
 
@@ -291,43 +294,37 @@ impl Composer {
     }
 
     /// Adds a packet whose body has no fault.
-    fn add(&mut self, sorted: Sorted, octets: u64, block: u64, pos: u64) -> Result<(), OutOfMemory>
+    #[inline(always)]
+    fn add(&mut self, packet: &Packet, block: u64, pos: u64) -> Result<(), OutOfMemory>
         requires free { is_ready self.old ≡ false }
         requires unspent { is_spent self.old ≡ false }
-        requires sorted { IsSorted sorted }
-        requires sound { HasNoFault (malformed_of (limits_of self.old)) (sorted_packet sorted) }
-        requires octets { octets ≡ length (spelling (sorted_packet sorted)) }
+        requires sound { HasNoFault (malformed_of (limits_of self.old)) packet.now }
         ensures fed { OnOk result (TakesIn self.old self.new
-            (of_packet (record { packet = sorted_packet sorted; block = block; pos = pos }))) }
+            (of_packet (record { packet = packet.now; block = block; pos = pos }))) }
         // After a fault nothing changes.
         ensures behind { is_open self.old.state ≡ false
             → IsOk result × (self.new.state ≡ self.old.state)
             × (self.new.ready ≡ self.old.ready) }
         ensures quiet { OnOk result (IsSome (fault_of self.new) → is_ready self.new ≡ false) }
         ensures held { OnOk result (is_ready self.new ≡ true
-            → IsPrimary (sorted_packet sorted) × (self.new.size ≡ octets)) }
+            → IsPrimary packet.now × (self.new.size ≡ length (spelling packet.now))) }
         ensures sound { OnOk result (is_spent self.new ≡ false) }
         ensures limits { limits_of self.new ≡ limits_of self.old }
     {
         if !self.is_open() {
-            drop(sorted);
             return Ok(());
         }
-        match sorted {
-            Sorted::Primary(primary) => {
-                self.begin(primary, octets, block, pos);
-                Ok(())
-            }
-            Sorted::Behind(member) => self.grow(member, octets, block, pos),
-            Sorted::Filler(filler) => {
+        match sort(packet.kind()) {
+            Sorted::Primary => self.begin(packet, block, pos),
+            Sorted::Behind => self.grow(packet, block, pos),
+            Sorted::Filler => {
                 if self.has_begun() {
-                    self.grow(Member::filler(filler), octets, block, pos)
+                    self.grow(packet, block, pos)
                 } else {
-                    self.lead(filler, octets, block, pos)
+                    self.lead(packet, block, pos)
                 }
             }
-            Sorted::Stray(stray) => {
-                drop(stray);
+            Sorted::Stray => {
                 self.refuse(Reason::NotInKeyring, block, pos);
                 Ok(())
             }
@@ -335,27 +332,30 @@ impl Composer {
     }
 
     /// Begins a certificate; the part before it becomes ready.
-    fn begin(&mut self, primary: Member, octets: u64, block: u64, pos: u64)
+    fn begin(&mut self, primary: &Packet, block: u64, pos: u64) -> Result<(), OutOfMemory>
         requires free { is_ready self.old ≡ false }
         requires open { is_open self.old.state ≡ true }
         requires unspent { is_spent self.old ≡ false }
-        requires primary { IsPrimary primary }
-        requires sound { HasNoFault (malformed_of (limits_of self.old)) primary }
-        requires octets { octets ≡ length (spelling primary) }
-        ensures fed { TakesIn self.old self.new
-            (of_packet (record { packet = primary; block = block; pos = pos })) }
-        ensures quiet { IsSome (fault_of self.new) → is_ready self.new ≡ false }
-        ensures held { is_ready self.new ≡ true → self.new.size ≡ octets }
-        ensures sound { is_spent self.new ≡ false }
+        requires primary { IsPrimary primary.now }
+        requires sound { HasNoFault (malformed_of (limits_of self.old)) primary.now }
+        ensures fed { OnOk result (TakesIn self.old self.new
+            (of_packet (record { packet = primary.now; block = block; pos = pos }))) }
+        ensures quiet { OnOk result (IsSome (fault_of self.new) → is_ready self.new ≡ false) }
+        ensures held { OnOk result (is_ready self.new ≡ true
+            → self.new.size ≡ length (spelling primary.now)) }
+        ensures sound { OnOk result (is_spent self.new ≡ false) }
         ensures limits { limits_of self.new ≡ limits_of self.old }
     {
+        let octets = primary.spelled_len();
         if octets > self.limits.cert() {
-            drop(primary);
             self.refuse(Reason::CertTooLong, block, pos);
-            return;
+            return Ok(());
         }
-        let next = State::Growing(Certificate::new(self.alloc, primary));
-        match mem::replace(&mut self.state, next) {
+        let certificate = Certificate::new(
+            self.alloc,
+            keyring_member(primary, self.limits.malformed()),
+        )?;
+        match mem::replace(&mut self.state, State::Growing(certificate)) {
             State::Leading(lead) => {
                 let ready = lead_part(lead);
                 drop(mem::replace(&mut self.ready, ready));
@@ -368,37 +368,32 @@ impl Composer {
             }
             _ => unreachable!(),
         }
+        Ok(())
     }
 
     /// Adds a packet that must follow a primary key; before the first one it is a fault.
     #[inline(always)]
-    fn grow(&mut self, member: Member, octets: u64, block: u64, pos: u64) -> Result<(), OutOfMemory>
+    fn grow(&mut self, packet: &Packet, block: u64, pos: u64) -> Result<(), OutOfMemory>
         requires open { is_open self.old.state ≡ true }
         requires unspent { is_spent self.old ≡ false }
-        requires behind { (is_head member.kind || is_hung member.kind) ≡ true }
+        requires behind { (is_head packet.now.kind || is_hung packet.now.kind) ≡ true }
         // Fillers may come before the first primary key.
-        requires lead { has_begun self.old.state ≡ false → needs_primary member.kind ≡ true }
-        requires sound { HasNoFault (malformed_of (limits_of self.old)) member }
-        requires octets { octets ≡ length (spelling member) }
+        requires lead { has_begun self.old.state ≡ false → needs_primary packet.now.kind ≡ true }
+        requires sound { HasNoFault (malformed_of (limits_of self.old)) packet.now }
         ensures fed { OnOk result (TakesIn self.old self.new
-            (of_packet (record { packet = member; block = block; pos = pos }))) }
+            (of_packet (record { packet = packet.now; block = block; pos = pos }))) }
         ensures ready { OnOk result (self.new.ready ≡ self.old.ready) }
         ensures sound { OnOk result (is_spent self.new ≡ false) }
         ensures limits { limits_of self.new ≡ limits_of self.old }
     {
-        let alloc = self.alloc;
+        let octets = packet.spelled_len();
         let room = self.limits.cert() - self.size;
+        let malformed = self.limits.malformed();
         match &mut self.state {
-            State::Leading(_) => {
-                drop(member);
-                self.refuse(Reason::NoPrimary, block, pos);
-            }
-            State::Growing(_) if octets > room => {
-                drop(member);
-                self.refuse(Reason::CertTooLong, block, pos);
-            }
+            State::Leading(_) => self.refuse(Reason::NoPrimary, block, pos),
+            State::Growing(_) if octets > room => self.refuse(Reason::CertTooLong, block, pos),
             State::Growing(certificate) => {
-                certificate.add(alloc, member)?;
+                certificate.add(keyring_member(packet, malformed))?;
                 self.size += octets;
             }
             _ => unreachable!(),
@@ -407,33 +402,42 @@ impl Composer {
     }
 
     /// Adds a filler before the first primary key.
-    fn lead(&mut self, filler: Packet, octets: u64, block: u64, pos: u64) -> Result<(), OutOfMemory>
+    fn lead(&mut self, filler: &Packet, block: u64, pos: u64) -> Result<(), OutOfMemory>
         requires open { is_open self.old.state ≡ true }
         requires unspent { is_spent self.old ≡ false }
         requires lead { has_begun self.old.state ≡ false }
-        requires filler { IsFiller filler }
-        requires sound { HasNoFault (malformed_of (limits_of self.old)) filler }
-        requires octets { octets ≡ length (spelling filler) }
+        requires filler { IsFiller filler.now }
+        requires sound { HasNoFault (malformed_of (limits_of self.old)) filler.now }
         ensures fed { OnOk result (TakesIn self.old self.new
-            (of_packet (record { packet = filler; block = block; pos = pos }))) }
+            (of_packet (record { packet = filler.now; block = block; pos = pos }))) }
         ensures ready { OnOk result (self.new.ready ≡ self.old.ready) }
         ensures sound { OnOk result (is_spent self.new ≡ false) }
         ensures limits { limits_of self.new ≡ limits_of self.old }
     {
+        let octets = filler.spelled_len();
         let room = self.limits.cert() - self.size;
+        let malformed = self.limits.malformed();
         match &mut self.state {
-            State::Leading(_) if octets > room => {
-                drop(filler);
-                self.refuse(Reason::CertTooLong, block, pos);
-            }
+            State::Leading(_) if octets > room => self.refuse(Reason::CertTooLong, block, pos),
             State::Leading(lead) => {
-                lead.push(filler)?;
+                lead.push(keyring_member(filler, malformed))?;
                 self.size += octets;
             }
             _ => unreachable!(),
         }
         Ok(())
     }
+}
+
+/// The packet, whose body has no fault by this policy, as one of a keyring.
+#[inline(always)]
+fn keyring_member(packet: &Packet, malformed: Malformed) -> Member<'_>
+    requires stands { stands_in_keyring packet.now.kind ≡ true }
+    requires sound { HasNoFault malformed packet.now }
+    ensures { member_packet result ≡ packet.now }
+{
+    let _known = packet.kind();
+    Member::of(packet)
 }
 
 /// The lead as a part, where there is one.

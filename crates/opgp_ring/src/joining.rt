@@ -1,16 +1,16 @@
 //! Keyrings made of others.
 
-ghost use Rattle.std.specs.Prelude.{◌≡◌, ◌++◌, All, IfOk};
+ghost use Rattle.std.specs.Prelude.{◌≡◌, ◌++◌, IfOk};
 ghost use Rattle.opgp_ring.specs.Joining.{nth_of};
-ghost use Rattle.opgp_ring.specs.Keyring.{IsFiller, flat};
+ghost use Rattle.opgp_ring.specs.Keyring.{flat};
 
 use crate::keyring::Keyring;
-use opgp_frame::Packet;
+use crate::lead::Lead;
 use opgp_octets::OutOfMemory;
 use std::alloc::Global;
 
 /// The keyring whose packets are those of the first, followed by those of the second (RFC 9580,
-/// 10.1): the second one's lead follows the last packet of the first. Nothing is copied.
+/// 10.1): the second one's lead follows the last packet of the first. No certificate is copied.
 ///
 /// Fails only when out of memory.
 pub fn join(first: Keyring, second: Keyring) -> Result<Keyring, OutOfMemory>
@@ -23,9 +23,8 @@ pub fn join(first: Keyring, second: Keyring) -> Result<Keyring, OutOfMemory>
 }
 
 /// The keyring with these fillers after its last packet.
-fn follow(ring: Keyring, mut fillers: Vec<Packet>) -> Result<Keyring, OutOfMemory>
-    requires { All IsFiller fillers.items }
-    ensures { IfOk result (λ r. flat r ≡ flat ring ++ fillers.items) }
+fn follow(ring: Keyring, fillers: Lead) -> Result<Keyring, OutOfMemory>
+    ensures { IfOk result (λ r. flat r ≡ flat ring ++ fillers) }
 {
     let (mut lead, mut certificates, alloc) = ring.into_parts();
     match certificates.last_mut() {
@@ -34,7 +33,7 @@ fn follow(ring: Keyring, mut fillers: Vec<Packet>) -> Result<Keyring, OutOfMemor
             Ok(Keyring::new(alloc, lead, certificates))
         }
         None => {
-            lead.append(&mut fillers)?;
+            lead.append(fillers)?;
             Ok(Keyring::new(alloc, lead, certificates))
         }
     }
@@ -53,7 +52,7 @@ pub fn nth(alloc: Global, ring: &Keyring, n: usize) -> Result<Option<Keyring>, O
             let copy = certificate.copy(alloc)?;
             let mut certificates = Vec::new(alloc);
             certificates.push(copy)?;
-            Ok(Some(Keyring::new(alloc, Vec::new(alloc), certificates)))
+            Ok(Some(Keyring::new(alloc, Lead::new(alloc), certificates)))
         }
     }
 }

@@ -2,11 +2,12 @@
 
 ghost use Rattle.std.specs.Prelude.{◌≡◌, ◌++◌, ◌∷◌, [], IfOk, OnErr, OnOk};
 ghost use Rattle.opgp_ring.specs.Keyring.{KeyringValue, IsKeyring};
+ghost use Rattle.opgp_ring.specs.Member.{members_left};
 
 use crate::certificate::Certificate;
 use crate::copying::copy_all;
 use crate::lead::Lead;
-use opgp_frame::Packet;
+use crate::members::Members;
 use opgp_octets::OutOfMemory;
 use std::alloc::Global;
 use std::marker::Model;
@@ -16,7 +17,7 @@ use std::mem;
 #[derive(Drop)]
 pub struct Keyring {
     alloc: Global,
-    lead: Vec<Packet>,
+    lead: Lead,
     certificates: Vec<Certificate>,
 }
 
@@ -25,18 +26,17 @@ impl Model for Keyring {
 
     ghost Value = { KeyringValue };
 
-    ghost view = { λ r. record { lead = r.lead.items; certificates = r.certificates.items } };
+    ghost view = { λ r. record { lead = r.lead; certificates = r.certificates.items } };
 
     ghost invariant = { λ r.
-        IsKeyring (record { lead = r.lead.items; certificates = r.certificates.items }) };
+        IsKeyring (record { lead = r.lead; certificates = r.certificates.items }) };
 }
 
 impl Keyring {
-    /// A keyring of its parts. The conditions are that the lead has fillers alone, and that each
-    /// certificate is one.
-    pub fn new(alloc: Global, lead: Vec<Packet>, certificates: Vec<Certificate>) -> Keyring
-        requires { IsKeyring (record { lead = lead.items; certificates = certificates.items }) }
-        ensures { result ≡ record { lead = lead.items; certificates = certificates.items } }
+    /// A keyring of its parts.
+    pub fn new(alloc: Global, lead: Lead, certificates: Vec<Certificate>) -> Keyring
+        requires { IsKeyring (record { lead = lead; certificates = certificates.items }) }
+        ensures { result ≡ record { lead = lead; certificates = certificates.items } }
     {
         Keyring {
             alloc,
@@ -49,7 +49,7 @@ impl Keyring {
     pub fn empty(alloc: Global) -> Keyring
         ensures { result ≡ record { lead = []; certificates = [] } }
     {
-        Keyring::new(alloc, Vec::new(alloc), Vec::new(alloc))
+        Keyring::new(alloc, Lead::new(alloc), Vec::new(alloc))
     }
 
     /// The keyring of one certificate. Fails only when out of memory.
@@ -65,7 +65,7 @@ impl Keyring {
     pub(crate) fn begin(&mut self, lead: Lead)
         ensures { self.new ≡ record { lead = lead; certificates = self.old.certificates } }
     {
-        drop(mem::replace(&mut self.lead, lead.into_packets()));
+        drop(mem::replace(&mut self.lead, lead));
     }
 
     /// Adds a certificate. Fails only when out of memory; the keyring is then unchanged.
@@ -82,8 +82,8 @@ impl Keyring {
     }
 
     /// The fillers before the first certificate, the certificates, and the allocator.
-    pub fn into_parts(self) -> (Vec<Packet>, Vec<Certificate>, Global)
-        ensures lead { result.0.items ≡ self.lead }
+    pub fn into_parts(self) -> (Lead, Vec<Certificate>, Global)
+        ensures lead { result.0 ≡ self.lead }
         ensures certificates { result.1.items ≡ self.certificates }
         ensures keyring { IsKeyring self }
     {
@@ -96,11 +96,11 @@ impl Keyring {
     }
 
     /// The fillers before the first certificate.
-    pub fn lead(&self) -> &[Packet]
-        ensures value { result.now ≡ self.now.lead }
+    pub fn lead(&self) -> Members<'_>
+        ensures value { members_left result ≡ self.now.lead }
         ensures keyring { IsKeyring self.now }
     {
-        &self.lead
+        self.lead.packets()
     }
 
     /// The certificates, in order.
@@ -115,7 +115,7 @@ impl Keyring {
     pub fn copy(&self, alloc: Global) -> Result<Keyring, OutOfMemory>
         ensures { IfOk result (λ r. r ≡ self.now) }
     {
-        let lead = copy_all(alloc, &self.lead, |packet| packet.copy(alloc))?;
+        let lead = self.lead.copy(alloc)?;
         let certificates = copy_all(
             alloc,
             &self.certificates,

@@ -1,6 +1,7 @@
 //! What the definitions imply.
 
-ghost use Rattle.std.specs.Prelude.{◌≡◌, ◌⊎◌, ◌↔◌, All, ◌++◌, ◌∷◌, [], ℕ, List, Some, true, false};
+ghost use Rattle.std.specs.Prelude.{◌≡◌, ◌≤◌, ◌+◌, ◌*◌, ◌⊎◌, ◌↔◌, All, ◌++◌, ◌∷◌, [], ℕ, List, Some};
+ghost use Rattle.std.specs.Prelude.{length, sum_by, true, false};
 ghost use Rattle.opgp_octets.specs.declared.limits.Limits.{Limits};
 ghost use Rattle.opgp_octets.specs.Octets.{IsOctets};
 ghost use Rattle.opgp_octets.specs.declared.malformed.Malformed.{Malformed};
@@ -11,7 +12,8 @@ ghost use Rattle.opgp_octets.specs.declared.packet_type.PacketType.{PacketType};
 ghost use Rattle.opgp_frame.specs.Packet.{PacketValue};
 ghost use Rattle.opgp_ring.specs.Composed.{HasOctets, IsKeyringOf, IsFault, PartValue, parts_of};
 ghost use Rattle.opgp_ring.specs.Composition.{Item, AreKeyring, order_reason};
-ghost use Rattle.opgp_ring.specs.Keyring.{KeyringValue, IsKeyring, flat};
+ghost use Rattle.opgp_ring.specs.Keyring.{CertificateValue, IsCertificate, certificate_packets};
+ghost use Rattle.opgp_ring.specs.Keyring.{KeyringValue, IsKeyring, flat, octets_of};
 ghost use Rattle.opgp_ring.specs.Normal.{normal_of};
 ghost use Rattle.opgp_ring.specs.PacketBody.{HasBodyFault};
 ghost use Rattle.opgp_ring.specs.Signed.{IsSignedFault, IsSignedOf};
@@ -22,6 +24,13 @@ ghost use Rattle.opgp_ring.specs.Taken.{IsAllButLast, so_far};
 /// A list of packets is that of one keyring at most.
 pub fn one_keyring()
     ensures { (r s : KeyringValue) → IsKeyring r → IsKeyring s → flat r ≡ flat s → r ≡ s }
+{}
+
+/// A list of packets is that of one certificate at most.
+#[tactic(auto, using(crate::proofs::Split::one_certificate))]
+pub fn one_certificate()
+    ensures { (c d : CertificateValue) → IsCertificate c → IsCertificate d
+        → certificate_packets c ≡ certificate_packets d → c ≡ d }
 {}
 
 /// As long as the items are those of a keyring, what was taken from a composer and what is ready
@@ -78,6 +87,16 @@ pub fn some_answer()
     opgp_packet::field_laws::no_fault();
     opgp_packet::signature_laws::some_answer();
     opgp_packet::signature_laws::no_fault();
+}
+
+/// What is kept of packets, the octets of their bodies and 8 for each packet, is at most four times
+/// what they take: so a certificate within its limit takes at most four times that in memory, and
+/// twice as much where its vectors have just grown.
+pub fn four_times_their_octets_are_kept()
+    ensures { (ps : List PacketValue) → sum_by (λ p. length p.body) ps + 8 * length ps
+        ≤ 4 * octets_of ps }
+{
+    opgp_frame::laws::two_octets_beside_each_body();
 }
 
 /// After the packets of a keyring, a packet is reported as too long exactly if with it they would

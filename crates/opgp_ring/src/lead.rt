@@ -1,11 +1,14 @@
 //! The fillers before the first certificate of a keyring.
 
-ghost use Rattle.std.specs.Prelude.{◌≡◌, ◌↔◌, ◌++◌, ◌∷◌, [], IsTrue, All, map, OnOk, OnErr};
+ghost use Rattle.std.specs.Prelude.{◌≡◌, ◌↔◌, ◌++◌, ◌∷◌, [], IsTrue, All, map, IfOk, OnOk, OnErr};
 ghost use Rattle.opgp_frame.specs.Reframed.{reframed};
 ghost use Rattle.opgp_ring.specs.Keyring.{IsFiller};
+ghost use Rattle.opgp_ring.specs.Member.{member_packet, members_left};
 
-use crate::reframing::reframe_all;
-use opgp_frame::Packet;
+use crate::member::Member;
+use crate::members::Members;
+use crate::packed::Packed;
+use crate::reframing::Reframe;
 use opgp_octets::OutOfMemory;
 use std::alloc::Global;
 use std::marker::Model;
@@ -14,7 +17,7 @@ use std::marker::Model;
 /// aren't critical (4.3).
 #[derive(Drop)]
 pub struct Lead {
-    packets: Vec<Packet>,
+    packets: Packed,
 }
 
 impl Model for Lead {
@@ -24,9 +27,9 @@ impl Model for Lead {
 
     ghost Value = { List PacketValue };
 
-    ghost view = { λ l. l.packets.items };
+    ghost view = { λ l. l.packets };
 
-    ghost invariant = { λ l. All IsFiller l.packets.items };
+    ghost invariant = { λ l. All IsFiller l.packets };
 }
 
 impl Lead {
@@ -35,17 +38,26 @@ impl Lead {
         ensures { result ≡ [] }
     {
         Lead {
-            packets: Vec::new(alloc),
+            packets: Packed::new(alloc),
         }
     }
 
-    /// Adds a filler. Fails only when out of memory; nothing is added then.
-    pub(crate) fn push(&mut self, filler: Packet) -> Result<(), OutOfMemory>
-        requires { IsFiller filler }
-        ensures ok { OnOk result (self.new ≡ self.old ++ filler ∷ []) }
+    /// Adds a copy of a filler. Fails only when out of memory; nothing is added then.
+    pub(crate) fn push(&mut self, filler: Member<'_>) -> Result<(), OutOfMemory>
+        requires { IsFiller (member_packet filler) }
+        ensures ok { OnOk result (self.new ≡ self.old ++ member_packet filler.entry ∷ []) }
         ensures err { OnErr result (self.new ≡ self.old) }
     {
         self.packets.push(filler)?;
+        Ok(())
+    }
+
+    /// Adds all fillers of another lead, after those of this one. Fails only when out of memory.
+    pub(crate) fn append(&mut self, other: Lead) -> Result<(), OutOfMemory>
+        ensures ok { OnOk result (self.new ≡ self.old ++ other) }
+        ensures fillers { OnOk result (All IsFiller self.new) }
+    {
+        self.packets.append(other.into_packed())?;
         Ok(())
     }
 
@@ -57,25 +69,34 @@ impl Lead {
     }
 
     /// The fillers, in order.
-    pub fn packets(&self) -> &[Packet]
-        ensures value { result.now ≡ self.now }
+    pub fn packets(&self) -> Members<'_>
+        ensures value { members_left result ≡ self.now }
         ensures fillers { All IsFiller self.now }
     {
-        &self.packets
-    }
-
-    /// Gives each packet the current format with its shortest length. Allocates nothing.
-    pub(crate) fn reframe_each(&mut self)
-        ensures { self.new ≡ map reframed self.old }
-    {
-        reframe_all(&mut self.packets);
+        self.packets.members()
     }
 
     /// The fillers, in order.
-    pub(crate) fn into_packets(self) -> Vec<Packet>
-        ensures value { result.items ≡ self }
+    pub(crate) fn into_packed(self) -> Packed
+        ensures value { result ≡ self }
         ensures fillers { All IsFiller self }
     {
         self.packets
+    }
+
+    /// A copy. Fails only when out of memory.
+    pub(crate) fn copy(&self, alloc: Global) -> Result<Lead, OutOfMemory>
+        ensures { IfOk result (λ l. l ≡ self.now) }
+    {
+        let packets = self.packets.copy(alloc)?;
+        Ok(Lead { packets })
+    }
+}
+
+impl Reframe for Lead {
+    ghost normal = { map reframed };
+
+    fn reframe(&mut self) {
+        self.packets.reframe();
     }
 }

@@ -1,14 +1,14 @@
 //! The packet that begins a component, borrowed.
 
-use opgp_packet::{Attribute, Key, UserId};
+use opgp_packet::{AttributeView, KeyView};
 
 /// The packet that begins a component of a certificate (RFC 9580, 10.1).
 #[derive(Clone, Copy)]
 pub enum Head<'a> {
-    /// A user ID (5.11).
-    UserId(&'a UserId),
+    /// A user ID's octets (5.11).
+    UserId(&'a [u8]),
     /// A user attribute (5.12).
-    Attribute(&'a Attribute),
+    Attribute(AttributeView<'a>),
     /// A subkey (5.5.1.2).
-    Subkey(&'a Key),
+    Subkey(KeyView<'a>),
 }

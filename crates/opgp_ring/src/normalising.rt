@@ -6,7 +6,7 @@ ghost use Rattle.opgp_ring.specs.Keyring.{flat};
 ghost use Rattle.opgp_ring.specs.Normal.{normal_of, IsCurrentPacket};
 
 use crate::keyring::Keyring;
-use crate::reframing::reframe_all;
+use crate::reframing::{Reframe, reframe_all};
 
 /// The same packets in the same places, each in the current format with its shortest length, never
 /// partial (RFC 9580, 4.2.1). No body is changed or copied.
@@ -18,7 +18,7 @@ pub fn normalise(ring: Keyring) -> Keyring
     ensures current { All IsCurrentPacket (flat result) }
 {
     let (mut lead, mut certificates, alloc) = ring.into_parts();
-    reframe_all(&mut lead);
+    lead.reframe();
     reframe_all(&mut certificates);
     Keyring::new(alloc, lead, certificates)
 }

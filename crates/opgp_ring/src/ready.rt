@@ -1,6 +1,8 @@
 //! What a composer hands out.
 
-ghost use Rattle.std.specs.Prelude.{◌≡◌};
+ghost use Rattle.std.specs.Prelude.{◌≡◌, List, MatchOption};
+ghost use Rattle.opgp_frame.specs.Packet.{PacketValue};
+ghost use Rattle.opgp_ring.specs.Composed.{of_certificate, of_lead};
 ghost use Rattle.opgp_ring.specs.Packets.{packets_left};
 ghost use Rattle.opgp_ring.specs.Parts.{normal_part, part_packets};
 ghost use Rattle.opgp_ring.specs.State.{part_of};
@@ -20,6 +22,20 @@ pub enum Ready {
 }
 
 impl Ready {
+    /// The certificate; None if it is fillers, which are dropped.
+    pub fn certificate(self) -> Option<Certificate>
+        ensures { MatchOption result ((lead : List PacketValue) × (part_of self ≡ of_lead lead))
+            (λ c. part_of self ≡ of_certificate c) }
+    {
+        match self {
+            Ready::Lead(lead) => {
+                drop(lead);
+                None
+            }
+            Ready::Certificate(certificate) => Some(certificate),
+        }
+    }
+
     /// Its packets, in order.
     pub fn packets(&self) -> Packets<'_>
         ensures { packets_left result ≡ part_packets (part_of self.now) }

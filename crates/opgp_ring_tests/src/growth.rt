@@ -99,13 +99,13 @@ fn certificate_of(rt: &impl Abort, composer: Composer) -> Option<Certificate> {
     }
 }
 
-// One allocation makes each body, one the components and one the packets on the user ID: no body is
-// copied.
+// One allocation makes each body, two the octets that the certificate keeps, as they become more,
+// and one the places of its packets: none is made for a packet or a component.
 #[test]
-fn composing_moves_bodies_in_5_growths(rt: HostRuntime) {
+fn composing_keeps_octets_in_6_growths(rt: HostRuntime) {
     if let Some(certificate) = certificate(&rt, rt.alloc()) {
         assert_eq!(rt; certificate.key().created(), 1_408_458_507);
-        assert_eq!(rt; certificate.components().len(), 1);
+        assert_eq!(rt; certificate.packets().len(), 3);
         drop(certificate);
     }
 }
@@ -186,7 +186,7 @@ fn joins(rt: &impl Abort, alloc: Global, ring: Keyring) {
 fn refused_growth(rt: HostRuntime) {
     let alloc = rt.alloc();
     if let Some(certificate) = certificate(&rt, alloc) {
-        assert_eq!(rt; certificate.components().len(), 1);
+        assert_eq!(rt; certificate.packets().len(), 3);
         drop(certificate);
     }
     if let Some(ring) = ring(&rt, alloc, 1) {
@@ -220,9 +220,12 @@ fn malformed_refused_growth(rt: HostRuntime) {
     if let Some(ring) = malformed(&rt, alloc) {
         if let Ok(copy) = ring.copy(alloc) {
             assert_eq!(rt; copy.certificates().len(), 1);
-            let hangs = copy.certificates()[0].hangs();
-            assert_eq!(rt; hangs.len(), 1);
-            assert_eq!(rt; hangs[0].body(), b"\x04".as_slice());
+            let mut hangs = copy.certificates()[0].hangs();
+            match hangs.next() {
+                Some(hang) => assert_eq!(rt; hang.body(), b"\x04".as_slice()),
+                None => panic!(rt; "no signature"),
+            }
+            assert!(rt; hangs.next().is_none());
             drop(copy);
         }
         drop(ring);
@@ -235,9 +238,7 @@ fn merging_refused_growth(rt: HostRuntime) {
         assert_eq!(rt; ring.certificates().len(), 2);
         if let Ok(merged) = merge(ring) {
             assert_eq!(rt; merged.certificates().len(), 1);
-            let certificate = &merged.certificates()[0];
-            assert_eq!(rt; certificate.components().len(), 1);
-            assert_eq!(rt; certificate.components()[0].hangs().len(), 1);
+            assert_eq!(rt; merged.certificates()[0].packets().len(), 3);
         }
     }
 }

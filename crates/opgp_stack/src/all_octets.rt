@@ -198,9 +198,8 @@ impl<S: Spool + Drop> Keeper for AllOctets<S> {
         (asked_among (certificates_in parts)) };
 
     fn keep(&mut self, part: Ready) -> Result<(), OutOfMemory> {
-        let certificate = match part {
-            Ready::Lead(_) => return Ok(()),
-            Ready::Certificate(certificate) => certificate,
+        let Some(certificate) = part.certificate() else {
+            return Ok(());
         };
         let ring = Keyring::of(self.alloc, certificate)?;
         self.add_ring(&ring)?;

@@ -82,12 +82,8 @@ impl<N: Sought, S: Spool + Drop> Keeper for NamedCertificates<N, S> {
         (certificates_in parts) };
 
     fn keep(&mut self, part: Ready) -> Result<(), OutOfMemory> {
-        let certificate = match part {
-            Ready::Lead(lead) => {
-                drop(lead);
-                return Ok(());
-            }
-            Ready::Certificate(certificate) => certificate,
+        let Some(certificate) = part.certificate() else {
+            return Ok(());
         };
         if !self.key.is_in(&certificate) {
             drop(certificate);

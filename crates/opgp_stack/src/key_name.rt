@@ -5,6 +5,7 @@ ghost use Rattle.std.specs.List.{flat_map};
 ghost use Rattle.opgp_packet.specs.Parsed.{body_octets};
 ghost use Rattle.opgp_report.specs.First.{print_of};
 ghost use Rattle.opgp_report.specs.Report.{subkey_bodies};
+ghost use Rattle.opgp_ring.specs.Grouped.{components_left};
 ghost use Rattle.opgp_stack.specs.KeyName.{has_key, is_any_named, is_named};
 ghost use Rattle.opgp_stack.specs.KeyText.{IsKeyText};
 ghost use Rattle.opgp_stack.specs.declared.key_name.KeyName.{KeyName};
@@ -12,7 +13,7 @@ ghost use Rattle.opgp_stack.specs.declared.key_name.KeyName.{KeyName};
 use crate::key_text::{Digits, name_of};
 use opgp_hash::{Fingerprint, fingerprint_of_view};
 use opgp_packet::KeyView;
-use opgp_ring::{Certificate, Component, Head};
+use opgp_ring::{Certificate, Components, Head};
 
 /// The name of a key: its key ID or its fingerprint (RFC 9580, 5.5.4).
 #[derive(Clone, Copy, Debug, PartialEq, Eq)]
@@ -62,22 +63,20 @@ impl KeyName {
     pub fn is_in(&self, certificate: &Certificate) -> bool
         ensures { result ≡ has_key (name_octets self.now) certificate.now }
     {
-        self.names(&print_of(&certificate.key().view())) || self.is_on(certificate.components())
+        self.names(&print_of(&certificate.key())) || self.is_on(certificate.components())
     }
 
     /// Whether one of the components is a subkey of this name.
-    fn is_on(&self, components: &[Component]) -> bool
+    fn is_on(&self, mut components: Components<'_>) -> bool
         ensures { result ≡ is_any_named (name_octets self.now)
-            (flat_map subkey_bodies components.now) }
+            (flat_map subkey_bodies (components_left components.entry)) }
     {
-        let mut rest = components;
-        'components: while let [component, more @ ..] = rest {
+        'components: while let Some(component) = components.next() {
             if let Head::Subkey(key) = component.head().head()
-                && self.names(&print_of(&key.view()))
+                && self.names(&print_of(&key))
             {
                 return true;
             }
-            rest = more;
         }
         false
     }

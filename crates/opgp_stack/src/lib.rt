@@ -6,7 +6,6 @@ mod all_octets;
 mod by_key;
 mod chosen_text;
 mod date;
-mod fingerprint_keeper;
 mod hashing;
 mod key_name;
 mod key_text;

@@ -4,8 +4,9 @@ ghost use Rattle.std.specs.Prelude.{◌≡◌, ◌++◌, false, codes, length};
 ghost use Rattle.opgp_octets.specs.Octets.{IsBodySized};
 ghost use Rattle.hex.specs.Hex.{encode_upper};
 ghost use Rattle.opgp_packet.specs.Parsed.{body_octets};
-ghost use Rattle.opgp_ring.specs.Packets.{IsLent, packets_left, part_packet};
-ghost use Rattle.opgp_packet.specs.Signature.{signature_octets};
+ghost use Rattle.opgp_frame.specs.Packet.{PacketValue};
+ghost use Rattle.opgp_ring.specs.Content.{IsKept, content_kind, content_octets};
+ghost use Rattle.opgp_ring.specs.Packets.{packets_left};
 ghost use Rattle.opgp_packet.specs.SigView.{sig_view_value};
 ghost use Rattle.opgp_stack.specs.Listing.{attribute_line, behind_text, dated_key_line, filler_line};
 ghost use Rattle.opgp_stack.specs.Listing.{key_line, key_start, listing};
@@ -17,8 +18,8 @@ ghost use Rattle.opgp_stream.specs.Output.{Extends, sink_of};
 
 use crate::date::add_date;
 use opgp_hash::{KeyId, fingerprint_of_view};
-use opgp_packet::{AttributeView, KeyView, SigView, Signature};
-use opgp_ring::{Content, Packets, Part};
+use opgp_packet::{AttributeView, KeyView, SigView};
+use opgp_ring::{Content, Packets};
 use opgp_stream::{Output, Sink, Word};
 use std::io;
 
@@ -258,35 +259,25 @@ pub(crate) fn add_body<W: Sink>(output: &mut Output<'_, W>, body: &[u8]) -> io::
     }
 }
 
-/// Adds the line of a signature of a keyring.
-fn add_parsed<W: Sink>(output: &mut Output<'_, W>, signature: &Signature) -> io::Result<()>
-    requires { W.has_failed (sink_of output.old) ≡ false }
-    ensures { Extends W.held W.has_failed output.old output.new result
-        (signature_line (signature_octets signature.now)) }
-{
-    opgp_packet::signature_laws::written_signature();
-    add_signature(output, signature.view())
-}
-
-/// Adds the line of a packet.
-pub(crate) fn add_line<W: Sink>(output: &mut Output<'_, W>, part: Part<'_>) -> io::Result<()>
-    requires lent { IsLent part }
+/// Adds the line of what a packet of a keyring contains.
+pub(crate) fn add_content<W: Sink>(
+    output: &mut Output<'_, W>,
+    content: Content<'_>,
+) -> io::Result<()>
+    requires kept { IsKept content }
     requires sound { W.has_failed (sink_of output.old) ≡ false }
-    ensures { Extends W.held W.has_failed output.old output.new result
-        (packet_line (part_packet part.entry)) }
+    ensures { (p : PacketValue) → p.kind ≡ content_kind content.entry
+        → p.body ≡ content_octets content.entry
+        → Extends W.held W.has_failed output.old output.new result (packet_line p) }
 {
-    let member = match part {
-        Part::Lead(packet) => return add_filler(output, packet.kind(), packet.body()),
-        Part::Member(member) => member,
-    };
-    match member.content() {
-        Content::Primary(key) => add_key(output, Role::Primary, key.view()),
-        Content::Subkey(key) => add_key(output, Role::Subkey, key.view()),
-        Content::UserId(id) => add_user_id(output, id.octets()),
-        Content::Attribute(attribute) => add_attribute(output, attribute.view()),
-        Content::Signature(signature) => add_parsed(output, signature),
-        Content::Malformed(body) => add_body(output, body),
-        Content::Filler(kind, body) => add_filler(output, *kind, body),
+    match content {
+        Content::Primary(key) => add_key(output, Role::Primary, key),
+        Content::Subkey(key) => add_key(output, Role::Subkey, key),
+        Content::UserId(id) => add_user_id(output, id),
+        Content::Attribute(attribute) => add_attribute(output, attribute),
+        Content::Signature(signature) => add_signature(output, signature),
+        Content::Malformed(body) => add_opaque(output, body),
+        Content::Filler(kind, body) => add_filler(output, kind, body),
     }
 }
 
@@ -299,8 +290,8 @@ pub(crate) fn add_listing<W: Sink>(
     ensures { Extends W.held W.has_failed output.old output.new result
         (listing (packets_left packets.entry)) }
 {
-    'packets: while let Some(part) = packets.next() {
-        add_line(output, part)?;
+    'packets: while let Some(packet) = packets.next() {
+        add_content(output, packet.content())?;
     }
     Ok(())
 }

@@ -55,12 +55,8 @@ impl<N: Number> Keeper for NthCertificate<N> {
     ghost kept = { λ k parts. IsNth N.number k.left k.found (certificates_in parts) };
 
     fn keep(&mut self, part: Ready) -> Result<(), OutOfMemory> {
-        let certificate = match part {
-            Ready::Lead(lead) => {
-                drop(lead);
-                return Ok(());
-            }
-            Ready::Certificate(certificate) => certificate,
+        let Some(certificate) = part.certificate() else {
+            return Ok(());
         };
         if self.found.is_some() {
             drop(certificate);
@@ -112,12 +108,8 @@ impl<N: Number> Keeper for RowFound<N> {
     ghost kept = { λ k parts. IsRow N.number k.left k.found (certificates_in parts) };
 
     fn keep(&mut self, part: Ready) -> Result<(), OutOfMemory> {
-        let certificate = match part {
-            Ready::Lead(lead) => {
-                drop(lead);
-                return Ok(());
-            }
-            Ready::Certificate(certificate) => certificate,
+        let Some(certificate) = part.certificate() else {
+            return Ok(());
         };
         if self.found.is_some() {
             drop(certificate);

@@ -138,17 +138,12 @@ fn add_certificate<S: Spool + Drop>(
         → DraftHas S.serves S.tells S.holds S.has_failed draft.new
         (given ++ certificate_text out (part_of part))) }
 {
-    match part {
-        Ready::Lead(lead) => {
-            drop(lead);
-            Ok(())
-        }
-        Ready::Certificate(certificate) => {
-            let added = add_alone(draft, out, &certificate);
-            drop(certificate);
-            added
-        }
-    }
+    let Some(certificate) = part.certificate() else {
+        return Ok(());
+    };
+    let added = add_alone(draft, out, &certificate);
+    drop(certificate);
+    added
 }
 
 /// Adds a certificate on its own.

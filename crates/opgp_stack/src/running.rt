@@ -19,7 +19,6 @@ ghost use Rattle.opgp_stack.specs.ByKey.{NamedIn};
 ghost use Rattle.opgp_stack.specs.KeyName.{name_octets};
 ghost use Rattle.opgp_stack.specs.OnePart.{HasNth, HasRow, found_question};
 ghost use Rattle.opgp_stack.specs.Parts.{HasText, OfKeyring, chosen_octets};
-ghost use Rattle.opgp_stack.specs.Report.{HasFingerprintedReport, HasReport};
 ghost use Rattle.opgp_stack.specs.Report.{fingerprinted_lines, report_lines};
 ghost use Rattle.opgp_octets.specs.Limits.{malformed_of};
 ghost use Rattle.opgp_stack.specs.Showing.{lines_of};
@@ -33,14 +32,13 @@ ghost use Rattle.opgp_stack.specs.Running.{ended, found_made, one_text, question
 use crate::all_octets::AllOctets;
 use crate::by_key::{NamedCertificates, Sought};
 use crate::chosen_text::{Chosen, ChosenText};
-use crate::fingerprint_keeper::FingerprintKeeper;
 use crate::hashing::{question_of, write_question};
 use crate::key_name::KeyName;
 use crate::one_part::{NthCertificate, Number, RowFound};
 use crate::part_texts::{
     ArmoredAlone, AsTheyAre, BareAlone, EachPart, Lines, Normalised, ValuedLines,
 };
-use crate::row_keeper::RowKeeper;
+use crate::row_keeper::{Making, RowKeeper};
 use crate::run_fault::RunFault;
 use crate::shown_text::{EachPacket, Plain, Valued};
 use crate::task::{Action, Task, Top};
@@ -51,7 +49,7 @@ use opgp_engine::{
     read_with, write_certificate, write_keyring,
 };
 use opgp_merge::{Choice, merge};
-use opgp_report::{FingerprintedReport, Report, question_at};
+use opgp_report::{FingerprintedReport, FingerprintedReporting, Report, Reporting, question_at};
 use opgp_ring::{Certificate, Gathering, Keyring, SignedGathering};
 use opgp_stream::{Sink, Source};
 use std::alloc::Global;
@@ -293,34 +291,18 @@ fn all_octets_of<R: Source, S: Spool + Drop>(
 }
 
 /// Reads a keyring, and returns its report. No certificate is kept once its rows are made.
-fn rows_of<R: Source>(alloc: Global, task: &Task, reader: &mut R) -> Result<Report, RunFault>
-    requires { R.has_failed reader.old ≡ false }
-    ensures { ReadsFor (λ answer. OfAll R.left R.has_failed reader.old reader.new task.now.limits
-        (λ octets. AnswerOf key_label (OfKeyring HasReport task.now.limits) task.now.mode
-        task.now.limits octets answer)) (R.has_failed reader.new ≡ true)
-        (R.has_failed reader.new ≡ false) result }
-{
-    let top = RowKeeper::new(alloc);
-    match ask(alloc, task, reader, Gathering::new(alloc, task.limits, top)) {
-        Ok(kept) => Ok(kept.report()),
-        Err(fault) => Err(fault),
-    }
-}
-
-/// Reads a keyring, and returns its report with fingerprints. No certificate is kept once its rows are
-/// made.
-fn fingerprinted_of<R: Source>(
+fn report_of<R: Source, M: Making + Drop>(
     alloc: Global,
     task: &Task,
     reader: &mut R,
-) -> Result<FingerprintedReport, RunFault>
+) -> Result<M::Report, RunFault>
     requires { R.has_failed reader.old ≡ false }
     ensures { ReadsFor (λ answer. OfAll R.left R.has_failed reader.old reader.new task.now.limits
-        (λ octets. AnswerOf key_label (OfKeyring HasFingerprintedReport task.now.limits) task.now.mode
+        (λ octets. AnswerOf key_label (OfKeyring M.has task.now.limits) task.now.mode
         task.now.limits octets answer)) (R.has_failed reader.new ≡ true)
         (R.has_failed reader.new ≡ false) result }
 {
-    let top = FingerprintKeeper::new(alloc);
+    let top: RowKeeper<M> = RowKeeper::new(alloc);
     match ask(alloc, task, reader, Gathering::new(alloc, task.limits, top)) {
         Ok(kept) => Ok(kept.report()),
         Err(fault) => Err(fault),
@@ -496,7 +478,7 @@ fn write_check<R: Source, W: Sink>(
     ensures { RunsAs R.left R.has_failed W.held W.has_failed task.now reader.old reader.new
         writer.old writer.new result }
 {
-    let report = rows_of(alloc, task, reader)?;
+    let report = report_of::<R, Reporting>(alloc, task, reader)?;
     done(write_rows(alloc, &report, writer), report, after)
 }
 
@@ -514,7 +496,7 @@ fn write_check_fingerprints<R: Source, W: Sink>(
     ensures { RunsAs R.left R.has_failed W.held W.has_failed task.now reader.old reader.new
         writer.old writer.new result }
 {
-    let report = fingerprinted_of(alloc, task, reader)?;
+    let report = report_of::<R, FingerprintedReporting>(alloc, task, reader)?;
     done(write_fingerprinted(alloc, &report, writer), report, after)
 }
 

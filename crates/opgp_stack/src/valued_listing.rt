@@ -2,28 +2,27 @@
 
 ghost use Rattle.std.specs.Prelude.{◌≡◌, ◌++◌, Ok, codes, false};
 ghost use Rattle.hex.specs.Hex.{encode_upper};
-ghost use Rattle.opgp_packet.specs.Signature.{signature_octets};
-ghost use Rattle.opgp_packet.specs.SignatureBody.{signature_at};
 ghost use Rattle.opgp_packet.specs.SigView.{sig_view_value};
 ghost use Rattle.opgp_packet.specs.SubView.{sub_shown};
 ghost use Rattle.opgp_packet.specs.Subs.{subs_to_come};
 ghost use Rattle.opgp_report.specs.IssuerName.{name_value};
 ghost use Rattle.opgp_report.specs.Signer.{first_some};
-ghost use Rattle.opgp_ring.specs.Packets.{IsLent, packets_left, part_packet};
-ghost use Rattle.opgp_stack.specs.Listing.{signature_line, signature_text, typed_start};
+ghost use Rattle.opgp_ring.specs.Member.{member_packet};
+ghost use Rattle.opgp_ring.specs.Packets.{packets_left};
+ghost use Rattle.opgp_stack.specs.Listing.{signature_text, typed_start};
 ghost use Rattle.opgp_stack.specs.ValuedListing.{created_in, created_words, issuer_words};
 ghost use Rattle.opgp_stack.specs.ValuedListing.{valued_listing, valued_packet_line, value_words};
 ghost use Rattle.opgp_stack.specs.ValuedListing.{with_values};
 ghost use Rattle.opgp_stream.specs.Output.{Extends, sink_of};
 
 use crate::date::add_date_or_none;
-use crate::listing::{Behind, Role, add_dated_key, add_line, add_signature, add_typed};
+use crate::listing::{Behind, Role, add_content, add_dated_key, add_signature, add_typed};
 use opgp_engine::Text;
 use opgp_hash::KeyId;
 use opgp_octets::SubpacketKind;
-use opgp_packet::{SigView, Signature, SubView, Subs};
+use opgp_packet::{SigView, SubView, Subs};
 use opgp_report::{IssuerName, issuer_named};
-use opgp_ring::{Content, Packets, Part};
+use opgp_ring::{Content, Member, Packets};
 use opgp_stream::{Output, Sink, Word};
 use std::io;
 
@@ -148,33 +147,19 @@ fn add_valued_signature<W: Sink>(
     }
 }
 
-/// Adds the line of a signature of a keyring.
-fn add_valued_parsed<W: Sink>(output: &mut Output<'_, W>, signature: &Signature) -> io::Result<()>
+/// Adds the line of a packet.
+fn add_valued_line<W: Sink>(output: &mut Output<'_, W>, packet: Member<'_>) -> io::Result<()>
     requires { W.has_failed (sink_of output.old) ≡ false }
     ensures { Extends W.held W.has_failed output.old output.new result
-        (with_values (signature_at (signature_octets signature.now))
-        (signature_line (signature_octets signature.now))) }
+        (valued_packet_line (member_packet packet.entry)) }
 {
-    opgp_packet::signature_laws::written_signature();
-    add_valued_signature(output, signature.view())
-}
-
-/// Adds the line of a packet.
-fn add_valued_line<W: Sink>(output: &mut Output<'_, W>, part: Part<'_>) -> io::Result<()>
-    requires lent { IsLent part }
-    requires sound { W.has_failed (sink_of output.old) ≡ false }
-    ensures { Extends W.held W.has_failed output.old output.new result
-        (valued_packet_line (part_packet part.entry)) }
-{
-    if let Part::Member(member) = part {
-        match member.content() {
-            Content::Primary(key) => return add_dated_key(output, Role::Primary, key.view()),
-            Content::Subkey(key) => return add_dated_key(output, Role::Subkey, key.view()),
-            Content::Signature(signature) => return add_valued_parsed(output, signature),
-            _ => {}
-        }
+    let content = packet.content();
+    match content {
+        Content::Primary(key) => add_dated_key(output, Role::Primary, key),
+        Content::Subkey(key) => add_dated_key(output, Role::Subkey, key),
+        Content::Signature(signature) => add_valued_signature(output, signature),
+        _ => add_content(output, content),
     }
-    add_line(output, part)
 }
 
 /// Adds the lines of all packets that are left.
@@ -186,8 +171,8 @@ fn add_valued_listing<W: Sink>(
     ensures { Extends W.held W.has_failed output.old output.new result
         (valued_listing (packets_left packets.entry)) }
 {
-    'packets: while let Some(part) = packets.next() {
-        add_valued_line(output, part)?;
+    'packets: while let Some(packet) = packets.next() {
+        add_valued_line(output, packet)?;
     }
     Ok(())
 }

@@ -14,7 +14,7 @@ parts-preserved g c =
 
 pub returns-in_err-add_part : goal.returns-in_err-add_part
 returns-in_err-add_part g c = broken_at _ c.from_residual.result c.from_residual.ensures.0
-    (rw c.new-spelling.ensures at (via_broken_left (octets_left c.next.new.self) c.parts.invariant (cut (octets_of_header c.in-Some.header) _ c.in-Some.piece.now _ (octets_left c.next.new.self) c.as_slice.ensures.value c.in-Some.ensures.next) c.in_err-add_part.ensures))
+    (rw (c.new-spelling.ensures, c.form-form.ensures.value, c.kind.ensures, c.body.ensures) at (via_broken_left (octets_left c.next.new.self) c.parts.invariant (cut (octets_of_header c.in-Some.header) _ c.in-Some.piece.now _ (octets_left c.next.new.self) c.as_slice.ensures.value c.in-Some.ensures.next) c.in_err-add_part.ensures))
 
 pub parts-init : goal.parts-init
-parts-init g c = via_all_left c.requires.sound
+parts-init g c = via_all_left c.requires

@@ -1,10 +1,7 @@
-use Rattle.opgp_merge.proofs.Uniting.{all_more, once_more}
+use Rattle.opgp_merge.proofs.Uniting.{once_more}
 use Rattle.opgp_merge.proofs.merging.unite.Goals as goal
 
 pub loop-item-preserved : goal.loop-item-preserved
 loop-item-preserved g c =
     let l = c.loop-item in
-    record {
-      value = once_more g.T.Uniting.once l.united.items l.yielded c.push.new.self.items c.in-Some.item c.in_ok-once.once l.invariant.value c.in_ok-push.ensures.items c.in_ok-once.ensures.value;
-      sound = all_more g.T.Uniting.sound l.united.items c.push.new.self.items c.in_ok-once.once c.in_ok-push.ensures.items l.invariant.sound c.in_ok-once.ensures.sound;
-    }
+    once_more g.T.Uniting.once l.united.items l.yielded c.push.new.self.items c.in-Some.item c.in_ok-once.once l.invariant c.in_ok-push.ensures.items c.in_ok-once.ensures

@@ -1,7 +1,10 @@
-use Rattle.opgp_ring.proofs.Normalised.{certificate_normal}
+use Rattle.std.proofs.Common.{ap, ◌∙◌}
+use Rattle.opgp_ring.specs.Normal.{normal_certificate}
+use Rattle.opgp_ring.proofs.Grouping.{begins_normal, certificate_normal}
 use Rattle.opgp_ring.proofs.certificate.CertificateReframe.reframe.Goals as goal
 
 pub invariant_of-self : goal.invariant_of-self
-invariant_of-self c =
-    let v = c.self.inside in
-    rw (c.reframe.ensures, c.reframe_all.ensures, c.reframe_all-2.ensures) (certificate_normal (record { primary = v.primary; hangs = v.hangs.items; components = v.components.items }) c.self.invariant)
+invariant_of-self c = rw c.reframe.ensures (begins_normal c.self.inside.packets c.self.invariant)
+
+pub returns : goal.returns
+returns c = rw c.reframe.ensures (certificate_normal c.self.inside.packets c.self.invariant ∙ ap normal_certificate c.self.view_is)

@@ -1,0 +1,10 @@
+use Rattle.std.proofs.Common.{ap, sym, subst, ◌∙◌}
+use Rattle.opgp_ring.specs.Keyring.{IsCertificate, certificate_packets}
+use Rattle.opgp_ring.proofs.Grouping.{is_certificate, packets_of}
+use Rattle.opgp_ring.proofs.certificate.Certificate.packets.Goals as goal
+
+pub returns-clause-value : goal.returns-clause-value
+returns-clause-value c = c.members.ensures.value ∙ sym (packets_of c.self.inside.packets c.self.invariant) ∙ ap certificate_packets c.self.view_is
+
+pub returns-clause-certificate : goal.returns-clause-certificate
+returns-clause-certificate c = subst IsCertificate c.self.view_is (is_certificate c.self.inside.packets c.self.invariant)

@@ -9,9 +9,11 @@ pub use Rattle.opgp_frame.specs.Header
 pub use Rattle.opgp_frame.specs.Length
 pub use Rattle.opgp_frame.specs.Packet
 pub use Rattle.opgp_frame.specs.PacketFault
+pub use Rattle.opgp_frame.specs.PacketProp
 pub use Rattle.opgp_frame.specs.PiecesValue
 pub use Rattle.opgp_frame.specs.ReaderState
 pub use Rattle.opgp_frame.specs.Reframed
 pub use Rattle.opgp_frame.specs.Spelling
 pub use Rattle.opgp_frame.specs.Unfinished
+pub use Rattle.opgp_frame.specs.View
 pub use Rattle.opgp_frame.specs.Whole

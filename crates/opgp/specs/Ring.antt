@@ -8,6 +8,7 @@ pub use Rattle.opgp_ring.specs.Content
 pub use Rattle.opgp_ring.specs.Fed
 pub use Rattle.opgp_ring.specs.Gathering
 pub use Rattle.opgp_ring.specs.Grouped
+pub use Rattle.opgp_ring.specs.Header
 pub use Rattle.opgp_ring.specs.Keyring
 pub use Rattle.opgp_ring.specs.Member
 pub use Rattle.opgp_ring.specs.Sorted
@@ -20,7 +21,6 @@ pub use Rattle.opgp_ring.specs.Packed
 pub use Rattle.opgp_ring.specs.PacketBody
 pub use Rattle.opgp_ring.specs.Packets
 pub use Rattle.opgp_ring.specs.Parts
-pub use Rattle.opgp_ring.specs.Place
 pub use Rattle.opgp_ring.specs.Shape
 pub use Rattle.opgp_ring.specs.Signed
 pub use Rattle.opgp_ring.specs.SignedGathering

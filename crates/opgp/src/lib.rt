@@ -24,8 +24,8 @@ pub mod engine {
 /// Packets and their framing (RFC 9580, 4).
 pub mod frame {
     pub use opgp_frame::{
-        Deframe, Form, HeaderOctets, LastForm, Packet, Pieces, Placed, Spelling, laws, reframe,
-        spelled_len_of, write_packet, write_parts,
+        Deframe, Form, HeaderOctets, LastForm, Lent, Packet, PacketView, Pieces, Placed,
+        PlacedView, Spelling, laws, reframe, spelled_len_of, write_packet, write_parts,
     };
 }
 
@@ -79,7 +79,7 @@ pub mod ring {
         BlockOf, Certificate, Component, Components, Composer, Content, Gathering, Hangs, Head,
         Keeper, Keyring, Lead, Member, Members, Packets, Ready, Signatures, SignedGathering,
         SignedLiteral, body_fault, check_bodies, check_bodies_by, compose, compose_signed,
-        compose_signed_by, end_fits, flatten, join, laws, normalise, nth, packet_fault,
+        compose_signed_by, end_fits, flatten, join, laws, normalise, nth, packet_fault, view_fault,
     };
 }
 

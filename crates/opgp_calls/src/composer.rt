@@ -5,7 +5,7 @@ use crate::end::End;
 use crate::given::Given;
 use crate::octets::limits_of;
 use crate::ring::blocks_of;
-use opgp_frame::{Placed, write_parts};
+use opgp_frame::{Placed, PlacedView, write_parts};
 use opgp_octets::Limits;
 use opgp_ring::{BlockOf, Composer, Packets, Ready};
 use std::alloc::Global;
@@ -14,6 +14,7 @@ use std::alloc::Global;
 pub(crate) fn answered(alloc: Global, name: &str, given: &Given, answer: &mut Answer) -> bool {
     match name {
         "composer" => composed(alloc, given, Shown::AsItIs, answer),
+        "composer_lent" => composed(alloc, given, Shown::Lent, answer),
         "composer_normal" => composed(alloc, given, Shown::Normal, answer),
         "composer_sizes" => composed(alloc, given, Shown::Size, answer),
         _ => return false,
@@ -21,17 +22,19 @@ pub(crate) fn answered(alloc: Global, name: &str, given: &Given, answer: &mut An
     true
 }
 
-/// How a part is shown: by its octets, by those in the current format, or by its size alone.
+/// How a part is shown: by its octets, also where the packets are lent, by those in the current format,
+/// or by its size alone.
 #[derive(Clone, Copy)]
 pub(crate) enum Shown {
     AsItIs,
+    Lent,
     Normal,
     Size,
 }
 
 /// `composer LIMITS.. [LABEL OCTETS]..`: blocks whose packets are pushed one by one: each part, behind
-/// how many packets it was ready, and how the packets end. `composer_normal`: the parts in the current
-/// format. `composer_sizes`: without their octets.
+/// how many packets it was ready, and how the packets end. `composer_lent`: packets that are lent.
+/// `composer_normal`: the parts in the current format. `composer_sizes`: without their octets.
 fn composed(alloc: Global, given: &Given, shown: Shown, answer: &mut Answer) {
     if let Some(blocks) = blocks_of(alloc, given, answer) {
         push_blocks(alloc, limits_of(given), blocks, shown, answer);
@@ -66,7 +69,11 @@ fn push_all(
         if composer.ready() {
             return answer.refuse(End::Bad("parts that were taken"));
         }
-        answer.made(composer.push(placed));
+        let pushed = match shown {
+            Shown::Lent => composer.push_view(PlacedView::of(&placed)),
+            _ => composer.push(placed),
+        };
+        answer.made(pushed);
         if let Some(part) = composer.take() {
             answer.named("behind", number as u64);
             add_part(alloc, part, shown, answer);
@@ -96,7 +103,7 @@ fn add_last(alloc: Global, part: Ready, shown: Shown, answer: &mut Answer) {
 /// Adds a part as it is to be shown.
 pub(crate) fn add_part(alloc: Global, part: Ready, shown: Shown, answer: &mut Answer) {
     match shown {
-        Shown::AsItIs => add_octets(alloc, &part, answer),
+        Shown::AsItIs | Shown::Lent => add_octets(alloc, &part, answer),
         Shown::Normal => add_octets(alloc, &part.normalise(), answer),
         Shown::Size => add_size(&part, answer),
     }

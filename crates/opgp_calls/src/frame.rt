@@ -15,7 +15,8 @@ use std::alloc::Global;
 /// Adds the answer to a call of this crate; false where it has none of the name.
 pub(crate) fn answered(alloc: Global, name: &str, given: &Given, answer: &mut Answer) -> bool {
     match name {
-        "deframe" => deframe(alloc, given, answer),
+        "deframe" => deframe(alloc, given, false, answer),
+        "deframe_lent" => deframe(alloc, given, true, answer),
         "packet" => packet(alloc, given, answer),
         "packet_copy" => packet_copy(alloc, given, answer),
         "placed_copy" => placed_copy(alloc, given, answer),
@@ -31,18 +32,26 @@ pub(crate) fn answered(alloc: Global, name: &str, given: &Given, answer: &mut An
     true
 }
 
-/// `deframe LIMITS.. BLOCK SIZE OCTETS..`: pushes of so many octets.
-fn deframe(alloc: Global, given: &Given, answer: &mut Answer) {
+/// `deframe LIMITS.. BLOCK SIZE OCTETS..`: pushes of so many octets. `deframe_lent`: a packet that is
+/// whole in a piece is lent.
+fn deframe(alloc: Global, given: &Given, lends: bool, answer: &mut Answer) {
     let limits = limits_of(given);
     let block = given.number(5);
     let size = given.long(6).max(1);
     let reader = Deframe::new(alloc, block, limits);
-    pushed(alloc, reader, given.all_octets(), size, answer)
+    pushed(alloc, reader, given.all_octets(), size, lends, answer)
 }
 
 /// Adds the packets of octets that are pushed so many at a time, and how they end.
-fn pushed(alloc: Global, mut reader: Deframe, words: &[Vec<u8>], size: u32, answer: &mut Answer) {
-    push_all(alloc, &mut reader, words, size, answer);
+fn pushed(
+    alloc: Global,
+    mut reader: Deframe,
+    words: &[Vec<u8>],
+    size: u32,
+    lends: bool,
+    answer: &mut Answer,
+) {
+    push_all(alloc, &mut reader, words, size, lends, answer);
     add_end(reader, answer)
 }
 
@@ -52,12 +61,13 @@ fn push_all(
     reader: &mut Deframe,
     words: &[Vec<u8>],
     size: u32,
+    lends: bool,
     answer: &mut Answer,
 ) {
     let mut given = 0u64;
     for octets in words {
         for piece in octets.chunks(size.max(1) as usize) {
-            push(alloc, reader, piece, answer);
+            push(alloc, reader, piece, lends, answer);
             given = given.saturating_add(piece.len() as u64);
             if reader.given() != given {
                 answer.word("miscounted");
@@ -76,11 +86,17 @@ fn add_end(reader: Deframe, answer: &mut Answer) {
 }
 
 /// Pushes octets, and adds the packets.
-fn push(alloc: Global, reader: &mut Deframe, piece: &[u8], answer: &mut Answer) {
+fn push(alloc: Global, reader: &mut Deframe, piece: &[u8], lends: bool, answer: &mut Answer) {
     let mut rest = piece;
     for _ in 0..=piece.len() {
         if rest.is_empty() {
             break;
+        }
+        if lends {
+            if let Some(count) = lend_some(alloc, reader, rest, answer) {
+                rest = &rest[count..];
+                continue;
+            }
         }
         let Some(count) = push_some(reader, rest, answer) else {
             break;
@@ -107,6 +123,20 @@ pub(crate) fn push_some(reader: &mut Deframe, rest: &[u8], answer: &mut Answer) 
             None
         }
     }
+}
+
+/// Adds the packet that is whole in the octets, if one is, and answers how many octets it takes.
+fn lend_some(alloc: Global, reader: &mut Deframe, rest: &[u8], answer: &mut Answer) -> Option<usize>
+    ensures { IfSome result (λ n. n ≤ length rest.now) }
+{
+    if reader.ready() || reader.given() > 1 << 40 || rest.len() > 1 << 40 {
+        return None;
+    }
+    let (count, lent) = reader.lend(rest)?;
+    if let Some(placed) = answer.made(lent.view().copy(alloc)) {
+        add_placed(alloc, &placed, answer);
+    }
+    Some(count)
 }
 
 /// Adds a packet: its place, block, header and octets.

@@ -1,19 +1,28 @@
 //! Pushing a piece into a reader of packets.
 
-ghost use Rattle.std.specs.Prelude.{◌≡◌, ◌<◌, ◌+◌, ◌^◌, List, false, length, map, OnOk};
+ghost use Rattle.std.specs.Prelude.{◌≡◌, ◌<◌, ◌+◌, ◌^◌, List, [], ◌∷◌, false, length, map, OnOk};
 ghost use Rattle.opgp_frame.specs.declared.packet.Placed.{Placed};
 ghost use Rattle.opgp_frame.specs.Fed.{KeepsFed as KeepsFedPackets, is_ready, count_of};
 ghost use Rattle.opgp_frame.specs.Fed.{limits_of};
+ghost use Rattle.opgp_frame.specs.View.{lent_packet};
 ghost use Rattle.opgp_ring.specs.Composition.{of_packet};
 ghost use Rattle.opgp_engine.specs.Receiver.{KeepsFed};
 
 use crate::receiver::Receiver;
-use opgp_frame::Deframe;
+use opgp_frame::{Deframe, Lent};
 use opgp_octets::OutOfMemory;
 use std::alloc::AllocError;
 
+/// Passes a packet that is lent to the top.
+#[inline(always)]
+fn pass<T: Receiver>(lent: Lent<'_>, top: &mut T) -> Result<(), OutOfMemory>
+    ensures { OnOk result (KeepsFed T.fed top.old top.new (of_packet (lent_packet lent.entry) ∷ [])) }
+{
+    top.push_view(lent.view())
+}
+
 /// Pushes a whole piece, passes each packet that it completes to the top, and returns how many these
-/// are.
+/// are. A packet that is whole in the piece is lent from there, and copied only where the top keeps it.
 pub(crate) fn feed<T: Receiver>(
     deframe: &mut Deframe,
     piece: &[u8],
@@ -31,14 +40,24 @@ pub(crate) fn feed<T: Receiver>(
     let mut at = 0;
     let mut passed = 0u64;
     'pushes: while at < piece.len() {
-        match deframe.push(&piece[at..]) {
-            Ok(n) => at += n,
-            Err(_) => return Err(AllocError),
-        }
-        if let Some(packet) = deframe.take() {
-            match top.push(packet) {
-                Ok(()) => passed = passed.saturating_add(1),
-                Err(_) => return Err(AllocError),
+        let rest = &piece[at..];
+        match deframe.lend(rest) {
+            Some((n, lent)) => {
+                pass(lent, top)?;
+                passed = passed.saturating_add(1);
+                at += n;
+            }
+            None => {
+                match deframe.push(rest) {
+                    Ok(n) => at += n,
+                    Err(_) => return Err(AllocError),
+                }
+                if let Some(packet) = deframe.take() {
+                    match top.push(packet) {
+                        Ok(()) => passed = passed.saturating_add(1),
+                        Err(_) => return Err(AllocError),
+                    }
+                }
             }
         }
     }

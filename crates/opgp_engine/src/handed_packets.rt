@@ -5,7 +5,7 @@ ghost use Rattle.opgp_frame.specs.declared.packet.Placed.{Placed};
 ghost use Rattle.opgp_engine.specs.PacketReader.{AreHanded, AreHandedSome, handed, packets_in};
 
 use crate::sound_packets::PacketKeeper;
-use opgp_frame::Placed;
+use opgp_frame::{Placed, PlacedView};
 use opgp_octets::OutOfMemory;
 use std::alloc::Global;
 use std::collections::VecDeque;
@@ -56,6 +56,7 @@ impl WaitingPackets {
 /// Packets that came: those that wait, and how many were taken.
 #[derive(Drop)]
 pub(crate) struct HandedPackets<P> {
+    alloc: Global,
     pub(crate) waiting: WaitingPackets,
     taken: u64,
     past: PhantomData<P>,
@@ -67,6 +68,7 @@ impl<P> HandedPackets<P> {
         ensures { AreHanded [] result [] }
     {
         HandedPackets {
+            alloc,
             waiting: WaitingPackets::new(alloc),
             taken: 0,
             past: PhantomData,
@@ -101,5 +103,10 @@ impl<P: PastPackets> PacketKeeper for HandedPackets<P> {
     fn keep(&mut self, packet: Placed) -> Result<(), OutOfMemory> {
         self.waiting.add(packet)?;
         Ok(())
+    }
+
+    fn keep_view(&mut self, packet: PlacedView<'_>) -> Result<(), OutOfMemory> {
+        let placed = packet.copy(self.alloc)?;
+        self.keep(placed)
     }
 }

@@ -13,7 +13,7 @@ use crate::keyrings::holds_keys;
 use crate::receiver::Receiver;
 use crate::waiting::Waiting;
 use opgp_armor::Label;
-use opgp_frame::Placed;
+use opgp_frame::{Placed, PlacedView};
 use opgp_octets::{Fault, Limits, OutOfMemory};
 use opgp_ring::{Composer, Ready};
 use std::alloc::{AllocError, Global};
@@ -113,7 +113,11 @@ impl<P: Past> Receiver for Handing<P> {
     }
 
     fn push(&mut self, packet: Placed) -> Result<(), OutOfMemory> {
-        match self.composer.push(packet) {
+        self.push_view(PlacedView::of(&packet))
+    }
+
+    fn push_view(&mut self, packet: PlacedView<'_>) -> Result<(), OutOfMemory> {
+        match self.composer.push_view(packet) {
             Ok(()) => {}
             Err(_) => return Err(AllocError),
         }

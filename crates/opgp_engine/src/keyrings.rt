@@ -7,7 +7,7 @@ ghost use Rattle.opgp_engine.specs.Keyrings.{KeepsAll, key_label};
 
 use crate::receiver::Receiver;
 use opgp_armor::Label;
-use opgp_frame::Placed;
+use opgp_frame::{Placed, PlacedView};
 use opgp_octets::{Fault, OutOfMemory};
 use opgp_ring::{Gathering, Keeper};
 
@@ -41,6 +41,10 @@ impl<K: Keeper + Drop> Receiver for Gathering<K> {
 
     fn push(&mut self, packet: Placed) -> Result<(), OutOfMemory> {
         self.add(packet)
+    }
+
+    fn push_view(&mut self, packet: PlacedView<'_>) -> Result<(), OutOfMemory> {
+        self.add_view(packet)
     }
 
     fn finish(self) -> Result<Result<K, Fault>, OutOfMemory> {

@@ -11,7 +11,7 @@ ghost use Rattle.opgp_engine.specs.Receiver.{from_label};
 
 use crate::receiver::Receiver;
 use opgp_armor::Label;
-use opgp_frame::Placed;
+use opgp_frame::{Placed, PlacedView};
 use opgp_octets::{Fault, Malformed, OutOfMemory};
 use opgp_ring::{BlockOf, check_bodies_by};
 use std::alloc::Global;
@@ -71,6 +71,11 @@ impl Receiver for PacketBlocks {
             // Unreachable: each block begins before its packets.
             None => Ok(()),
         }
+    }
+
+    fn push_view(&mut self, packet: PlacedView<'_>) -> Result<(), OutOfMemory> {
+        let placed = packet.copy(self.alloc)?;
+        self.push(placed)
     }
 
     fn finish(self) -> Result<Result<Vec<BlockOf>, Fault>, OutOfMemory> {

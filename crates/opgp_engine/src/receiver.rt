@@ -3,12 +3,13 @@
 ghost use Rattle.std.specs.Prelude.{◌≡◌, ◌∷◌, [], List, Bool, Option, OnOk, IfOk};
 ghost use Rattle.opgp_octets.specs.declared.limits.Limits.{Limits};
 ghost use Rattle.opgp_armor.specs.declared.label.Label.{Label};
+ghost use Rattle.opgp_frame.specs.View.{viewed};
 ghost use Rattle.opgp_ring.specs.Composition.{Item, of_label, of_packet};
 ghost use Rattle.opgp_engine.specs.Reading.{Outcome};
 ghost use Rattle.opgp_engine.specs.Receiver.{AreRead, KeepsFed};
 
 use opgp_armor::Label;
-use opgp_frame::Placed;
+use opgp_frame::{Placed, PlacedView};
 use opgp_octets::{Fault, OutOfMemory};
 
 /// Makes a value of the blocks of packets of an input, which come one packet at a time.
@@ -37,6 +38,10 @@ pub trait Receiver {
     /// The next packet of the block. Fails only when out of memory.
     fn push(&mut self, packet: Placed) -> Result<(), OutOfMemory>
         ensures { OnOk result (KeepsFed fed self.old self.new (of_packet packet ∷ [])) };
+
+    /// The next packet of the block, which is lent. Fails only when out of memory.
+    fn push_view(&mut self, packet: PlacedView<'_>) -> Result<(), OutOfMemory>
+        ensures { OnOk result (KeepsFed fed self.old self.new (of_packet (viewed packet.entry) ∷ [])) };
 
     /// The value, or a fault of this layer, of what an input has. The condition is that nothing was
     /// refused. Fails only when out of memory.

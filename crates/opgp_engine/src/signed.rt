@@ -10,7 +10,7 @@ ghost use Rattle.opgp_engine.specs.Signed.{AreSigned, message_label};
 
 use crate::receiver::Receiver;
 use opgp_armor::Label;
-use opgp_frame::Placed;
+use opgp_frame::{Placed, PlacedView};
 use opgp_octets::{Fault, OutOfMemory};
 use opgp_ring::{SignedGathering, SignedLiteral};
 
@@ -37,6 +37,10 @@ impl Receiver for SignedGathering {
 
     fn push(&mut self, packet: Placed) -> Result<(), OutOfMemory> {
         self.add(packet)
+    }
+
+    fn push_view(&mut self, packet: PlacedView<'_>) -> Result<(), OutOfMemory> {
+        self.add_view(packet)
     }
 
     fn finish(self) -> Result<Result<SignedLiteral, Fault>, OutOfMemory> {

@@ -3,6 +3,7 @@
 ghost use Rattle.std.specs.Prelude.{◌≡◌, ◌++◌, ◌∷◌, [], List, None, OnOk};
 ghost use Rattle.opgp_octets.specs.declared.limits.Limits.{Limits};
 ghost use Rattle.opgp_octets.specs.Limits.{malformed_of};
+ghost use Rattle.opgp_frame.specs.View.{viewed};
 ghost use Rattle.opgp_frame.specs.declared.packet.Placed.{Placed};
 ghost use Rattle.opgp_ring.specs.Composition.{placed_in};
 ghost use Rattle.opgp_engine.specs.Packets.{any_label};
@@ -10,9 +11,9 @@ ghost use Rattle.opgp_engine.specs.SoundPackets.{AreSoFar, AreSound};
 
 use crate::receiver::Receiver;
 use opgp_armor::Label;
-use opgp_frame::Placed;
+use opgp_frame::{Placed, PlacedView};
 use opgp_octets::{Fault, Malformed, OutOfMemory};
-use opgp_ring::packet_fault;
+use opgp_ring::{packet_fault, view_fault};
 
 /// Keeps what it makes of packets, which come one by one.
 pub trait PacketKeeper {
@@ -23,6 +24,11 @@ pub trait PacketKeeper {
     fn keep(&mut self, packet: Placed) -> Result<(), OutOfMemory>
         ensures { OnOk result ((packets : List Placed) → kept self.old packets
             → kept self.new (packets ++ packet ∷ [])) };
+
+    /// Keeps the next packet, which is lent. Fails only when out of memory.
+    fn keep_view(&mut self, packet: PlacedView<'_>) -> Result<(), OutOfMemory>
+        ensures { OnOk result ((packets : List Placed) → kept self.old packets
+            → kept self.new (packets ++ viewed packet.entry ∷ [])) };
 }
 
 /// Hands an input's packets to a keeper, up to the first whose body has a fault. Any label is
@@ -90,6 +96,22 @@ impl<K: PacketKeeper + Drop> Receiver for SoundPackets<K> {
             }
             None => {
                 self.keeper.keep(packet)?;
+                Ok(())
+            }
+        }
+    }
+
+    fn push_view(&mut self, packet: PlacedView<'_>) -> Result<(), OutOfMemory> {
+        if self.fault.is_some() {
+            return Ok(());
+        }
+        match view_fault(packet, self.malformed) {
+            Some(fault) => {
+                self.fault = Some(fault);
+                Ok(())
+            }
+            None => {
+                self.keeper.keep_view(packet)?;
                 Ok(())
             }
         }

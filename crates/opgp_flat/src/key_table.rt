@@ -138,8 +138,6 @@ fn add_certificate(
     ensures bytes { OnOk result
         (bytes.new.items ≡ bytes.old.items ++ certificate_material certificate.now) }
 {
-    // Called for its contract: its packets can be counted.
-    let _count = certificate.packets().len();
     add_key(rows, bytes, number, NONE, certificate.key())?;
     add_components(rows, bytes, number, certificate.components())
 }

@@ -158,8 +158,6 @@ fn add_certificate(
     ensures bytes { OnOk result (table.new.bytes.items
         ≡ table.old.bytes.items ++ bodies (certificate_packets certificate.now)) }
 {
-    // Called for its contract: its packets can be counted.
-    let _count = certificate.packets().len();
     let spot = Spot {
         certificate: number,
         component: NONE,

@@ -101,6 +101,31 @@ Fed-completes limits block d e given piece taken p s free same_limits same_block
       waits = λ _. refl;
     }
 
+-- a piece that makes the octets of an allowed packet, which is handed out, of what is left
+pub Fed-lends : (limits : Limits) (block : ℕ) (d e : Deframe) (given piece : List ℕ) (taken : List Placed) (q : Placed) (s : Fed limits block d given taken)
+    → is_some d.ready ≡ false → e.ready ≡ d.ready → e.limits ≡ d.limits → e.block ≡ d.block → q.block ≡ d.block → q.pos ≡ d.start → IsWhole limits (s.rest ++ piece) q.packet
+    → e.state ≡ Between → e.exponents.items ≡ [] → e.body.items ≡ [] → e.start ≡ d.given + length piece → e.given ≡ d.given + length piece → Fed limits block e (given ++ piece) (taken ++ q ∷ [])
+Fed-lends limits block d e given piece taken q s free same_ready same_limits same_block in_block at_start is state no_exponents no_body start count =
+    let none : d.ready ≡ None = None-from_is_some d.ready free in
+    let before : packets_of d taken ≡ taken = ap (λ (o : Option Placed). taken ++ option_to_list o) none ∙ append-nil taken in
+    let after : packets_of e (taken ++ q ∷ []) ≡ taken ++ q ∷ [] = ap (λ (o : Option Placed). (taken ++ q ∷ []) ++ option_to_list o) (same_ready ∙ none) ∙ append-nil (taken ++ q ∷ []) in
+    let stream : given ≡ spelled taken ++ s.rest = s.whole ∙ ap (λ (ps : List Placed). spelled ps ++ s.rest) before in
+    let whole : given ++ piece ≡ spelled (packets_of e (taken ++ q ∷ [])) =
+    ap (λ (l : List ℕ). l ++ piece) stream ∙ append_assoc (spelled taken) s.rest piece ∙ ap (λ (l : List ℕ). spelled taken ++ l) is.spelled ∙ sym (ap spelled after ∙ spelled-push taken q) in
+    let begins : d.start ≡ 0 + length (spelled taken) = omega (arith, s.start ∙ ap (λ (ps : List Placed). length (spelled ps)) before) in
+    let counted : d.given + length piece ≡ length (given ++ piece) = omega (arith, s.count, length-append given piece) in
+    record {
+      rest = [];
+      limits_kept = same_limits ∙ s.limits_kept;
+      block_kept = same_block ∙ s.block_kept;
+      whole = whole ∙ sym (append-nil (spelled (packets_of e (taken ++ q ∷ []))));
+      stand = subst (StandFrom limits block 0) (sym after) (StandFrom-push limits block 0 taken q (subst (StandFrom limits block 0) before s.stand) is.allowed (in_block ∙ s.block_kept) (at_start ∙ begins));
+      start = start ∙ counted ∙ ap (length {A = ℕ}) whole;
+      count = count ∙ counted;
+      state = subst (λ (t : State). IsRest limits t e.exponents.items e.body.items []) (sym state) (refl, no_exponents, no_body);
+      waits = λ _. refl;
+    }
+
 same_fault : (limits : Limits) (o : List ℕ) (why reason : Reason) (at inner : ℕ) → ◌≡◌ {A = Option (Reason × ℕ)} (Some (why, at)) (Some (reason, inner)) → PacketFault limits o why at → PacketFault limits o reason inner
 same_fault limits o why reason at inner e fault =
     let parts = some_pair_parts why reason at inner e in

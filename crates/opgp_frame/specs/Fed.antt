@@ -20,6 +20,13 @@ is_spent_state (states.InPiece header l from until) = false
 is_spent_state (states.Faulty reason inner) = false
 is_spent_state states.Spent = true
 
+abbrev pub is_between_state : State → Bool
+is_between_state states.Between = true
+is_between_state (states.InLength header seen count) = false
+is_between_state (states.InPiece header l from until) = false
+is_between_state (states.Faulty reason inner) = false
+is_between_state states.Spent = false
+
 -- the fault that a state keeps, of a packet that begins at this offset in this block
 abbrev pub fault_of_state : State → ℕ → ℕ → Option Fault
 fault_of_state states.Between block pos = None
@@ -36,6 +43,10 @@ is_spent d = is_spent_state d.state
 -- the fault that the octets given have, whatever follows
 abbrev pub fault_of : Deframe → Option Fault
 fault_of d = fault_of_state d.state d.block d.start
+
+-- it is between packets
+abbrev pub is_between : Deframe → Bool
+is_between d = is_between_state d.state
 
 -- a packet is ready to be taken
 abbrev pub is_ready : Deframe → Bool

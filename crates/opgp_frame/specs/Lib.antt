@@ -7,11 +7,13 @@ pub mod Header
 pub mod Length
 pub mod Packet
 pub mod PacketFault
+pub mod PacketProp
 pub mod PiecesValue
 pub mod ReaderState
 pub mod Reframed
 pub mod Spelling
 pub mod Unfinished
+pub mod View
 pub mod Whole
 pub use Rattle.opgp_octets.specs.Limits
 pub use Rattle.opgp_octets.specs.Octets

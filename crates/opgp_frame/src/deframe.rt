@@ -1,7 +1,7 @@
 //! A reader of packets that octets are pushed into, in pieces of any size.
 
 ghost use Rattle.std.specs.Prelude.{◌≡◌, ◌<◌, ◌≤◌, ◌+◌, ◌^◌, ◌++◌, ◌∷◌, ◌↔◌, ℕ, List, [], true};
-ghost use Rattle.std.specs.Prelude.{false, length, take, is_some, option_to_list, Some, None, IfOk};
+ghost use Rattle.std.specs.Prelude.{false, length, take, is_some, option_to_list, Some, None, IfOk, IfSome, IsSome};
 ghost use Rattle.std.specs.Prelude.{OnOk, OnErr, MatchResult, Ok, Err};
 ghost use Rattle.std.specs.Option.{IsSomeAnd};
 ghost use Rattle.opgp_octets.specs.declared.limits.Limits.{Limits};
@@ -13,8 +13,9 @@ ghost use Rattle.opgp_frame.specs.ReaderState.{state_fits, state_fault, held_in}
 
 use crate::header::{header_fault, kind_in};
 use crate::length::{Length, length_fault, read_length};
+use crate::lent::Lent;
 use crate::packet::Placed;
-use crate::parts::placed;
+use crate::parts::{lend_whole, placed};
 use crate::whole::{Whole, whole_in};
 use opgp_octets::{Fault, Layer, Limits, OutOfMemory, PushFault, Reason};
 use std::alloc::Global;
@@ -70,12 +71,14 @@ pub struct Deframe {
 
 impl Deframe {
     ghost use Rattle.opgp_frame.specs.Fed.{Fed, KeepsFed, is_spent, fault_of, is_ready, count_of};
-    ghost use Rattle.opgp_frame.specs.Fed.{limits_of, held_of, Takes};
+    ghost use Rattle.opgp_frame.specs.Fed.{limits_of, held_of, is_between, Takes};
+    ghost use Rattle.opgp_frame.specs.Form.{exponents_of};
     ghost use Rattle.opgp_frame.specs.Frames.{Frames, IsFramingFault};
     ghost use Rattle.opgp_frame.specs.Length.{LengthFits, is_partial};
     ghost use Rattle.opgp_frame.specs.ReaderState.{IsInLength};
     ghost use Rattle.opgp_frame.specs.Unfinished.{EndsLength, IsInPiece, IsWhole};
-    ghost use Rattle.opgp_frame.specs.Whole.{BeginsWith};
+    ghost use Rattle.opgp_frame.specs.View.{lent_packet};
+    ghost use Rattle.opgp_frame.specs.Whole.{BeginsWith, BeginInOnePiece};
     ghost use Rattle.opgp_frame.specs.declared.packet.Placed.{Placed};
 
     /// A reader of a block's packets that was given nothing yet.
@@ -85,6 +88,7 @@ impl Deframe {
         ensures fed { Fed limits block result [] [] }
         ensures free { is_ready result ≡ false }
         ensures sound { is_spent result ≡ false }
+        ensures between { is_between result ≡ true }
         ensures count { count_of result ≡ 0 }
         ensures limits { limits_of result ≡ limits }
         ensures held { held_of result ≡ 0 }
@@ -123,6 +127,7 @@ impl Deframe {
         ensures some { is_some result ≡ is_ready self.old }
         ensures free { is_ready self.new ≡ false }
         ensures spent { is_spent self.new ≡ is_spent self.old }
+        ensures between { is_between self.new ≡ is_between self.old }
         ensures faulty { fault_of self.new ≡ fault_of self.old }
         ensures count { count_of self.new ≡ count_of self.old }
         ensures limits { limits_of self.new ≡ limits_of self.old }
@@ -231,6 +236,43 @@ impl Deframe {
         }
     }
 
+    /// Takes a packet of one piece, all of whose octets begin the piece, where the reader is between
+    /// packets: lends it, with the number of its octets, and copies nothing. Where there is none, takes
+    /// nothing and returns None; `push` reads on then. The conditions are those of `push`.
+    ///
+    /// Allocates nothing.
+    pub fn lend<'a>(&mut self, piece: &'a [u8]) -> Option<(usize, Lent<'a>)>
+        requires free { is_ready self.old ≡ false }
+        requires room { count_of self.old + length piece.now < 2 ^ 63 }
+        ensures fed { IfSome result (λ r.
+            KeepsFed self.old self.new (take r.0 piece.now) (lent_packet r.1 ∷ [])) }
+        ensures moves { IfSome result (λ r. (0 < r.0) × (r.0 ≤ length piece.now)) }
+        ensures count { IfSome result (λ r. count_of self.new ≡ count_of self.old + r.0) }
+        // The packet is in one piece, whose body is within the limit.
+        ensures whole { IfSome result (λ r. exponents_of (lent_packet r.1).packet.form ≡ []) }
+        ensures short { IfSome result (λ r.
+            length (lent_packet r.1).packet.body ≤ body_limit (limits_of self.new)) }
+        // Where there is such a packet, it is lent.
+        ensures some { is_between self.old ≡ true → BeginInOnePiece (limits_of self.old) piece.now
+            → IsSome result }
+        ensures between { IsSome result → is_between self.new ≡ true }
+        ensures none { result ≡ None → self.new ≡ self.old }
+        ensures free { is_ready self.new ≡ false }
+        ensures sound { is_spent self.new ≡ is_spent self.old }
+        ensures faulty { fault_of self.new ≡ fault_of self.old }
+        // After a fault, and when out of memory, nothing is lent.
+        ensures quiet { IsSome (fault_of self.old) → result ≡ None }
+        ensures spent { is_spent self.old ≡ true → result ≡ None }
+        ensures limits { limits_of self.new ≡ limits_of self.old }
+        ensures held { held_of self.new ≡ held_of self.old }
+    {
+        let State::Between = self.state else {
+            return None;
+        };
+        let whole = whole_in(self.limits, piece)?;
+        self.step_whole(whole, piece)
+    }
+
     /// Takes octets of the piece up to the one that makes a packet ready, or all of them.
     fn advance(&mut self, piece: &[u8]) -> Result<usize, OutOfMemory>
         requires free { is_ready self.old ≡ false }
@@ -241,7 +283,7 @@ impl Deframe {
         // The usual case: the piece has the whole packet.
         if let State::Between = self.state {
             if let Some(whole) = whole_in(self.limits, piece) {
-                return self.step_whole(whole, piece);
+                return self.copy_whole(whole, piece);
             }
         }
         self.steps(piece)
@@ -322,7 +364,48 @@ impl Deframe {
     }
 
     /// Takes the whole packet that begins the piece.
-    fn step_whole(&mut self, whole: Whole, piece: &[u8]) -> Result<usize, OutOfMemory>
+    #[inline(always)]
+    fn step_whole<'a>(&mut self, whole: Whole, piece: &'a [u8]) -> Option<(usize, Lent<'a>)>
+        requires between { self.old.state ≡ State.Between }
+        requires whole { BeginsWith self.old.limits whole piece.now }
+        requires free { is_ready self.old ≡ false }
+        requires room { count_of self.old + length piece.now < 2 ^ 63 }
+        ensures fed { IfSome result (λ r.
+            KeepsFed self.old self.new (take r.0 piece.now) (lent_packet r.1 ∷ [])) }
+        ensures moves { IfSome result (λ r. (0 < r.0) × (r.0 ≤ length piece.now)) }
+        ensures count { IfSome result (λ r. count_of self.new ≡ count_of self.old + r.0) }
+        ensures short { IfSome result (λ r.
+            length (lent_packet r.1).packet.body ≤ body_limit (limits_of self.new)) }
+        ensures whole { IfSome result (λ r. exponents_of (lent_packet r.1).packet.form ≡ []) }
+        ensures some { IsSome result }
+        ensures free { is_ready self.new ≡ false }
+        ensures between { self.new.state ≡ State.Between }
+        ensures exponents { self.new.exponents ≡ self.old.exponents }
+        ensures body { self.new.body ≡ self.old.body }
+        ensures ready { self.new.ready ≡ self.old.ready }
+        ensures limits { limits_of self.new ≡ limits_of self.old }
+    {
+        let Whole {
+            header,
+            last,
+            from,
+            until,
+        } = whole;
+        let lent = lend_whole(
+            self.alloc,
+            header,
+            last,
+            &piece[from..until],
+            self.block,
+            self.start,
+        )?;
+        self.given += until as u64;
+        self.start = self.given;
+        Some((until, lent))
+    }
+
+    /// Takes a copy of the whole packet that begins the piece.
+    fn copy_whole(&mut self, whole: Whole, piece: &[u8]) -> Result<usize, OutOfMemory>
         requires between { self.old.state ≡ State.Between }
         requires whole { BeginsWith self.old.limits whole piece.now }
         requires free { is_ready self.old ≡ false }
@@ -335,18 +418,14 @@ impl Deframe {
         ensures free { OnErr result (is_ready self.new ≡ false) }
         ensures limits { limits_of self.new ≡ limits_of self.old }
     {
-        let Whole {
-            header,
-            last,
-            from,
-            until,
-        } = whole;
-        let body = Vec::from_slice(self.alloc, &piece[from..until])?;
-        let exponents = Vec::new(self.alloc);
-        self.ready = placed(header, exponents, last, body, self.block, self.start);
-        self.given += until as u64;
-        self.start = self.given;
-        Ok(until)
+        match self.step_whole(whole, piece) {
+            Some((n, lent)) => {
+                let placed = lent.view().copy(self.alloc)?;
+                self.ready = Some(placed);
+                Ok(n)
+            }
+            None => unreachable!(),
+        }
     }
 
     /// Takes the octet that begins a packet.

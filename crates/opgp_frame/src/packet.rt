@@ -1,6 +1,6 @@
 //! Packets (RFC 9580, 4).
 
-ghost use Rattle.std.specs.Prelude.{◌≡◌, ◌↔◌, IsSome, IfSome, IfOk, length};
+ghost use Rattle.std.specs.Prelude.{◌≡◌, ◌↔◌, IsSome, IfSome, IfOk, IsTrue, length};
 ghost use Rattle.opgp_frame.specs.Packet.{PacketValue, IsPacket, spelling};
 ghost use Rattle.opgp_frame.specs.Reframed.{reframed};
 
@@ -59,12 +59,10 @@ impl Packet {
         ensures value { IfSome result
             (λ p. p ≡ record { form = form; kind = kind; body = body.items }) }
     {
-        if !is_read_kind(kind) || !form.takes(kind) {
-            return None;
-        }
-        match form.last_length(body.len() as u64) {
-            Some(_) => Some(Packet { form, kind, body }),
-            None => None,
+        if is_packet(&form, kind, &body) {
+            Some(Packet { form, kind, body })
+        } else {
+            None
         }
     }
 
@@ -156,4 +154,13 @@ impl Placed {
             pos: self.pos,
         })
     }
+}
+
+/// Whether there is a packet with this form, type and body.
+#[inline(always)]
+pub(crate) fn is_packet(form: &Form, kind: u8, body: &[u8]) -> bool
+    ensures { IsTrue result
+        ↔ IsPacket (record { form = form.now; kind = kind; body = body.now }) }
+{
+    is_read_kind(kind) && form.takes(kind) && form.last_length(body.len() as u64).is_some()
 }

@@ -1,6 +1,6 @@
 //! A packet from its parts as they were read.
 
-ghost use Rattle.std.specs.Prelude.{◌≡◌, ◌<◌, ◌≤◌, ℕ, List, false, length, IfSome};
+ghost use Rattle.std.specs.Prelude.{◌≡◌, ◌<◌, ◌≤◌, ℕ, List, [], false, length, IfSome};
 ghost use Rattle.std.specs.Option.{IsSomeAnd};
 ghost use Rattle.opgp_octets.specs.declared.limits.Limits.{Limits};
 ghost use Rattle.opgp_frame.specs.Form.{exponents_of};
@@ -8,13 +8,16 @@ ghost use Rattle.opgp_frame.specs.FormOf.{form_with};
 ghost use Rattle.opgp_frame.specs.Length.{is_partial};
 ghost use Rattle.opgp_frame.specs.PiecesValue.{ArePieces};
 ghost use Rattle.opgp_frame.specs.Unfinished.{IsInPiece, IsWhole};
+ghost use Rattle.opgp_frame.specs.View.{lent_packet};
 
 use crate::form::Form;
 use crate::header::kind_in;
 use crate::length::Length;
-use crate::packet::{Packet, Placed};
+use crate::lent::Lent;
+use crate::packet::{Packet, Placed, is_packet};
 use crate::pieces::{LastForm, Pieces};
 use opgp_octets::PacketLen;
+use std::alloc::Global;
 
 /// The packet with this first octet, these pieces, this last length and this body, in its place.
 #[inline(always)]
@@ -60,4 +63,37 @@ fn form_of(exponents: Vec<u8>, last: Length) -> Option<Form>
     }
     let pieces = Pieces::new(exponents, last)?;
     Some(Form::Partial(pieces))
+}
+
+/// The packet with this first octet, this length and this body, in one piece, in its place.
+#[inline(always)]
+pub(crate) fn lend_whole<'a>(
+    alloc: Global,
+    header: u8,
+    last: Length,
+    body: &'a [u8],
+    block: u64,
+    pos: u64,
+) -> Option<Lent<'a>>
+    ensures whole { (limits : Limits) (from until : ℕ) (rest : List ℕ)
+        → IsInPiece limits header last from until [] body.now rest
+        → length body.now ≡ until → is_partial last ≡ false
+        → IsSomeAnd result
+        (λ v. (v.block ≡ block) × (v.pos ≡ pos) × IsWhole limits rest (lent_packet v).packet) }
+    ensures body { IfSome result (λ v. v.body.now ≡ body.now) }
+    ensures pieces { IfSome result (λ v. exponents_of v.form ≡ []) }
+{
+    let form = form_of(Vec::new(alloc), last)?;
+    let kind = kind_in(header);
+    if is_packet(&form, kind, body) {
+        Some(Lent {
+            form,
+            kind,
+            body,
+            block,
+            pos,
+        })
+    } else {
+        None
+    }
 }

@@ -1,7 +1,7 @@
 //! Packets in one piece, of which all octets are there.
 
-ghost use Rattle.std.specs.Prelude.{IfSome};
-ghost use Rattle.opgp_frame.specs.Whole.{BeginsWith};
+ghost use Rattle.std.specs.Prelude.{IfSome, IsSome};
+ghost use Rattle.opgp_frame.specs.Whole.{BeginsWith, BeginInOnePiece};
 
 use crate::header::header_fault;
 use crate::length::{Length, read_length};
@@ -20,7 +20,8 @@ pub(crate) struct Whole {
 /// The allowed packet of one piece that the octets begin with, if all of it is there.
 #[inline(always)]
 pub(crate) fn whole_in(limits: Limits, octets: &[u8]) -> Option<Whole>
-    ensures { IfSome result (λ whole. BeginsWith limits whole octets.now) }
+    ensures whole { IfSome result (λ whole. BeginsWith limits whole octets.now) }
+    ensures some { BeginInOnePiece limits octets.now → IsSome result }
 {
     let [header, behind @ ..] = octets else {
         return None;

@@ -67,10 +67,10 @@ fewer : (cs : List ComponentValue) → length cs ≤ length (flat_map component_
 fewer [] = omega arith
 fewer (c ∷ cs) = omega (arith, fewer cs, length-append c.hangs (flat_map component_packets cs))
 
-pub few : (c : CertificateValue) (count : ℕ) (ps : List PacketValue) (cs : List ComponentValue) → count < 18446744073709551616
-    → count ≡ length ps → ps ≡ certificate_packets c → cs ≡ c.components → length cs < 18446744073709551616
-few c count ps cs bound counts packets components =
-    omega (arith, counts, ap length packets, ap length components, fewer c.components, length-append c.hangs (flat_map component_packets c.components))
+pub few : (c : CertificateValue) (cs : List ComponentValue) → length (certificate_packets c) < 18446744073709551616
+    → cs ≡ c.components → length cs < 18446744073709551616
+few c cs bound components =
+    omega (arith, bound, ap length components, fewer c.components, length-append c.hangs (flat_map component_packets c.components))
 
 -- a certificate whose packets stay one after the other
 pub all_chosen : (choice : Choice) (c : CertificateValue) (own : Option Fingerprint) (p : PacketValue) (hs : List PacketValue) (cs : List ComponentValue) (first second all : List PacketValue)

@@ -11,8 +11,8 @@ ghost use Rattle.opgp_merge.specs.Chosen.{component_stays, components_from, next
 use crate::choice::Choice;
 use crate::own::add_own;
 use opgp_hash::{Fingerprint, fingerprint_of_view};
-use opgp_octets::OutOfMemory;
-use opgp_ring::{Certificate, Component, Components, Head, Keyring};
+use opgp_octets::{OutOfMemory, PacketType};
+use opgp_ring::{Certificate, Component, Components, Keyring};
 use std::alloc::Global;
 
 /// The keyring of whose certificates the chosen parts stay, in their order and as they are framed. A
@@ -45,8 +45,6 @@ pub fn choose_certificate(
     let own = owner(&certificate, choice);
     let mut chosen = Certificate::new(alloc, certificate.primary())?;
     add_own(&mut chosen, certificate.hangs(), own)?;
-    // Called for its contract: there are fewer components than packets.
-    let _count = certificate.packets().len();
     add_components(&mut chosen, certificate.components(), choice, own)?;
     // Called for its contract: what was added makes a certificate.
     let _packets = chosen.packets();
@@ -94,13 +92,16 @@ fn add_components(
 fn component_stays(choice: Choice, number: u64, component: Component<'_>) -> bool
     ensures { result ≡ component_stays choice number (component_of component.entry) }
 {
-    match component.head().head() {
-        Head::UserId(_) => match choice.user_id {
+    let kind = component.head().kind();
+    if kind == PacketType::UserId.number() {
+        match choice.user_id {
             None => true,
             Some(chosen) => number == chosen,
-        },
-        Head::Attribute(_) => !choice.no_attributes,
-        Head::Subkey(_) => true,
+        }
+    } else if kind == PacketType::UserAttribute.number() {
+        !choice.no_attributes
+    } else {
+        true
     }
 }
 
@@ -109,9 +110,10 @@ fn next_number(number: u64, component: Component<'_>) -> u64
     requires { number + 1 < 2 ^ 64 }
     ensures { result ≡ next_number number (component_of component.entry) }
 {
-    match component.head().head() {
-        Head::UserId(_) => number + 1,
-        Head::Attribute(_) | Head::Subkey(_) => number,
+    if component.head().kind() == PacketType::UserId.number() {
+        number + 1
+    } else {
+        number
     }
 }
 

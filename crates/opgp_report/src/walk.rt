@@ -220,8 +220,6 @@ pub(crate) fn visit_certificate<'a, V: Visitor<'a>>(
     ensures { Shown V.becomes visitor.old (certificate_standing number certificate.now) result
         visitor.new }
 {
-    // Called for its contract: its packets can be counted.
-    let _count = certificate.packets().len();
     let primary = certificate.key();
     let mut hasher = CertificateHasher::new(primary);
     match visit_hangs(visitor, &mut hasher, number, None, certificate.hangs()) {

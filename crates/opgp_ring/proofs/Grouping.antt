@@ -107,7 +107,7 @@ begins_normal (p ∷ ps) b = (b.0, All-map Follows reframed ps b.1)
 
 -- ---- what is left behind the primary key
 
-pub behind_primary : (ps left : List PacketValue) (first : Option Member) → BeginCertificate ps → MatchOption first (ps ≡ []) (λ m. ps ≡ member_packet m ∷ left)
+pub behind_primary : (ps left : List PacketValue) (first : Option Member) → BeginCertificate ps → MatchOption first ((ps ≡ []) × (left ≡ [])) (λ m. ps ≡ member_packet m ∷ left)
     → (hung_before left ≡ (certificate_of ps).hangs) × (components_behind left ≡ (certificate_of ps).components)
-behind_primary ps left None b e = absurd (subst BeginCertificate e b)
+behind_primary ps left None b e = absurd (subst BeginCertificate e.0 b)
 behind_primary ps left (Some m) b e = (sym (ap (λ (qs : List PacketValue). (certificate_of qs).hangs) e), sym (ap (λ (qs : List PacketValue). (certificate_of qs).components) e))

@@ -1,4 +1,4 @@
--- The certificate that packets are, and its parts, borrowed.
+-- The certificate that packets are (RFC 9580, 10.1), and its parts, borrowed.
 use Rattle.std.specs.Prelude.{◌≡◌, true, ◌||◌, List, [], ◌∷◌, All, if◌then◌else◌}
 use Rattle.opgp_frame.specs.declared.form.Form.TheVariants.{NewOne}
 use Rattle.opgp_frame.specs.Packet.{PacketValue}
@@ -8,19 +8,19 @@ use Rattle.opgp_ring.specs.declared.hangs.Hangs.{Hangs}
 use Rattle.opgp_ring.specs.Keyring.{CertificateValue, ComponentValue, IsPrimary, is_head, is_hung}
 use Rattle.opgp_ring.specs.Member.{member_packet, members_left}
 
--- those before the first user ID, attribute or subkey
+-- those before the first user ID, attribute or subkey (RFC 9580, 10.1): the longest front without one
 abbrev pub hung_before : List PacketValue → List PacketValue
 hung_before [] = []
 hung_before (p ∷ ps) = if is_head p.kind then [] else p ∷ hung_before ps
 
--- each user ID, attribute and subkey, with the packets before the next one
+-- each user ID, attribute and subkey, with the packets before the next one (RFC 9580, 10.1)
 abbrev pub components_behind : List PacketValue → List ComponentValue
 components_behind [] = []
 components_behind (p ∷ ps) =
     if is_head p.kind then (record { head = p; hangs = hung_before ps }) ∷ components_behind ps
     else components_behind ps
 
--- the certificate that packets are, which begin with a primary key
+-- the certificate that packets are, which begin with a primary key (RFC 9580, 10.1)
 abbrev pub certificate_of : List PacketValue → CertificateValue
 certificate_of [] =
     record { primary = record { form = NewOne; kind = 0; body = [] }; hangs = []; components = [] }

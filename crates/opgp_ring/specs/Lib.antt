@@ -6,6 +6,7 @@ pub mod Content
 pub mod Fed
 pub mod Gathering
 pub mod Grouped
+pub mod Header
 pub mod Keyring
 pub mod Member
 pub mod Sorted
@@ -18,7 +19,6 @@ pub mod Packed
 pub mod PacketBody
 pub mod Packets
 pub mod Parts
-pub mod Place
 pub mod Shape
 pub mod Signed
 pub mod SignedGathering

@@ -3,12 +3,12 @@ use Rattle.std.specs.Prelude.{List}
 use Rattle.opgp_frame.specs.Packet.{PacketValue}
 use Rattle.opgp_ring.specs.declared.member.Member.{Member}
 use Rattle.opgp_ring.specs.declared.members.Members.{Members}
-use Rattle.opgp_ring.specs.Place.{packet_at, packets_at}
+use Rattle.opgp_ring.specs.Header.{packet_with, packets_with}
 
 -- the packet as it is framed
 abbrev pub member_packet : Member → PacketValue
-member_packet m = packet_at m.place m.body.now
+member_packet m = packet_with m.header m.body.now
 
 -- the packets that are left, in order
 abbrev pub members_left : Members → List PacketValue
-members_left m = packets_at m.bodies.now m.places.now
+members_left m = packets_with m.bodies.now m.headers.now

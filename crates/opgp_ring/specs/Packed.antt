@@ -5,14 +5,14 @@ use Rattle.opgp_octets.specs.declared.malformed.Malformed.TheVariants.{Keep}
 use Rattle.opgp_frame.specs.Form.{form_takes}
 use Rattle.opgp_frame.specs.Header.{is_read_kind}
 use Rattle.opgp_frame.specs.Packet.{PacketValue}
-use Rattle.opgp_ring.specs.declared.place.Place.{Place}
+use Rattle.opgp_ring.specs.declared.header.Header.{Header}
 use Rattle.opgp_ring.specs.Bodies.{HasNoFault}
 use Rattle.opgp_ring.specs.Composition.{stands_in_keyring}
-use Rattle.opgp_ring.specs.Place.{least_len, most_len, packets_at, sizes}
+use Rattle.opgp_ring.specs.Header.{least_len, most_len, packets_with, sizes}
 
 -- A packet that may stand in a keyring: its type is one of those that do, its form encodes its body
 -- without pieces, and its body has no fault, unless it is a malformed signature's.
-pub record IsPart (p : PacketValue) : Type 0 where
+pub record MayStand (p : PacketValue) : Type 0 where
   pub stands : stands_in_keyring p.kind ≡ true
   pub kind : is_read_kind p.kind ≡ true
   pub takes : form_takes p.form p.kind ≡ true
@@ -21,7 +21,7 @@ pub record IsPart (p : PacketValue) : Type 0 where
   pub octets : IsOctets p.body
   pub sound : HasNoFault Keep p
 
--- the bodies are those of the places, and each packet may stand in a keyring
-pub record ArePacked (bodies : List ℕ) (places : List Place) : Type 0 where
-  pub whole : length bodies ≡ sizes places
-  pub parts : All IsPart (packets_at bodies places)
+-- the bodies are those of the headers, and each packet may stand in a keyring
+pub record ArePacked (bodies : List ℕ) (headers : List Header) : Type 0 where
+  pub whole : length bodies ≡ sizes headers
+  pub parts : All MayStand (packets_with bodies headers)

@@ -1,6 +1,7 @@
 //! Certificates (transferable public keys).
 
-ghost use Rattle.std.specs.Prelude.{◌≡◌, ◌||◌, ◌++◌, ◌∷◌, [], true, All, OnOk, OnErr, IfOk};
+ghost use Rattle.std.specs.Prelude.{◌≡◌, ◌||◌, ◌++◌, ◌∷◌, ◌<◌, ◌^◌, [], true, All, OnOk, OnErr, IfOk};
+ghost use Rattle.std.specs.Prelude.{length};
 ghost use Rattle.opgp_ring.specs.Grouped.{components_left, hangs_left};
 ghost use Rattle.opgp_ring.specs.Keyring.{IsCertificate, IsFiller, IsPrimary, certificate_packets};
 ghost use Rattle.opgp_ring.specs.Keyring.{is_head, is_hung};
@@ -49,9 +50,30 @@ impl Certificate {
         ensures { IfOk result (λ c. c
             ≡ record { primary = member_packet primary.entry; hangs = []; components = [] }) }
     {
-        let mut packets = Packed::new(alloc);
+        Certificate::begin(Packed::new(alloc), primary)
+    }
+
+    /// A certificate of a copy of a primary key alone, in the memory of these packets, of which there are
+    /// none. Fails only when out of memory.
+    #[inline(always)]
+    pub(crate) fn begin(
+        mut packets: Packed,
+        primary: Member<'_>,
+    ) -> Result<Certificate, OutOfMemory>
+        requires empty { packets ≡ [] }
+        requires primary { IsPrimary (member_packet primary) }
+        ensures { IfOk result (λ c. c
+            ≡ record { primary = member_packet primary.entry; hangs = []; components = [] }) }
+    {
         packets.push(primary)?;
         Ok(Certificate { packets })
+    }
+
+    /// No packets, in the memory of its own.
+    pub(crate) fn emptied(self) -> Packed
+        ensures { result ≡ [] }
+    {
+        self.packets.emptied()
     }
 
     /// Adds a copy of the next packet: a user ID, an attribute or a subkey begins a component; any
@@ -86,6 +108,7 @@ impl Certificate {
     pub fn packets(&self) -> Members<'_>
         ensures value { members_left result ≡ certificate_packets self.now }
         ensures certificate { IsCertificate self.now }
+        ensures few { length (certificate_packets self.now) < 2 ^ 64 }
     {
         self.packets.members()
     }
@@ -117,6 +140,7 @@ impl Certificate {
         ensures hangs { hung_before (members_left result) ≡ self.now.hangs }
         ensures components { components_behind (members_left result) ≡ self.now.components }
         ensures certificate { IsCertificate self.now }
+        ensures few { length (certificate_packets self.now) < 2 ^ 64 }
     {
         let mut packets = self.packets.members();
         let _primary = packets.next();
@@ -127,6 +151,7 @@ impl Certificate {
     pub fn hangs(&self) -> Hangs<'_>
         ensures value { hangs_left result ≡ self.now.hangs }
         ensures certificate { IsCertificate self.now }
+        ensures few { length (certificate_packets self.now) < 2 ^ 64 }
     {
         Hangs::new(self.rest())
     }
@@ -135,6 +160,7 @@ impl Certificate {
     pub fn components(&self) -> Components<'_>
         ensures value { components_left result ≡ self.now.components }
         ensures certificate { IsCertificate self.now }
+        ensures few { length (certificate_packets self.now) < 2 ^ 64 }
     {
         Components::new(self.rest())
     }

@@ -2,12 +2,13 @@
 
 ghost use Rattle.std.specs.Prelude.{All, MatchOption};
 ghost use Rattle.opgp_octets.specs.declared.malformed.Malformed.TheVariants.{Refuse};
+ghost use Rattle.opgp_frame.specs.View.{viewed};
 ghost use Rattle.opgp_ring.specs.Bodies.{IsSound, IsFirstBodyFault, IsPlacedFault};
 ghost use Rattle.opgp_ring.specs.Block.{placed_of};
 
 use crate::block_of::BlockOf;
 use crate::packet_body::body_fault;
-use opgp_frame::Placed;
+use opgp_frame::{Placed, PlacedView};
 use opgp_octets::{Fault, Malformed, PacketType};
 
 /// The fault of the first packet whose body has one, in order of blocks (RFC 9580, 5). Takes no
@@ -53,9 +54,17 @@ pub(crate) fn check_packets(packets: &[Placed], malformed: Malformed) -> Option<
 pub fn packet_fault(placed: &Placed, malformed: Malformed) -> Option<Fault>
     ensures { MatchOption result (IsSound malformed placed.now) (IsPlacedFault malformed placed.now) }
 {
-    let packet = &placed.packet;
+    view_fault(PlacedView::of(placed), malformed)
+}
+
+/// The same of a packet that is lent.
+pub fn view_fault(placed: PlacedView<'_>, malformed: Malformed) -> Option<Fault>
+    ensures { MatchOption result (IsSound malformed (viewed placed.entry))
+        (IsPlacedFault malformed (viewed placed.entry)) }
+{
+    let PlacedView { packet, block, pos } = placed;
     match body_fault(PacketType::from(packet.kind()), packet.body(), malformed) {
-        Some(fault) => Some(fault.placed(placed.block, placed.pos)),
+        Some(fault) => Some(fault.placed(block, pos)),
         None => None,
     }
 }

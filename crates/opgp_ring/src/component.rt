@@ -54,7 +54,8 @@ impl<'a> Components<'a> {
 
     /// The next component, or None at the end.
     pub fn next(&mut self) -> Option<Component<'a>>
-        ensures { MatchOption result (components_left self.old ≡ [])
+        ensures { MatchOption result
+            ((components_left self.old ≡ []) × (components_left self.new ≡ []))
             (λ c. components_left self.old ≡ component_of c ∷ components_left self.new) }
     {
         'packets: while let Some(head) = self.left.next() {

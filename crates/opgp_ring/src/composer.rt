@@ -10,6 +10,7 @@ ghost use Rattle.opgp_octets.specs.declared.limits.Limits.{Limits};
 ghost use Rattle.opgp_octets.specs.Limits.{cert_limit, body_limit, malformed_of};
 ghost use Rattle.opgp_octets.specs.Octets.{IsOctets};
 ghost use Rattle.opgp_frame.specs.Packet.{PacketValue, spelling};
+ghost use Rattle.opgp_frame.specs.View.{viewed, viewed_packet};
 ghost use Rattle.opgp_ring.specs.Bodies.{HasFault, HasNoFault};
 ghost use Rattle.opgp_ring.specs.Composed.{IsFault, IsKeyringOf, PartValue, parts_of, lead_parts};
 ghost use Rattle.opgp_ring.specs.Composition.{Item, of_label, of_packet, stands_in_keyring};
@@ -21,10 +22,11 @@ ghost use Rattle.opgp_ring.specs.State.{open_octets, ready_octets, ready_parts};
 use crate::certificate::Certificate;
 use crate::lead::Lead;
 use crate::member::Member;
+use crate::packed::Packed;
 use crate::packet_body::body_fault;
 use crate::ready::Ready;
 use crate::sorted::{Sorted, sort};
-use opgp_frame::{Packet, Placed};
+use opgp_frame::{PacketView, Placed, PlacedView};
 use opgp_octets::{
     BodyFault, Fault, Layer, Limits, Malformed, OutOfMemory, PacketType, PushFault, Reason,
 };
@@ -49,7 +51,8 @@ enum State {
 /// A composer of keyrings (RFC 9580, 10.1) that packets are pushed into, one at a time.
 ///
 /// It hands out the lead and each certificate as soon as it is complete. It keeps only the one that
-/// is unfinished or ready, and nothing after a fault or after running out of memory.
+/// is unfinished or ready, and nothing after a fault or after running out of memory; and the memory of
+/// the part that was last given back, for the next certificate.
 #[derive(Drop)]
 pub struct Composer {
     alloc: Global,
@@ -57,6 +60,7 @@ pub struct Composer {
     state: State,
     size: u64,
     ready: Option<Ready>,
+    spare: Packed,
     ghost short: { size ≤ cert_limit limits },
     ghost counted: { open_octets state ≡ size },
     ghost ready_short: { ready_octets ready ≤ cert_limit limits },
@@ -85,6 +89,7 @@ impl Composer {
             state: State::Leading(Lead::new(alloc)),
             size: 0,
             ready: None,
+            spare: Packed::new(alloc),
         }
     }
 
@@ -106,6 +111,21 @@ impl Composer {
         ensures limits { limits_of self.new ≡ limits_of self.old }
     {
         self.ready.take()
+    }
+
+    /// Gives back a part that was taken, whose memory the next certificate uses. It changes nothing that
+    /// the composer says.
+    ///
+    /// Allocates nothing.
+    pub fn reuse(&mut self, part: Ready)
+        ensures fed { KeepsFed self.old self.new [] [] }
+        ensures ready { is_ready self.new ≡ is_ready self.old }
+        ensures spent { is_spent self.new ≡ is_spent self.old }
+        ensures faulty { fault_of self.new ≡ fault_of self.old }
+        ensures held { held_of self.new ≡ held_of self.old }
+        ensures limits { limits_of self.new ≡ limits_of self.old }
+    {
+        drop(mem::replace(&mut self.spare, part.emptied()));
     }
 
     /// Ends the packets. The condition is that nothing is ready. Returns the last part: the last
@@ -137,6 +157,7 @@ impl Composer {
             state,
             size: _,
             ready,
+            spare: _,
         } = self;
         drop(ready);
         match state {
@@ -173,17 +194,40 @@ impl Composer {
         ensures was_spent { (result ≡ Err PushFault.Spent) ↔ (is_spent self.old ≡ true) }
         ensures limits { limits_of self.new ≡ limits_of self.old }
     {
+        self.push_view(PlacedView::of(&placed))
+    }
+
+    /// The same with a packet that is lent, which is copied once.
+    ///
+    /// Nothing becomes ready with a fault, or after one. Fails only when out of memory; the
+    /// composer is spent from then on.
+    pub fn push_view(&mut self, placed: PlacedView<'_>) -> Result<(), PushFault>
+        requires { is_ready self.old ≡ false }
+        ensures fed { OnOk result (KeepsFed self.old self.new (of_packet (viewed placed.entry) ∷ []) []) }
+        // Nothing becomes ready with the packet that is at fault.
+        ensures quiet { IsSome (fault_of self.new) → is_ready self.new ≡ false }
+        // After a fault nothing becomes ready, and the fault stays.
+        ensures faulty { IsSome (fault_of self.old) → IsOk result × (is_ready self.new ≡ false) }
+        ensures stays { StaysFaulty self.old self.new }
+        ensures held { length (viewed placed.entry).packet.body ≤ body_limit (limits_of self.new)
+            → held_of self.new
+            ≤ cert_limit (limits_of self.new) + body_limit (limits_of self.new) + 16 }
+        ensures sound { OnOk result (is_spent self.new ≡ false) }
+        ensures spent { OnErr result ((is_spent self.new ≡ true) × (is_ready self.new ≡ false)) }
+        ensures was_spent { (result ≡ Err PushFault.Spent) ↔ (is_spent self.old ≡ true) }
+        ensures limits { limits_of self.new ≡ limits_of self.old }
+    {
         if let State::Spent = self.state {
             return Err(PushFault::Spent);
         }
-        let Placed { packet, block, pos } = placed;
+        let PlacedView { packet, block, pos } = placed;
         let kind = PacketType::from(packet.kind());
         match body_fault(kind, packet.body(), self.limits.malformed()) {
             Some(fault) => {
                 self.break_off(fault, block, pos);
                 Ok(())
             }
-            None => match self.add(&packet, block, pos) {
+            None => match self.add(packet, block, pos) {
                 Ok(()) => Ok(()),
                 Err(_) => {
                     self.spend();
@@ -295,19 +339,19 @@ impl Composer {
 
     /// Adds a packet whose body has no fault.
     #[inline(always)]
-    fn add(&mut self, packet: &Packet, block: u64, pos: u64) -> Result<(), OutOfMemory>
+    fn add(&mut self, packet: PacketView<'_>, block: u64, pos: u64) -> Result<(), OutOfMemory>
         requires free { is_ready self.old ≡ false }
         requires unspent { is_spent self.old ≡ false }
-        requires sound { HasNoFault (malformed_of (limits_of self.old)) packet.now }
+        requires sound { HasNoFault (malformed_of (limits_of self.old)) (viewed_packet packet) }
         ensures fed { OnOk result (TakesIn self.old self.new
-            (of_packet (record { packet = packet.now; block = block; pos = pos }))) }
+            (of_packet (record { packet = viewed_packet packet.entry; block = block; pos = pos }))) }
         // After a fault nothing changes.
         ensures behind { is_open self.old.state ≡ false
             → IsOk result × (self.new.state ≡ self.old.state)
             × (self.new.ready ≡ self.old.ready) }
         ensures quiet { OnOk result (IsSome (fault_of self.new) → is_ready self.new ≡ false) }
         ensures held { OnOk result (is_ready self.new ≡ true
-            → IsPrimary packet.now × (self.new.size ≡ length (spelling packet.now))) }
+            → IsPrimary (viewed_packet packet.entry) × (self.new.size ≡ length (spelling (viewed_packet packet.entry)))) }
         ensures sound { OnOk result (is_spent self.new ≡ false) }
         ensures limits { limits_of self.new ≡ limits_of self.old }
     {
@@ -332,17 +376,17 @@ impl Composer {
     }
 
     /// Begins a certificate; the part before it becomes ready.
-    fn begin(&mut self, primary: &Packet, block: u64, pos: u64) -> Result<(), OutOfMemory>
+    fn begin(&mut self, primary: PacketView<'_>, block: u64, pos: u64) -> Result<(), OutOfMemory>
         requires free { is_ready self.old ≡ false }
         requires open { is_open self.old.state ≡ true }
         requires unspent { is_spent self.old ≡ false }
-        requires primary { IsPrimary primary.now }
-        requires sound { HasNoFault (malformed_of (limits_of self.old)) primary.now }
+        requires primary { IsPrimary (viewed_packet primary) }
+        requires sound { HasNoFault (malformed_of (limits_of self.old)) (viewed_packet primary) }
         ensures fed { OnOk result (TakesIn self.old self.new
-            (of_packet (record { packet = primary.now; block = block; pos = pos }))) }
+            (of_packet (record { packet = viewed_packet primary.entry; block = block; pos = pos }))) }
         ensures quiet { OnOk result (IsSome (fault_of self.new) → is_ready self.new ≡ false) }
         ensures held { OnOk result (is_ready self.new ≡ true
-            → self.new.size ≡ length (spelling primary.now)) }
+            → self.new.size ≡ length (spelling (viewed_packet primary.entry))) }
         ensures sound { OnOk result (is_spent self.new ≡ false) }
         ensures limits { limits_of self.new ≡ limits_of self.old }
     {
@@ -351,8 +395,9 @@ impl Composer {
             self.refuse(Reason::CertTooLong, block, pos);
             return Ok(());
         }
-        let certificate = Certificate::new(
-            self.alloc,
+        let memory = mem::replace(&mut self.spare, Packed::new(self.alloc));
+        let certificate = Certificate::begin(
+            memory.emptied(),
             keyring_member(primary, self.limits.malformed()),
         )?;
         match mem::replace(&mut self.state, State::Growing(certificate)) {
@@ -373,15 +418,15 @@ impl Composer {
 
     /// Adds a packet that must follow a primary key; before the first one it is a fault.
     #[inline(always)]
-    fn grow(&mut self, packet: &Packet, block: u64, pos: u64) -> Result<(), OutOfMemory>
+    fn grow(&mut self, packet: PacketView<'_>, block: u64, pos: u64) -> Result<(), OutOfMemory>
         requires open { is_open self.old.state ≡ true }
         requires unspent { is_spent self.old ≡ false }
-        requires behind { (is_head packet.now.kind || is_hung packet.now.kind) ≡ true }
+        requires behind { (is_head (viewed_packet packet).kind || is_hung (viewed_packet packet).kind) ≡ true }
         // Fillers may come before the first primary key.
-        requires lead { has_begun self.old.state ≡ false → needs_primary packet.now.kind ≡ true }
-        requires sound { HasNoFault (malformed_of (limits_of self.old)) packet.now }
+        requires lead { has_begun self.old.state ≡ false → needs_primary (viewed_packet packet).kind ≡ true }
+        requires sound { HasNoFault (malformed_of (limits_of self.old)) (viewed_packet packet) }
         ensures fed { OnOk result (TakesIn self.old self.new
-            (of_packet (record { packet = packet.now; block = block; pos = pos }))) }
+            (of_packet (record { packet = viewed_packet packet.entry; block = block; pos = pos }))) }
         ensures ready { OnOk result (self.new.ready ≡ self.old.ready) }
         ensures sound { OnOk result (is_spent self.new ≡ false) }
         ensures limits { limits_of self.new ≡ limits_of self.old }
@@ -402,14 +447,14 @@ impl Composer {
     }
 
     /// Adds a filler before the first primary key.
-    fn lead(&mut self, filler: &Packet, block: u64, pos: u64) -> Result<(), OutOfMemory>
+    fn lead(&mut self, filler: PacketView<'_>, block: u64, pos: u64) -> Result<(), OutOfMemory>
         requires open { is_open self.old.state ≡ true }
         requires unspent { is_spent self.old ≡ false }
         requires lead { has_begun self.old.state ≡ false }
-        requires filler { IsFiller filler.now }
-        requires sound { HasNoFault (malformed_of (limits_of self.old)) filler.now }
+        requires filler { IsFiller (viewed_packet filler) }
+        requires sound { HasNoFault (malformed_of (limits_of self.old)) (viewed_packet filler) }
         ensures fed { OnOk result (TakesIn self.old self.new
-            (of_packet (record { packet = filler.now; block = block; pos = pos }))) }
+            (of_packet (record { packet = viewed_packet filler.entry; block = block; pos = pos }))) }
         ensures ready { OnOk result (self.new.ready ≡ self.old.ready) }
         ensures sound { OnOk result (is_spent self.new ≡ false) }
         ensures limits { limits_of self.new ≡ limits_of self.old }
@@ -431,10 +476,10 @@ impl Composer {
 
 /// The packet, whose body has no fault by this policy, as one of a keyring.
 #[inline(always)]
-fn keyring_member(packet: &Packet, malformed: Malformed) -> Member<'_>
-    requires stands { stands_in_keyring packet.now.kind ≡ true }
-    requires sound { HasNoFault malformed packet.now }
-    ensures { member_packet result ≡ packet.now }
+fn keyring_member(packet: PacketView<'_>, malformed: Malformed) -> Member<'_>
+    requires stands { stands_in_keyring (viewed_packet packet).kind ≡ true }
+    requires sound { HasNoFault malformed (viewed_packet packet) }
+    ensures { member_packet result ≡ viewed_packet packet.entry }
 {
     let _known = packet.kind();
     Member::of(packet)

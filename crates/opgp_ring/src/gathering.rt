@@ -10,7 +10,7 @@ ghost use Rattle.opgp_ring.specs.Parts.{HasAll};
 use crate::block_of::BlockOf;
 use crate::composer::Composer;
 use crate::keeper::Keeper;
-use opgp_frame::Placed;
+use opgp_frame::{Placed, PlacedView};
 use opgp_octets::{Fault, Limits, OutOfMemory};
 use std::alloc::{AllocError, Global};
 
@@ -26,6 +26,7 @@ pub struct Gathering<K> {
 impl<K: Keeper + Drop> Gathering<K> {
     ghost use Rattle.opgp_ring.specs.Block.{block_items};
     ghost use Rattle.opgp_ring.specs.Gathering.{Gathers};
+    ghost use Rattle.opgp_frame.specs.View.{viewed};
     ghost use Rattle.opgp_frame.specs.declared.packet.Placed.{Placed};
 
     /// An empty keyring, within limits, with a keeper that was given no part. Allocates nothing;
@@ -71,7 +72,16 @@ impl<K: Keeper + Drop> Gathering<K> {
             → Gathers K.kept limits self.old given
             → Gathers K.kept limits self.new (given ++ of_packet placed ∷ [])) }
     {
-        match self.composer.push(placed) {
+        self.add_view(PlacedView::of(&placed))
+    }
+
+    /// The same with a packet that is lent, which is copied once.
+    pub fn add_view(&mut self, placed: PlacedView<'_>) -> Result<(), OutOfMemory>
+        ensures { OnOk result ((limits : Limits) (given : List Item)
+            → Gathers K.kept limits self.old given
+            → Gathers K.kept limits self.new (given ++ of_packet (viewed placed.entry) ∷ [])) }
+    {
+        match self.composer.push_view(placed) {
             Ok(()) => {}
             Err(_) => return Err(AllocError),
         }
@@ -118,7 +128,12 @@ fn pass_on<K: Keeper>(composer: &mut Composer, keeper: &mut K) -> Result<(), Out
     ensures spent { is_spent composer.new ≡ is_spent composer.old }
 {
     match composer.take() {
-        Some(part) => keeper.keep(part)?,
+        Some(part) => {
+            keeper.keep(part)?;
+            if let Some(spare) = keeper.spare() {
+                composer.reuse(spare);
+            }
+        }
         None => {}
     }
     Ok(())

@@ -25,7 +25,7 @@ impl<'a> Hangs<'a> {
 
     /// The next packet, or None at the end.
     pub fn next(&mut self) -> Option<Member<'a>>
-        ensures { MatchOption result (hangs_left self.old ≡ [])
+        ensures { MatchOption result ((hangs_left self.old ≡ []) × (hangs_left self.new ≡ []))
             (λ m. hangs_left self.old ≡ member_packet m ∷ hangs_left self.new) }
     {
         let mut ahead = self.left;

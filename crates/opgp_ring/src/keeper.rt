@@ -19,6 +19,13 @@ pub trait Keeper {
     fn keep(&mut self, part: Ready) -> Result<(), OutOfMemory>
         ensures { OnOk result ((parts : List PartValue) → kept self.old parts
             → AreParts (parts ++ part_of part ∷ []) → kept self.new (parts ++ part_of part ∷ [])) };
+
+    /// A part that is kept no longer, whose memory the next one may use. None, unless a keeper says so.
+    fn spare(&mut self) -> Option<Ready>
+        ensures { (parts : List PartValue) → kept self.old parts → kept self.new parts }
+    {
+        None
+    }
 }
 
 /// A keyring keeps all of them.

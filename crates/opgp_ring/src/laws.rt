@@ -89,10 +89,9 @@ pub fn some_answer()
     opgp_packet::signature_laws::no_fault();
 }
 
-/// What is kept of packets, the octets of their bodies and 8 for each packet, is at most four times
-/// what they take: so a certificate within its limit takes at most four times that in memory, and
-/// twice as much where its vectors have just grown.
-pub fn four_times_their_octets_are_kept()
+/// The octets of packets' bodies, and 8 for each packet, are together at most four times the octets
+/// that the packets take (RFC 9580, 4.2).
+pub fn bodies_and_8_a_packet_are_at_most_4_times_the_octets()
     ensures { (ps : List PacketValue) → sum_by (λ p. length p.body) ps + 8 * length ps
         ≤ 4 * octets_of ps }
 {

@@ -2,16 +2,17 @@
 
 ghost use Rattle.std.specs.Prelude.{◌≡◌, length, IfOk};
 ghost use Rattle.opgp_frame.specs.Packet.{IsPacket, spelling};
+ghost use Rattle.opgp_frame.specs.View.{viewed_packet};
 ghost use Rattle.opgp_ring.specs.Content.{content_kind, content_octets, IsKept};
 ghost use Rattle.opgp_ring.specs.Keyring.{IsHead, is_head};
 ghost use Rattle.opgp_ring.specs.Lent.{head_kind, head_octets};
-ghost use Rattle.opgp_ring.specs.Packed.{IsPart};
-ghost use Rattle.opgp_ring.specs.Place.{packet_at};
+ghost use Rattle.opgp_ring.specs.Packed.{MayStand};
+ghost use Rattle.opgp_ring.specs.Header.{packet_with};
 
 use crate::content::Content;
+use crate::header::{Header, Plain};
 use crate::lent::Head;
-use crate::place::{Place, Plain};
-use opgp_frame::{Form, Packet, spelled_len_of};
+use opgp_frame::{Form, Packet, PacketView, spelled_len_of};
 use opgp_octets::{OutOfMemory, PacketType};
 use opgp_packet::{AttributeView, KeyView, SigView};
 use std::alloc::Global;
@@ -19,45 +20,45 @@ use std::alloc::Global;
 /// A packet of a keyring, borrowed (RFC 9580, 10.1).
 #[derive(Clone, Copy)]
 pub struct Member<'a> {
-    place: Place,
+    header: Header,
     body: &'a [u8],
-    ghost whole: { place.len ≡ length body.now },
-    ghost part: { IsPart (packet_at place body.now) },
+    ghost whole: { header.len ≡ length body.now },
+    ghost part: { MayStand (packet_with header body.now) },
 }
 
 impl<'a> Member<'a> {
     ghost use Rattle.opgp_ring.specs.Member.{member_packet};
 
-    /// The packet at this place.
-    pub(crate) fn new(place: Place, body: &'a [u8]) -> Member<'a>
-        requires whole { place.len ≡ length body.now }
-        requires part { IsPart (packet_at place body.now) }
-        ensures { member_packet result ≡ packet_at place body.now }
+    /// The packet with this header and body.
+    pub(crate) fn new(header: Header, body: &'a [u8]) -> Member<'a>
+        requires whole { header.len ≡ length body.now }
+        requires part { MayStand (packet_with header body.now) }
+        ensures { member_packet result ≡ packet_with header body.now }
     {
-        Member { place, body }
+        Member { header, body }
     }
 
     /// A packet that may stand in a keyring.
     #[inline(always)]
-    pub(crate) fn of(packet: &'a Packet) -> Member<'a>
-        requires { IsPart packet.now }
-        ensures { member_packet result ≡ packet.now }
+    pub(crate) fn of(packet: PacketView<'a>) -> Member<'a>
+        requires { MayStand (viewed_packet packet) }
+        ensures { member_packet result ≡ viewed_packet packet.entry }
     {
         let body = packet.body();
-        let place = Place {
+        let header = Header {
             len: body.len() as u32,
             kind: packet.kind(),
             plain: Plain::of(packet.form()),
         };
-        Member::new(place, body)
+        Member::new(header, body)
     }
 
-    /// Its place.
+    /// Its header.
     #[inline(always)]
-    pub(crate) fn place(self) -> Place
-        ensures { result ≡ self.entry.place }
+    pub(crate) fn header(self) -> Header
+        ensures { result ≡ self.entry.header }
     {
-        self.place
+        self.header
     }
 
     /// The form of the packet's header (RFC 9580, 4.2). Allocates nothing.
@@ -65,14 +66,14 @@ impl<'a> Member<'a> {
         ensures value { result ≡ (member_packet self.entry).form }
         ensures packet { IsPacket (member_packet self.entry) }
     {
-        self.place.plain.form()
+        self.header.plain.form()
     }
 
     /// The packet's type (RFC 9580, 5).
     pub fn kind(self) -> u8
         ensures { result ≡ (member_packet self.entry).kind }
     {
-        self.place.kind
+        self.header.kind
     }
 
     /// The packet's body.
@@ -89,7 +90,7 @@ impl<'a> Member<'a> {
         ensures kept { IsKept result }
     {
         let body = self.body;
-        match PacketType::from(self.place.kind) {
+        match PacketType::from(self.header.kind) {
             PacketType::PublicKey => match KeyView::parse_body(body) {
                 Ok(key) => Content::Primary(key),
                 Err(_) => unreachable!(),
@@ -107,7 +108,7 @@ impl<'a> Member<'a> {
                 Ok(signature) => Content::Signature(signature),
                 Err(_) => Content::Malformed(body),
             },
-            _ => Content::Filler(self.place.kind, body),
+            _ => Content::Filler(self.header.kind, body),
         }
     }
 
@@ -115,7 +116,7 @@ impl<'a> Member<'a> {
     pub(crate) fn begins_component(self) -> bool
         ensures { result ≡ is_head (member_packet self.entry).kind }
     {
-        let kind = self.place.kind;
+        let kind = self.header.kind;
         kind == PacketType::UserId.number()
             || kind == PacketType::UserAttribute.number()
             || kind == PacketType::PublicSubkey.number()
@@ -148,7 +149,7 @@ impl<'a> Member<'a> {
         ensures { IfOk result (λ p. p ≡ member_packet self.entry) }
     {
         let body = Vec::from_slice(alloc, self.body)?;
-        match Packet::new(self.form(), self.place.kind, body) {
+        match Packet::new(self.form(), self.header.kind, body) {
             Some(packet) => Ok(packet),
             None => unreachable!(),
         }

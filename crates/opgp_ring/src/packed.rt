@@ -1,13 +1,14 @@
 //! Packets of a keyring, their bodies one after the other in one vector.
 
-ghost use Rattle.std.specs.Prelude.{◌≡◌, ◌↔◌, ◌++◌, ◌∷◌, [], All, IfOk, IsTrue, map, OnOk, OnErr};
+ghost use Rattle.std.specs.Prelude.{◌≡◌, ◌↔◌, ◌<◌, ◌^◌, ◌++◌, ◌∷◌, [], All, IfOk, IsTrue, map, OnOk, OnErr};
+ghost use Rattle.std.specs.Prelude.{length};
 ghost use Rattle.opgp_frame.specs.Reframed.{reframed};
 ghost use Rattle.opgp_ring.specs.Member.{member_packet, members_left};
-ghost use Rattle.opgp_ring.specs.Packed.{IsPart};
+ghost use Rattle.opgp_ring.specs.Packed.{MayStand};
 
+use crate::header::Header;
 use crate::member::Member;
 use crate::members::Members;
-use crate::place::Place;
 use crate::reframing::{Reframe, reframe_all};
 use opgp_octets::OutOfMemory;
 use std::alloc::Global;
@@ -18,20 +19,20 @@ use std::marker::Model;
 #[derive(Drop)]
 pub(crate) struct Packed {
     bodies: Vec<u8>,
-    places: Vec<Place>,
+    headers: Vec<Header>,
 }
 
 impl Model for Packed {
     ghost use Rattle.std.specs.Prelude.{List};
     ghost use Rattle.opgp_frame.specs.Packet.{PacketValue};
     ghost use Rattle.opgp_ring.specs.Packed.{ArePacked};
-    ghost use Rattle.opgp_ring.specs.Place.{packets_at};
+    ghost use Rattle.opgp_ring.specs.Header.{packets_with};
 
     ghost Value = { List PacketValue };
 
-    ghost view = { λ p. packets_at p.bodies.items p.places.items };
+    ghost view = { λ p. packets_with p.bodies.items p.headers.items };
 
-    ghost invariant = { λ p. ArePacked p.bodies.items p.places.items };
+    ghost invariant = { λ p. ArePacked p.bodies.items p.headers.items };
 }
 
 impl Packed {
@@ -41,7 +42,7 @@ impl Packed {
     {
         Packed {
             bodies: Vec::new(alloc),
-            places: Vec::new(alloc),
+            headers: Vec::new(alloc),
         }
     }
 
@@ -51,11 +52,11 @@ impl Packed {
         ensures ok { OnOk result (self.new ≡ self.old ++ member_packet member.entry ∷ []) }
         ensures err { OnErr result (self.new ≡ self.old) }
     {
-        let place = member.place();
+        let header = member.header();
         // Reserve first, so that the last step can't fail after the one before it.
-        self.places.reserve(1)?;
+        self.headers.reserve(1)?;
         self.bodies.extend_from_slice(member.body())?;
-        self.places.push(place)?;
+        self.headers.push(header)?;
         Ok(())
     }
 
@@ -65,19 +66,33 @@ impl Packed {
         ensures ok { OnOk result (self.new ≡ self.old ++ other) }
         ensures err { OnErr result (self.new ≡ self.old) }
     {
-        let Packed { bodies, places } = other;
-        self.places.reserve(places.len())?;
+        let Packed { bodies, headers } = other;
+        self.headers.reserve(headers.len())?;
         self.bodies.extend_from_slice(&bodies)?;
-        self.places.extend_from_slice(&places)?;
+        self.headers.extend_from_slice(&headers)?;
         Ok(())
+    }
+
+    /// No packets, in the memory of these.
+    pub(crate) fn emptied(self) -> Packed
+        ensures { result ≡ [] }
+    {
+        let Packed {
+            mut bodies,
+            mut headers,
+        } = self;
+        bodies.clear();
+        headers.clear();
+        Packed { bodies, headers }
     }
 
     /// The packets, in order. Allocates nothing.
     pub(crate) fn members(&self) -> Members<'_>
         ensures value { members_left result ≡ self.now }
-        ensures parts { All IsPart self.now }
+        ensures parts { All MayStand self.now }
+        ensures few { length self.now < 2 ^ 64 }
     {
-        Members::new(&self.bodies, &self.places)
+        Members::new(&self.bodies, &self.headers)
     }
 
     /// Whether there are none.
@@ -92,8 +107,8 @@ impl Packed {
         ensures { IfOk result (λ p. p ≡ self.now) }
     {
         let bodies = Vec::from_slice(alloc, &self.bodies)?;
-        let places = Vec::from_slice(alloc, &self.places)?;
-        Ok(Packed { bodies, places })
+        let headers = Vec::from_slice(alloc, &self.headers)?;
+        Ok(Packed { bodies, headers })
     }
 }
 
@@ -101,6 +116,6 @@ impl Reframe for Packed {
     ghost normal = { map reframed };
 
     fn reframe(&mut self) {
-        reframe_all(&mut self.places);
+        reframe_all(&mut self.headers);
     }
 }

@@ -53,7 +53,7 @@ impl<'a> Packets<'a> {
 
     /// The next packet, or None at the end.
     pub fn next(&mut self) -> Option<Member<'a>>
-        ensures { MatchOption result (packets_left self.old ≡ [])
+        ensures { MatchOption result ((packets_left self.old ≡ []) × (packets_left self.new ≡ []))
             (λ m. packets_left self.old ≡ member_packet m ∷ packets_left self.new) }
     {
         if let Some(member) = self.members.next() {

@@ -1,6 +1,6 @@
 //! What a composer hands out.
 
-ghost use Rattle.std.specs.Prelude.{◌≡◌, List, MatchOption};
+ghost use Rattle.std.specs.Prelude.{◌≡◌, [], List, MatchOption};
 ghost use Rattle.opgp_frame.specs.Packet.{PacketValue};
 ghost use Rattle.opgp_ring.specs.Composed.{of_certificate, of_lead};
 ghost use Rattle.opgp_ring.specs.Packets.{packets_left};
@@ -9,6 +9,7 @@ ghost use Rattle.opgp_ring.specs.State.{part_of};
 
 use crate::certificate::Certificate;
 use crate::lead::Lead;
+use crate::packed::Packed;
 use crate::packets::Packets;
 use crate::reframing::Reframe;
 
@@ -33,6 +34,16 @@ impl Ready {
                 None
             }
             Ready::Certificate(certificate) => Some(certificate),
+        }
+    }
+
+    /// No packets, in the memory of its own.
+    pub(crate) fn emptied(self) -> Packed
+        ensures { result ≡ [] }
+    {
+        match self {
+            Ready::Lead(lead) => lead.into_packed().emptied(),
+            Ready::Certificate(certificate) => certificate.emptied(),
         }
     }
 

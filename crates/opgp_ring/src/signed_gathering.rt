@@ -13,7 +13,7 @@ use crate::block_of::BlockOf;
 use crate::checking::check_packets;
 use crate::shape::Shape;
 use crate::signed_literal::SignedLiteral;
-use opgp_frame::{Packet, Placed};
+use opgp_frame::{Packet, Placed, PlacedView};
 use opgp_octets::{Fault, Layer, Malformed, OutOfMemory, Reason};
 use std::alloc::Global;
 use std::slice;
@@ -32,6 +32,7 @@ enum SignedState {
 /// A signed literal in the making (RFC 9580, 10.3), of packets that come one at a time.
 #[derive(Drop)]
 pub struct SignedGathering {
+    alloc: Global,
     malformed: Malformed,
     flat: Vec<Packet>,
     state: SignedState,
@@ -41,6 +42,7 @@ pub struct SignedGathering {
 }
 
 impl SignedGathering {
+    ghost use Rattle.opgp_frame.specs.View.{viewed};
     ghost use Rattle.opgp_frame.specs.declared.packet.Placed.{Placed};
     ghost use Rattle.opgp_ring.specs.Block.{block_items};
     ghost use Rattle.opgp_ring.specs.SignedGathering.{GathersSigned};
@@ -52,6 +54,7 @@ impl SignedGathering {
         ensures { GathersSigned malformed result [] }
     {
         SignedGathering {
+            alloc,
             malformed,
             flat: Vec::new(alloc),
             state: SignedState::Open(Shape::Opening(0)),
@@ -110,6 +113,16 @@ impl SignedGathering {
         }
     }
 
+    /// The same with a packet that is lent, which is copied.
+    pub fn add_view(&mut self, placed: PlacedView<'_>) -> Result<(), OutOfMemory>
+        ensures { OnOk result ((policy : Malformed) (given : List Item)
+            → GathersSigned policy self.old given
+            → GathersSigned policy self.new (given ++ of_packet (viewed placed.entry) ∷ [])) }
+    {
+        let placed = placed.copy(self.alloc)?;
+        self.add(placed)
+    }
+
     /// The signed literal of what was added, or the one fault: that of the first body that has one,
     /// else the first in the order, where a block's label comes before its packets. If packets are
     /// missing, that is at the end of the last block.
@@ -123,6 +136,7 @@ impl SignedGathering {
             (IsSignedFaultBy policy (told_end items) items) }
     {
         let SignedGathering {
+            alloc: _,
             malformed: _,
             flat,
             state,

@@ -1,7 +1,7 @@
 //! Running out of memory, and how many allocations are made.
 
 use crate::reading::{KEY, SIGNATURE};
-use opgp_frame::{Form, Packet, Placed};
+use opgp_frame::{Deframe, Form, Packet, Placed};
 use opgp_merge::merge;
 use opgp_octets::{Fault, Layer, Limits, Malformed, PushFault, Reason};
 use opgp_report::{LeftOctets, Report, Reporting, check};
@@ -104,6 +104,49 @@ fn certificate_of(rt: &impl Abort, composer: Composer) -> Option<Certificate> {
 #[test]
 fn composing_keeps_octets_in_6_growths(rt: HostRuntime) {
     if let Some(certificate) = certificate(&rt, rt.alloc()) {
+        assert_eq!(rt; certificate.key().created(), 1_408_458_507);
+        assert_eq!(rt; certificate.packets().len(), 3);
+        drop(certificate);
+    }
+}
+
+/// Whether the composer took a packet that is lent from its octets; None where memory ran out.
+fn takes_lent(
+    rt: &impl Abort,
+    deframe: &mut Deframe,
+    composer: &mut Composer,
+    octets: &[u8],
+) -> Option<()> {
+    if deframe.ready() || composer.ready() || deframe.given() > 1 << 40 || octets.len() > 1 << 40 {
+        panic!(rt; "something is ready");
+    }
+    let Some((count, lent)) = deframe.lend(octets) else {
+        panic!(rt; "no packet");
+    };
+    assert!(rt; count == octets.len());
+    match composer.push_view(lent.view()) {
+        Ok(()) => Some(()),
+        Err(fault) => {
+            assert!(rt; fault == PushFault::Memory);
+            None
+        }
+    }
+}
+
+/// The certificate of packets that are lent; None where memory ran out.
+fn certificate_of_lent(rt: &impl Abort, alloc: Global) -> Option<Certificate> {
+    let mut deframe = Deframe::new(alloc, 0, Limits::usual());
+    let mut composer = Composer::new(alloc, Limits::usual());
+    for octets in [KEY, b"\xCD\x01a", SIGNATURE] {
+        takes_lent(rt, &mut deframe, &mut composer, octets)?;
+    }
+    certificate_of(rt, composer)
+}
+
+// What is lent is copied into the certificate, and takes no memory of its own.
+#[test]
+fn lent_packets_are_kept_in_3_growths(rt: HostRuntime) {
+    if let Some(certificate) = certificate_of_lent(&rt, rt.alloc()) {
         assert_eq!(rt; certificate.key().created(), 1_408_458_507);
         assert_eq!(rt; certificate.packets().len(), 3);
         drop(certificate);

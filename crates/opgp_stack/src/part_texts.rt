@@ -17,14 +17,15 @@ use crate::writing_listing::ListingText;
 use opgp_engine::{Draft, Out, PacketsText, Spool};
 use opgp_octets::OutOfMemory;
 use opgp_ring::{Certificate, Keeper, Packets, Ready};
+use std::mem;
 
 /// What is written of each part of a keyring.
 pub(crate) trait EachPart {
     // The octets that are written of a part.
     ghost text: { PartValue → List ℕ };
 
-    /// Adds it. Fails only when out of memory.
-    fn add<S: Spool + Drop>(draft: &mut Draft<S>, part: Ready) -> Result<(), OutOfMemory>
+    /// Adds it, and gives back a part whose memory the next one may use. Fails only when out of memory.
+    fn add<S: Spool + Drop>(draft: &mut Draft<S>, part: Ready) -> Result<Option<Ready>, OutOfMemory>
         ensures { OnOk result ((given : List ℕ)
             → DraftHas S.serves S.tells S.holds S.has_failed draft.old given
             → DraftHas S.serves S.tells S.holds S.has_failed draft.new (given ++ text (part_of part))) };
@@ -37,11 +38,13 @@ pub(crate) struct Lines;
 impl EachPart for Lines {
     ghost text = { part_lines };
 
-    fn add<S: Spool + Drop>(draft: &mut Draft<S>, part: Ready) -> Result<(), OutOfMemory> {
+    fn add<S: Spool + Drop>(
+        draft: &mut Draft<S>,
+        part: Ready,
+    ) -> Result<Option<Ready>, OutOfMemory> {
         let packets = part.packets();
-        let added = draft.add(ListingText { packets });
-        drop(part);
-        added
+        draft.add(ListingText { packets })?;
+        Ok(Some(part))
     }
 }
 
@@ -52,11 +55,13 @@ pub(crate) struct ValuedLines;
 impl EachPart for ValuedLines {
     ghost text = { part_valued_lines };
 
-    fn add<S: Spool + Drop>(draft: &mut Draft<S>, part: Ready) -> Result<(), OutOfMemory> {
+    fn add<S: Spool + Drop>(
+        draft: &mut Draft<S>,
+        part: Ready,
+    ) -> Result<Option<Ready>, OutOfMemory> {
         let packets = part.packets();
-        let added = draft.add(ValuedListingText { packets });
-        drop(part);
-        added
+        draft.add(ValuedListingText { packets })?;
+        Ok(Some(part))
     }
 }
 
@@ -67,10 +72,12 @@ pub(crate) struct AsTheyAre;
 impl EachPart for AsTheyAre {
     ghost text = { part_octets };
 
-    fn add<S: Spool + Drop>(draft: &mut Draft<S>, part: Ready) -> Result<(), OutOfMemory> {
-        let added = add_packets(draft, &part);
-        drop(part);
-        added
+    fn add<S: Spool + Drop>(
+        draft: &mut Draft<S>,
+        part: Ready,
+    ) -> Result<Option<Ready>, OutOfMemory> {
+        add_packets(draft, &part)?;
+        Ok(Some(part))
     }
 }
 
@@ -81,11 +88,13 @@ pub(crate) struct Normalised;
 impl EachPart for Normalised {
     ghost text = { normal_octets };
 
-    fn add<S: Spool + Drop>(draft: &mut Draft<S>, part: Ready) -> Result<(), OutOfMemory> {
+    fn add<S: Spool + Drop>(
+        draft: &mut Draft<S>,
+        part: Ready,
+    ) -> Result<Option<Ready>, OutOfMemory> {
         let normal = part.normalise();
-        let added = add_packets(draft, &normal);
-        drop(normal);
-        added
+        add_packets(draft, &normal)?;
+        Ok(Some(normal))
     }
 }
 
@@ -96,7 +105,10 @@ pub(crate) struct ArmoredAlone;
 impl EachPart for ArmoredAlone {
     ghost text = { certificate_text outs.Armor };
 
-    fn add<S: Spool + Drop>(draft: &mut Draft<S>, part: Ready) -> Result<(), OutOfMemory> {
+    fn add<S: Spool + Drop>(
+        draft: &mut Draft<S>,
+        part: Ready,
+    ) -> Result<Option<Ready>, OutOfMemory> {
         add_certificate(draft, Out::Armor, part)
     }
 }
@@ -108,7 +120,10 @@ pub(crate) struct BareAlone;
 impl EachPart for BareAlone {
     ghost text = { certificate_text outs.Binary };
 
-    fn add<S: Spool + Drop>(draft: &mut Draft<S>, part: Ready) -> Result<(), OutOfMemory> {
+    fn add<S: Spool + Drop>(
+        draft: &mut Draft<S>,
+        part: Ready,
+    ) -> Result<Option<Ready>, OutOfMemory> {
         add_certificate(draft, Out::Binary, part)
     }
 }
@@ -132,18 +147,17 @@ fn add_certificate<S: Spool + Drop>(
     draft: &mut Draft<S>,
     out: Out,
     part: Ready,
-) -> Result<(), OutOfMemory>
+) -> Result<Option<Ready>, OutOfMemory>
     ensures { OnOk result ((given : List ℕ)
         → DraftHas S.serves S.tells S.holds S.has_failed draft.old given
         → DraftHas S.serves S.tells S.holds S.has_failed draft.new
         (given ++ certificate_text out (part_of part))) }
 {
     let Some(certificate) = part.certificate() else {
-        return Ok(());
+        return Ok(None);
     };
-    let added = add_alone(draft, out, &certificate);
-    drop(certificate);
-    added
+    add_alone(draft, out, &certificate)?;
+    Ok(Some(Ready::Certificate(certificate)))
 }
 
 /// Adds a certificate on its own.
@@ -161,13 +175,18 @@ pub(crate) fn add_alone<S: Spool + Drop>(
     draft.add(PacketsText { out, packets })
 }
 
-// What is written of the parts of a keyring that came so far. No part is kept.
+// What is written of the parts of a keyring that came so far.
 impl<E: EachPart, S: Spool + Drop> Keeper for Texts<E, S> {
     ghost kept = { λ k parts.
         DraftHas S.serves S.tells S.holds S.has_failed k.draft (flat_map E.text parts) };
 
     fn keep(&mut self, part: Ready) -> Result<(), OutOfMemory> {
-        E::add(&mut self.draft, part)?;
+        let spare = E::add(&mut self.draft, part)?;
+        drop(mem::replace(&mut self.spare, spare));
         Ok(())
+    }
+
+    fn spare(&mut self) -> Option<Ready> {
+        self.spare.take()
     }
 }

@@ -82,11 +82,12 @@ impl Making for FingerprintedReporting {
 }
 
 /// The rows of the certificates that came so far, and what their keys are found by. No certificate is
-/// kept.
+/// kept, but of the last one the memory, for the next one.
 #[derive(Drop)]
 pub(crate) struct RowKeeper<M> {
     alloc: Global,
     rows: M,
+    spare: Option<Ready>,
 }
 
 impl<M: Making + Drop> RowKeeper<M> {
@@ -97,6 +98,7 @@ impl<M: Making + Drop> RowKeeper<M> {
         RowKeeper {
             alloc,
             rows: M::none(alloc),
+            spare: None,
         }
     }
 
@@ -117,8 +119,13 @@ impl<M: Making + Drop> Keeper for RowKeeper<M> {
         };
         let rows = mem::replace(&mut self.rows, M::none(self.alloc));
         let rows = rows.and(&certificate);
-        drop(certificate);
         drop(mem::replace(&mut self.rows, rows?));
+        let spare = Some(Ready::Certificate(certificate));
+        drop(mem::replace(&mut self.spare, spare));
         Ok(())
+    }
+
+    fn spare(&mut self) -> Option<Ready> {
+        self.spare.take()
     }
 }

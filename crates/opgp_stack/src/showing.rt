@@ -1,6 +1,7 @@
 //! The lines that show packets as they are, without an allocation.
 
 ghost use Rattle.std.specs.Prelude.{◌≡◌, ◌++◌, false, codes, map};
+ghost use Rattle.opgp_frame.specs.View.{viewed};
 ghost use Rattle.opgp_octets.specs.Octets.{IsBodySized};
 ghost use Rattle.opgp_octets.specs.SubpacketKind.{subpacket_kind_of};
 ghost use Rattle.opgp_packet.specs.Subs.{subs_to_come};
@@ -13,7 +14,7 @@ ghost use Rattle.opgp_stack.specs.Showing.{form_name, header_line, meaning_name,
 ghost use Rattle.opgp_stack.specs.Showing.{shown, shown_blocks, signature_lines, subpacket_start};
 ghost use Rattle.opgp_stream.specs.Output.{Extends, sink_of};
 
-use opgp_frame::{Form, Placed};
+use opgp_frame::{Form, Placed, PlacedView};
 use opgp_octets::PacketType;
 use opgp_packet::{SigView, SubMeaning, SubView, Subs};
 use opgp_ring::BlockOf;
@@ -75,11 +76,15 @@ fn meaning_text(meaning: SubMeaning<'_>) -> &'static [u8]
 }
 
 /// Adds the line of a packet.
-pub(crate) fn add_header<W: Sink>(output: &mut Output<'_, W>, placed: &Placed) -> io::Result<()>
+pub(crate) fn add_header<W: Sink>(
+    output: &mut Output<'_, W>,
+    placed: PlacedView<'_>,
+) -> io::Result<()>
     requires { W.has_failed (sink_of output.old) ≡ false }
-    ensures { Extends W.held W.has_failed output.old output.new result (header_line placed.now) }
+    ensures { Extends W.held W.has_failed output.old output.new result
+        (header_line (viewed placed.entry)) }
 {
-    let packet = &placed.packet;
+    let packet = placed.packet;
     let kind = packet.kind() as u64;
     let form = form_text(packet.form());
     let length = packet.body().len() as u64;
@@ -181,9 +186,13 @@ fn add_content<W: Sink>(output: &mut Output<'_, W>, kind: u8, body: &[u8]) -> io
 }
 
 /// Adds the lines of a packet.
-pub(crate) fn add_packet<W: Sink>(output: &mut Output<'_, W>, placed: &Placed) -> io::Result<()>
+pub(crate) fn add_packet<W: Sink>(
+    output: &mut Output<'_, W>,
+    placed: PlacedView<'_>,
+) -> io::Result<()>
     requires { W.has_failed (sink_of output.old) ≡ false }
-    ensures { Extends W.held W.has_failed output.old output.new result (packet_lines placed.now) }
+    ensures { Extends W.held W.has_failed output.old output.new result
+        (packet_lines (viewed placed.entry)) }
 {
     add_header(output, placed)?;
     add_content(output, placed.packet.kind(), placed.packet.body())
@@ -195,7 +204,7 @@ fn add_packets<W: Sink>(output: &mut Output<'_, W>, packets: &[Placed]) -> io::R
     ensures { Extends W.held W.has_failed output.old output.new result (shown packets.now) }
 {
     for placed in packets {
-        add_packet(output, placed)?;
+        add_packet(output, PlacedView::of(placed))?;
     }
     Ok(())
 }

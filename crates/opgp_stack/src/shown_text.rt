@@ -2,6 +2,7 @@
 
 ghost use Rattle.std.specs.Prelude.{◌++◌, ℕ, List, OnOk};
 ghost use Rattle.std.specs.List.{flat_map};
+ghost use Rattle.opgp_frame.specs.View.{viewed};
 ghost use Rattle.opgp_frame.specs.declared.packet.Placed.{Placed};
 ghost use Rattle.opgp_engine.specs.Draft.{DraftHas};
 ghost use Rattle.opgp_stack.specs.Showing.{packet_lines};
@@ -11,7 +12,7 @@ use crate::showing::add_packet;
 use crate::texts::Texts;
 use crate::valued::add_valued;
 use opgp_engine::{Draft, PacketKeeper, Spool, Text};
-use opgp_frame::Placed;
+use opgp_frame::{Placed, PlacedView};
 use opgp_octets::OutOfMemory;
 use opgp_stream::{Output, Sink};
 use std::io;
@@ -22,10 +23,10 @@ pub(crate) trait EachPacket {
     ghost lines: { Placed → List ℕ };
 
     /// Adds them. Fails only when out of memory.
-    fn add<S: Spool + Drop>(draft: &mut Draft<S>, placed: &Placed) -> Result<(), OutOfMemory>
+    fn add<S: Spool + Drop>(draft: &mut Draft<S>, placed: PlacedView<'_>) -> Result<(), OutOfMemory>
         ensures { OnOk result ((given : List ℕ)
             → DraftHas S.serves S.tells S.holds S.has_failed draft.old given
-            → DraftHas S.serves S.tells S.holds S.has_failed draft.new (given ++ lines placed.now)) };
+            → DraftHas S.serves S.tells S.holds S.has_failed draft.new (given ++ lines (viewed placed.entry))) };
 }
 
 /// A line for each packet, and one for each subpacket of a signature.
@@ -39,7 +40,10 @@ pub(crate) struct Valued;
 impl EachPacket for Plain {
     ghost lines = { packet_lines };
 
-    fn add<S: Spool + Drop>(draft: &mut Draft<S>, placed: &Placed) -> Result<(), OutOfMemory> {
+    fn add<S: Spool + Drop>(
+        draft: &mut Draft<S>,
+        placed: PlacedView<'_>,
+    ) -> Result<(), OutOfMemory> {
         draft.add(PlainLines { placed })
     }
 }
@@ -47,18 +51,21 @@ impl EachPacket for Plain {
 impl EachPacket for Valued {
     ghost lines = { valued_lines };
 
-    fn add<S: Spool + Drop>(draft: &mut Draft<S>, placed: &Placed) -> Result<(), OutOfMemory> {
+    fn add<S: Spool + Drop>(
+        draft: &mut Draft<S>,
+        placed: PlacedView<'_>,
+    ) -> Result<(), OutOfMemory> {
         draft.add(ValuedLines { placed })
     }
 }
 
 #[derive(Clone, Copy)]
 struct PlainLines<'a> {
-    placed: &'a Placed,
+    placed: PlacedView<'a>,
 }
 
 impl Text for PlainLines<'_> {
-    ghost octets = { λ text. packet_lines text.placed.now };
+    ghost octets = { λ text. packet_lines (viewed text.placed) };
 
     fn add<W: Sink>(self, output: &mut Output<'_, W>) -> io::Result<()> {
         add_packet(output, self.placed)
@@ -67,11 +74,11 @@ impl Text for PlainLines<'_> {
 
 #[derive(Clone, Copy)]
 struct ValuedLines<'a> {
-    placed: &'a Placed,
+    placed: PlacedView<'a>,
 }
 
 impl Text for ValuedLines<'_> {
-    ghost octets = { λ text. valued_lines text.placed.now };
+    ghost octets = { λ text. valued_lines (viewed text.placed) };
 
     fn add<W: Sink>(self, output: &mut Output<'_, W>) -> io::Result<()> {
         add_valued(output, self.placed)
@@ -84,7 +91,11 @@ impl<E: EachPacket, S: Spool + Drop> PacketKeeper for Texts<E, S> {
         (flat_map E.lines packets) };
 
     fn keep(&mut self, packet: Placed) -> Result<(), OutOfMemory> {
-        E::add(&mut self.draft, &packet)?;
+        self.keep_view(PlacedView::of(&packet))
+    }
+
+    fn keep_view(&mut self, packet: PlacedView<'_>) -> Result<(), OutOfMemory> {
+        E::add(&mut self.draft, packet)?;
         Ok(())
     }
 }

@@ -5,13 +5,16 @@ ghost use Rattle.opgp_engine.specs.Draft.{DraftHas};
 
 use opgp_engine::{Draft, Spool};
 use opgp_octets::OutOfMemory;
+use opgp_ring::Ready;
 use std::alloc::Global;
 use std::marker::PhantomData;
 
-/// What is written of each thing that came so far, none of which is kept.
+/// What is written of each thing that came so far, none of which is kept; but of the last part the
+/// memory, for the next one.
 #[derive(Drop)]
 pub(crate) struct Texts<E, S> {
     pub(crate) draft: Draft<S>,
+    pub(crate) spare: Option<Ready>,
     each: PhantomData<E>,
 }
 
@@ -25,6 +28,7 @@ impl<E, S: Spool + Drop> Texts<E, S> {
         let draft = Draft::new(alloc, spool)?;
         Ok(Texts {
             draft,
+            spare: None,
             each: PhantomData,
         })
     }

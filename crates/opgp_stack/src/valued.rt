@@ -1,6 +1,7 @@
 //! The lines of packets with their fields, without an allocation.
 
 ghost use Rattle.std.specs.Prelude.{◌≡◌, ◌++◌, Ok, codes, false};
+ghost use Rattle.opgp_frame.specs.View.{viewed};
 ghost use Rattle.opgp_octets.specs.Octets.{IsBodySized};
 ghost use Rattle.opgp_packet.specs.AttributeBody.{attribute};
 ghost use Rattle.opgp_packet.specs.FieldReading.{body_at};
@@ -23,7 +24,7 @@ use crate::date::add_date;
 use crate::listing::{Role, add_attribute, add_dated_key, add_opaque, add_signature, add_user_id};
 use crate::showing::{Area, add_header, add_subpacket};
 use crate::values::add_value;
-use opgp_frame::Placed;
+use opgp_frame::PlacedView;
 use opgp_octets::PacketType;
 use opgp_packet::{AttributeView, KeyView, LiteralView, SigView, SubView, Subs};
 use opgp_stream::{Output, Sink, Word};
@@ -237,9 +238,13 @@ fn add_fields<W: Sink>(output: &mut Output<'_, W>, kind: u8, body: &[u8]) -> io:
 }
 
 /// Adds the lines of a packet, with what it says.
-pub(crate) fn add_valued<W: Sink>(output: &mut Output<'_, W>, placed: &Placed) -> io::Result<()>
+pub(crate) fn add_valued<W: Sink>(
+    output: &mut Output<'_, W>,
+    placed: PlacedView<'_>,
+) -> io::Result<()>
     requires { W.has_failed (sink_of output.old) ≡ false }
-    ensures { Extends W.held W.has_failed output.old output.new result (valued_lines placed.now) }
+    ensures { Extends W.held W.has_failed output.old output.new result
+        (valued_lines (viewed placed.entry)) }
 {
     add_header(output, placed)?;
     add_fields(output, placed.packet.kind(), placed.packet.body())

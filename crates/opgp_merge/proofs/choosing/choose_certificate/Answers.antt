@@ -1,7 +1,7 @@
-use Rattle.std.proofs.Common.{rules, ap}
+use Rattle.std.proofs.Common.{ap}
 use Rattle.opgp_ring.specs.Grouped.{components_left, hangs_left}
 use Rattle.opgp_ring.specs.Keyring.{CertificateValue, certificate_packets}
-use Rattle.opgp_ring.specs.Member.{member_packet, members_left}
+use Rattle.opgp_ring.specs.Member.{member_packet}
 use Rattle.opgp_merge.specs.Chosen.{chosen_certificate}
 use Rattle.opgp_merge.proofs.Components.{all_chosen, few}
 use Rattle.opgp_merge.proofs.Staying.{certificate_is}
@@ -9,7 +9,7 @@ use Rattle.opgp_merge.proofs.choosing.choose_certificate.Goals as goal
 
 pub add_components-requires-clause-few : goal.add_components-requires-clause-few
 add_components-requires-clause-few c =
-    few c.args.certificate c.len-count.result (members_left c.packets.result) (components_left c.components.result) (search rules) c.len-count.ensures c.packets.ensures.value c.components.ensures.value
+    few c.args.certificate (components_left c.components.result) c.components.ensures.few c.components.ensures.value
 
 pub returns-clause-value : goal.returns-clause-value
 returns-clause-value c =
@@ -18,4 +18,4 @@ returns-clause-value c =
     (certificate_packets c.in_ok-chosen.chosen) (certificate_packets c.add_own.new.chosen) (certificate_packets c.add_components.new.chosen)
     c.owner-own.ensures c.primary.ensures.value c.hangs.ensures.value c.components.ensures.value
     (ap certificate_packets c.in_ok-chosen.ensures) c.in_ok-add_own.ensures c.in_ok-add_components.ensures in
-    c.one_certificate.ensures c.add_components.new.chosen (chosen_certificate c.args.choice whole) c.packets-packets.ensures.certificate (certificate_is c.args.choice whole c.packets.ensures.certificate) all
+    c.one_certificate.ensures c.add_components.new.chosen (chosen_certificate c.args.choice whole) c.packets-packets.ensures.certificate (certificate_is c.args.choice whole c.components.ensures.certificate) all

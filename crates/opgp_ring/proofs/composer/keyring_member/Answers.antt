@@ -1,5 +1,6 @@
-use Rattle.opgp_ring.proofs.Packing.{is_part}
+use Rattle.opgp_ring.proofs.Packing.{may_stand}
+use Rattle.opgp_frame.specs.View.{viewed_packet}
 use Rattle.opgp_ring.proofs.composer.keyring_member.Goals as goal
 
 pub of-requires : goal.of-requires
-of-requires c = is_part c.args.malformed c.args.packet.now c.kind-known.ensures.packet c.requires.stands c.requires.sound
+of-requires c = may_stand c.args.malformed (viewed_packet c.args.packet) c.kind-known.ensures.packet c.requires.stands c.requires.sound

@@ -16,4 +16,4 @@ returns-in_err-add_content g c =
     extends_broken_left (listing (packets_left c.next.new.self)) c.packets.invariant (ap listing c.in-Some.ensures) c.from_residual.ensures.0 (c.in_err-add_content.ensures (member_packet c.in-Some.packet) (sym c.content.ensures.kind) (sym c.content.ensures.octets))
 
 pub returns : goal.returns
-returns g c = extends_nothing_left c.packets.invariant (ap listing c.in_default.ensures)
+returns g c = extends_nothing_left c.packets.invariant (ap listing c.in_default.ensures.0)

@@ -1,11 +1,12 @@
 use Rattle.std.proofs.Common.{refl}
+use Rattle.opgp_frame.specs.View.{viewed}
 use Rattle.opgp_stream.proofs.Extended.{extends_stop, extends_then}
 use Rattle.opgp_stack.specs.Showing.{content_lines}
 use Rattle.opgp_stack.proofs.showing.add_packet.Goals as goal
 
 pub returns-in_err-add_header : goal.returns-in_err-add_header
 returns-in_err-add_header g c =
-    let packet = c.args.placed.now.packet in
+    let packet = (viewed c.args.placed).packet in
     extends_stop (content_lines packet.kind packet.body) refl c.from_residual.ensures.0 c.in_err-add_header.ensures
 
 pub returns : goal.returns

@@ -1,4 +1,5 @@
-use Rattle.std.proofs.Common.{◌∙◌, refl}
+use Rattle.std.proofs.Common.{◌∙◌, refl, ap, sym}
+use Rattle.opgp_stream.proofs.Extended.{extends_same}
 use Rattle.opgp_stream.specs.Added.{State}
 use Rattle.opgp_stream.specs.Output.{state_of}
 use Rattle.opgp_stack.specs.Showing.{packet_lines}
@@ -12,7 +13,7 @@ returns-in_err-add_packet g c =
     let new : State = state_of g.W.Sink.held g.W.Sink.has_failed c.add_packet.new.output in
     record {
       same = c.in_err-add_packet.ensures.same ∙ c.loop-placed.invariant.same;
-      written = broken_of packet_lines old mid new c.from_residual.result c.args.packets.now c.loop-placed.placed-index c.placed-item.result _ c.loop-placed-test.true c.placed-item.is refl c.from_residual.ensures.0 c.loop-placed.invariant.added c.in_err-add_packet.ensures.written;
+      written = broken_of packet_lines old mid new c.from_residual.result c.args.packets.now c.loop-placed.placed-index c.placed-item.result _ c.loop-placed-test.true c.placed-item.is refl c.from_residual.ensures.0 c.loop-placed.invariant.added (extends_same (ap packet_lines (sym c.of.ensures)) c.in_err-add_packet.ensures).written;
     }
 
 pub loop-placed-preserved : goal.loop-placed-preserved
@@ -23,5 +24,5 @@ loop-placed-preserved g c =
     record {
       same = c.in_ok-add_packet.ensures.same ∙ c.loop-placed.invariant.same;
       added = more_of packet_lines old mid new c.args.packets.now c.loop-placed.placed-index
-          c.placed-item.result _ c.loop-placed-test.true c.placed-item.is refl c.loop-placed.invariant.added c.in_ok-add_packet.ensures.written;
+          c.placed-item.result _ c.loop-placed-test.true c.placed-item.is refl c.loop-placed.invariant.added (extends_same (ap packet_lines (sym c.of.ensures)) c.in_ok-add_packet.ensures).written;
     }

@@ -15,4 +15,4 @@ returns-in_err-add_valued_line g c =
     extends_broken_left (valued_listing (packets_left c.next.new.self)) c.packets.invariant (ap valued_listing c.in-Some.ensures) c.from_residual.ensures.0 c.in_err-add_valued_line.ensures
 
 pub returns : goal.returns
-returns g c = extends_nothing_left c.packets.invariant (ap valued_listing c.in_default.ensures)
+returns g c = extends_nothing_left c.packets.invariant (ap valued_listing c.in_default.ensures.0)

@@ -8,13 +8,14 @@ use Rattle.opgp_ring.proofs.Feeding.{stray_fault}
 use Rattle.opgp_ring.proofs.States.{behind}
 use Rattle.opgp_ring.proofs.Stepping.{strayed}
 use Rattle.opgp_ring.proofs.HandedOut.{fed_of, standing_of}
+use Rattle.opgp_frame.specs.View.{viewed_packet}
 use Rattle.opgp_ring.proofs.composer.Composer.add.Goals as goal
 
 pub returns-then-not-is_open-clause-fed : goal.returns-then-not-is_open-clause-fed
 returns-then-not-is_open-clause-fed c limits given taken f =
-    fed_of (record { limits_kept = f.limits_kept; state = behind limits c.args.self.now.state given _ (of_packet (record { packet = c.args.packet.now; block = c.args.block; pos = c.args.pos })) (standing_of f).state (subst (λ (l : Limits). HasNoFault (malformed_of l) c.args.packet.now) f.limits_kept c.requires.sound) (sym c.if-not-is_open.ensures) })
+    fed_of (record { limits_kept = f.limits_kept; state = behind limits c.args.self.now.state given _ (of_packet (record { packet = (viewed_packet c.args.packet); block = c.args.block; pos = c.args.pos })) (standing_of f).state (subst (λ (l : Limits). HasNoFault (malformed_of l) (viewed_packet c.args.packet)) f.limits_kept c.requires.sound) (sym c.if-not-is_open.ensures) })
 
 pub returns-in-Stray-clause-fed : goal.returns-in-Stray-clause-fed
 returns-in-Stray-clause-fed c limits given taken f =
-    c.refuse.ensures.fed limits given taken (of_packet (record { packet = c.args.packet.now; block = c.args.block; pos = c.args.pos })) f (subst (λ (l : Limits). HasNoFault (malformed_of l) c.args.packet.now) f.limits_kept c.requires.sound)
-    (λ _. stray_fault limits (packets_in given) (record { packet = c.args.packet.now; block = c.args.block; pos = c.args.pos }) (strayed c.sort.result c.args.packet.now.kind c.in-Stray.is (subst (λ (k : ℕ). IsSorted c.sort.result k) c.kind.ensures.value c.sort.ensures)))
+    c.refuse.ensures.fed limits given taken (of_packet (record { packet = (viewed_packet c.args.packet); block = c.args.block; pos = c.args.pos })) f (subst (λ (l : Limits). HasNoFault (malformed_of l) (viewed_packet c.args.packet)) f.limits_kept c.requires.sound)
+    (λ _. stray_fault limits (packets_in given) (record { packet = (viewed_packet c.args.packet); block = c.args.block; pos = c.args.pos }) (strayed c.sort.result (viewed_packet c.args.packet).kind c.in-Stray.is (subst (λ (k : ℕ). IsSorted c.sort.result k) c.kind.ensures.value c.sort.ensures)))

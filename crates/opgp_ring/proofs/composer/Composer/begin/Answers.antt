@@ -10,18 +10,19 @@ use Rattle.opgp_ring.specs.State.{open_octets, ready_octets, ready_parts}
 use Rattle.opgp_ring.proofs.Feeding.{begun, begun_octets}
 use Rattle.opgp_ring.proofs.Stepping.{none_ready, primary_long, first_more, next_more}
 use Rattle.opgp_ring.proofs.HandedOut.{fed_of, standing_of}
+use Rattle.opgp_frame.specs.View.{viewed_packet}
 use Rattle.opgp_ring.proofs.composer.Composer.begin.Goals as goal
 
 pub returns-then-octets-cert-clause-fed : goal.returns-then-octets-cert-clause-fed
 returns-then-octets-cert-clause-fed c limits given taken f =
     let limit : c.cert.result ≡ cert_limit limits = c.cert.ensures.value ∙ ap cert_limit f.limits_kept in
-    c.refuse.ensures.fed limits given taken (of_packet (record { packet = c.args.primary.now; block = c.args.block; pos = c.args.pos })) f (subst (λ (l : Limits). HasNoFault (malformed_of l) c.args.primary.now) f.limits_kept c.requires.sound)
-    (λ opened. primary_long limits c.args.self.now.state given _ (record { packet = c.args.primary.now; block = c.args.block; pos = c.args.pos }) (standing_of f).state opened c.requires.primary (omega (arith, limit, c.if-octets-cert.true, c.spelled_len-octets.ensures)))
+    c.refuse.ensures.fed limits given taken (of_packet (record { packet = (viewed_packet c.args.primary); block = c.args.block; pos = c.args.pos })) f (subst (λ (l : Limits). HasNoFault (malformed_of l) (viewed_packet c.args.primary)) f.limits_kept c.requires.sound)
+    (λ opened. primary_long limits c.args.self.now.state given _ (record { packet = (viewed_packet c.args.primary); block = c.args.block; pos = c.args.pos }) (standing_of f).state opened c.requires.primary (omega (arith, limit, c.if-octets-cert.true, c.spelled_len-octets.ensures)))
 
-pub invariant_of-self : goal.invariant_of-self
-invariant_of-self c =
+pub invariant_of-self-in-Leading : goal.invariant_of-self-in-Leading
+invariant_of-self-in-Leading c =
     let size = c.args.self.now.size in
-    let own : octets_of (certificate_packets c.in_ok-certificate.certificate) ≡ c.spelled_len-octets.result = ap (λ (x : CertificateValue). octets_of (certificate_packets x)) (c.in_ok-certificate.ensures ∙ ap begun c.keyring_member.ensures) ∙ begun_octets c.args.primary.now ∙ sym c.spelled_len-octets.ensures in
+    let own : octets_of (certificate_packets c.in_ok-certificate.certificate) ≡ c.spelled_len-octets.result = ap (λ (x : CertificateValue). octets_of (certificate_packets x)) (c.in_ok-certificate.ensures ∙ ap begun c.keyring_member.ensures) ∙ begun_octets (viewed_packet c.args.primary) ∙ sym c.spelled_len-octets.ensures in
     let lead : ready_octets c.replace-in-Leading.new.dest ≡ size = ap ready_octets c.replace-in-Leading.ensures.after ∙ c.lead_part-ready.ensures.octets ∙ ap open_octets c.in-Leading.ensures.value ∙ c.args.self.now.counted in
     record {
       short = omega (arith, c.if-octets-cert.false, c.cert.ensures.value);
@@ -32,7 +33,7 @@ invariant_of-self c =
 pub invariant_of-self-in-Growing : goal.invariant_of-self-in-Growing
 invariant_of-self-in-Growing c =
     let size = c.args.self.now.size in
-    let own : octets_of (certificate_packets c.in_ok-certificate.certificate) ≡ c.spelled_len-octets.result = ap (λ (x : CertificateValue). octets_of (certificate_packets x)) (c.in_ok-certificate.ensures ∙ ap begun c.keyring_member.ensures) ∙ begun_octets c.args.primary.now ∙ sym c.spelled_len-octets.ensures in
+    let own : octets_of (certificate_packets c.in_ok-certificate.certificate) ≡ c.spelled_len-octets.result = ap (λ (x : CertificateValue). octets_of (certificate_packets x)) (c.in_ok-certificate.ensures ∙ ap begun c.keyring_member.ensures) ∙ begun_octets (viewed_packet c.args.primary) ∙ sym c.spelled_len-octets.ensures in
     let before : ready_octets c.replace-in-Growing.new.dest ≡ size = ap ready_octets c.replace-in-Growing.ensures.after ∙ ap open_octets c.in-Growing.ensures.value ∙ c.args.self.now.counted in
     record {
       short = omega (arith, c.if-octets-cert.false, c.cert.ensures.value);
@@ -49,7 +50,7 @@ returns-in-Leading-clause-fed c limits given taken f =
     fed_of (record {
       limits_kept = f.limits_kept;
       state = rw (c.replace.ensures.after, (c.in_ok-certificate.ensures ∙ ap begun c.keyring_member.ensures), parts)
-          (first_more limits s c.in-Leading.lead given taken (record { packet = c.args.primary.now; block = c.args.block; pos = c.args.pos }) is (sym c.in-Leading.ensures.value) (subst (λ (l : Limits). HasNoFault (malformed_of l) c.args.primary.now) f.limits_kept c.requires.sound) c.requires.primary (omega (arith, limit, c.if-octets-cert.false, c.spelled_len-octets.ensures)));
+          (first_more limits s c.in-Leading.lead given taken (record { packet = (viewed_packet c.args.primary); block = c.args.block; pos = c.args.pos }) is (sym c.in-Leading.ensures.value) (subst (λ (l : Limits). HasNoFault (malformed_of l) (viewed_packet c.args.primary)) f.limits_kept c.requires.sound) c.requires.primary (omega (arith, limit, c.if-octets-cert.false, c.spelled_len-octets.ensures)));
     })
 
 pub returns-in-Growing-clause-fed : goal.returns-in-Growing-clause-fed
@@ -61,5 +62,5 @@ returns-in-Growing-clause-fed c limits given taken f =
     fed_of (record {
       limits_kept = f.limits_kept;
       state = rw (c.replace.ensures.after, (c.in_ok-certificate.ensures ∙ ap begun c.keyring_member.ensures), parts)
-          (next_more limits s c.in-Growing.certificate given taken (record { packet = c.args.primary.now; block = c.args.block; pos = c.args.pos }) is (sym c.in-Growing.ensures.value) (subst (λ (l : Limits). HasNoFault (malformed_of l) c.args.primary.now) f.limits_kept c.requires.sound) c.requires.primary (omega (arith, limit, c.if-octets-cert.false, c.spelled_len-octets.ensures)));
+          (next_more limits s c.in-Growing.certificate given taken (record { packet = (viewed_packet c.args.primary); block = c.args.block; pos = c.args.pos }) is (sym c.in-Growing.ensures.value) (subst (λ (l : Limits). HasNoFault (malformed_of l) (viewed_packet c.args.primary)) f.limits_kept c.requires.sound) c.requires.primary (omega (arith, limit, c.if-octets-cert.false, c.spelled_len-octets.ensures)));
     })

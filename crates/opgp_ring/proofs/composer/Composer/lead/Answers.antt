@@ -11,6 +11,7 @@ use Rattle.opgp_ring.specs.State.{ready_parts, open_octets}
 use Rattle.opgp_ring.proofs.Adding.{octets_of-push}
 use Rattle.opgp_ring.proofs.Stepping.{closed_lead, lead_long, lead_more, room_short, room_fits}
 use Rattle.opgp_ring.proofs.HandedOut.{fed_of, standing_of}
+use Rattle.opgp_frame.specs.View.{viewed_packet}
 use Rattle.opgp_ring.proofs.composer.Composer.lead.Goals as goal
 
 pub returns-in-Leading-clause-fed : goal.returns-in-Leading-clause-fed
@@ -20,8 +21,8 @@ returns-in-Leading-clause-fed c limits given taken f =
     let counted : octets_of c.in-Leading.field-0 ≡ size = ap open_octets (sym c.in-Leading.is) ∙ c.args.self.now.counted in
     let short : size ≤ c.cert.result = omega (arith, c.args.self.now.short, c.cert.ensures.value) in
     let long : c.cert.result < size + c.spelled_len-octets.result = room_short c.cert.result size c.spelled_len-octets.result short c.if-octets-room.true in
-    c.refuse.ensures.fed limits given taken (of_packet (record { packet = c.args.filler.now; block = c.args.block; pos = c.args.pos })) (fed_of (record { limits_kept = f.limits_kept; state = subst (λ (s : State). IsIn limits s given (taken ++ ready_parts c.args.self.now.ready)) c.in-Leading.is (standing_of f).state })) (subst (λ (l : Limits). HasNoFault (malformed_of l) c.args.filler.now) f.limits_kept c.requires.sound)
-    (λ _. lead_long limits c.args.self.now.state c.in-Leading.field-0 given _ (record { packet = c.args.filler.now; block = c.args.block; pos = c.args.pos }) (standing_of f).state c.in-Leading.is c.requires.filler (omega (arith, long, limit, counted, c.spelled_len-octets.ensures)))
+    c.refuse.ensures.fed limits given taken (of_packet (record { packet = (viewed_packet c.args.filler); block = c.args.block; pos = c.args.pos })) (fed_of (record { limits_kept = f.limits_kept; state = subst (λ (s : State). IsIn limits s given (taken ++ ready_parts c.args.self.now.ready)) c.in-Leading.is (standing_of f).state })) (subst (λ (l : Limits). HasNoFault (malformed_of l) (viewed_packet c.args.filler)) f.limits_kept c.requires.sound)
+    (λ _. lead_long limits c.args.self.now.state c.in-Leading.field-0 given _ (record { packet = (viewed_packet c.args.filler); block = c.args.block; pos = c.args.pos }) (standing_of f).state c.in-Leading.is c.requires.filler (omega (arith, long, limit, counted, c.spelled_len-octets.ensures)))
 
 pub invariant_of-self-in-Leading-2 : goal.invariant_of-self-in-Leading-2
 invariant_of-self-in-Leading-2 c =
@@ -29,7 +30,7 @@ invariant_of-self-in-Leading-2 c =
     let counted : octets_of c.in-Leading.field-0 ≡ size = ap open_octets (sym c.in-Leading.is) ∙ c.args.self.now.counted in
     let short : size ≤ c.cert.result = omega (arith, c.args.self.now.short, c.cert.ensures.value) in
     let fits : size + c.spelled_len-octets.result ≤ c.cert.result = room_fits c.cert.result size c.spelled_len-octets.result short c.if-octets-room.false in
-    let more : octets_of c.push.new.self ≡ octets_of c.in-Leading.field-0 + length (spelling c.args.filler.now) = ap octets_of (c.in_ok-push-in-Leading-2.ensures.ok ∙ ap (λ (v : PacketValue). c.in-Leading.field-0 ++ v ∷ []) c.keyring_member.ensures) ∙ octets_of-push c.in-Leading.field-0 c.args.filler.now in
+    let more : octets_of c.push.new.self ≡ octets_of c.in-Leading.field-0 + length (spelling (viewed_packet c.args.filler)) = ap octets_of (c.in_ok-push-in-Leading-2.ensures.ok ∙ ap (λ (v : PacketValue). c.in-Leading.field-0 ++ v ∷ []) c.keyring_member.ensures) ∙ octets_of-push c.in-Leading.field-0 (viewed_packet c.args.filler) in
     record {
       short = omega (arith, fits, c.cert.ensures.value);
       counted = omega (arith, more, counted, c.spelled_len-octets.ensures);
@@ -45,7 +46,7 @@ returns-in_ok-push-in-Leading-2-clause-fed c limits given taken f =
     let fits : size + c.spelled_len-octets.result ≤ c.cert.result = room_fits c.cert.result size c.spelled_len-octets.result short c.if-octets-room.false in
     fed_of (record {
       limits_kept = f.limits_kept;
-      state = lead_more limits c.args.self.now.state c.in-Leading.field-0 c.push.new.self given _ (record { packet = c.args.filler.now; block = c.args.block; pos = c.args.pos }) (standing_of f).state c.in-Leading.is (subst (λ (l : Limits). HasNoFault (malformed_of l) c.args.filler.now) f.limits_kept c.requires.sound) c.requires.filler (omega (arith, fits, limit, counted, c.spelled_len-octets.ensures)) (c.in_ok-push-in-Leading-2.ensures.ok ∙ ap (λ (v : PacketValue). c.in-Leading.field-0 ++ v ∷ []) c.keyring_member.ensures);
+      state = lead_more limits c.args.self.now.state c.in-Leading.field-0 c.push.new.self given _ (record { packet = (viewed_packet c.args.filler); block = c.args.block; pos = c.args.pos }) (standing_of f).state c.in-Leading.is (subst (λ (l : Limits). HasNoFault (malformed_of l) (viewed_packet c.args.filler)) f.limits_kept c.requires.sound) c.requires.filler (omega (arith, fits, limit, counted, c.spelled_len-octets.ensures)) (c.in_ok-push-in-Leading-2.ensures.ok ∙ ap (λ (v : PacketValue). c.in-Leading.field-0 ++ v ∷ []) c.keyring_member.ensures);
     })
 
 pub unreachable-requires : goal.unreachable-requires

@@ -14,4 +14,4 @@ unreachable-requires-in-Err-parse_body-2 c = c.args.self.part.sound c.in-Err-par
 pub returns-in_default : goal.returns-in_default
 returns-in_default c =
     let n = c.in_default in
-    record { kind = refl; octets = refl; kept = filler_left c.from.result c.args.self.place.kind c.from.ensures.0 n.not-Signature n.not-PublicKey n.not-UserId n.not-PublicSubkey n.not-UserAttribute c.args.self.part.stands }
+    record { kind = refl; octets = refl; kept = filler_left c.from.result c.args.self.header.kind c.from.ensures.0 n.not-Signature n.not-PublicKey n.not-UserId n.not-PublicSubkey n.not-UserAttribute c.args.self.part.stands }

@@ -6,5 +6,5 @@ use Rattle.opgp_ring.proofs.member.Member.spelled_len.Goals as goal
 pub returns : goal.returns
 returns c =
     let m = c.args.self in
-    c.spelled_len_of.ensures m.place.kind m.body.now refl
-    ∙ ap (λ (form : Form). let p : PacketValue = record { form = form; kind = m.place.kind; body = m.body.now } in length (spelling p)) c.form.ensures.value
+    c.spelled_len_of.ensures m.header.kind m.body.now refl
+    ∙ ap (λ (form : Form). let p : PacketValue = record { form = form; kind = m.header.kind; body = m.body.now } in length (spelling p)) c.form.ensures.value

@@ -8,12 +8,12 @@ pub invariant_of-self-2 : goal.invariant_of-self-2
 invariant_of-self-2 c =
     let v = c.self.inside in
     let m = c.args.member in
-    rw (c.in_ok-extend_from_slice.ensures.items, c.in_ok-push.ensures.items, c.in_ok-reserve.ensures.items, c.body.ensures, c.place-place.ensures)
-    (pushed v.bodies.items v.places.items m.place m.body.now c.self.invariant m.whole m.part)
+    rw (c.in_ok-extend_from_slice.ensures.items, c.in_ok-push.ensures.items, c.in_ok-reserve.ensures.items, c.body.ensures, c.header-header.ensures)
+    (pushed v.bodies.items v.headers.items m.header m.body.now c.self.invariant m.whole m.part)
 
 pub returns-clause-ok : goal.returns-clause-ok
 returns-clause-ok c =
     let v = c.self.inside in
     let m = c.args.member in
-    rw (c.in_ok-extend_from_slice.ensures.items, c.in_ok-push.ensures.items, c.in_ok-reserve.ensures.items, c.body.ensures, c.place-place.ensures)
-    (pushed_is v.bodies.items v.places.items m.place m.body.now c.self.invariant m.whole ∙ ap (λ (l : List PacketValue). l ++ member_packet m ∷ []) c.self.view_is)
+    rw (c.in_ok-extend_from_slice.ensures.items, c.in_ok-push.ensures.items, c.in_ok-reserve.ensures.items, c.body.ensures, c.header-header.ensures)
+    (pushed_is v.bodies.items v.headers.items m.header m.body.now c.self.invariant m.whole ∙ ap (λ (l : List PacketValue). l ++ member_packet m ∷ []) c.self.view_is)

@@ -1,12 +1,12 @@
--- Where a packet of a keyring is, and the form of its header.
+-- What is kept of the header of a packet (RFC 9580, 4.2).
 use Rattle.std.specs.Prelude.{ℕ, ◌+◌, List, [], ◌∷◌, take, drop}
 use Rattle.opgp_frame.specs.declared.form.Form.{Form}
 use Rattle.opgp_frame.specs.declared.form.Form.TheVariants as forms
 use Rattle.opgp_frame.specs.Packet.{PacketValue}
 use Rattle.opgp_frame.specs.Reframed.{shortest_form}
-use Rattle.opgp_ring.specs.declared.place.Place.{Place}
-use Rattle.opgp_ring.specs.declared.place.Plain.{Plain}
-use Rattle.opgp_ring.specs.declared.place.Plain.TheVariants as plains
+use Rattle.opgp_ring.specs.declared.header.Header.{Header}
+use Rattle.opgp_ring.specs.declared.header.Plain.{Plain}
+use Rattle.opgp_ring.specs.declared.header.Plain.TheVariants as plains
 
 abbrev pub plain_form : Plain → Form
 plain_form plains.OldOne = forms.OldOne
@@ -40,20 +40,20 @@ most_len forms.NewTwo = 8383
 most_len forms.NewFive = 4294967295
 most_len (forms.Partial p) = 0
 
--- the packet with this body at its place
-abbrev pub packet_at : Place → List ℕ → PacketValue
-packet_at place body = record { form = plain_form place.plain; kind = place.kind; body = body }
+-- the packet with this header and this body
+abbrev pub packet_with : Header → List ℕ → PacketValue
+packet_with header body = record { form = plain_form header.plain; kind = header.kind; body = body }
 
 -- how long the bodies are together
-abbrev pub sizes : List Place → ℕ
+abbrev pub sizes : List Header → ℕ
 sizes [] = 0
 sizes (p ∷ ps) = p.len + sizes ps
 
 -- the packets whose bodies stand one after the other
-abbrev pub packets_at : List ℕ → List Place → List PacketValue
-packets_at bodies [] = []
-packets_at bodies (p ∷ ps) = packet_at p (take p.len bodies) ∷ packets_at (drop p.len bodies) ps
+abbrev pub packets_with : List ℕ → List Header → List PacketValue
+packets_with bodies [] = []
+packets_with bodies (p ∷ ps) = packet_with p (take p.len bodies) ∷ packets_with (drop p.len bodies) ps
 
--- a place with the shortest form of its body's length
-abbrev pub normal_place : Place → Place
-normal_place p = record { len = p.len; kind = p.kind; plain = plain_of (shortest_form p.len) }
+-- the header with the shortest form of its body's length
+abbrev pub normal_header : Header → Header
+normal_header p = record { len = p.len; kind = p.kind; plain = plain_of (shortest_form p.len) }

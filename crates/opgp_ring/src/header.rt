@@ -1,8 +1,8 @@
-//! Where a packet of a keyring is, and the form of its header.
+//! What is kept of a packet's header.
 
 ghost use Rattle.std.specs.Prelude.{◌≡◌, ◌≤◌};
-ghost use Rattle.opgp_ring.specs.Place.{least_len, most_len, normal_place};
-ghost use Rattle.opgp_ring.specs.Place.{plain_form, plain_of};
+ghost use Rattle.opgp_ring.specs.Header.{least_len, most_len, normal_header};
+ghost use Rattle.opgp_ring.specs.Header.{plain_form, plain_of};
 
 use crate::reframing::Reframe;
 use opgp_frame::Form;
@@ -56,14 +56,14 @@ impl Plain {
 
 /// How long a packet's body is, its type, and the form of its header: 8 octets, whatever the body.
 #[derive(Clone, Copy)]
-pub(crate) struct Place {
+pub(crate) struct Header {
     pub(crate) len: u32,
     pub(crate) kind: u8,
     pub(crate) plain: Plain,
 }
 
-impl Reframe for Place {
-    ghost normal = { normal_place };
+impl Reframe for Header {
+    ghost normal = { normal_header };
 
     fn reframe(&mut self) {
         self.plain = Plain::of(&Form::shortest(self.len));

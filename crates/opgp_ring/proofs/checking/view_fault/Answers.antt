@@ -1,9 +1,10 @@
 use Rattle.opgp_ring.proofs.Sorting.{untyped}
-use Rattle.opgp_ring.proofs.checking.packet_fault.Goals as goal
+use Rattle.opgp_frame.specs.View.{viewed}
+use Rattle.opgp_ring.proofs.checking.view_fault.Goals as goal
 
 pub returns-in-Some : goal.returns-in-Some
 returns-in-Some c =
-    let p = c.args.placed.now in
+    let p = viewed c.args.placed in
     record {
       why = c.in-Some.fault;
       octets = c.kind.ensures.packet.octets;

@@ -28,6 +28,7 @@ pub(crate) fn answered(alloc: Global, name: &str, given: &Given, answer: &mut An
     };
     match name {
         "key" => key(alloc, body, answer),
+        "key_behind" => key_behind(alloc, body, given.octets(1), answer),
         "key_fields" => key_fields(alloc, body, answer),
         "attribute" => attribute(alloc, body, answer),
         "attribute_subpackets" => attribute_subpackets(alloc, body, answer),
@@ -135,14 +136,30 @@ fn add_kept<F: Body + Drop>(
     answer: &mut Answer,
 ) {
     match kept {
-        Ok(value) => add_behind(alloc, value, answer),
+        Ok(value) => add_behind(alloc, BEFORE, value, answer),
         Err(fault) => add_fault(fault, answer),
     }
 }
 
+/// `key_behind BODY OCTETS`: a key's body, written behind octets that fill their vector.
+fn key_behind(alloc: Global, body: &[u8], before: &[u8], answer: &mut Answer)
+    requires { IsBodySized body.now }
+{
+    match Key::parse_body(alloc, body) {
+        Ok(key) => add_behind(alloc, before, key, answer),
+        Err(ParseFault::Body(fault)) => add_fault(fault, answer),
+        Err(ParseFault::Memory) => answer.refuse(End::Memory),
+    }
+}
+
 /// Adds a body, written behind octets and then given back.
-fn add_behind<F: Body + Drop>(alloc: Global, value: Parsed<Vec<u8>, F>, answer: &mut Answer) {
-    let Some(mut out) = answer.made(Vec::from_slice(alloc, BEFORE)) else {
+fn add_behind<F: Body + Drop>(
+    alloc: Global,
+    before: &[u8],
+    value: Parsed<Vec<u8>, F>,
+    answer: &mut Answer,
+) {
+    let Some(mut out) = answer.made(Vec::from_slice(alloc, before)) else {
         return;
     };
     answer.made(value.write_body(&mut out));

@@ -21,6 +21,7 @@ pub(crate) fn answered(alloc: Global, name: &str, given: &Given, answer: &mut An
     };
     match name {
         "signature" => signature(alloc, body, answer),
+        "signature_behind" => signature_behind(alloc, body, given.octets(1), answer),
         "signature_fields" => signature_fields(body, answer),
         "signature_copy" => signature_copy(alloc, body, answer),
         "subpackets" => subpackets(body, answer),
@@ -70,16 +71,27 @@ fn kept(alloc: Global, body: &[u8], answer: &mut Answer)
 {
     match Vec::from_slice(alloc, body) {
         Ok(body) => match Signature::from_body(body) {
-            Ok(signature) => add_behind(alloc, signature, answer),
+            Ok(signature) => add_behind(alloc, b"so far", signature, answer),
             Err(fault) => add_fault(fault, answer),
         },
         Err(_) => answer.refuse(End::Memory),
     }
 }
 
+/// `signature_behind BODY OCTETS`: a body, written behind octets that fill their vector.
+fn signature_behind(alloc: Global, body: &[u8], before: &[u8], answer: &mut Answer)
+    requires { IsBodySized body.now }
+{
+    match Signature::parse_body(alloc, body) {
+        Ok(signature) => add_behind(alloc, before, signature, answer),
+        Err(ParseFault::Body(fault)) => add_fault(fault, answer),
+        Err(ParseFault::Memory) => answer.refuse(End::Memory),
+    }
+}
+
 /// Adds a body, written behind octets and then given back.
-fn add_behind(alloc: Global, signature: Signature, answer: &mut Answer) {
-    let Some(mut out) = answer.made(Vec::from_slice(alloc, b"so far")) else {
+fn add_behind(alloc: Global, before: &[u8], signature: Signature, answer: &mut Answer) {
+    let Some(mut out) = answer.made(Vec::from_slice(alloc, before)) else {
         return;
     };
     answer.made(signature.write_body(&mut out));

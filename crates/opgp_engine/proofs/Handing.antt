@@ -1,5 +1,5 @@
 -- Octets pushed, and packets handed on.
-use Rattle.std.proofs.Common.{ℕ, List, [], ◌∷◌, ◌++◌, sym, subst, append_assoc, append-nil, map}
+use Rattle.std.proofs.Common.{◌≡◌, ◌+◌, ◌-◌, ◌^◌, ℕ, List, [], ◌∷◌, ◌++◌, sym, subst, append_assoc, append-nil, arith, length, length-append, map, min}
 use Rattle.std.proofs.lemmas.List.{map-append}
 use Rattle.opgp_octets.specs.declared.limits.Limits.{Limits}
 use Rattle.opgp_frame.specs.declared.deframe.Deframe.{Deframe}
@@ -22,6 +22,10 @@ pushed_then a b c xs ys ps qs h k limits block given taken f =
 pub pushed_more : (a b c d : Deframe) (xs part : List ℕ) (ps more : List Placed) → KeepsFedPackets a b xs ps → KeepsFedPackets b c part [] → KeepsFedPackets c d [] more → KeepsFedPackets a d (xs ++ part) (ps ++ more)
 pushed_more a b c d xs part ps more h k l =
     pushed_then a b d xs part ps more h (subst (λ (g : List ℕ). KeepsFedPackets b d g more) (append-nil part) (pushed_then b c d part [] [] more k l))
+
+-- one packet more is counted, up to 2^64 - 1
+pub counted_more : (ps : List Placed) (p : Placed) (n m : ℕ) → n ≡ min (length ps) (2 ^ 64 - 1) → m ≡ min (n + 1) (2 ^ 64 - 1) → m ≡ min (length (ps ++ p ∷ [])) (2 ^ 64 - 1)
+counted_more ps p n m e f = omega (arith, e, f, length-append ps (p ∷ []))
 
 module _ {T : Type 0} (fed : Limits → T → List Item → Type 0) where
   pub handed_none : (t : T) → KeepsFed fed t t []

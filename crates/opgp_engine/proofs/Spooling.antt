@@ -1,5 +1,5 @@
 -- What a spool holds, on its way to a sink.
-use Rattle.std.proofs.Common.{◌≡◌, ℕ, Bool, true, false, List, [], ◌++◌, refl, sym, ap, subst, ◌∙◌, Option, Some, None, Result, Ok, Err, append_assoc, append-nil, length, take}
+use Rattle.std.proofs.Common.{◌≡◌, ℕ, Bool, true, false, List, [], ◌++◌, refl, sym, ap, subst, ◌∙◌, Option, Some, None, Result, Ok, Err, append_assoc, append-nil, arith, length, length-append, length-take-le, take, ◌+◌, ◌≤◌}
 use Rattle.std.proofs.lemmas.List.{take_at}
 use Rattle.std.specs.Io.KnownBytes.{Appends}
 use Rattle.opgp_armor.specs.declared.label.Label.{Label}
@@ -51,6 +51,12 @@ took_front {left} h = (h.got, h.added, λ t. (left, sym (h.joined t)))
 pub took_all : {W : Type 0} {tells : Bool} {held : W → Option (List ℕ)} {has_failed : W → Bool} {a b : Output W} {m n : Option Armoring} {left all : List ℕ} → Took tells held has_failed a m b n left all
     → (tells ≡ true → left ≡ []) → (got : List ℕ) × AddsVia held has_failed a m b n got × (tells ≡ true → all ≡ got)
 took_all h e = (h.got, h.added, λ t. sym (h.joined t) ∙ ap (λ (v : List ℕ). h.got ++ v) (e t) ∙ append-nil h.got)
+
+-- and so many turns are made at most
+pub turn_counted : (turn n : ℕ) (piece old new all : List ℕ) → (n ≡ 0 → ⊥) → n ≤ length piece → old ≡ take n piece ++ new → turn + length old ≤ length all → turn + 1 + length new ≤ length all
+turn_counted turn n piece old new all some within e few =
+    let size : length old ≡ n + length new = ap (length {A = ℕ}) e ∙ length-append (take n piece) new ∙ ap (λ (k : ℕ). k + length new) (length-take-le n piece within) in
+    omega (arith, some, size, few)
 
 -- ---- in binary
 breaks_bare : {W : Type 0} (held : W → Option (List ℕ)) (has_failed : W → Bool) (a b : Output W) (got : List ℕ) → has_failed (sink_of a) ≡ false → BreaksVia held has_failed a None b got → Breaks (state_of held has_failed a) (state_of held has_failed b) got

@@ -1,5 +1,6 @@
 -- Texts that are held until they are known to be right.
 use Rattle.std.specs.Prelude.{◌≡◌, ℕ, Bool, true, false, List, if◌then◌else◌, Option, Result, Ok, Err}
+use Rattle.std.specs.Prelude.{⊤}
 use Rattle.std.specs.Io.KnownBytes.{Appends}
 use Rattle.opgp_engine.specs.declared.draft.Draft.{Draft}
 use Rattle.opgp_engine.specs.declared.draft.Store.{Store}
@@ -21,6 +22,14 @@ StoreHas serves tells holds failed (Spool s) text = (serves ≡ true)
 abbrev pub DraftHas : {S : Type 0} → Bool → Bool → (S → List ℕ) → (S → Bool) → Draft S → List ℕ
     → Type 0
 DraftHas serves tells holds failed d text = StoreHas serves tells holds failed d.store text
+
+-- the text is in memory, and in no spool
+abbrev pub StoreIsMemory : {S : Type 0} → Store S → Type 0
+StoreIsMemory (Memory held) = ⊤
+StoreIsMemory (Spool s) = ⊥
+
+abbrev pub IsInMemory : {S : Type 0} → Draft S → Type 0
+IsInMemory d = StoreIsMemory d.store
 
 -- it is known what a text is held in: memory, or a spool that tells what it holds
 abbrev pub is_known : Bool → Bool → Bool

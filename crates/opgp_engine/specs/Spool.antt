@@ -1,5 +1,6 @@
 -- Octets held outside of memory, on their way to a sink.
-use Rattle.std.specs.Prelude.{◌≡◌, ℕ, Bool, true, false, List, ◌++◌, if◌then◌else◌, Option, Some, None}
+use Rattle.std.specs.Prelude.{◌≡◌, ◌⊎◌, ◌≤◌, ◌+◌, ◌^◌, ℕ, Bool, true, false, List, ◌++◌, length}
+use Rattle.std.specs.Prelude.{if◌then◌else◌, Option, Some, None}
 use Rattle.std.specs.Prelude.{Result, Ok, Err}
 use Rattle.std.specs.Io.KnownBytes.{Appends}
 use Rattle.opgp_engine.specs.declared.draft_error.DraftError.{DraftError}
@@ -42,6 +43,12 @@ Unspools tells old new (Err error.Write) text =
 Unspools tells old new (Err error.Spool) text = (new.failed ≡ false)
     × (tells ≡ true
     → (front : List ℕ) × (rest : List ℕ) × Adds old new front × (text ≡ front ++ rest))
+
+-- A spool of this type has failed; or, where it is known what they hold, one holds 2^64 - 1 octets at
+-- least, which no count of its calls has room for.
+abbrev pub SomeFailed : {S : Type 0} → Bool → (S → List ℕ) → (S → Bool) → Type 0
+SomeFailed tells holds failed =
+    (s : _) × ((failed s ≡ true) ⊎ (tells ≡ true → 2 ^ 64 ≤ 1 + length (holds s)))
 
 -- The text is written into a sink; or the sink has failed, or the spool has, and the sink holds a
 -- prefix of it. Of the text this is so where it is known what the spool holds.

@@ -1,9 +1,11 @@
 //! Text that is held back until it is known to be right.
 
-ghost use Rattle.std.specs.Prelude.{◌≡◌, ◌++◌, [], ℕ, List, true, false, IfErr, IfOk, IfSome, OnOk};
+ghost use Rattle.std.specs.Prelude.{◌≡◌, ◌++◌, [], ℕ, List, None, true, false};
+ghost use Rattle.std.specs.Prelude.{Err, IfErr, IfOk, IfSome, OnOk};
 ghost use Rattle.opgp_engine.specs.declared.draft_error.DraftError.TheVariants as error;
-ghost use Rattle.opgp_engine.specs.Draft.{DraftHas, IsDrafted, StoreHas};
-ghost use Rattle.opgp_engine.specs.Spool.{IsEmptied, spool_in};
+ghost use Rattle.opgp_engine.specs.Draft.{DraftHas, IsDrafted, IsInMemory};
+ghost use Rattle.opgp_engine.specs.Draft.{StoreHas, StoreIsMemory};
+ghost use Rattle.opgp_engine.specs.Spool.{IsEmptied, SomeFailed, spool_in};
 ghost use Rattle.opgp_engine.specs.Writing.{Puts, octets_text};
 ghost use Rattle.opgp_stream.specs.Held.{held_failed, held_octets};
 
@@ -52,7 +54,8 @@ impl<S: Spool + Drop> Draft<S> {
     /// Fails only when out of memory.
     pub fn new(alloc: Global, spool: Option<S>) -> Result<Draft<S>, OutOfMemory>
         requires { IfSome spool (λ s. (S.serves ≡ true) × (S.tells ≡ true → S.holds s ≡ [])) }
-        ensures { IfOk result (λ d. DraftHas S.serves S.tells S.holds S.has_failed d []) }
+        ensures text { IfOk result (λ d. DraftHas S.serves S.tells S.holds S.has_failed d []) }
+        ensures memory { spool ≡ None → IfOk result IsInMemory }
     {
         let store = store_of(alloc, spool)?;
         let buffer = Buffer::new(alloc)?;
@@ -62,9 +65,10 @@ impl<S: Spool + Drop> Draft<S> {
     /// Adds a text. Fails only when out of memory; nothing is known of what is held then. That a spool
     /// has failed shows when the draft is written.
     pub fn add<T: Text + Copy>(&mut self, text: T) -> Result<(), OutOfMemory>
-        ensures { OnOk result ((given : List ℕ)
+        ensures text { OnOk result ((given : List ℕ)
             → DraftHas S.serves S.tells S.holds S.has_failed self.old given
             → DraftHas S.serves S.tells S.holds S.has_failed self.new (given ++ T.octets text)) }
+        ensures memory { IsInMemory self.old → IsInMemory self.new }
     {
         match &mut self.store {
             Store::Memory(held) => hold(held, &mut self.buffer, text),
@@ -78,12 +82,15 @@ impl<S: Spool + Drop> Draft<S> {
     /// Writes it, in binary or as one block of armor. The condition is that the sink hasn't failed.
     ///
     /// Allocates nothing. The errors are `Write`: the sink has failed, and `Spool`: the spool has, now
-    /// or in an earlier addition. The sink holds a prefix of the text then.
+    /// or in an earlier addition. Of a text in memory it is `Write`. The sink holds a prefix of the
+    /// text then.
     pub fn write<W: Sink>(self, out: Out, writer: &mut W) -> Result<(), DraftError>
         requires { W.has_failed writer.old ≡ false }
-        ensures { (text : List ℕ) → DraftHas S.serves S.tells S.holds S.has_failed self text
+        ensures drafted { (text : List ℕ) → DraftHas S.serves S.tells S.holds S.has_failed self text
             → IsDrafted S.serves S.tells W.held W.has_failed writer.old writer.new result
             (octets_text out text) }
+        ensures memory { IsInMemory self → IfErr result (λ e. e ≡ error.Write) }
+        ensures failed { result ≡ Err error.Spool → SomeFailed S.tells S.holds S.has_failed }
     {
         let Draft { store, mut buffer } = self;
         match store {
@@ -96,7 +103,8 @@ impl<S: Spool + Drop> Draft<S> {
 /// A place for a text, with nothing in it.
 fn store_of<S: Spool>(alloc: Global, spool: Option<S>) -> Result<Store<S>, OutOfMemory>
     requires { IfSome spool (λ s. (S.serves ≡ true) × (S.tells ≡ true → S.holds s ≡ [])) }
-    ensures { IfOk result (λ s. StoreHas S.serves S.tells S.holds S.has_failed s []) }
+    ensures text { IfOk result (λ s. StoreHas S.serves S.tells S.holds S.has_failed s []) }
+    ensures memory { spool ≡ None → IfOk result StoreIsMemory }
 {
     match spool {
         Some(spool) => Ok(Store::Spool(Spooled::new(spool))),
@@ -161,11 +169,12 @@ fn write_spooled<W: Sink, S: Spool + Drop>(
     writer: &mut W,
 ) -> Result<(), DraftError>
     requires { W.has_failed writer.old ≡ false }
-    ensures { (text : List ℕ)
+    ensures emptied { (text : List ℕ)
         → (S.has_failed (spool_in spooled) ≡ false → S.tells ≡ true
         → S.holds (spool_in spooled) ≡ text)
         → IsEmptied S.tells W.held W.has_failed writer.old writer.new result
         (octets_text out text) }
+    ensures failed { result ≡ Err error.Spool → SomeFailed S.tells S.holds S.has_failed }
 {
     if spooled.failed() {
         return Err(DraftError::Spool);

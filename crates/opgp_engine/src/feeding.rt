@@ -1,6 +1,7 @@
 //! Pushing a piece into a reader of packets.
 
-ghost use Rattle.std.specs.Prelude.{◌≡◌, ◌<◌, ◌+◌, ◌^◌, List, [], ◌∷◌, false, length, map, OnOk};
+ghost use Rattle.std.specs.Prelude.{◌≡◌, ◌<◌, ◌+◌, ◌-◌, ◌^◌, List, [], ◌∷◌, false, length};
+ghost use Rattle.std.specs.Prelude.{map, min, IfOk, OnOk};
 ghost use Rattle.opgp_frame.specs.declared.packet.Placed.{Placed};
 ghost use Rattle.opgp_frame.specs.Fed.{KeepsFed as KeepsFedPackets, is_ready, count_of};
 ghost use Rattle.opgp_frame.specs.Fed.{limits_of};
@@ -22,7 +23,8 @@ fn pass<T: Receiver>(lent: Lent<'_>, top: &mut T) -> Result<(), OutOfMemory>
 }
 
 /// Pushes a whole piece, passes each packet that it completes to the top, and returns how many these
-/// are. A packet that is whole in the piece is lent from there, and copied only where the top keeps it.
+/// are, at most 2^64 - 1. A packet that is whole in the piece is lent from there, and copied only where
+/// the top keeps it.
 pub(crate) fn feed<T: Receiver>(
     deframe: &mut Deframe,
     piece: &[u8],
@@ -30,9 +32,10 @@ pub(crate) fn feed<T: Receiver>(
 ) -> Result<u64, OutOfMemory>
     requires free { is_ready deframe.old ≡ false }
     requires room { count_of deframe.old + length piece.now < 2 ^ 63 }
-    ensures fed { OnOk result ((packets : List Placed)
+    ensures fed { IfOk result (λ n. (packets : List Placed)
         × KeepsFedPackets deframe.old deframe.new piece.now packets
-        × KeepsFed T.fed top.old top.new (map of_packet packets)) }
+        × KeepsFed T.fed top.old top.new (map of_packet packets)
+        × (n ≡ min (length packets) (2 ^ 64 - 1))) }
     ensures free { is_ready deframe.new ≡ false }
     ensures count { OnOk result (count_of deframe.new ≡ count_of deframe.old + length piece.now) }
     ensures limits { limits_of deframe.new ≡ limits_of deframe.old }

@@ -1,7 +1,9 @@
 //! A spool as a sink, and all that it holds on its way to an output.
 
-ghost use Rattle.std.specs.Prelude.{◌≡◌, [], false};
-ghost use Rattle.opgp_engine.specs.Spool.{IsEmptied, Unspools, UnspoolsVia, spool_in, told};
+ghost use Rattle.std.specs.Prelude.{◌≡◌, [], false, Err};
+ghost use Rattle.opgp_engine.specs.declared.draft_error.DraftError.TheVariants as error;
+ghost use Rattle.opgp_engine.specs.Spool.{IsEmptied, SomeFailed, Unspools, UnspoolsVia};
+ghost use Rattle.opgp_engine.specs.Spool.{spool_in, told};
 ghost use Rattle.opgp_engine.specs.Writing.{octets_text};
 ghost use Rattle.opgp_stream.specs.Output.{sink_name, sink_of, state_of, waiting_in};
 
@@ -60,8 +62,9 @@ fn add_spooled<W: Sink, S: Spool + Drop>(
 ) -> Result<(), DraftError>
     requires sound { W.has_failed (sink_of output.old) ≡ false }
     requires spool { S.has_failed spool ≡ false }
-    ensures { UnspoolsVia S.tells W.held W.has_failed output.old armoring.old output.new
+    ensures added { UnspoolsVia S.tells W.held W.has_failed output.old armoring.old output.new
         armoring.new result (S.holds spool) }
+    ensures failed { result ≡ Err error.Spool → SomeFailed S.tells S.holds S.has_failed }
 {
     let mut piece = [0u8; PIECE];
     'pieces: for _turn in 0..u64::MAX {
@@ -90,6 +93,7 @@ fn add_spooled_block<W: Sink, S: Spool + Drop>(
     ensures same { sink_name output.new ≡ sink_name output.old }
     ensures added { Unspools S.tells (state_of W.held W.has_failed output.old)
         (state_of W.held W.has_failed output.new) result (octets_text Out.Armor (S.holds spool)) }
+    ensures failed { result ≡ Err error.Spool → SomeFailed S.tells S.holds S.has_failed }
 {
     let mut armoring = match Armoring::begin(output, Label::PublicKeyBlock) {
         Ok(armoring) => Some(armoring),
@@ -119,6 +123,7 @@ fn add_all<W: Sink, S: Spool + Drop>(
     ensures same { sink_name output.new ≡ sink_name output.old }
     ensures added { Unspools S.tells (state_of W.held W.has_failed output.old)
         (state_of W.held W.has_failed output.new) result (octets_text out (S.holds spool)) }
+    ensures failed { result ≡ Err error.Spool → SomeFailed S.tells S.holds S.has_failed }
 {
     match out {
         Out::Armor => add_spooled_block(output, spool),
@@ -142,6 +147,7 @@ pub(crate) fn put_all<W: Sink, S: Spool + Drop>(
     ensures same { sink_name output.new ≡ sink_name output.old }
     ensures put { IsEmptied S.tells W.held W.has_failed (sink_of output.old) (sink_of output.new)
         result (octets_text out (S.holds spool)) }
+    ensures failed { result ≡ Err error.Spool → SomeFailed S.tells S.holds S.has_failed }
 {
     match add_all(output, out, spool) {
         Ok(()) => {}

@@ -3,6 +3,7 @@
 ghost use Rattle.std.specs.Prelude.{◌≡◌, ◌<◌, ◌≤◌, ◌+◌, ◌^◌, ◌++◌, ◌∷◌, ◌↔◌, ℕ, List, [], true};
 ghost use Rattle.std.specs.Prelude.{false, length, take, is_some, option_to_list, Some, None, IfOk, IfSome, IsSome};
 ghost use Rattle.std.specs.Prelude.{OnOk, OnErr, MatchResult, Ok, Err};
+ghost use Rattle.std.specs.Prelude.{vec_capacity, vec_len, max, min};
 ghost use Rattle.std.specs.Option.{IsSomeAnd};
 ghost use Rattle.opgp_octets.specs.declared.limits.Limits.{Limits};
 ghost use Rattle.opgp_octets.specs.declared.fault.Fault.{Fault};
@@ -613,7 +614,10 @@ fn make_room(
     want: usize,
     there: usize,
 ) -> Result<(), OutOfMemory>
-    ensures { body.new.items ≡ body.old.items }
+    ensures items { body.new.items ≡ body.old.items }
+    ensures partial { partial ≡ true → vec_capacity body.new ≡ vec_capacity body.old }
+    ensures reserved { vec_capacity body.new ≤ max (vec_capacity body.old)
+        (vec_len body.old + min want (max there (max 4096 (vec_len body.old)))) }
 {
     if partial || there <= body.capacity().saturating_sub(body.len()) {
         return Ok(());

@@ -3,6 +3,7 @@
 ghost use Rattle.opgp_report.specs.declared.verifier.Verdict.TheVariants as verdict;
 
 use crate::reading::{KEY, ring_of};
+use byteorder::{BigEndian, ByteOrder};
 use opgp_hash::{Digest, digest};
 use opgp_report::{Finding, Job, Verdict, Verifier, check, question_at};
 use std::alloc::Global;
@@ -73,8 +74,9 @@ struct Signature {
 impl Signature {
     /// Its body, with these areas.
     fn body(self, alloc: Global, hashed: &[u8], unhashed: &[u8]) -> Result<Vec<u8>, Fail> {
-        let first = u16::try_from(hashed.len())?.to_be_bytes();
-        let second = u16::try_from(unhashed.len())?.to_be_bytes();
+        let (mut first, mut second) = ([0; 2], [0; 2]);
+        BigEndian::write_u16(&mut first, u16::try_from(hashed.len())?);
+        BigEndian::write_u16(&mut second, u16::try_from(unhashed.len())?);
         let fields = [4, self.kind, 22, self.hash];
         let parts = [
             fields.as_slice(),
@@ -104,7 +106,7 @@ fn embedding(alloc: Global, signatures: &[Signature]) -> Result<Vec<u8>, Fail> {
 /// The body of the standard's key, made at this time.
 fn key_body(alloc: Global, created: u32) -> Result<Vec<u8>, Fail> {
     let mut body = KEY[2..].to_vec(alloc)?;
-    body[1..5].copy_from_slice(&created.to_be_bytes());
+    BigEndian::write_u32(&mut body[1..], created);
     Ok(body)
 }
 

@@ -9,6 +9,8 @@ pub mod heap;
 #[cfg(test)]
 mod keys;
 #[cfg(test)]
+mod pieces;
+#[cfg(test)]
 mod reading;
 #[cfg(test)]
 mod running;

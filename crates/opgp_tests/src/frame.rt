@@ -1,6 +1,7 @@
 //! Readers of packets in a process whose memory runs out, and the room that bodies take. What the calls answer is tried
 //! by tests/calls.
 
+use byteorder::{BigEndian, ByteOrder};
 use opgp_frame::{Deframe, Placed, write_packet};
 use opgp_octets::{Fault, Layer, Limits, OutOfMemory, PushFault, Reason};
 use std::alloc::Global;
@@ -28,7 +29,8 @@ fn room_of(alloc: Global, octets: &[u8], size: usize) -> Result<usize, Fail> {
 
 #[test]
 fn bodies_take_no_more_room_than_they_have(rt: HostRuntime) -> Result<(), Fail> {
-    let mut octets = Vec::from_slice(rt.alloc(), b"\xCD\xFF\x00\x00\x27\x10")?;
+    let mut octets = Vec::from_slice(rt.alloc(), b"\xCD\xFF----")?;
+    BigEndian::write_u32(&mut octets[2..], 10_000);
     octets.resize(10_006, 0x61)?;
     for size in [48, 4_096, 65_536] {
         assert_eq!(rt; room_of(rt.alloc(), octets.as_slice(), size)?, 10_000);

@@ -1,13 +1,17 @@
 //! A file without a name, in which a text is held.
 
-ghost use Rattle.std.specs.Prelude.{◌≡◌, ◌≤◌, [], ◌∷◌, length, true, false, IfOk};
-ghost use Rattle.opgp_tool.specs.SpoolFile.{spool_failed};
+ghost use Rattle.std.specs.Prelude.{◌≡◌, ◌≤◌, ◌||◌, [], ◌∷◌, length, take, true, false};
+ghost use Rattle.std.specs.Prelude.{IfOk, OnOk, Some};
+ghost use Rattle.std.specs.Io.KnownBytes.{Appends, Keeps, WriteAppends};
+ghost use Rattle.opgp_stream.specs.Stream.{put_fails};
+ghost use Rattle.opgp_tool.specs.SpoolFile.{IsBesideStreams, file_in, put_so_far, spool_failed};
 
 use opgp_stack::{RunFault, Spool};
 use std::alloc::Global;
-use std::fs::{Files, OpenOptions, remove_file};
+use std::fs::{Files, OpenFile, OpenOptions, remove_file};
 use std::io;
 use std::io::{Read, Seek, SeekFrom, Write};
+use std::os::fd::AsRawFd;
 use std::os::unix::fs::OpenOptionsExt;
 
 /// How many octets wait in memory to be written at once.
@@ -15,6 +19,9 @@ const WAITING: usize = 65_536;
 
 /// How many names are tried for the file.
 const NAMES: u32 = 1_000;
+
+/// The last number of a standard stream: that of standard error.
+const LAST_STREAM: i32 = 2;
 
 /// A file that is filled, and then read again from its first octet.
 #[derive(Drop)]
@@ -36,7 +43,10 @@ pub fn open_spool<R: Files>(
     files: &R,
     dir: &str,
 ) -> Result<SpoolFile<R::File>, RunFault>
-    ensures { IfOk result (λ spool. spool_failed spool ≡ false) }
+where
+    R::File: AsRawFd,
+    ensures sound { IfOk result (λ spool. spool_failed spool ≡ false) }
+    ensures beside { IfOk result (λ spool. IsBesideStreams (R.File.raw_fd (file_in spool))) }
 {
     let waiting = match Vec::with_capacity(alloc, WAITING) {
         Ok(waiting) => waiting,
@@ -55,8 +65,29 @@ pub fn open_spool<R: Files>(
     }
 }
 
+/// The same open file by a number that no standard stream has. A file opened while a standard
+/// stream is closed gets that stream's number: what is meant for the stream would go into the file,
+/// or come from it.
+fn beside_streams<F: OpenFile + AsRawFd + Drop>(file: F) -> io::Result<F>
+    ensures { IfOk result (λ file. IsBesideStreams (F.raw_fd file)) }
+{
+    if file.as_raw_fd() > LAST_STREAM {
+        return Ok(file);
+    }
+    let moved = file.try_clone()?;
+    if moved.as_raw_fd() > LAST_STREAM {
+        Ok(moved)
+    } else {
+        Err(io::Error::from(io::ErrorKind::Unsupported))
+    }
+}
+
 /// A new file without a name.
-fn new_file<R: Files>(alloc: Global, files: &R, dir: &str) -> io::Result<R::File> {
+fn new_file<R: Files>(alloc: Global, files: &R, dir: &str) -> io::Result<R::File>
+where
+    R::File: AsRawFd,
+    ensures { IfOk result (λ file. IsBesideStreams (R.File.raw_fd file)) }
+{
     for number in 0..NAMES {
         let path = match format!(in alloc; "{dir}/opgp-spool-{number}") {
             Ok(path) => path,
@@ -67,7 +98,7 @@ fn new_file<R: Files>(alloc: Global, files: &R, dir: &str) -> io::Result<R::File
         match options.open(files, path.as_str()) {
             Ok(file) => {
                 remove_file(files, path.as_str())?;
-                return Ok(file);
+                return beside_streams(file);
             }
             Err(error) if error.kind() == io::ErrorKind::AlreadyExists => {}
             Err(error) => return Err(error),
@@ -79,7 +110,10 @@ fn new_file<R: Files>(alloc: Global, files: &R, dir: &str) -> io::Result<R::File
 impl<F: Read + Write + Seek> SpoolFile<F> {
     /// Writes what waits.
     fn flush(&mut self) -> io::Result<()>
-        ensures { spool_failed self.new ≡ spool_failed self.old }
+        ensures same { spool_failed self.new ≡ spool_failed self.old }
+        ensures put { OnOk result
+            (Keeps (put_so_far F.contents self.old) (put_so_far F.contents self.new)) }
+        ensures none { OnOk result (self.new.waiting.items ≡ []) }
     {
         self.file.write_all(self.waiting.as_slice())?;
         self.waiting.clear();
@@ -90,6 +124,8 @@ impl<F: Read + Write + Seek> SpoolFile<F> {
     fn write(&mut self, octets: &[u8]) -> io::Result<usize>
         ensures bound { IfOk result (λ n. n ≤ length octets.now) }
         ensures same { spool_failed self.new ≡ spool_failed self.old }
+        ensures put { IfOk result (λ n. Appends (put_so_far F.contents self.old)
+            (put_so_far F.contents self.new) (take n octets.now)) }
     {
         if octets.len() > WAITING.saturating_sub(self.waiting.len()) {
             self.flush()?;
@@ -132,7 +168,15 @@ impl<F: Read + Write + Seek> Spool for SpoolFile<F> {
 
     ghost has_failed = { spool_failed };
 
-    fn put(&mut self, octets: &[u8]) -> io::Result<usize> {
+    fn put(&mut self, octets: &[u8]) -> io::Result<usize>
+        ensures bound { IfOk result (λ n. n ≤ length octets.now) }
+        ensures octets { false ≡ true → WriteAppends (Some []) (Some []) result octets.now }
+        ensures failed { spool_failed self.new
+            ≡ (spool_failed self.old || put_fails result octets.now) }
+        // Where it is known what a file holds: the octets go into the file, once and in order.
+        ensures put { IfOk result (λ n. Appends (put_so_far F.contents self.old)
+            (put_so_far F.contents self.new) (take n octets.now)) }
+    {
         match self.write(octets) {
             Ok(n) => {
                 if n == 0 && !octets.is_empty() {

@@ -6,13 +6,13 @@ use Rattle.opgp_frame.specs.declared.packet.Placed.{Placed}
 use Rattle.opgp_frame.specs.declared.deframe.Deframe.{Deframe}
 use Rattle.opgp_frame.specs.Fed.{KeepsFed as KeepsFedPackets, count_of, limits_of}
 use Rattle.opgp_frame.specs.View.{lent_packet}
-use Rattle.opgp_engine.proofs.Handing.{pushed_none, pushed_more, pushed_then, handed_none, handed_more}
+use Rattle.opgp_engine.proofs.Handing.{counted_more, pushed_none, pushed_more, pushed_then, handed_none, handed_more}
 use Rattle.opgp_engine.proofs.feeding.feed.Goals as goal
 
 pub pushes-init : goal.pushes-init
 pushes-init g c = record {
   within = omega arith;
-  fed = ([], pushed_none c.args.deframe.now, handed_none g.T.Receiver.fed c.args.top.now);
+  fed = ([], pushed_none c.args.deframe.now, handed_none g.T.Receiver.fed c.args.top.now, refl);
   free = c.requires.free;
   count = omega arith;
   limits = refl;
@@ -36,6 +36,7 @@ pushes-preserved-in-Ok-push g c =
         subst (λ (l : List ℕ). KeepsFedPackets c.args.deframe.now c.take.new.self l (f.0 ++ more)) (sym (take-add at n piece))
             (pushed_more c.args.deframe.now c.pushes.deframe _ c.take.new.self (take at piece) part f.0 more f.1 pushed c.in-Some-take.ensures.fed),
         handed_more g.T.Receiver.fed c.args.top.now c.pushes.top _ f.0 c.in-Some-take.packet f.2 c.in-Ok-push.ensures,
+        counted_more f.0 c.in-Some-take.packet _ _ f.3 c.saturating_add-passed-in-Ok-push.ensures,
       );
       free = c.take.ensures.free;
       count = grind (arith, common_steps, counted);
@@ -60,6 +61,7 @@ pushes-preserved g c =
             (subst (KeepsFedPackets c.args.deframe.now c.take.new.self (take at piece ++ part)) (append-nil f.0)
             (pushed_more c.args.deframe.now c.pushes.deframe _ c.take.new.self (take at piece) part f.0 [] f.1 pushed c.in_default.ensures.fed)),
         f.2,
+        f.3,
       );
       free = c.take.ensures.free;
       count = grind (arith, common_steps, counted);
@@ -83,6 +85,7 @@ pushes-preserved-in-Some g c =
         subst (λ (l : List ℕ). KeepsFedPackets c.args.deframe.now c.lend.new.self l (f.0 ++ more)) (sym (take-add at n piece))
             (pushed_then c.args.deframe.now c.pushes.deframe c.lend.new.self (take at piece) part f.0 more f.1 lent),
         handed_more g.T.Receiver.fed c.args.top.now c.pushes.top _ f.0 p f.2 c.in_ok-pass-in-Some.ensures,
+        counted_more f.0 p _ _ f.3 c.saturating_add-passed.ensures,
       );
       free = c.lend.ensures.free;
       count = grind (arith, common_steps);

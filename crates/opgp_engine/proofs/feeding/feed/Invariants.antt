@@ -1,4 +1,4 @@
-use Rattle.std.proofs.Common.{length, take, ◌-◌, ◌+◌, ◌≡◌, ◌≤◌, List, false, map}
+use Rattle.std.proofs.Common.{length, take, ◌-◌, ◌+◌, ◌^◌, ◌≡◌, ◌≤◌, List, false, map, min}
 use Rattle.opgp_frame.specs.declared.packet.Placed.{Placed}
 use Rattle.opgp_frame.specs.Fed.{KeepsFed as KeepsFedPackets, is_ready, count_of, limits_of}
 use Rattle.opgp_ring.specs.Composition.{of_packet}
@@ -9,7 +9,7 @@ use Rattle.opgp_engine.proofs.feeding.feed.Given as goal
 abbrev pub invariant-pushes : goal.invariant-pushes
 invariant-pushes g l = record {
   within : l.at ≤ length l.piece;
-  fed : (packets : List Placed) × KeepsFedPackets l.fn.deframe l.deframe (take l.at l.piece) packets × KeepsFed g.T.Receiver.fed l.fn.top l.top (map of_packet packets);
+  fed : (packets : List Placed) × KeepsFedPackets l.fn.deframe l.deframe (take l.at l.piece) packets × KeepsFed g.T.Receiver.fed l.fn.top l.top (map of_packet packets) × (l.passed ≡ min (length packets) (2 ^ 64 - 1));
   free : is_ready l.deframe ≡ false;
   count : count_of l.deframe ≡ count_of l.fn.deframe + l.at;
   limits : limits_of l.deframe ≡ limits_of l.fn.deframe;

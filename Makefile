@@ -2,29 +2,38 @@
 # header, whose layer on top is compiled by CC. opgp-verify is built where the headers of libcrypto are. make dist packs the same.
 # bin/opgp is build/installed, which runs lib/opgp/opgp and answers --version.
 PREFIX = /usr/local
+# Where libraries go: a distribution of several architectures may say LIBDIR=/usr/lib/x86_64-linux-gnu.
+LIBDIR = $(PREFIX)/lib
+INCLUDEDIR = $(PREFIX)/include
 DESTDIR =
 CFLAGS = -O2
 LDFLAGS =
 bin = "$(DESTDIR)$(PREFIX)/bin"
 share = "$(DESTDIR)$(PREFIX)/share"
-lib = "$(DESTDIR)$(PREFIX)/lib"
-include = "$(DESTDIR)$(PREFIX)/include"
-# The folder of include and lib, as the file for pkg-config names it.
+program_lib = "$(DESTDIR)$(PREFIX)/lib"
+lib = "$(DESTDIR)$(LIBDIR)"
+include = "$(DESTDIR)$(INCLUDEDIR)"
+# The folders, as the file for pkg-config names them: below its prefix where they are.
 root = $(PREFIX)
+named_lib = $(patsubst $(PREFIX)/%,$${prefix}/%,$(LIBDIR))
+named_include = $(patsubst $(PREFIX)/%,$${prefix}/%,$(INCLUDEDIR))
 # Where the libraries are made; the proved one, and the crates that it is made of.
 made = out
 proved = crates/opgp_c/out/libopgp_c.a
 below = opgp_c $(shell sed -n 's/^opgp_c staticlib: //p' crates.txt)
 # No octet of what is compiled depends on the folder, with -g either.
-strict = -std=c11 -Wall -Wextra -Wconversion -pedantic -fPIC -fvisibility=hidden -Ic '-ffile-prefix-map=$(CURDIR)=.'
+strict = -std=c11 -Wall -Wextra -Wconversion -pedantic -fPIC -fvisibility=hidden -fasynchronous-unwind-tables -Ic \
+	'-ffile-prefix-map=$(CURDIR)=.'
 version = $(shell sed -n '/OPGP_VERSION/s/.*"\(.*\)"/\1/p' c/opgp.h)
+# The version of the calls and structs, which is that of the shared library's name.
+abi = $(shell sed -n 's/^\#define OPGP_ABI //p' c/opgp.h)
 
 all: program
 
 program:
 	./opgp list < examples/rfc9580-a1.asc
 
-library: $(made)/libopgp.a $(made)/libopgp.so.0 verifier
+library: $(made)/libopgp.a $(made)/libopgp.so.$(abi) verifier
 
 $(proved): $(wildcard $(foreach it,$(below),crates/$(it)/src/*.rt crates/$(it)/specs/*.antt))
 	build/static
@@ -38,8 +47,8 @@ $(made)/libopgp.a: $(proved) $(made)/opgp.o $(made)/heap.o
 	cp $(proved) $@
 	$(AR) rsD $@ $(made)/opgp.o $(made)/heap.o
 
-$(made)/libopgp.so.0: $(made)/libopgp.a c/opgp.map
-	$(CC) -shared $(LDFLAGS) -Wl,-soname,libopgp.so.0 -Wl,--version-script=c/opgp.map -Wl,-z,defs -o $@ \
+$(made)/libopgp.so.$(abi): $(made)/libopgp.a c/opgp.map
+	$(CC) -shared $(LDFLAGS) -Wl,-soname,libopgp.so.$(abi) -Wl,--version-script=c/opgp.map -Wl,-z,defs -Wl,-z,relro -Wl,-z,now -o $@ \
 		-Wl,--whole-archive $(made)/libopgp.a -Wl,--no-whole-archive
 
 $(made)/opgp-verify: c/opgp-verify.c c/examples/open.h c/opgp.h $(made)/libopgp.a
@@ -55,7 +64,7 @@ verifier: $(made)/libopgp.a
 install: install-program install-library
 
 install-program: program
-	install -D -m 755 crates/opgp_tool/out/opgp_tool $(lib)/opgp/opgp
+	install -D -m 755 crates/opgp_tool/out/opgp_tool $(program_lib)/opgp/opgp
 	install -D -m 755 build/installed $(bin)/opgp
 	install -D -m 644 man/opgp.1 $(share)/man/man1/opgp.1
 	install -D -m 644 completions/opgp.bash $(share)/bash-completion/completions/opgp
@@ -67,20 +76,26 @@ install-program: program
 
 install-library: library
 	install -D -m 644 $(made)/libopgp.a $(lib)/libopgp.a
-	install -D -m 755 $(made)/libopgp.so.0 $(lib)/libopgp.so.0
-	ln -sf libopgp.so.0 $(lib)/libopgp.so
+	install -D -m 755 $(made)/libopgp.so.$(abi) $(lib)/libopgp.so.$(abi)
+	ln -sf libopgp.so.$(abi) $(lib)/libopgp.so
 	install -D -m 644 c/opgp.h $(include)/opgp.h
+	install -D -m 644 c/opgp.hpp $(include)/opgp.hpp
+	install -D -m 644 man/libopgp.3 $(share)/man/man3/libopgp.3
 	install -d $(lib)/pkgconfig
-	printf '%s\n' 'prefix=$(root)' 'Name: opgp' 'Description: OpenPGP certificates and keyrings (RFC 9580), proved' \
-		'Version: $(version)' 'Cflags: -I$${prefix}/include' 'Libs: -L$${prefix}/lib -lopgp' > $(lib)/pkgconfig/opgp.pc
+	printf '%s\n' 'prefix=$(root)' 'libdir=$(named_lib)' 'includedir=$(named_include)' 'Name: opgp' \
+		'Description: OpenPGP certificates and keyrings (RFC 9580), proved' 'Version: $(version)' 'Cflags: -I$${includedir}' \
+		'Libs: -L$${libdir} -lopgp' > $(lib)/pkgconfig/opgp.pc
 	chmod 644 $(lib)/pkgconfig/opgp.pc
-	if [ -e $(made)/opgp-verify ]; then install -D -m 755 $(made)/opgp-verify $(bin)/opgp-verify; fi
+	if [ -e $(made)/opgp-verify ]; then \
+		install -D -m 755 $(made)/opgp-verify $(bin)/opgp-verify && \
+		install -D -m 644 man/opgp-verify.1 $(share)/man/man1/opgp-verify.1; \
+	fi
 
 uninstall:
-	rm -f $(bin)/opgp $(lib)/opgp/opgp $(bin)/opgp-verify $(share)/man/man1/opgp.1 $(share)/bash-completion/completions/opgp \
-		$(share)/zsh/site-functions/_opgp $(share)/fish/vendor_completions.d/opgp.fish $(lib)/libopgp.a $(lib)/libopgp.so.0 \
-		$(lib)/libopgp.so $(include)/opgp.h $(lib)/pkgconfig/opgp.pc $(share)/doc/opgp/VERSION
-	for it in $(share)/doc/opgp $(lib)/opgp; do if [ -d "$$it" ]; then rmdir --ignore-fail-on-non-empty "$$it"; fi; done
+	rm -f $(bin)/opgp $(program_lib)/opgp/opgp $(bin)/opgp-verify $(share)/man/man1/opgp-verify.1 $(share)/man/man3/libopgp.3 $(share)/man/man1/opgp.1 $(share)/bash-completion/completions/opgp \
+		$(share)/zsh/site-functions/_opgp $(share)/fish/vendor_completions.d/opgp.fish $(lib)/libopgp.a $(lib)/libopgp.so.$(abi) \
+		$(lib)/libopgp.so $(include)/opgp.h $(include)/opgp.hpp $(lib)/pkgconfig/opgp.pc $(share)/doc/opgp/VERSION
+	for it in $(share)/doc/opgp $(program_lib)/opgp; do if [ -d "$$it" ]; then rmdir --ignore-fail-on-non-empty "$$it"; fi; done
 
 dist:
 	made='$(made)' CC='$(CC)' CFLAGS='$(CFLAGS)' build/dist $(MAKE)

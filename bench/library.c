@@ -63,7 +63,10 @@ static void call(void)
     for (int i = 0; i < TIMES; i++) {
         opgp_keyring *keyring;
         wanted(opgp_open(in, size, NULL, &keyring, NULL) == OPGP_DONE, "opgp_open");
-        memcpy(print, opgp_key_at(keyring, 0)->print, sizeof print);
+        const opgp_key *keys;
+        size_t count;
+        wanted(opgp_keys(keyring, &keys, &count) == OPGP_DONE, "opgp_keys");
+        memcpy(print, keys[0].print, sizeof print);
         opgp_close(keyring);
     }
 }

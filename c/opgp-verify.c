@@ -21,13 +21,6 @@
 #include <inttypes.h>
 #include <string.h>
 
-/* The algorithms whose signatures are verified (9.1), and the hash that isn't relied on (9.5). */
-enum { RSA_BOTH = 1, RSA_SIGN = 3, DSA_KEY = 17, ECDSA_KEY = 19, EDDSA_LEGACY = 22, ED25519_KEY = 27, ED448_KEY = 28 };
-enum { HASH_SHA1 = 2 };
-
-/* The kind of subpacket of a notation (5.2.3.24). */
-enum { NOTATION = 20 };
-
 /* The octets of a point, and of each half of a signature, on an Edwards curve. */
 enum { SIZE_25519 = 32, SIZE_448 = 57 };
 
@@ -42,14 +35,18 @@ struct finding {
 
 struct run {
     const opgp_keyring *keyring;
+    const opgp_key *keys;
+    const opgp_job *jobs;
+    size_t key_count, job_count;
     bool is_usual;             /* the policy */
     bool is_out_of_memory;
     const char *why;           /* of what the verifier answered last */
     struct finding *findings;  /* of each row so far */
 };
 
-/* Whether libcrypto was refused memory. It doesn't always say so, and then a good signature is bad to it. */
-static bool was_refused;
+/* Whether libcrypto was refused memory. It doesn't always say so, and then a good signature is bad to it. It is known where
+ * libcrypto takes memory from here; where not, what it says is believed, though it says so of an allocation of no octets, too. */
+static bool was_refused, is_asked_here;
 
 static void *get(size_t size, const char *file, int line)
 {
@@ -100,7 +97,7 @@ static bool is_about_key(unsigned long error)
 static opgp_verdict failed(struct run *run, opgp_verdict verdict)
 {
     for (unsigned long error = ERR_get_error(); error != 0; error = ERR_get_error()) {
-        run->is_out_of_memory = run->is_out_of_memory || ERR_GET_REASON(error) == ERR_R_MALLOC_FAILURE;
+        run->is_out_of_memory = run->is_out_of_memory || (!is_asked_here && ERR_GET_REASON(error) == ERR_R_MALLOC_FAILURE);
         if (is_about_key(error)) {
             verdict = undecided(run, "key");
         }
@@ -204,11 +201,11 @@ static EVP_PKEY *key_on_curve(const char *name, opgp_span point)
 static const EVP_MD *hash_of(uint8_t number)
 {
     switch (number) {
-    case HASH_SHA1: return EVP_sha1();
-    case 8: return EVP_sha256();
-    case 9: return EVP_sha384();
-    case 10: return EVP_sha512();
-    case 11: return EVP_sha224();
+    case OPGP_HASH_SHA1: return EVP_sha1();
+    case OPGP_HASH_SHA256: return EVP_sha256();
+    case OPGP_HASH_SHA384: return EVP_sha384();
+    case OPGP_HASH_SHA512: return EVP_sha512();
+    case OPGP_HASH_SHA224: return EVP_sha224();
     default: return NULL;
     }
 }
@@ -246,11 +243,13 @@ static opgp_verdict by_rsa(struct run *run, const opgp_question *question)
 {
     static const char *const names[] = {OSSL_PKEY_PARAM_RSA_N, OSSL_PKEY_PARAM_RSA_E};
     EVP_PKEY *key = key_of_integers("RSA", names, question->key, 2);
-    if (!key) {
+    int size_of_key = key ? EVP_PKEY_get_size(key) : 0;
+    if (size_of_key <= 0) { /* such as that of the modulus 0 */
+        EVP_PKEY_free(key);
         return failed(run, undecided(run, "key"));
     }
-    size_t size = (size_t)EVP_PKEY_get_size(key);
-    uint8_t *made = calloc(1, size + 1);
+    size_t size = (size_t)size_of_key;
+    uint8_t *made = calloc(1, size);
     opgp_verdict verdict = OPGP_BAD;
     if (!made) {
         run->is_out_of_memory = true;
@@ -349,17 +348,18 @@ static opgp_verdict by_native(struct run *run, const opgp_question *question, in
 
 static bool is_rsa_number(uint8_t algorithm)
 {
-    return algorithm == RSA_BOTH || algorithm == RSA_SIGN;
+    return algorithm == OPGP_KEY_RSA || algorithm == OPGP_KEY_RSA_SIGN_ONLY;
 }
 
 /* Whether the signature has a critical subpacket (5.2.3.7) of an unknown kind or form, or a critical notation (5.2.3.24), of which
- * none is known here. */
+ * none is known here. The subpackets were made with the jobs. */
 static bool has_unknown_critical(const opgp_keyring *keyring, size_t row)
 {
     size_t count;
-    const opgp_subpacket *subpackets = opgp_subpackets_of(keyring, row, &count);
+    const opgp_subpacket *subpackets;
+    opgp_subpackets_of(keyring, row, &subpackets, &count);
     for (size_t i = 0; i < count; i++) {
-        if (subpackets[i].is_critical && (subpackets[i].meaning != 0 || subpackets[i].kind == NOTATION)) {
+        if (subpackets[i].is_critical && (subpackets[i].meaning != 0 || subpackets[i].kind == OPGP_SUBPACKET_NOTATION_DATA)) {
             return true;
         }
     }
@@ -379,18 +379,18 @@ static opgp_verdict verify(void *context, const opgp_question *question)
     if (has_unknown_critical(run->keyring, question->row)) {
         return undecided(run, "critical");
     }
-    if (run->is_usual && question->job->hash == HASH_SHA1) {
+    if (run->is_usual && question->job->hash == OPGP_HASH_SHA1) {
         return undecided(run, "weak-hash");
     }
     ERR_clear_error();
     switch (algorithm) {
-    case RSA_BOTH:
-    case RSA_SIGN: return by_rsa(run, question);
-    case DSA_KEY: return by_pair(run, question, key_of_integers("DSA", dsa, question->key, 4));
-    case ECDSA_KEY: return by_ecdsa(run, question);
-    case EDDSA_LEGACY: return by_eddsa_legacy(run, question);
-    case ED25519_KEY: return by_native(run, question, EVP_PKEY_ED25519, SIZE_25519);
-    case ED448_KEY: return by_native(run, question, EVP_PKEY_ED448, SIZE_448);
+    case OPGP_KEY_RSA:
+    case OPGP_KEY_RSA_SIGN_ONLY: return by_rsa(run, question);
+    case OPGP_KEY_DSA: return by_pair(run, question, key_of_integers("DSA", dsa, question->key, 4));
+    case OPGP_KEY_ECDSA: return by_ecdsa(run, question);
+    case OPGP_KEY_EDDSA_LEGACY: return by_eddsa_legacy(run, question);
+    case OPGP_KEY_ED25519: return by_native(run, question, EVP_PKEY_ED25519, SIZE_25519);
+    case OPGP_KEY_ED448: return by_native(run, question, EVP_PKEY_ED448, SIZE_448);
     default: return undecided(run, "unknown");
     }
 }
@@ -399,7 +399,7 @@ static opgp_verdict verify(void *context, const opgp_question *question)
 static int keep(void *context, size_t row, const opgp_job *job, opgp_verdict verdict)
 {
     struct run *run = context;
-    const opgp_key *signer = job->signer == OPGP_NONE ? NULL : opgp_key_at(run->keyring, (size_t)job->signer);
+    const opgp_key *signer = job->signer == OPGP_NONE ? NULL : &run->keys[job->signer];
     const char *why = !signer ? "absent" : signer->version != job->version ? "version" : run->why;
     run->findings[row] = (struct finding){verdict, why};
     return run->is_out_of_memory || was_refused;
@@ -424,16 +424,17 @@ static void print_digits(const uint8_t *octets, size_t size)
     }
 }
 
-static void print_row(const opgp_keyring *keyring, size_t row, const struct finding *finding)
+static void print_row(const struct run *run, size_t row)
 {
     static const char *const words[] = {"undecided", "good", "bad"};
-    const opgp_job *job = opgp_job_at(keyring, row);
+    const opgp_job *job = &run->jobs[row];
+    const struct finding *finding = &run->findings[row];
     char why[OPGP_NAME_ROOM];
     printf("row %zu cert %" PRIu64, row, job->certificate);
     print_number("part", job->component);
     print_number("hang", job->hang);
     print_number("nested", job->nested);
-    if (job->why != 0) {
+    if (job->why != OPGP_WHY_HASHED) {
         printf(" : none %s\n", opgp_name_text(OPGP_WHYS, job->why, why));
         return;
     }
@@ -441,7 +442,7 @@ static void print_row(const opgp_keyring *keyring, size_t row, const struct find
     if (job->signer == OPGP_NONE) {
         putchar('-');
     } else {
-        print_digits(opgp_key_at(keyring, (size_t)job->signer)->key_id, 8);
+        print_digits(run->keys[job->signer].key_id, 8);
     }
     printf(" digest ");
     print_digits(job->digest, 2);
@@ -460,29 +461,49 @@ static int said(int status, const char *text)
     return status;
 }
 
-/* Verifies, and writes all lines if nothing failed. */
-static int verified(const opgp_keyring *keyring, bool is_usual)
+/* What the command line asks for. */
+struct task {
+    const char *name; /* of the file; NULL: standard input */
+    const char *policy, *require;
+};
+
+/* Writes the lines, and on standard error how many signatures are good and so on; the exit status. */
+static int told(const struct run *run, const struct task *task)
 {
-    size_t count = opgp_job_count(keyring);
-    struct run run = {.keyring = keyring, .is_usual = is_usual, .findings = calloc(count + 1, sizeof *run.findings)};
-    if (!run.findings || opgp_check(keyring, verify, keep, &run) != 0) {
-        free(run.findings);
-        return said(3, "out of memory");
+    size_t counts[3] = {0, 0, 0}, unhashed = 0;
+    for (size_t row = 0; row < run->job_count; row++) {
+        bool is_hashed = run->jobs[row].why == OPGP_WHY_HASHED;
+        print_row(run, row);
+        unhashed += !is_hashed;
+        counts[run->findings[row].verdict] += is_hashed;
     }
-    bool has_bad = false;
-    for (size_t row = 0; row < count; row++) {
-        print_row(keyring, row, &run.findings[row]);
-        has_bad = has_bad || run.findings[row].verdict == OPGP_BAD;
-    }
-    free(run.findings);
     if (fflush(stdout) || ferror(stdout)) {
         return said(3, "write failed");
     }
-    return has_bad ? 1 : 0;
+    fprintf(stderr, "opgp-verify: %zu good, %zu bad, %zu undecided, %zu not hashed\n", counts[OPGP_GOOD], counts[OPGP_BAD],
+            counts[OPGP_UNDECIDED], unhashed);
+    return counts[OPGP_BAD] > 0 || (task->require && counts[OPGP_GOOD] == 0) ? 1 : 0;
+}
+
+/* Verifies, and writes all lines if nothing failed. */
+static int verified(const opgp_keyring *keyring, const struct task *task)
+{
+    struct run run = {.keyring = keyring, .is_usual = !task->policy || strcmp(task->policy, "usual") == 0};
+    int status = 3;
+    if (opgp_keys(keyring, &run.keys, &run.key_count) == OPGP_DONE && opgp_jobs(keyring, &run.jobs, &run.job_count) == OPGP_DONE) {
+        run.findings = calloc(run.job_count + 1, sizeof *run.findings);
+    }
+    if (!run.findings || opgp_check(keyring, verify, keep, &run) != OPGP_DONE) {
+        said(status, "out of memory");
+    } else {
+        status = told(&run, task);
+    }
+    free(run.findings);
+    return status;
 }
 
 /* Opens the file of this name, or standard input for none, and verifies. */
-static int verified_file(const char *name, bool is_usual)
+static int verified_file(const char *name, const struct task *task)
 {
     int status;
     FILE *file = name ? fopen(name, "rb") : stdin;
@@ -495,14 +516,13 @@ static int verified_file(const char *name, bool is_usual)
         fclose(file);
     }
     if (keyring) {
-        status = verified(keyring, is_usual);
+        status = verified(keyring, task);
         opgp_close(keyring);
     }
     return status;
 }
 
 #define USAGE "Usage: opgp-verify [OPTIONS] [FILE]\n"
-#define POLICIES "\n  [possible values: usual, any]\n"
 #define MORE "\nFor more information, try '--help'.\n"
 
 static const char help[] =
@@ -512,12 +532,14 @@ static const char help[] =
     "      --policy <POLICY>  usual: SHA-1, RSA keys of fewer than 2048 bits and other keys of less than\n"
     "                         112 bits of strength are undecided; any: they are verified too\n"
     "                         [default: usual] [possible values: usual, any]\n"
+    "      --require <WHAT>   good: end with 1 where no signature is good [possible values: good]\n"
     "  -V, --version          Print the version\n"
     "  -h, --help             Print this help\n"
     "\n"
     "A line for each signature, as 'opgp check' writes it, with its verdict: good, bad, or undecided\n"
-    "and why. Exit status: 0 no signature is bad; 1 one is, or the input is refused; 2 the command line\n"
-    "is invalid, or help was asked for; 3 reading, writing or memory failed.\n";
+    "and why; and on standard error how many are good and so on. Exit status: 0 no signature is bad, of\n"
+    "no signatures too; 1 one is bad, or none is good where that is required, or the input is refused;\n"
+    "2 the command line is invalid, or help was asked for; 3 reading, writing or memory failed.\n";
 
 /* Says what is wrong with a word, between two texts. */
 static int wrong(const char *front, const char *word, const char *end)
@@ -526,47 +548,69 @@ static int wrong(const char *front, const char *word, const char *end)
     return 2;
 }
 
-/* What the command line asks for. */
-struct task {
-    const char *name; /* of the file; NULL: standard input */
-    const char *policy;
+/* An option that has a value: its name, as the help shows it, the values that it takes, and where its value goes. */
+struct option {
+    const char *name, *shown, *values[2];
+    const char **value;
 };
 
-/* Takes the policy's value, which may be in the next word; 0, or the exit status that ends the program. */
-static int take_policy(struct task *task, char ***words)
+/* Whether a word is this option, alone or with its value behind a sign of equality. */
+static bool is_option_word(const struct option *option, const char *word)
 {
-    const char *word = **words, *value = word[8] == '=' ? word + 9 : NULL;
+    size_t size = strlen(option->name);
+    return strncmp(word, option->name, size) == 0 && (word[size] == 0 || word[size] == '=');
+}
+
+/* Says what is wrong with the value of an option. */
+static int wrong_value(const struct option *option, const char *value)
+{
+    const char *const more = option->values[1] ? ", " : "";
+    if (value) {
+        fprintf(stderr, "error: invalid value '%s' for '%s'", value, option->shown);
+    } else {
+        fprintf(stderr, "error: a value is required for '%s' but none was supplied", option->shown);
+    }
+    fprintf(stderr, "\n  [possible values: %s%s%s]\n" MORE, option->values[0], more, option->values[1] ? option->values[1] : "");
+    return 2;
+}
+
+/* Takes an option's value, which may be in the next word; 0, or the exit status that ends the program. */
+static int take_value(const struct option *option, char ***words)
+{
+    size_t size = strlen(option->name);
+    const char *word = **words, *value = word[size] == '=' ? word + size + 1 : NULL;
     if (!value && (*words)[1] && (*words)[1][0] != '-') {
         value = *++*words;
     }
-    if (task->policy) {
-        return wrong("the argument ", "--policy <POLICY>", " cannot be used multiple times\n\n" USAGE);
+    if (*option->value) {
+        return wrong("the argument ", option->shown, " cannot be used multiple times\n\n" USAGE);
     }
     if (!value || !value[0]) {
-        return wrong("a value is required for ", "--policy <POLICY>", " but none was supplied" POLICIES);
+        return wrong_value(option, NULL);
     }
-    if (strcmp(value, "usual") != 0 && strcmp(value, "any") != 0) {
-        return wrong("invalid value ", value, " for '--policy <POLICY>'" POLICIES);
+    for (size_t i = 0; i < 2; i++) {
+        if (option->values[i] && strcmp(value, option->values[i]) == 0) {
+            *option->value = value;
+            return 0;
+        }
     }
-    task->policy = value;
-    return 0;
-}
-
-static bool is_policy(const char *word)
-{
-    return strncmp(word, "--policy", 8) == 0 && (word[8] == 0 || word[8] == '=');
+    return wrong_value(option, value);
 }
 
 /* Takes the words of the command line; 0, or the exit status that ends the program. */
 static int take_words(struct task *task, char **words)
 {
+    const struct option policy = {"--policy", "--policy <POLICY>", {"usual", "any"}, &task->policy};
+    const struct option require = {"--require", "--require <WHAT>", {"good", NULL}, &task->require};
     bool has_options = true;
     for (int status = 0; *words; words++) {
         bool is_option = has_options && (*words)[0] == '-' && (*words)[1] != 0;
         if (is_option && strcmp(*words, "--") == 0) {
             has_options = false;
-        } else if (is_option && is_policy(*words)) {
-            status = take_policy(task, &words);
+        } else if (is_option && is_option_word(&policy, *words)) {
+            status = take_value(&policy, &words);
+        } else if (is_option && is_option_word(&require, *words)) {
+            status = take_value(&require, &words);
         } else if (is_option || task->name) {
             status = wrong("unexpected argument ", *words, " found\n\n" USAGE);
         } else {
@@ -592,13 +636,13 @@ static bool has_word(char **words, const char *short_form, const char *long_form
 
 int main(int argc, char **argv)
 {
-    struct task task = {NULL, NULL};
+    struct task task = {NULL, NULL, NULL};
     char **words = argv + (argc > 0);
     if (opgp_abi() != OPGP_ABI) {
         return said(3, "the library is of another version");
     }
     /* A libcrypto that took memory when it was loaded keeps its own functions; then it must say itself what was refused. */
-    CRYPTO_set_mem_functions(get, get_more, let_go);
+    is_asked_here = CRYPTO_set_mem_functions(get, get_more, let_go) == 1;
     if (has_word(words, "-h", "--help")) {
         fputs(help, stderr);
         return 2;
@@ -616,5 +660,5 @@ int main(int argc, char **argv)
         return said(3, "out of memory");
     }
     const char *name = task.name && strcmp(task.name, "-") != 0 ? task.name : NULL;
-    return verified_file(name, !task.policy || strcmp(task.policy, "usual") == 0);
+    return verified_file(name, &task);
 }

@@ -1,6 +1,7 @@
-/* The layer on top: allocation, loops and callbacks. It reads no octet of any input. */
+/* The layer on top: allocation, locks, loops and callbacks. It reads no octet of any input. */
 #include "opgp.h"
 
+#include <pthread.h>
 #include <stdlib.h>
 #include <string.h>
 
@@ -85,6 +86,11 @@ IS_AT(opgp_subpacket, meaning, 83);
 IS_AT(opgp_subpacket, form, 84);
 IS_AT(opgp_subpacket, reserved, 85);
 
+_Static_assert(sizeof(opgp_hashed) == 24, "opgp_hashed");
+IS_AT(opgp_hashed, row, 0);
+IS_AT(opgp_hashed, at, 8);
+IS_AT(opgp_hashed, size, 16);
+
 _Static_assert(sizeof(opgp_ring) == 2 * sizeof(void *), "opgp_ring");
 IS_AT(opgp_ring, is_open, 0);
 IS_AT(opgp_ring, at, sizeof(void *));
@@ -93,7 +99,20 @@ _Static_assert(sizeof(opgp_reader) == 2 * sizeof(void *), "opgp_reader");
 IS_AT(opgp_reader, is_open, 0);
 IS_AT(opgp_reader, at, sizeof(void *));
 
+/* A batch of hashed octets has at most a part of the keyring's octets, or so many; and a row for so many of them. */
+enum { BATCH = 1 << 20, PARTS = 4, OF_ROW = 64 };
+
+/* What the signatures of some jobs hash, which stand one behind the other. */
+struct batch {
+    uint64_t first, count; /* of the jobs that are looked at */
+    uint64_t most;         /* octets that there is room for, and a row for each OF_ROW of them */
+    opgp_hashed *rows;
+    uint8_t *bytes;
+    opgp_sizes sizes;
+};
+
 struct opgp_keyring {
+    pthread_mutex_t lock; /* of all below; what a table's pointer points to never changes once it isn't NULL */
     opgp_ring ring;
     opgp_packet *packets;
     opgp_key *keys;
@@ -105,6 +124,9 @@ struct opgp_keyring {
     uint8_t *made;
     uint8_t *data;
     opgp_sizes packet_sizes, key_sizes, job_sizes, subpacket_sizes;
+    uint64_t size;     /* octets that it was read from, or more than its packets have; 0: not known yet */
+    uint64_t next_row; /* the row behind the one whose octets were asked for last; at first that of no job */
+    struct batch batch;
 };
 
 /* Room for so many things, at least one; NULL if there is none. */
@@ -113,26 +135,195 @@ static void *room_for(uint64_t count, size_t size)
     return count > SIZE_MAX / size ? NULL : calloc(count ? (size_t)count : 1, size);
 }
 
+/* ---- Keyrings */
+
+static opgp_keyring *new_keyring(void)
+{
+    opgp_keyring *it = calloc(1, sizeof *it);
+    if (it && pthread_mutex_init(&it->lock, NULL) != 0) {
+        free(it);
+        it = NULL;
+    }
+    if (it) {
+        it->next_row = OPGP_NONE;
+    }
+    return it;
+}
+
+/* Gives the caller a keyring that is read or made if the status is OPGP_DONE, or NULL. */
+static uint32_t give_keyring(uint32_t status, opgp_keyring *it, opgp_keyring **keyring)
+{
+    if (status != OPGP_DONE) {
+        opgp_close(it);
+        it = NULL;
+    }
+    *keyring = it;
+    return status;
+}
+
+/* Locks a keyring, all of which were allocated, so none is const in itself. */
+static opgp_keyring *enter(const opgp_keyring *keyring)
+{
+    opgp_keyring *it = (opgp_keyring *)(uintptr_t)keyring;
+    pthread_mutex_lock(&it->lock);
+    return it;
+}
+
+static uint32_t leave(opgp_keyring *it, uint32_t status)
+{
+    pthread_mutex_unlock(&it->lock);
+    return status;
+}
+
+uint32_t opgp_open_mode(const uint8_t *in, size_t n, uint32_t mode, const opgp_limits *limits, opgp_keyring **keyring, opgp_fault *fault)
+{
+    opgp_limits usual;
+    opgp_fault unwanted;
+    const uint8_t nothing = 0;
+    opgp_keyring *it = new_keyring();
+    uint32_t status = OPGP_MEMORY;
+
+    if (!limits) {
+        opgp_usual_limits(&usual);
+        limits = &usual;
+    }
+    if (it) {
+        status = opgp_ring_open_mode(in ? in : &nothing, n, mode, limits, &it->ring, fault ? fault : &unwanted);
+        it->size = n;
+    }
+    return give_keyring(status, it, keyring);
+}
+
+uint32_t opgp_open(const uint8_t *in, size_t n, const opgp_limits *limits, opgp_keyring **keyring, opgp_fault *fault)
+{
+    return opgp_open_mode(in, n, OPGP_MODE_AUTO, limits, keyring, fault);
+}
+
+unsigned opgp_wrong_limit(const opgp_limits *limits)
+{
+    const uint64_t given[] = {limits->line, limits->body, limits->cert, limits->input, limits->pieces, limits->policies};
+    const uint8_t nothing = 0;
+    for (unsigned number = 0; number < sizeof given / sizeof *given; number++) {
+        /* The usual limits but for this one, within which nothing is read. */
+        opgp_limits one;
+        opgp_usual_limits(&one);
+        uint64_t *const all[] = {&one.line, &one.body, &one.cert, &one.input, &one.pieces, &one.policies};
+        *all[number] = given[number];
+        opgp_ring ring = {false, NULL};
+        opgp_fault unwanted;
+        uint32_t status = opgp_ring_open(&nothing, 0, &one, &ring, &unwanted);
+        opgp_ring_close(ring);
+        if (status == OPGP_LIMITS) {
+            return number;
+        }
+    }
+    return sizeof given / sizeof *given;
+}
+
+/* The part is taken behind all that may fail, so it waits where there is no memory for a keyring. */
+uint32_t opgp_take(opgp_reader *reader, opgp_keyring **keyring)
+{
+    opgp_keyring *it = new_keyring();
+    return give_keyring(it ? opgp_reader_take(reader, &it->ring) : OPGP_MEMORY, it, keyring);
+}
+
+static void drop_batch(struct batch *batch)
+{
+    free(batch->rows);
+    free(batch->bytes);
+    *batch = (struct batch){0, 0, 0, NULL, NULL, {0, 0}};
+}
+
+void opgp_close(opgp_keyring *keyring)
+{
+    if (keyring) {
+        opgp_ring_close(keyring->ring);
+        free(keyring->packets);
+        free(keyring->keys);
+        free(keyring->jobs);
+        free(keyring->subpackets);
+        free(keyring->firsts);
+        free(keyring->bodies);
+        free(keyring->material);
+        free(keyring->made);
+        free(keyring->data);
+        drop_batch(&keyring->batch);
+        pthread_mutex_destroy(&keyring->lock);
+        free(keyring);
+    }
+}
+
+uint32_t opgp_normalise(const opgp_keyring *keyring, opgp_keyring **made)
+{
+    opgp_keyring *it = new_keyring(), *from = enter(keyring);
+    return give_keyring(leave(from, it ? opgp_ring_normalise(&from->ring, &it->ring) : OPGP_MEMORY), it, made);
+}
+
+uint32_t opgp_merge(const opgp_keyring *keyring, opgp_keyring **made)
+{
+    opgp_keyring *it = new_keyring(), *from = enter(keyring);
+    return give_keyring(leave(from, it ? opgp_ring_merge(&from->ring, &it->ring) : OPGP_MEMORY), it, made);
+}
+
+uint32_t opgp_certificate(const opgp_keyring *keyring, uint64_t number, opgp_keyring **made)
+{
+    opgp_keyring *it = new_keyring(), *from = enter(keyring);
+    return give_keyring(leave(from, it ? opgp_ring_certificate(&from->ring, number, &it->ring) : OPGP_MEMORY), it, made);
+}
+
+/* Joins a keyring with a copy of itself, which is what it makes joined with nothing. */
+static uint32_t join_twice(opgp_ring *ring, opgp_ring *into)
+{
+    opgp_limits usual;
+    opgp_fault unwanted;
+    opgp_ring none = {false, NULL}, copy = {false, NULL};
+    const uint8_t nothing = 0;
+    opgp_usual_limits(&usual);
+    uint32_t status = opgp_ring_open(&nothing, 0, &usual, &none, &unwanted);
+    status = status == OPGP_DONE ? opgp_ring_join(ring, &none, &copy) : status;
+    status = status == OPGP_DONE ? opgp_ring_join(ring, &copy, into) : status;
+    opgp_ring_close(none);
+    opgp_ring_close(copy);
+    return status;
+}
+
+uint32_t opgp_join(const opgp_keyring *keyring, const opgp_keyring *other, opgp_keyring **made)
+{
+    /* Both are locked in the order of their addresses, so that no two calls wait for each other. */
+    bool is_same = keyring == other, is_first = (uintptr_t)keyring < (uintptr_t)other;
+    opgp_keyring *it = new_keyring(), *one = enter(is_first ? keyring : other), *two = is_same ? one : enter(is_first ? other : keyring);
+    opgp_keyring *front = is_first ? one : two, *behind = is_first ? two : one;
+    uint32_t status = OPGP_MEMORY;
+    if (it) {
+        status = is_same ? join_twice(&one->ring, &it->ring) : opgp_ring_join(&front->ring, &behind->ring, &it->ring);
+    }
+    if (!is_same) {
+        leave(two, status);
+    }
+    return give_keyring(leave(one, status), it, made);
+}
+
+/* ---- Tables: each is made once, of a keyring that is locked. */
+
 /* Makes one table, in this room at first, and where that is too little in as much as it then wants. */
 #define FILL(CALL, ROWS, BYTES, SIZES)                                                                             \
     static uint32_t fill_##ROWS(opgp_keyring *it, opgp_sizes room)                                                 \
     {                                                                                                              \
-        for (;;) {                                                                                                 \
+        uint32_t status = OPGP_ROOM;                                                                               \
+        for (; status == OPGP_ROOM; room = it->SIZES) {                                                            \
             it->ROWS = room_for(room.rows, sizeof *it->ROWS);                                                      \
             it->BYTES = room_for(room.bytes, 1);                                                                   \
-            if (!it->ROWS || !it->BYTES) {                                                                         \
-                return OPGP_MEMORY;                                                                                \
+            status = !it->ROWS || !it->BYTES                                                                       \
+                         ? OPGP_MEMORY                                                                             \
+                         : CALL(&it->ring, it->ROWS, (size_t)room.rows, it->BYTES, (size_t)room.bytes, &it->SIZES); \
+            if (status != OPGP_DONE) {                                                                             \
+                free(it->ROWS);                                                                                    \
+                free(it->BYTES);                                                                                   \
+                it->ROWS = NULL;                                                                                   \
+                it->BYTES = NULL;                                                                                  \
             }                                                                                                      \
-            uint32_t status = CALL(&it->ring, it->ROWS, (size_t)room.rows, it->BYTES, (size_t)room.bytes, &it->SIZES); \
-            if (status != OPGP_ROOM) {                                                                             \
-                return status;                                                                                     \
-            }                                                                                                      \
-            free(it->ROWS);                                                                                        \
-            free(it->BYTES);                                                                                       \
-            it->ROWS = NULL;                                                                                       \
-            it->BYTES = NULL;                                                                                      \
-            room = it->SIZES;                                                                                      \
         }                                                                                                          \
+        return status;                                                                                             \
     }
 
 FILL(opgp_ring_packets, packets, bodies, packet_sizes)
@@ -140,24 +331,32 @@ FILL(opgp_ring_keys, keys, material, key_sizes)
 FILL(opgp_ring_jobs, jobs, made, job_sizes)
 FILL(opgp_ring_subpackets, subpackets, data, subpacket_sizes)
 
-/* Makes all tables. The packets say how many keys and signatures there are, but for those that are embedded: a subkey's binding
- * embeds one or none mostly; so each digest is made once. */
-static uint32_t fill_tables(opgp_keyring *it)
+static uint32_t want_packets(opgp_keyring *it)
 {
     const opgp_sizes nothing = {0, 0};
-    opgp_sizes keys = nothing, jobs = nothing;
-    uint32_t status = fill_packets(it, nothing);
-    for (uint64_t i = 0; status == OPGP_DONE && i < it->packet_sizes.rows; i++) {
-        const opgp_packet *packet = &it->packets[i];
-        bool is_subkey = packet->kind == 14, is_key = is_subkey || packet->kind == 6, is_signature = packet->kind == 2;
-        keys.rows += is_key;
-        keys.bytes += is_key ? packet->size : 0;
-        jobs.rows += is_signature || is_subkey;
-        jobs.bytes += is_signature ? packet->size : 0;
+    return it->packets ? OPGP_DONE : fill_packets(it, nothing);
+}
+
+static uint32_t want_subpackets(opgp_keyring *it)
+{
+    const opgp_sizes nothing = {0, 0};
+    return it->subpackets ? OPGP_DONE : fill_subpackets(it, nothing);
+}
+
+/* The packets say how many keys there are, and more octets than their material has. */
+static uint32_t want_keys(opgp_keyring *it)
+{
+    opgp_sizes room = {0, 0};
+    uint32_t status = it->keys ? OPGP_DONE : want_packets(it);
+    if (it->keys || status != OPGP_DONE) {
+        return status;
     }
-    status = status == OPGP_DONE ? fill_keys(it, keys) : status;
-    status = status == OPGP_DONE ? fill_jobs(it, jobs) : status;
-    return status == OPGP_DONE ? fill_subpackets(it, nothing) : status;
+    for (uint64_t i = 0; i < it->packet_sizes.rows; i++) {
+        bool is_key = it->packets[i].kind == OPGP_PACKET_PUBLIC_KEY || it->packets[i].kind == OPGP_PACKET_PUBLIC_SUBKEY;
+        room.rows += is_key;
+        room.bytes += is_key ? it->packets[i].size : 0;
+    }
+    return fill_keys(it, room);
 }
 
 /* Whether a subpacket is of the signature of this job. */
@@ -185,119 +384,159 @@ static uint32_t find_firsts(opgp_keyring *it)
     return OPGP_DONE;
 }
 
-/* Gives the caller a keyring that is read or made: with its tables if the status so far is OPGP_DONE, or NULL. */
-static uint32_t give_keyring(uint32_t status, opgp_keyring *it, opgp_keyring **keyring)
+/* Each digest is made once: there are no more jobs than signatures and embedded ones, and what their algorithms made is in those. */
+static uint32_t want_jobs(opgp_keyring *it)
 {
-    status = status == OPGP_DONE ? fill_tables(it) : status;
-    status = status == OPGP_DONE ? find_firsts(it) : status;
-    if (status != OPGP_DONE) {
-        opgp_close(it);
-        it = NULL;
+    opgp_sizes room = {0, 0};
+    uint32_t status = it->firsts ? OPGP_DONE : want_packets(it);
+    status = status == OPGP_DONE ? want_subpackets(it) : status;
+    if (it->firsts || status != OPGP_DONE) {
+        return status;
     }
-    *keyring = it;
+    for (uint64_t i = 0; i < it->packet_sizes.rows; i++) {
+        bool is_signature = it->packets[i].kind == OPGP_PACKET_SIGNATURE;
+        room.rows += is_signature;
+        room.bytes += is_signature ? it->packets[i].size : 0;
+    }
+    for (uint64_t i = 0; i < it->subpacket_sizes.rows; i++) {
+        bool is_embedded = it->subpackets[i].kind == OPGP_SUBPACKET_EMBEDDED_SIGNATURE && it->subpackets[i].nested == OPGP_NONE;
+        room.rows += is_embedded;
+        room.bytes += is_embedded ? it->subpackets[i].size : 0;
+    }
+    status = it->jobs ? OPGP_DONE : fill_jobs(it, room);
+    return status == OPGP_DONE ? find_firsts(it) : status;
+}
+
+/* Gives the rows of a table, or none. */
+#define TABLE(CALL, TYPE, ROWS, SIZES)                                                       \
+    uint32_t CALL(const opgp_keyring *keyring, const TYPE **rows, size_t *count)             \
+    {                                                                                        \
+        opgp_keyring *it = enter(keyring);                                                   \
+        uint32_t status = want_##ROWS(it);                                                   \
+        *rows = status == OPGP_DONE ? it->ROWS : NULL;                                       \
+        *count = status == OPGP_DONE ? (size_t)it->SIZES.rows : 0;                           \
+        return leave(it, status);                                                            \
+    }
+
+TABLE(opgp_packets, opgp_packet, packets, packet_sizes)
+TABLE(opgp_keys, opgp_key, keys, key_sizes)
+TABLE(opgp_jobs, opgp_job, jobs, job_sizes)
+TABLE(opgp_subpackets, opgp_subpacket, subpackets, subpacket_sizes)
+
+/* Gives the rows of a certificate, whose numbers only grow from row to row, but for packets before the first one: OPGP_NONE and 1 are
+ * 0. The rows begin behind as many as are of smaller numbers. */
+#define ROWS_OF(CALL, TABLE_OF_ALL, TYPE)                                                                        \
+    uint32_t CALL(const opgp_keyring *keyring, uint64_t certificate, const TYPE **rows, size_t *count)           \
+    {                                                                                                            \
+        size_t all, certificates, ends[2];                                                                       \
+        const TYPE *first;                                                                                       \
+        uint32_t status = opgp_certificate_count(keyring, &certificates);                                        \
+        status = status == OPGP_DONE ? TABLE_OF_ALL(keyring, &first, &all) : status;                             \
+        *rows = NULL;                                                                                            \
+        *count = 0;                                                                                              \
+        if (status != OPGP_DONE || certificate >= certificates) {                                                \
+            return status == OPGP_DONE ? OPGP_NO_ROW : status;                                                   \
+        }                                                                                                        \
+        for (unsigned end = 0; end < 2; end++) {                                                                 \
+            size_t low = 0, high = all;                                                                          \
+            while (low < high) {                                                                                 \
+                size_t middle = low + (high - low) / 2;                                                          \
+                if (first[middle].certificate + 1 < certificate + 1 + end) {                                     \
+                    low = middle + 1;                                                                            \
+                } else {                                                                                         \
+                    high = middle;                                                                               \
+                }                                                                                                \
+            }                                                                                                    \
+            ends[end] = low;                                                                                     \
+        }                                                                                                        \
+        *count = ends[1] - ends[0];                                                                              \
+        *rows = *count ? first + ends[0] : NULL;                                                                 \
+        return OPGP_DONE;                                                                                        \
+    }
+
+ROWS_OF(opgp_packets_of, opgp_packets, opgp_packet)
+ROWS_OF(opgp_keys_of, opgp_keys, opgp_key)
+ROWS_OF(opgp_jobs_of, opgp_jobs, opgp_job)
+
+uint32_t opgp_certificate_count(const opgp_keyring *keyring, size_t *count)
+{
+    const opgp_packet *rows;
+    size_t packets;
+    uint32_t status = opgp_packets(keyring, &rows, &packets);
+    *count = packets > 0 ? (size_t)(rows[packets - 1].certificate + 1) : 0;
     return status;
 }
 
-uint32_t opgp_open(const uint8_t *in, size_t n, const opgp_limits *limits, opgp_keyring **keyring, opgp_fault *fault)
+uint32_t opgp_subpackets_of(const opgp_keyring *keyring, size_t row, const opgp_subpacket **rows, size_t *count)
 {
-    opgp_limits usual;
-    opgp_fault unwanted;
-    const uint8_t nothing = 0;
-    opgp_keyring *it = calloc(1, sizeof *it);
-    uint32_t status = OPGP_MEMORY;
+    opgp_keyring *it = enter(keyring);
+    uint32_t status = want_jobs(it);
+    status = status == OPGP_DONE && row >= it->job_sizes.rows ? OPGP_NO_ROW : status;
+    *count = status == OPGP_DONE ? it->firsts[row + 1] - it->firsts[row] : 0;
+    *rows = *count ? &it->subpackets[it->firsts[row]] : NULL;
+    return leave(it, status);
+}
 
-    if (!limits) {
-        opgp_usual_limits(&usual);
-        limits = &usual;
+/* The packet that stands there, of a keyring whose packets are made; their places only grow, where OPGP_NONE and 1 are 0. */
+static const opgp_packet *packet_at(const opgp_keyring *it, uint64_t certificate, uint64_t component, uint64_t hang)
+{
+    size_t low = 0, high = (size_t)it->packet_sizes.rows;
+    const uint64_t place[] = {certificate + 1, component + 1, hang + 1};
+    while (low < high) {
+        size_t middle = low + (high - low) / 2;
+        const opgp_packet *packet = &it->packets[middle];
+        const uint64_t other[] = {packet->certificate + 1, packet->component + 1, packet->hang + 1};
+        unsigned k = 0;
+        while (k < 3 && other[k] == place[k]) {
+            k++;
+        }
+        if (k == 3) {
+            return packet;
+        }
+        if (other[k] < place[k]) {
+            low = middle + 1;
+        } else {
+            high = middle;
+        }
     }
-    if (it) {
-        status = opgp_ring_open(in ? in : &nothing, n, limits, &it->ring, fault ? fault : &unwanted);
+    return NULL;
+}
+
+/* Gives the packet that stands there. */
+static uint32_t find_packet(const opgp_keyring *keyring, const opgp_job *job, uint64_t hang, const opgp_packet **packet)
+{
+    opgp_keyring *it = enter(keyring);
+    uint32_t status = want_packets(it);
+    *packet = status == OPGP_DONE ? packet_at(it, job->certificate, job->component, hang) : NULL;
+    return leave(it, status == OPGP_DONE && !*packet ? OPGP_NO_ROW : status);
+}
+
+uint32_t opgp_packet_of(const opgp_keyring *keyring, const opgp_job *job, const opgp_packet **packet)
+{
+    return find_packet(keyring, job, job->hang, packet);
+}
+
+uint32_t opgp_subject_of(const opgp_keyring *keyring, const opgp_job *job, const opgp_packet **packet)
+{
+    return find_packet(keyring, job, OPGP_NONE, packet);
+}
+
+uint32_t opgp_find_key(const opgp_keyring *keyring, const uint8_t *name, size_t size, size_t from, size_t *row)
+{
+    const opgp_key *keys;
+    size_t count;
+    uint32_t status = opgp_keys(keyring, &keys, &count);
+    for (size_t i = from; i < count; i++) {
+        if ((size == keys[i].print_size && memcmp(name, keys[i].print, size) == 0)
+            || (size == sizeof keys[i].key_id && memcmp(name, keys[i].key_id, size) == 0)) {
+            *row = i;
+            return OPGP_DONE;
+        }
     }
-    return give_keyring(status, it, keyring);
+    return status == OPGP_DONE ? OPGP_NO_ROW : status;
 }
 
-uint32_t opgp_take(opgp_reader *reader, opgp_keyring **keyring)
-{
-    opgp_keyring *it = calloc(1, sizeof *it);
-    return give_keyring(it ? opgp_reader_take(reader, &it->ring) : OPGP_MEMORY, it, keyring);
-}
-
-uint32_t opgp_normalise(opgp_keyring *keyring, opgp_keyring **made)
-{
-    opgp_keyring *it = calloc(1, sizeof *it);
-    return give_keyring(it ? opgp_ring_normalise(&keyring->ring, &it->ring) : OPGP_MEMORY, it, made);
-}
-
-uint32_t opgp_merge(opgp_keyring *keyring, opgp_keyring **made)
-{
-    opgp_keyring *it = calloc(1, sizeof *it);
-    return give_keyring(it ? opgp_ring_merge(&keyring->ring, &it->ring) : OPGP_MEMORY, it, made);
-}
-
-uint32_t opgp_certificate(opgp_keyring *keyring, uint64_t number, opgp_keyring **made)
-{
-    opgp_keyring *it = calloc(1, sizeof *it);
-    return give_keyring(it ? opgp_ring_certificate(&keyring->ring, number, &it->ring) : OPGP_MEMORY, it, made);
-}
-
-uint32_t opgp_join(opgp_keyring *keyring, opgp_keyring *other, opgp_keyring **made)
-{
-    opgp_keyring *it = calloc(1, sizeof *it);
-    return give_keyring(it ? opgp_ring_join(&keyring->ring, &other->ring, &it->ring) : OPGP_MEMORY, it, made);
-}
-
-void opgp_close(opgp_keyring *keyring)
-{
-    if (keyring) {
-        opgp_ring_close(keyring->ring);
-        free(keyring->packets);
-        free(keyring->keys);
-        free(keyring->jobs);
-        free(keyring->subpackets);
-        free(keyring->firsts);
-        free(keyring->bodies);
-        free(keyring->material);
-        free(keyring->made);
-        free(keyring->data);
-        free(keyring);
-    }
-}
-
-size_t opgp_packet_count(const opgp_keyring *keyring)
-{
-    return (size_t)keyring->packet_sizes.rows;
-}
-
-const opgp_packet *opgp_packet_at(const opgp_keyring *keyring, size_t number)
-{
-    return number < keyring->packet_sizes.rows ? &keyring->packets[number] : NULL;
-}
-
-size_t opgp_key_count(const opgp_keyring *keyring)
-{
-    return (size_t)keyring->key_sizes.rows;
-}
-
-const opgp_key *opgp_key_at(const opgp_keyring *keyring, size_t number)
-{
-    return number < keyring->key_sizes.rows ? &keyring->keys[number] : NULL;
-}
-
-size_t opgp_job_count(const opgp_keyring *keyring)
-{
-    return (size_t)keyring->job_sizes.rows;
-}
-
-const opgp_job *opgp_job_at(const opgp_keyring *keyring, size_t number)
-{
-    return number < keyring->job_sizes.rows ? &keyring->jobs[number] : NULL;
-}
-
-const opgp_subpacket *opgp_subpackets_of(const opgp_keyring *keyring, size_t row, size_t *count)
-{
-    *count = row < keyring->job_sizes.rows ? keyring->firsts[row + 1] - keyring->firsts[row] : 0;
-    return *count ? &keyring->subpackets[keyring->firsts[row]] : NULL;
-}
+/* ---- What rows point to */
 
 opgp_span opgp_body(const opgp_keyring *keyring, const opgp_packet *packet)
 {
@@ -339,6 +578,8 @@ opgp_span opgp_subpacket_field(const opgp_keyring *keyring, const opgp_subpacket
     return field(keyring->data, subpacket->fields_at, subpacket->field_sizes, 2, number);
 }
 
+/* ---- Octets for the caller */
+
 /* Gives the caller octets of this size if the status is OPGP_DONE, and else frees them. */
 static uint32_t give(uint32_t status, uint8_t *room, uint64_t wanted, uint8_t **octets, size_t *size)
 {
@@ -351,31 +592,106 @@ static uint32_t give(uint32_t status, uint8_t *room, uint64_t wanted, uint8_t **
     return status;
 }
 
-uint32_t opgp_octets(opgp_keyring *keyring, uint64_t row, uint8_t **octets, size_t *size)
+/* Makes room for a batch: for a part of what the keyring has. */
+static bool has_batch(opgp_keyring *it)
+{
+    struct batch *batch = &it->batch;
+    uint8_t byte;
+    if (!batch->bytes) {
+        if (it->size == 0) { /* of a part, or of a keyring that was made */
+            opgp_ring_write(&it->ring, 0, &byte, 0, &it->size);
+        }
+        batch->most = it->size / PARTS < BATCH ? BATCH : it->size / PARTS;
+        batch->rows = room_for(batch->most / OF_ROW, sizeof *batch->rows);
+        batch->bytes = batch->rows ? malloc(batch->most) : NULL;
+        if (!batch->bytes) {
+            drop_batch(batch);
+        }
+    }
+    return batch->bytes;
+}
+
+/* Makes a batch from this row of the jobs on: of as many rows as there is room for; of none where this one alone is larger. */
+static bool fill_batch(opgp_keyring *it, uint64_t row)
+{
+    struct batch *batch = &it->batch;
+    uint64_t count = batch->most / OF_ROW;
+    uint32_t status = opgp_ring_hashed(&it->ring, row, count, batch->most, batch->rows, (size_t)count, batch->bytes, (size_t)batch->most,
+                                       &batch->sizes);
+    batch->first = row;
+    batch->count = status == OPGP_DONE && batch->sizes.rows > 0 ? batch->rows[batch->sizes.rows - 1].row + 1 : 0;
+    return batch->count > 0;
+}
+
+/* What the signature of a row of the batch hashes; NULL where it isn't hashed. */
+static const opgp_hashed *hashed_in(const struct batch *batch, uint64_t row)
+{
+    size_t low = 0, high = (size_t)batch->sizes.rows;
+    row -= batch->first;
+    while (low < high) {
+        size_t middle = low + (high - low) / 2;
+        if (batch->rows[middle].row < row) {
+            low = middle + 1;
+        } else {
+            high = middle;
+        }
+    }
+    return low < batch->sizes.rows && batch->rows[low].row == row ? &batch->rows[low] : NULL;
+}
+
+/* Gives what the signature of a row of the batch hashes. */
+static uint32_t give_hashed(const struct batch *batch, uint64_t row, uint8_t **octets, size_t *size)
+{
+    const opgp_hashed *hashed = hashed_in(batch, row);
+    uint8_t *room = hashed ? malloc(hashed->size ? (size_t)hashed->size : 1) : NULL;
+    if (room) {
+        memcpy(room, batch->bytes + hashed->at, (size_t)hashed->size);
+    }
+    return give(!hashed ? OPGP_NO_ROW : room ? OPGP_DONE : OPGP_MEMORY, room, hashed ? hashed->size : 0, octets, size);
+}
+
+/* Gives what the signature of a row hashes, to which a walk leads from the first row on. */
+static uint32_t give_row(opgp_keyring *it, uint64_t row, uint8_t **octets, size_t *size)
 {
     uint64_t wanted = 0;
     uint8_t byte, *room = NULL;
-    uint32_t status = opgp_ring_octets(&keyring->ring, row, &byte, 0, &wanted);
+    uint32_t status = opgp_ring_octets(&it->ring, row, &byte, 0, &wanted);
 
     if (status == OPGP_ROOM || status == OPGP_DONE) {
         room = room_for(wanted, 1);
-        status = room ? opgp_ring_octets(&keyring->ring, row, room, (size_t)wanted, &wanted) : OPGP_MEMORY;
+        status = room ? opgp_ring_octets(&it->ring, row, room, (size_t)wanted, &wanted) : OPGP_MEMORY;
     }
     return give(status, room, wanted, octets, size);
 }
 
-uint32_t opgp_write(opgp_keyring *keyring, bool armor, uint8_t **text, size_t *size)
+/* Who asks for the row behind the one asked for last is given it from a batch, so that each walk serves many. */
+uint32_t opgp_octets(const opgp_keyring *keyring, uint64_t row, uint8_t **octets, size_t *size)
 {
+    opgp_keyring *it = enter(keyring);
+    bool goes_on = row == it->next_row && row != OPGP_NONE, is_there = row - it->batch.first < it->batch.count;
+    it->next_row = row == OPGP_NONE ? row : row + 1;
+    if (it->jobs && (row >= it->job_sizes.rows || it->jobs[row].why != OPGP_WHY_HASHED)) {
+        return leave(it, give(OPGP_NO_ROW, NULL, 0, octets, size));
+    }
+    is_there = is_there || (goes_on && has_batch(it) && fill_batch(it, row));
+    return leave(it, is_there ? give_hashed(&it->batch, row, octets, size) : give_row(it, row, octets, size));
+}
+
+uint32_t opgp_write(const opgp_keyring *keyring, bool armor, uint8_t **text, size_t *size)
+{
+    opgp_keyring *it = enter(keyring);
     uint64_t wanted = 0;
     uint8_t byte, *room = NULL;
-    uint32_t status = opgp_ring_write(&keyring->ring, armor, &byte, 0, &wanted);
+    uint32_t status = opgp_ring_write(&it->ring, armor, &byte, 0, &wanted);
 
     if (status == OPGP_ROOM || status == OPGP_DONE) {
         room = room_for(wanted, 1);
-        status = room ? opgp_ring_write(&keyring->ring, armor, room, (size_t)wanted, &wanted) : OPGP_MEMORY;
+        status = room ? opgp_ring_write(&it->ring, armor, room, (size_t)wanted, &wanted) : OPGP_MEMORY;
     }
-    return give(status, room, wanted, text, size);
+    return leave(it, give(status, room, wanted, text, size));
 }
+
+/* ---- Verifying */
 
 /* What the verifier answers about the signature in a row by this key. */
 static opgp_verdict answer(const opgp_keyring *keyring, size_t row, const opgp_key *signer, opgp_verifier *verify, void *context)
@@ -398,21 +714,28 @@ static opgp_verdict verdict_of(const opgp_keyring *keyring, size_t row, opgp_ver
     if (job->is_bad) {
         return OPGP_BAD;
     }
-    if (!verify || job->why != 0 || job->signer == OPGP_NONE) {
+    if (!verify || job->why != OPGP_WHY_HASHED || job->signer == OPGP_NONE) {
         return OPGP_UNDECIDED;
     }
     const opgp_key *signer = &keyring->keys[job->signer];
     return signer->version == job->version ? answer(keyring, row, signer, verify, context) : OPGP_UNDECIDED;
 }
 
-int opgp_check(const opgp_keyring *keyring, opgp_verifier *verify, opgp_reporter *report, void *context)
+/* The tables that are gone through are made, so they don't change any more, and no lock is held while others are called. */
+uint32_t opgp_check(const opgp_keyring *keyring, opgp_verifier *verify, opgp_reporter *report, void *context)
 {
-    int ended = 0;
-    for (size_t row = 0; ended == 0 && row < opgp_job_count(keyring); row++) {
-        ended = report(context, row, &keyring->jobs[row], verdict_of(keyring, row, verify, context));
+    const opgp_key *keys;
+    const opgp_job *jobs;
+    size_t count;
+    uint32_t status = opgp_keys(keyring, &keys, &count);
+    status = status == OPGP_DONE ? opgp_jobs(keyring, &jobs, &count) : status;
+    for (size_t row = 0; status == OPGP_DONE && row < count; row++) {
+        status = report(context, row, &jobs[row], verdict_of(keyring, row, verify, context)) == 0 ? OPGP_DONE : OPGP_ENDED;
     }
-    return ended;
+    return status;
 }
+
+/* ---- Texts */
 
 const char *opgp_status_text(uint32_t status)
 {

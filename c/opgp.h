@@ -5,12 +5,15 @@
  * and callbacks in C, which read no octet of the input. They aren't proved.
  *
  * No call prints, reads a file, starts anything, or keeps anything but what a handle or an opgp_keyring holds. Threads:
- * calls on different handles and keyrings may be made at once. A handle is for one call at a time; so is an opgp_keyring,
- * but calls that take a const one may be made at once on the same. No call may be made from a signal handler, or in the
- * forked child of a process with threads.
+ * calls on different handles and keyrings may be made at once, and all calls on one opgp_keyring but opgp_close, which locks
+ * itself. A handle (opgp_ring, opgp_reader) is for one call at a time: each call takes out what it holds and puts it back. A
+ * handle may pass from one thread to another. No call may be made from a signal handler, or in the forked child of a process
+ * with threads.
  *
  * Sizes and places are in octets, and count from 0. What a caller owes: no pointer is NULL unless that is allowed, each
- * points to as much as the call says, and no two arguments overlap. Sections are those of RFC 9580. */
+ * points to as much as the call says, and no two arguments overlap. Where a table has room for nothing, its pointer may be
+ * NULL. A copy of a handle can't be used once a call has changed or closed the handle. The library is for x86-64-v2 processors
+ * and later. Sections are those of RFC 9580. */
 #ifndef OPGP_H
 #define OPGP_H
 
@@ -29,7 +32,7 @@ extern "C" {
 #endif
 
 /* The version of the structs and calls below: what opgp_abi() of the library must answer. */
-#define OPGP_ABI 2
+#define OPGP_ABI 3
 
 /* The version of the library, for people. */
 #define OPGP_VERSION "0.1"
@@ -40,14 +43,14 @@ enum {
     OPGP_REFUSED = 1, /* the input is refused: the fault says where and why */
     OPGP_ROOM = 2,    /* a table has less room than the sizes now say; it is unchanged */
     OPGP_MEMORY = 3,  /* out of memory, or there is more than a size_t counts */
-    OPGP_LIMITS = 4,  /* a limit is out of its range, or a policy stands for nothing */
-    OPGP_CLOSED = 5,  /* the handle holds nothing */
+    OPGP_LIMITS = 4,  /* a limit is out of its range, or a policy or a mode stands for nothing */
+    OPGP_CLOSED = 5,  /* the handle holds nothing, or another call is using it */
     OPGP_NO_ROW = 6,  /* there is no such row, or its signature isn't hashed; no such certificate, name or fault; no part waits */
-    OPGP_ENDED = 7    /* the input of the reader has ended */
+    OPGP_ENDED = 7    /* the input of the reader has ended; or the reporter of opgp_check ended it */
 };
 
 /* The number that says that there is none. */
-#define OPGP_NONE UINT64_MAX
+#define OPGP_NONE 0xFFFFFFFFFFFFFFFFU
 
 /* ---- Tables of numbers that have names, for opgp_name. The numbers never change. */
 enum {
@@ -59,6 +62,118 @@ enum {
     OPGP_LAYERS = 5,          /* of a fault */
     OPGP_REASONS = 6,         /* of a fault */
     OPGP_WHYS = 7             /* why a signature isn't hashed */
+};
+
+/* ---- The standard's registered numbers, each with the name that opgp_name has for it. */
+
+/* Types of packets (5): the kind of an opgp_packet. */
+enum {
+    OPGP_PACKET_RESERVED = 0,                 /* Reserved */
+    OPGP_PACKET_ENCRYPTED_SESSION_KEY = 1,    /* Public Key Encrypted Session Key */
+    OPGP_PACKET_SIGNATURE = 2,                /* Signature */
+    OPGP_PACKET_SYMMETRIC_SESSION_KEY = 3,    /* Symmetric Key Encrypted Session Key */
+    OPGP_PACKET_ONE_PASS_SIGNATURE = 4,       /* One-Pass Signature */
+    OPGP_PACKET_SECRET_KEY = 5,               /* Secret Key */
+    OPGP_PACKET_PUBLIC_KEY = 6,               /* Public Key */
+    OPGP_PACKET_SECRET_SUBKEY = 7,            /* Secret Subkey */
+    OPGP_PACKET_COMPRESSED_DATA = 8,          /* Compressed Data */
+    OPGP_PACKET_ENCRYPTED_DATA = 9,           /* Symmetrically Encrypted Data */
+    OPGP_PACKET_MARKER = 10,                  /* Marker */
+    OPGP_PACKET_LITERAL_DATA = 11,            /* Literal Data */
+    OPGP_PACKET_TRUST = 12,                   /* Trust */
+    OPGP_PACKET_USER_ID = 13,                 /* User ID */
+    OPGP_PACKET_PUBLIC_SUBKEY = 14,           /* Public Subkey */
+    OPGP_PACKET_USER_ATTRIBUTE = 17,          /* User Attribute */
+    OPGP_PACKET_PROTECTED_DATA = 18,          /* Symmetrically Encrypted and Integrity Protected Data */
+    OPGP_PACKET_PADDING = 21                  /* Padding */
+};
+
+/* Public-key algorithms (9.1): of keys and signatures. */
+enum {
+    OPGP_KEY_RSA = 1,                 /* RSA (Encrypt or Sign) */
+    OPGP_KEY_RSA_ENCRYPT_ONLY = 2,    /* RSA Encrypt-Only */
+    OPGP_KEY_RSA_SIGN_ONLY = 3,       /* RSA Sign-Only */
+    OPGP_KEY_ELGAMAL = 16,            /* Elgamal (Encrypt-Only) */
+    OPGP_KEY_DSA = 17,                /* DSA (Digital Signature Algorithm) */
+    OPGP_KEY_ECDH = 18,               /* ECDH public key algorithm */
+    OPGP_KEY_ECDSA = 19,              /* ECDSA public key algorithm */
+    OPGP_KEY_EDDSA_LEGACY = 22,       /* EdDSALegacy */
+    OPGP_KEY_X25519 = 25,             /* X25519 */
+    OPGP_KEY_X448 = 26,               /* X448 */
+    OPGP_KEY_ED25519 = 27,            /* Ed25519 */
+    OPGP_KEY_ED448 = 28               /* Ed448 */
+};
+
+/* Hash algorithms (9.5). */
+enum {
+    OPGP_HASH_MD5 = 1,          /* MD5 */
+    OPGP_HASH_SHA1 = 2,         /* SHA-1 */
+    OPGP_HASH_RIPEMD160 = 3,    /* RIPEMD-160 */
+    OPGP_HASH_SHA256 = 8,       /* SHA2-256 */
+    OPGP_HASH_SHA384 = 9,       /* SHA2-384 */
+    OPGP_HASH_SHA512 = 10,      /* SHA2-512 */
+    OPGP_HASH_SHA224 = 11,      /* SHA2-224 */
+    OPGP_HASH_SHA3_256 = 12,    /* SHA3-256 */
+    OPGP_HASH_SHA3_512 = 14     /* SHA3-512 */
+};
+
+/* Types of signatures (5.2.1): the kind of an opgp_job. */
+enum {
+    OPGP_SIGNATURE_BINARY = 0x00,                   /* Binary Signature */
+    OPGP_SIGNATURE_TEXT = 0x01,                     /* Text Signature */
+    OPGP_SIGNATURE_STANDALONE = 0x02,               /* Standalone Signature */
+    OPGP_SIGNATURE_GENERIC_CERTIFICATION = 0x10,    /* Generic Certification Signature */
+    OPGP_SIGNATURE_PERSONA_CERTIFICATION = 0x11,    /* Persona Certification Signature */
+    OPGP_SIGNATURE_CASUAL_CERTIFICATION = 0x12,     /* Casual Certification Signature */
+    OPGP_SIGNATURE_POSITIVE_CERTIFICATION = 0x13,   /* Positive Certification Signature */
+    OPGP_SIGNATURE_SUBKEY_BINDING = 0x18,           /* Subkey Binding Signature */
+    OPGP_SIGNATURE_PRIMARY_KEY_BINDING = 0x19,      /* Primary Key Binding Signature */
+    OPGP_SIGNATURE_DIRECT_KEY = 0x1F,               /* Direct Key Signature */
+    OPGP_SIGNATURE_KEY_REVOCATION = 0x20,           /* Key Revocation Signature */
+    OPGP_SIGNATURE_SUBKEY_REVOCATION = 0x28,        /* Subkey Revocation Signature */
+    OPGP_SIGNATURE_CERTIFICATION_REVOCATION = 0x30, /* Certification Revocation Signature */
+    OPGP_SIGNATURE_TIMESTAMP = 0x40,                /* Timestamp Signature */
+    OPGP_SIGNATURE_THIRD_PARTY_CONFIRMATION = 0x50  /* Third-Party Confirmation Signature */
+};
+
+/* Kinds of subpackets (5.2.3.7): the kind of an opgp_subpacket. */
+enum {
+    OPGP_SUBPACKET_CREATION_TIME = 2,             /* Signature Creation Time */
+    OPGP_SUBPACKET_EXPIRATION_TIME = 3,           /* Signature Expiration Time */
+    OPGP_SUBPACKET_EXPORTABLE = 4,                /* Exportable Certification */
+    OPGP_SUBPACKET_TRUST = 5,                     /* Trust Signature */
+    OPGP_SUBPACKET_REGULAR_EXPRESSION = 6,        /* Regular Expression */
+    OPGP_SUBPACKET_REVOCABLE = 7,                 /* Revocable */
+    OPGP_SUBPACKET_KEY_EXPIRATION_TIME = 9,       /* Key Expiration Time */
+    OPGP_SUBPACKET_PREFERRED_CIPHERS = 11,        /* Preferred Symmetric Ciphers for v1 SEIPD */
+    OPGP_SUBPACKET_REVOCATION_KEY = 12,           /* Revocation Key */
+    OPGP_SUBPACKET_ISSUER_KEY_ID = 16,            /* Issuer Key ID */
+    OPGP_SUBPACKET_NOTATION_DATA = 20,            /* Notation Data */
+    OPGP_SUBPACKET_PREFERRED_HASHES = 21,         /* Preferred Hash Algorithms */
+    OPGP_SUBPACKET_PREFERRED_COMPRESSION = 22,    /* Preferred Compression Algorithms */
+    OPGP_SUBPACKET_KEY_SERVER_PREFERENCES = 23,   /* Key Server Preferences */
+    OPGP_SUBPACKET_PREFERRED_KEY_SERVER = 24,     /* Preferred Key Server */
+    OPGP_SUBPACKET_PRIMARY_USER_ID = 25,          /* Primary User ID */
+    OPGP_SUBPACKET_POLICY_URI = 26,               /* Policy URI */
+    OPGP_SUBPACKET_KEY_FLAGS = 27,                /* Key Flags */
+    OPGP_SUBPACKET_SIGNERS_USER_ID = 28,          /* Signer's User ID */
+    OPGP_SUBPACKET_REVOCATION_REASON = 29,        /* Reason for Revocation */
+    OPGP_SUBPACKET_FEATURES = 30,                 /* Features */
+    OPGP_SUBPACKET_TARGET = 31,                   /* Signature Target */
+    OPGP_SUBPACKET_EMBEDDED_SIGNATURE = 32,       /* Embedded Signature */
+    OPGP_SUBPACKET_ISSUER_FINGERPRINT = 33,       /* Issuer Fingerprint */
+    OPGP_SUBPACKET_RECIPIENT_FINGERPRINT = 35,    /* Intended Recipient Fingerprint */
+    OPGP_SUBPACKET_PREFERRED_AEAD = 39            /* Preferred AEAD Ciphersuites */
+};
+
+/* Why a signature isn't hashed: the field `why` of an opgp_job. */
+enum {
+    OPGP_WHY_HASHED = 0,    /* it is */
+    OPGP_WHY_OPAQUE = 1,    /* it isn't parsed, or it is of version 3 */
+    OPGP_WHY_KIND = 2,      /* its type isn't one of certificates */
+    OPGP_WHY_MISPLACED = 3, /* its type doesn't belong where it stands */
+    OPGP_WHY_VERSION = 4,   /* its version isn't that of a key that it is about */
+    OPGP_WHY_HASH = 5       /* its hash algorithm isn't computed, or not in its version */
 };
 
 /* ---- Forms of a subpacket's data: which numbers it says, and which fields of octets. The numbers of the forms never change. */
@@ -125,7 +240,7 @@ typedef struct opgp_packet {
 } opgp_packet;
 
 /* A key. The fields of its material (5.5.5) are in bytes, from at on, one after the other: integers big-endian, without
- * the count of their bits. RSA n, e; Elgamal p, g, y; DSA p, q, g, y; ECDH curve, point, parameters; ECDSA and EdDSALegacy
+ * the count of their bits and, in version 6, without zeros in front: pad them where a fixed size is wanted. RSA n, e; Elgamal p, g, y; DSA p, q, g, y; ECDH curve, point, parameters; ECDSA and EdDSALegacy
  * curve, point; of X25519, X448, Ed25519, Ed448 and any other one field. A curve is an object identifier (9.2) without its
  * length. */
 typedef struct opgp_key {
@@ -143,7 +258,9 @@ typedef struct opgp_key {
 } opgp_key;
 
 /* A signature, and what a verifier is asked about it. What its algorithm made (5.2.3) is in bytes, from at on: of RSA one
- * integer; of DSA, ECDSA and EdDSALegacy r, s; of Ed25519, Ed448 and any other one field. */
+ * integer; of DSA, ECDSA and EdDSALegacy r, s; of Ed25519, Ed448 and any other one field. An integer has no zeros in front
+ * mostly, so one in 256 is shorter than the others: most libraries want RSA's as long as the modulus, and r and s of
+ * EdDSALegacy as 32 octets. The point of an EdDSALegacy key has 0x40 in front. */
 typedef struct opgp_job {
     uint64_t certificate;
     uint64_t component;  /* the component that it is on; OPGP_NONE for the primary key */
@@ -152,7 +269,7 @@ typedef struct opgp_job {
     uint64_t signer;     /* the row of the key that it names as its issuer's; OPGP_NONE: not in this keyring */
     uint64_t at;
     uint64_t sizes[2];
-    uint8_t why;         /* 0: it is hashed; else why not: 1 opaque, 2 kind, 3 misplaced, 4 version, 5 hash */
+    uint8_t why;         /* OPGP_WHY_HASHED: it is hashed; else why not */
     uint8_t version;     /* 3, 4 or 6; 0: not parsed */
     uint8_t kind;        /* its type (5.2.1) */
     uint8_t algorithm;   /* 9.1 */
@@ -185,6 +302,13 @@ typedef struct opgp_subpacket {
     uint8_t reserved[3];
 } opgp_subpacket;
 
+/* What a signature hashes: bytes[at .. at + size). */
+typedef struct opgp_hashed {
+    uint64_t row; /* the number of its job, from the first that is asked for */
+    uint64_t at;
+    uint64_t size;
+} opgp_hashed;
+
 /* A handle of a keyring, all zeros at first. Only the proved calls may change it. */
 typedef struct opgp_ring {
     bool is_open;
@@ -202,7 +326,7 @@ typedef struct opgp_reader {
 
 /* The version of the structs and calls of the library. A program that was compiled for another one can't use it.
  *
- * Proved: it is 2. */
+ * Proved: it is 3. */
 OPGP_API uint32_t opgp_abi(void);
 
 /* Gives the usual limits: 8,192 octets of a line, 2^24 of a body, 2^26 of a certificate, 2^40 of the input, 2^20 pieces.
@@ -241,8 +365,23 @@ OPGP_API uint32_t opgp_fault_line(const opgp_fault *fault, uint8_t *text, size_t
  * a policy stands for nothing. */
 OPGP_API uint32_t opgp_ring_open(const uint8_t *in, size_t n, const opgp_limits *limits, opgp_ring *ring, opgp_fault *fault);
 
-/* Lets go what a handle holds, if it holds something. The handle, and each copy of it, can't be used again. */
+/* How an input is read, for opgp_ring_open_mode. The numbers never change. */
+enum {
+    OPGP_MODE_AUTO = 0,  /* as opgp_ring_open: the first octet decides; 128 or more is binary, and so is an empty input */
+    OPGP_MODE_ARMOR = 1, /* as armored text (6.2) */
+    OPGP_MODE_BINARY = 2 /* as packets (4) */
+};
+
+/* The same for an input that is read by this mode; OPGP_LIMITS is answered for a number that is no mode, too. */
+OPGP_API uint32_t opgp_ring_open_mode(const uint8_t *in, size_t n, uint32_t mode, const opgp_limits *limits, opgp_ring *ring,
+                                      opgp_fault *fault);
+
+/* Lets go what a handle holds, if it holds something. opgp_ring_close takes the handle by value: it, and each copy of it, can't
+ * be used again. opgp_ring_clear leaves it closed, so that a second one does nothing, and the handle may be used anew.
+ *
+ * Proved: opgp_ring_clear leaves the handle closed. */
 OPGP_API void opgp_ring_close(opgp_ring ring);
+OPGP_API void opgp_ring_clear(opgp_ring *ring);
 
 /* Fill tables of the caller, rows[0 .. row_room) and bytes[0 .. byte_room), and *sizes with how much they want:
  *
@@ -277,6 +416,15 @@ OPGP_API uint32_t opgp_ring_subpackets(opgp_ring *ring, opgp_subpacket *rows, si
  * handle holds what it held. */
 OPGP_API uint32_t opgp_ring_octets(opgp_ring *ring, uint64_t row, uint8_t *octets, size_t room, uint64_t *size);
 
+/* Fills tables of the caller, rows[0 .. row_room) and bytes[0 .. byte_room), with what signatures of the table of jobs hash
+ * (5.2.4), from the row `first` on: of at most `count` rows, as many as hash no more than `most` octets together. There is a row
+ * for each signature among them that is hashed, in order, and those octets, one after the other. So what all signatures hash can
+ * be had in a few walks. *sizes is how much they want.
+ *
+ * The statuses, and what is proved, are those of opgp_ring_packets. */
+OPGP_API uint32_t opgp_ring_hashed(opgp_ring *ring, uint64_t first, uint64_t count, uint64_t most, opgp_hashed *rows,
+                                   size_t row_room, uint8_t *bytes, size_t byte_room, opgp_sizes *sizes);
+
 /* Puts the keyring's packets into text[0 .. room): bare if armor is 0, else as one block of armor; *size is how much that is.
  *
  * OPGP_DONE, OPGP_ROOM, OPGP_MEMORY, OPGP_CLOSED. With the last two *size says nothing.
@@ -286,7 +434,7 @@ OPGP_API uint32_t opgp_ring_octets(opgp_ring *ring, uint64_t row, uint8_t *octet
 OPGP_API uint32_t opgp_ring_write(opgp_ring *ring, uint32_t armor, uint8_t *text, size_t room, uint64_t *size);
 
 /* Make another keyring, which *into holds; what that held before is let go. Give it to opgp_ring_close. ring, other and into are
- * different handles.
+ * different handles; where other is ring, OPGP_CLOSED is answered, and nothing is lost.
  *
  * - normalise: the packets, each in the current format and its shortest length (4.2.1);
  * - merge: certificates of the same primary key become one, and equal packets of a place appear once (10.1);
@@ -315,7 +463,9 @@ OPGP_API uint32_t opgp_ring_join(opgp_ring *ring, opgp_ring *other, opgp_ring *i
  *     while (opgp_reader_take(&reader, &part) == OPGP_DONE) ..
  *     opgp_ring_close(part), opgp_reader_close(reader);
  *
- * Whether the input is a keyring is known at its end alone: a fault may follow the parts that were handed out.
+ * In full, each status is looked at: only after OPGP_DONE of each push and of the end, and OPGP_NO_ROW of each last take, were all
+ * parts handed out. Whether the input is a keyring is known at its end alone: a fault may follow the parts that were handed out,
+ * and those that still waited are then gone.
  *
  * - open: begins; what the handle held before is let go. OPGP_DONE, OPGP_LIMITS, OPGP_MEMORY; with any but OPGP_DONE the handle is
  *   unchanged.
@@ -325,23 +475,26 @@ OPGP_API uint32_t opgp_ring_join(opgp_ring *ring, opgp_ring *other, opgp_ring *i
  *   part is complete that wasn't taken; OPGP_MEMORY, OPGP_CLOSED. With any but OPGP_DONE *into is unchanged.
  * - end: ends the input. OPGP_DONE: it is a keyring; OPGP_REFUSED with *fault: it isn't; OPGP_MEMORY, OPGP_CLOSED. Asked again it
  *   answers the same. With any but OPGP_REFUSED *fault is unchanged.
- * - close: lets go what the handle holds. The handle, and each copy of it, can't be used again.
+ * - close, clear: let go what the handle holds, as opgp_ring_close and opgp_ring_clear do.
  *
- * Out of memory a piece isn't taken. The reading may then be lost: each later call but close answers OPGP_MEMORY.
+ * Out of memory a piece isn't taken, and the reading is lost: each later call but those that close answers OPGP_MEMORY.
  *
  * Proved: however the octets are cut, with OPGP_DONE of end they encode one keyring, whose parts are those that were taken, in
  * order, and those that can still be taken; with OPGP_REFUSED they encode none, and *fault is the one fault of the lowest layer
- * that refuses them, as opgp_ring_open answers for them in one piece; OPGP_NO_ROW is answered only where no part waits;
- * OPGP_CLOSED if and only if the handle holds nothing. */
+ * that refuses them, as opgp_ring_open answers for them in one piece; OPGP_NO_ROW is answered only where no part waits in a
+ * reading that isn't lost; OPGP_ENDED only where the input had ended, and changes nothing of what can still be taken; OPGP_MEMORY
+ * only where the reading is lost, before or now; OPGP_CLOSED if and only if the handle holds nothing; and a handle that is open
+ * stays open. */
 OPGP_API uint32_t opgp_reader_open(const opgp_limits *limits, opgp_reader *reader);
 OPGP_API uint32_t opgp_reader_push(opgp_reader *reader, const uint8_t *piece, size_t n);
 OPGP_API uint32_t opgp_reader_take(opgp_reader *reader, opgp_ring *into);
 OPGP_API uint32_t opgp_reader_end(opgp_reader *reader, opgp_fault *fault);
 OPGP_API void opgp_reader_close(opgp_reader reader);
+OPGP_API void opgp_reader_clear(opgp_reader *reader);
 
 /* ---- On top. Not proved. */
 
-/* A keyring with its tables. */
+/* A keyring with its tables, each of which is made when it is first asked for. */
 typedef struct opgp_keyring opgp_keyring;
 
 /* Octets that something else keeps. */
@@ -350,58 +503,87 @@ typedef struct opgp_span {
     size_t size;
 } opgp_span;
 
-/* Reads the keyring of in[0 .. n), as opgp_ring_open does, and makes its tables. in may be NULL if n is 0, limits for the
- * usual ones, and fault if it isn't wanted. Give *keyring to opgp_close.
+/* Reads the keyring of in[0 .. n), as opgp_ring_open does. in may be NULL if n is 0, limits for the usual ones, and fault if it
+ * isn't wanted. Give *keyring to opgp_close. opgp_open_mode reads by a mode, as opgp_ring_open_mode does.
  *
  * OPGP_DONE, OPGP_REFUSED with *fault, OPGP_LIMITS, OPGP_MEMORY. *keyring is NULL with any but OPGP_DONE, and *fault
  * unchanged with any but OPGP_REFUSED. */
 OPGP_API uint32_t opgp_open(const uint8_t *in, size_t n, const opgp_limits *limits, opgp_keyring **keyring, opgp_fault *fault);
+OPGP_API uint32_t opgp_open_mode(const uint8_t *in, size_t n, uint32_t mode, const opgp_limits *limits, opgp_keyring **keyring,
+                                 opgp_fault *fault);
 
-/* Takes the next part of a keyring that is read in pieces, as opgp_reader_take does, and makes its tables. Give *keyring to
- * opgp_close.
+/* Which of these limits is out of its range: its number in opgp_limits, from 0, which is 5 for policies that stand for nothing;
+ * 6 where none is. */
+OPGP_API unsigned opgp_wrong_limit(const opgp_limits *limits);
+
+/* Takes the next part of a keyring that is read in pieces, as opgp_reader_take does. Give *keyring to opgp_close.
  *
- * OPGP_DONE, OPGP_NO_ROW, OPGP_MEMORY, OPGP_CLOSED. *keyring is NULL with any but OPGP_DONE. A part that was taken, and whose
- * tables memory was wanting for, is lost. */
+ * OPGP_DONE, OPGP_NO_ROW, OPGP_MEMORY, OPGP_CLOSED. *keyring is NULL with any but OPGP_DONE. Go on while it is OPGP_DONE, and end
+ * the reading where it is then any but OPGP_NO_ROW: parts may be left, or lost. */
 OPGP_API uint32_t opgp_take(opgp_reader *reader, opgp_keyring **keyring);
 
-/* Frees a keyring and all that points into it; NULL is allowed. */
+/* Frees a keyring and all that points into it; NULL is allowed. No other call may use the keyring then. */
 OPGP_API void opgp_close(opgp_keyring *keyring);
 
-/* How many rows each table has, and each row by its number; NULL past the last. Rows live as long as the keyring. */
-OPGP_API size_t opgp_packet_count(const opgp_keyring *keyring);
-OPGP_API const opgp_packet *opgp_packet_at(const opgp_keyring *keyring, size_t number);
-OPGP_API size_t opgp_key_count(const opgp_keyring *keyring);
-OPGP_API const opgp_key *opgp_key_at(const opgp_keyring *keyring, size_t number);
-OPGP_API size_t opgp_job_count(const opgp_keyring *keyring);
-OPGP_API const opgp_job *opgp_job_at(const opgp_keyring *keyring, size_t number);
+/* A table: rows[0 .. *count), in the order of the keyring, which live as long as it. The first call makes the table, which costs
+ * the more the further down it stands: the jobs hash what each signature is over, so for a stranger's keyring see "Strangers'
+ * keyrings" in docs/LIBRARY-C.md.
+ *
+ * OPGP_DONE; OPGP_MEMORY: *rows is NULL, and *count 0. */
+OPGP_API uint32_t opgp_packets(const opgp_keyring *keyring, const opgp_packet **rows, size_t *count);
+OPGP_API uint32_t opgp_keys(const opgp_keyring *keyring, const opgp_key **rows, size_t *count);
+OPGP_API uint32_t opgp_subpackets(const opgp_keyring *keyring, const opgp_subpacket **rows, size_t *count);
+OPGP_API uint32_t opgp_jobs(const opgp_keyring *keyring, const opgp_job **rows, size_t *count);
 
-/* The subpackets of the signature in a row of the jobs, rows[0 .. *count) of the answer, its hashed area first; NULL, and 0, if it
- * has none, or there is no such row. They live as long as the keyring. */
-OPGP_API const opgp_subpacket *opgp_subpackets_of(const opgp_keyring *keyring, size_t row, size_t *count);
+/* How many certificates the keyring has; and the rows of the one of this number, from 0, in each table: of its keys the first is
+ * the primary key. They live as long as the keyring.
+ *
+ * OPGP_DONE, OPGP_MEMORY; OPGP_NO_ROW: there is no such certificate. With any but OPGP_DONE *rows is NULL, and *count 0. */
+OPGP_API uint32_t opgp_certificate_count(const opgp_keyring *keyring, size_t *count);
+OPGP_API uint32_t opgp_packets_of(const opgp_keyring *keyring, uint64_t certificate, const opgp_packet **rows, size_t *count);
+OPGP_API uint32_t opgp_keys_of(const opgp_keyring *keyring, uint64_t certificate, const opgp_key **rows, size_t *count);
+OPGP_API uint32_t opgp_jobs_of(const opgp_keyring *keyring, uint64_t certificate, const opgp_job **rows, size_t *count);
+
+/* The subpackets of the signature in a row of the jobs, its hashed area first. They live as long as the keyring.
+ *
+ * OPGP_DONE, where *rows is NULL if there are none; OPGP_MEMORY; OPGP_NO_ROW: there is no such row. With any but OPGP_DONE *rows is
+ * NULL, and *count 0. */
+OPGP_API uint32_t opgp_subpackets_of(const opgp_keyring *keyring, size_t row, const opgp_subpacket **rows, size_t *count);
+
+/* From row to row: the packet of a signature, in which an embedded one is; what it is on, which is the packet of the primary key, a
+ * user ID, an attribute or a subkey; and the row of the first key from `from` on whose fingerprint or key ID, of 20, 32 or 8
+ * octets, name[0 .. size) is. Several keys may have one key ID: go on from the row behind.
+ *
+ * OPGP_DONE, OPGP_MEMORY; OPGP_NO_ROW: there is none. With any but OPGP_DONE *packet is NULL, and *row unchanged. */
+OPGP_API uint32_t opgp_packet_of(const opgp_keyring *keyring, const opgp_job *job, const opgp_packet **packet);
+OPGP_API uint32_t opgp_subject_of(const opgp_keyring *keyring, const opgp_job *job, const opgp_packet **packet);
+OPGP_API uint32_t opgp_find_key(const opgp_keyring *keyring, const uint8_t *name, size_t size, size_t from, size_t *row);
 
 /* What a row of this keyring points to: a packet's body; the field of a key's material (0 to 3), or of what a signature's
  * algorithm made (0, 1), empty if there is none of that number; a subpacket's data, and its field of octets (0, 1). It lives as
- * long as the keyring. */
+ * long as the keyring. Which of several subpackets of a kind counts: the last in the hashed area (5.2.3.9). */
 OPGP_API opgp_span opgp_body(const opgp_keyring *keyring, const opgp_packet *packet);
 OPGP_API opgp_span opgp_key_field(const opgp_keyring *keyring, const opgp_key *key, unsigned number);
 OPGP_API opgp_span opgp_job_field(const opgp_keyring *keyring, const opgp_job *job, unsigned number);
 OPGP_API opgp_span opgp_data(const opgp_keyring *keyring, const opgp_subpacket *subpacket);
 OPGP_API opgp_span opgp_subpacket_field(const opgp_keyring *keyring, const opgp_subpacket *subpacket, unsigned number);
 
-/* What opgp_ring_octets and opgp_ring_write put, in memory that the caller frees by free().
+/* What opgp_ring_octets and opgp_ring_write put, in memory that the caller frees by free(). Who asks for row after row gets them in
+ * a time that is linear in all: the keyring keeps those of some rows that come next, a quarter of the octets that it was read from
+ * at most, or 1 MiB.
  *
  * OPGP_DONE, OPGP_MEMORY; of a row also OPGP_NO_ROW. With any but OPGP_DONE the octets are NULL, and *size is 0. */
-OPGP_API uint32_t opgp_octets(opgp_keyring *keyring, uint64_t row, uint8_t **octets, size_t *size);
-OPGP_API uint32_t opgp_write(opgp_keyring *keyring, bool armor, uint8_t **text, size_t *size);
+OPGP_API uint32_t opgp_octets(const opgp_keyring *keyring, uint64_t row, uint8_t **octets, size_t *size);
+OPGP_API uint32_t opgp_write(const opgp_keyring *keyring, bool armor, uint8_t **text, size_t *size);
 
-/* What opgp_ring_normalise, opgp_ring_merge, opgp_ring_certificate and opgp_ring_join make, with its tables; keyring and
- * other are different. Give *made to opgp_close.
+/* What opgp_ring_normalise, opgp_ring_merge, opgp_ring_certificate and opgp_ring_join make. other may be keyring. Give *made to
+ * opgp_close.
  *
  * OPGP_DONE, OPGP_MEMORY; of a certificate also OPGP_NO_ROW. *made is NULL with any but OPGP_DONE. */
-OPGP_API uint32_t opgp_normalise(opgp_keyring *keyring, opgp_keyring **made);
-OPGP_API uint32_t opgp_merge(opgp_keyring *keyring, opgp_keyring **made);
-OPGP_API uint32_t opgp_certificate(opgp_keyring *keyring, uint64_t number, opgp_keyring **made);
-OPGP_API uint32_t opgp_join(opgp_keyring *keyring, opgp_keyring *other, opgp_keyring **made);
+OPGP_API uint32_t opgp_normalise(const opgp_keyring *keyring, opgp_keyring **made);
+OPGP_API uint32_t opgp_merge(const opgp_keyring *keyring, opgp_keyring **made);
+OPGP_API uint32_t opgp_certificate(const opgp_keyring *keyring, uint64_t number, opgp_keyring **made);
+OPGP_API uint32_t opgp_join(const opgp_keyring *keyring, const opgp_keyring *other, opgp_keyring **made);
 
 /* What is found of a signature. */
 typedef enum opgp_verdict { OPGP_UNDECIDED = 0, OPGP_GOOD = 1, OPGP_BAD = 2 } opgp_verdict;
@@ -424,11 +606,11 @@ typedef int opgp_reporter(void *context, size_t row, const opgp_job *job, opgp_v
 
 /* Tells the reporter of each signature, in order: OPGP_BAD where its digest doesn't begin with the 16 bits that it states;
  * else, where it is hashed and its issuer's key is in the keyring and has its version, what the verifier answers, who is asked
- * once; else OPGP_UNDECIDED. verify NULL: none is asked. Both get the context, and may not close the keyring.
+ * once; else OPGP_UNDECIDED. verify NULL: none is asked. Both get the context, may ask the keyring, and may not close it.
  *
- * It answers the reporter's number that ended it, or 0. OPGP_GOOD is arithmetic and no more: expiries, revocations, key flags
- * and critical subpackets aren't looked at, so whether a signature may be relied on is for the caller. */
-OPGP_API int opgp_check(const opgp_keyring *keyring, opgp_verifier *verify, opgp_reporter *report, void *context);
+ * OPGP_DONE; OPGP_ENDED: the reporter ended it; OPGP_MEMORY: nothing was told. OPGP_GOOD is arithmetic and no more: expiries,
+ * revocations, key flags and critical subpackets aren't looked at, so whether a signature may be relied on is for the caller. */
+OPGP_API uint32_t opgp_check(const opgp_keyring *keyring, opgp_verifier *verify, opgp_reporter *report, void *context);
 
 /* What a status means, in a few words; "unknown" for any other number. It lives for ever. */
 OPGP_API const char *opgp_status_text(uint32_t status);

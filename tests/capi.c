@@ -176,10 +176,28 @@ static int print_row(void *context, size_t row, const opgp_job *job, opgp_verdic
     return 0;
 }
 
+/* The rows of each table, where there is memory for it. */
+#define ROWS_BY(NAME, CALL, TYPE)                                                \
+    static const TYPE *NAME(const opgp_keyring *keyring, size_t *count)          \
+    {                                                                            \
+        const TYPE *rows = NULL;                                                 \
+        holds(CALL(keyring, &rows, count) == OPGP_DONE && rows, #CALL);          \
+        return rows;                                                             \
+    }
+
+ROWS_BY(packets_in, opgp_packets, opgp_packet)
+ROWS_BY(keys_in, opgp_keys, opgp_key)
+ROWS_BY(jobs_in, opgp_jobs, opgp_job)
+ROWS_BY(subpackets_in, opgp_subpackets, opgp_subpacket)
+
 static void print_tables(const opgp_keyring *keyring)
 {
-    for (size_t i = 0; i < opgp_packet_count(keyring); i++) {
-        const opgp_packet *packet = opgp_packet_at(keyring, i);
+    size_t packet_count, key_count, job_count;
+    const opgp_packet *packets = packets_in(keyring, &packet_count);
+    const opgp_key *keys = keys_in(keyring, &key_count);
+    jobs_in(keyring, &job_count);
+    for (size_t i = 0; i < packet_count; i++) {
+        const opgp_packet *packet = &packets[i];
         printf("packet");
         print_number(packet->certificate);
         print_number(packet->component);
@@ -188,8 +206,8 @@ static void print_tables(const opgp_keyring *keyring)
         print_span(opgp_body(keyring, packet));
         printf(" zeros %d\n", is_zero(packet->reserved, sizeof packet->reserved));
     }
-    for (size_t i = 0; i < opgp_key_count(keyring); i++) {
-        const opgp_key *key = opgp_key_at(keyring, i);
+    for (size_t i = 0; i < key_count; i++) {
+        const opgp_key *key = &keys[i];
         printf("key");
         print_number(key->certificate);
         print_number(key->component);
@@ -204,9 +222,10 @@ static void print_tables(const opgp_keyring *keyring)
         printf(" zeros %d\n", is_padded && is_zero(key->reserved, sizeof key->reserved) && !opgp_key_field(keyring, key, 4).size);
     }
     opgp_check(keyring, NULL, print_row, (void *)(uintptr_t)keyring);
-    for (size_t row = 0; row < opgp_job_count(keyring); row++) {
+    for (size_t row = 0; row < job_count; row++) {
         size_t count;
-        const opgp_subpacket *subpackets = opgp_subpackets_of(keyring, row, &count);
+        const opgp_subpacket *subpackets;
+        opgp_subpackets_of(keyring, row, &subpackets, &count);
         for (size_t i = 0; i < count; i++) {
             const opgp_subpacket *it = &subpackets[i];
             printf("sub %zu hashed %u kind %u critical %u meaning %u", row, it->is_hashed, it->kind, it->is_critical, it->meaning);
@@ -452,6 +471,114 @@ static void texts(void)
     holds(opgp_fault_line(&fault, &byte, 0, &n) == OPGP_ROOM && n == 108, "the longest line of a fault");
 }
 
+/* What some signatures hash, in one table, is what each hashes by itself, as far as there is room; in each room that is too small. */
+static void hashed_window(opgp_ring *ring, uint64_t jobs, uint64_t first, uint64_t count, uint64_t most)
+{
+    opgp_sizes wanted, sizes;
+    uint32_t status = opgp_ring_hashed(ring, first, count, most, NULL, 0, NULL, 0, &wanted);
+    holds(status == (wanted.rows ? OPGP_ROOM : OPGP_DONE) && wanted.bytes <= most, "what signatures hash without room");
+    opgp_hashed *rows = block_of((size_t)wanted.rows * sizeof *rows);
+    uint8_t *bytes = block_of((size_t)wanted.bytes);
+    bool is_short = opgp_ring_hashed(ring, first, count, most, rows, (size_t)wanted.rows, bytes, 0, &sizes) == OPGP_ROOM;
+    holds(is_short == (wanted.bytes > 0) && is_blank(bytes, 0, (size_t)wanted.bytes), "what signatures hash with too little room");
+    status = opgp_ring_hashed(ring, first, count, most, rows, (size_t)wanted.rows, bytes, (size_t)wanted.bytes, &sizes);
+    holds(status == OPGP_DONE && sizes.rows == wanted.rows && sizes.bytes == wanted.bytes, "what signatures hash");
+    uint64_t next = 0, at = 0;
+    bool is_full = false;
+    for (uint64_t row = first; !is_full && row < jobs && row - first < count; row++) {
+        static uint8_t octets[1 << 16];
+        uint64_t size_of_it = 0;
+        if (opgp_ring_octets(ring, row, octets, sizeof octets, &size_of_it) == OPGP_DONE) {
+            is_full = size_of_it > most - at;
+            holds(is_full || (next < wanted.rows && rows[next].row == row - first && rows[next].at == at && rows[next].size == size_of_it
+                              && memcmp(bytes + at, octets, (size_t)size_of_it) == 0),
+                  "what a signature hashes in the table");
+            at += is_full ? 0 : size_of_it;
+            next += !is_full;
+        }
+    }
+    holds(next == wanted.rows && at == wanted.bytes, "no more rows than signatures that are hashed");
+    free(rows);
+    free(bytes);
+}
+
+static void hashed_rows(opgp_ring *ring, uint64_t jobs)
+{
+    opgp_ring closed = {false, NULL};
+    opgp_sizes sizes;
+    uint64_t size_of_first = 0;
+    holds(opgp_ring_hashed(&closed, 0, 1, 1, NULL, 0, NULL, 0, &sizes) == OPGP_CLOSED, "what signatures of a closed handle hash");
+    opgp_ring_octets(ring, 0, NULL, 0, &size_of_first);
+    for (uint64_t first = 0; first <= jobs + 1; first++) {
+        for (uint64_t count = 0; count <= jobs + 1; count++) {
+            for (uint64_t most = size_of_first > 0 ? size_of_first - 1 : 0; most <= 3 * size_of_first + 1; most += 1 + size_of_first / 3) {
+                hashed_window(ring, jobs, first, count, most);
+            }
+            hashed_window(ring, jobs, first, count, UINT64_MAX);
+        }
+    }
+    holds(opgp_ring_hashed(ring, UINT64_MAX, UINT64_MAX, UINT64_MAX, NULL, 0, NULL, 0, &sizes) == OPGP_DONE && sizes.rows == 0,
+          "no rows past the last");
+}
+
+/* Reading by each mode, and a handle that is used for two arguments at once or closed twice. */
+static void modes(const opgp_limits *limits)
+{
+    static const char armored[] = "-----BEGIN PGP PUBLIC KEY BLOCK-----\n\n-----END PGP PUBLIC KEY BLOCK-----\n";
+    const uint8_t filler[] = {0xE8, 0};
+    opgp_ring ring = {false, NULL};
+    opgp_fault fault;
+    memset(&fault, 0xA5, sizeof fault);
+    for (uint32_t mode = 3; mode != 0; mode = mode == 3 ? 256 : mode << 8) {
+        holds(opgp_ring_open_mode(filler, sizeof filler, mode, limits, &ring, &fault) == OPGP_LIMITS && !ring.is_open, "no such mode");
+    }
+    holds(is_blank(&fault, 0, sizeof fault), "a fault of no mode");
+    holds(opgp_ring_open_mode(filler, sizeof filler, OPGP_MODE_AUTO, limits, &ring, &fault) == OPGP_DONE
+              && opgp_ring_open_mode(filler, sizeof filler, OPGP_MODE_BINARY, limits, &ring, &fault) == OPGP_DONE
+              && opgp_ring_open_mode(filler, sizeof filler, OPGP_MODE_ARMOR, limits, &ring, &fault) == OPGP_REFUSED && fault.layer == 1,
+          "packets by each mode");
+    const uint8_t *text = (const uint8_t *)armored;
+    holds(opgp_ring_open_mode(text, sizeof armored - 1, OPGP_MODE_AUTO, limits, &ring, &fault) == OPGP_DONE
+              && opgp_ring_open_mode(text, sizeof armored - 1, OPGP_MODE_ARMOR, limits, &ring, &fault) == OPGP_DONE
+              && opgp_ring_open_mode(text, sizeof armored - 1, OPGP_MODE_BINARY, limits, &ring, &fault) == OPGP_REFUSED && fault.layer == 2,
+          "armor by each mode");
+    opgp_sizes sizes;
+    holds(opgp_ring_open(filler, sizeof filler, limits, &ring, &fault) == OPGP_DONE && opgp_ring_join(&ring, &ring, &ring) == OPGP_CLOSED
+              && ring.is_open && opgp_ring_packets(&ring, NULL, 0, NULL, 0, &sizes) == OPGP_ROOM && sizes.rows == 1,
+          "a handle joined with itself is refused, and holds what it held");
+    opgp_ring_clear(&ring);
+    holds(!ring.is_open && opgp_ring_packets(&ring, NULL, 0, NULL, 0, &sizes) == OPGP_CLOSED, "a handle that is cleared");
+    opgp_ring_clear(&ring);
+    opgp_ring_close(ring);
+    opgp_reader reader = {false, NULL};
+    holds(opgp_reader_open(limits, &reader) == OPGP_DONE && opgp_reader_push(&reader, filler, sizeof filler) == OPGP_DONE, "a reader");
+    opgp_reader_clear(&reader);
+    holds(!reader.is_open && opgp_reader_push(&reader, filler, 1) == OPGP_CLOSED, "a reader that is cleared");
+    opgp_reader_clear(&reader);
+    holds(held == 0, "what cleared handles held is let go");
+}
+
+/* Which limit is out of its range. */
+static void wrong_limits(void)
+{
+    const struct {
+        size_t at;
+        uint64_t least, most;
+    } ranges[] = {{offsetof(opgp_limits, line), 128, UINT64_C(1) << 20}, {offsetof(opgp_limits, body), 512, UINT32_MAX},
+                  {offsetof(opgp_limits, cert), 512, UINT64_C(1) << 40}, {offsetof(opgp_limits, input), 0, UINT64_C(1) << 62},
+                  {offsetof(opgp_limits, pieces), 1, UINT64_C(1) << 24}, {offsetof(opgp_limits, policies), 0, 3}};
+    for (unsigned number = 0; number < sizeof ranges / sizeof *ranges; number++) {
+        const uint64_t values[] = {ranges[number].least, ranges[number].most, ranges[number].most + 1, ranges[number].least - 1};
+        for (size_t i = 0; i < sizeof values / sizeof *values; i++) {
+            opgp_limits limits;
+            opgp_usual_limits(&limits);
+            memcpy((uint8_t *)&limits + ranges[number].at, &values[i], sizeof values[i]);
+            holds(opgp_wrong_limit(&limits) == (i < 2 ? 6 : number), "the limit that is wrong");
+        }
+    }
+    holds(held == 0, "limits that are looked at hold nothing");
+}
+
 static void rooms(void)
 {
     opgp_limits limits;
@@ -464,7 +591,9 @@ static void rooms(void)
     holds(opgp_abi() == OPGP_ABI, "the version");
     closed();
     texts();
+    wrong_limits();
     opgp_usual_limits(&limits);
+    modes(&limits);
     memset(&fault, 0xA5, sizeof fault);
     holds(opgp_ring_open(in, size, &limits, &ring, &fault) == OPGP_DONE && is_blank(&fault, 0, sizeof fault), "open");
     TRY_ROOMS(opgp_ring_packets, opgp_packet);
@@ -474,9 +603,9 @@ static void rooms(void)
     TRY_OCTETS(opgp_ring_write(&ring, 0, octets, b, &again), "packets");
     TRY_OCTETS(opgp_ring_write(&ring, 1, octets, b, &again), "armor");
     TRY_OCTETS(opgp_ring_write(&ring, UINT32_MAX, octets, b, &again), "armor by another number");
-    opgp_job row;
     sizes = (opgp_sizes){0, 0};
-    opgp_ring_jobs(&ring, &row, 0, &byte, 0, &sizes);
+    opgp_ring_jobs(&ring, NULL, 0, NULL, 0, &sizes);
+    hashed_rows(&ring, sizes.rows);
     for (uint64_t number = 0; number < sizes.rows; number++) {
         if (opgp_ring_octets(&ring, number, &byte, 0, &wanted) != OPGP_NO_ROW) {
             TRY_OCTETS(opgp_ring_octets(&ring, number, octets, b, &again), "octets");
@@ -558,19 +687,105 @@ static int count_row(void *context, size_t row, const opgp_job *job, opgp_verdic
     return count->told == count->ends_at ? 7 : 0;
 }
 
+/* From row to row: certificates, packets of signatures, what they are on, and keys by their names. */
+static void ways(const opgp_keyring *keyring)
+{
+    size_t packet_count, key_count, job_count, certificates, count, seen[3] = {0, 0, 0};
+    const opgp_packet *packets = packets_in(keyring, &packet_count), *packet;
+    const opgp_key *keys = keys_in(keyring, &key_count), *key;
+    const opgp_job *jobs = jobs_in(keyring, &job_count), *job;
+    holds(opgp_certificate_count(keyring, &certificates) == OPGP_DONE, "how many certificates");
+    while (seen[0] < packet_count && packets[seen[0]].certificate == OPGP_NONE) {
+        seen[0]++;
+    }
+    for (uint64_t number = 0; number < certificates; number++) {
+        holds(opgp_packets_of(keyring, number, &packet, &count) == OPGP_DONE && packet == &packets[seen[0]] && packet->kind == OPGP_PACKET_PUBLIC_KEY
+                  && packet[count - 1].certificate == number,
+              "the packets of a certificate");
+        seen[0] += count;
+        holds(opgp_keys_of(keyring, number, &key, &count) == OPGP_DONE && key == &keys[seen[1]] && key->component == OPGP_NONE
+                  && key[count - 1].certificate == number,
+              "the keys of a certificate");
+        seen[1] += count;
+        holds(opgp_jobs_of(keyring, number, &job, &count) == OPGP_DONE && (count == 0 ? !job : job == &jobs[seen[2]] && job->certificate == number),
+              "the jobs of a certificate");
+        seen[2] += count;
+    }
+    holds(seen[0] == packet_count && seen[1] == key_count && seen[2] == job_count, "the rows of all certificates");
+    const uint64_t none[] = {certificates, OPGP_NONE - 1, OPGP_NONE};
+    for (size_t i = 0; i < 3; i++) {
+        holds(opgp_keys_of(keyring, none[i], &key, &count) == OPGP_NO_ROW && !key && count == 0, "no certificate of a number");
+    }
+    for (size_t row = 0; row < job_count; row++) {
+        job = &jobs[row];
+        holds(opgp_packet_of(keyring, job, &packet) == OPGP_DONE && packet->certificate == job->certificate && packet->component == job->component
+                  && packet->hang == job->hang && packet->kind == OPGP_PACKET_SIGNATURE,
+              "the packet of a signature");
+        holds(opgp_subject_of(keyring, job, &packet) == OPGP_DONE && packet->certificate == job->certificate && packet->component == job->component
+                  && packet->hang == OPGP_NONE && (job->component != OPGP_NONE || packet->kind == OPGP_PACKET_PUBLIC_KEY),
+              "what a signature is on");
+    }
+    const opgp_job nowhere = {.certificate = certificates};
+    holds(opgp_packet_of(keyring, &nowhere, &packet) == OPGP_NO_ROW && !packet && opgp_subject_of(keyring, &nowhere, &packet) == OPGP_NO_ROW,
+          "no packet of a place");
+    for (size_t i = 0; i < key_count; i++) {
+        size_t by_print = SIZE_MAX, by_id = SIZE_MAX;
+        holds(opgp_find_key(keyring, keys[i].print, keys[i].print_size, i, &by_print) == OPGP_DONE && by_print == i
+                  && opgp_find_key(keyring, keys[i].key_id, 8, i, &by_id) == OPGP_DONE && by_id == i,
+              "a key by its names");
+        holds(opgp_find_key(keyring, keys[i].print, keys[i].print_size, 0, &by_print) == OPGP_DONE && by_print <= i
+                  && opgp_find_key(keyring, keys[i].print, 7, 0, &by_id) == OPGP_NO_ROW && by_id == i,
+              "a key by a part of its name");
+    }
+    size_t past = 7;
+    holds(opgp_find_key(keyring, NULL, 0, 0, &past) == OPGP_NO_ROW && opgp_find_key(keyring, in, 20, SIZE_MAX, &past) == OPGP_NO_ROW && past == 7,
+          "no key of that name");
+}
+
+/* What each row hashes is the same whatever was asked before: up, down, each twice, by another keyring. */
+static void orders(const opgp_keyring *keyring, size_t rows)
+{
+    for (int way = 0; way < 3; way++) {
+        for (size_t i = 0; i <= rows; i++) {
+            size_t row = way == 1 ? rows - i : i, n = 0, again = 0;
+            uint8_t *octets = NULL, *others = NULL;
+            opgp_keyring *other = NULL;
+            uint32_t status = opgp_octets(keyring, row, &octets, &n);
+            holds(opgp_open(in, size, NULL, &other, NULL) == OPGP_DONE && opgp_octets(other, row, &others, &again) == status && n == again
+                      && (status == OPGP_DONE ? memcmp(octets, others, n) == 0 : status == OPGP_NO_ROW && !octets && !others),
+                  "what a row hashes");
+            free(octets);
+            free(others);
+            opgp_close(other);
+            if (way == 2) {
+                holds(opgp_octets(keyring, row, &octets, &n) == status && n == again, "the same row again");
+                free(octets);
+            }
+        }
+    }
+}
+
 static void on_top(void)
 {
     opgp_keyring *keyring = NULL;
     uint8_t *octets;
     size_t n, rows, count = 1;
+    const opgp_subpacket *found = NULL;
+    const opgp_packet *packet = NULL;
     opgp_limits limits = {0, 0, 0, 0, 0, 0};
     char text[OPGP_FAULT_ROOM], name[OPGP_NAME_ROOM];
     const opgp_fault longest = {UINT64_MAX, UINT64_MAX, UINT64_MAX, 4, 53, {0}}, unknown = {1, 2, 3, 5, 255, {0}};
 
-    holds(opgp_open(NULL, 0, NULL, &keyring, NULL) == OPGP_DONE && opgp_packet_count(keyring) == 0 && opgp_key_count(keyring) == 0
-              && opgp_job_count(keyring) == 0 && !opgp_packet_at(keyring, 0) && !opgp_key_at(keyring, 0) && !opgp_job_at(keyring, 0),
-          "an empty keyring");
-    holds(!opgp_subpackets_of(keyring, 0, &count) && count == 0, "subpackets of a row that isn't there");
+    holds(opgp_open(NULL, 0, NULL, &keyring, NULL) == OPGP_DONE, "an empty keyring");
+    packets_in(keyring, &n);
+    keys_in(keyring, &rows);
+    holds(n == 0 && rows == 0, "its packets and keys");
+    jobs_in(keyring, &n);
+    subpackets_in(keyring, &rows);
+    holds(n == 0 && rows == 0, "its jobs and subpackets");
+    holds(opgp_subpackets_of(keyring, 0, &found, &count) == OPGP_NO_ROW && !found && count == 0, "subpackets of a row that isn't there");
+    holds(opgp_certificate_count(keyring, &count) == OPGP_DONE && count == 0, "no certificates");
+    holds(opgp_packets_of(keyring, 0, &packet, &count) == OPGP_NO_ROW && !packet && count == 0, "packets of no certificate");
     holds(opgp_write(keyring, false, &octets, &n) == OPGP_DONE && octets && n == 0, "an empty keyring written");
     free(octets);
     opgp_close(keyring);
@@ -578,21 +793,33 @@ static void on_top(void)
     holds(opgp_open(in, size, &limits, &keyring, NULL) == OPGP_LIMITS && !keyring, "limits that aren't any");
     holds(opgp_open((const uint8_t *)"x", 1, NULL, &keyring, NULL) == OPGP_REFUSED && !keyring, "an input that is refused");
     holds(opgp_open(in, size, NULL, &keyring, NULL) == OPGP_DONE, "a keyring");
-    rows = opgp_job_count(keyring);
+    jobs_in(keyring, &rows);
     for (size_t row = 0; row <= rows + 1; row++) {
-        const opgp_subpacket *found = opgp_subpackets_of(keyring, row, &count);
-        holds(row < rows ? !found == !count : !found && count == 0, "subpackets of a row");
+        uint32_t status = opgp_subpackets_of(keyring, row, &found, &count);
+        holds(row < rows ? status == OPGP_DONE && !found == !count : status == OPGP_NO_ROW && !found && count == 0, "subpackets of a row");
     }
     count = 1;
-    holds(!opgp_subpackets_of(keyring, SIZE_MAX, &count) && count == 0, "subpackets past the last row");
+    holds(opgp_subpackets_of(keyring, SIZE_MAX, &found, &count) == OPGP_NO_ROW && !found && count == 0, "subpackets past the last row");
+    ways(keyring);
+    orders(keyring, rows);
+    opgp_keyring *twice = NULL;
+    uint8_t *alone = NULL;
+    size_t size_of_it = 0;
+    holds(opgp_join(keyring, keyring, &twice) == OPGP_DONE && opgp_write(twice, false, &octets, &n) == OPGP_DONE
+              && opgp_write(keyring, false, &alone, &size_of_it) == OPGP_DONE && n == 2 * size_of_it && memcmp(octets, alone, size_of_it) == 0
+              && memcmp(octets + size_of_it, alone, size_of_it) == 0,
+          "a keyring joined with itself");
+    free(octets);
+    free(alone);
+    opgp_close(twice);
     holds(opgp_octets(keyring, rows, &octets, &n) == OPGP_NO_ROW && !octets && n == 0, "octets past the last row");
     for (int answer = -1; answer < 4; answer++) {
         struct count count = {0, 0, 0, answer};
-        holds(opgp_check(keyring, count_question, count_row, &count) == 0 && count.told == rows && count.asked <= rows, "a check");
+        holds(opgp_check(keyring, count_question, count_row, &count) == OPGP_DONE && count.told == rows && count.asked <= rows, "a check");
     }
     for (size_t end = 1; end <= rows; end++) {
         struct count count = {0, 0, end, OPGP_GOOD};
-        holds(opgp_check(keyring, count_question, count_row, &count) == 7 && count.told == end, "a check that is ended");
+        holds(opgp_check(keyring, count_question, count_row, &count) == OPGP_ENDED && count.told == end, "a check that is ended");
     }
     opgp_close(keyring);
     holds(strcmp(opgp_fault_text(&longest, text), "composition: NotASignedLiteral block 18446744073709551615 at 18446744073709551615 "
@@ -634,7 +861,31 @@ static bool everything(void)
         is_well = is_well && status == OPGP_DONE;
         free(octets);
     }
-    for (size_t row = 0; row <= opgp_job_count(keyring); row++) {
+    const opgp_packet *packets;
+    const opgp_key *keys;
+    const opgp_subpacket *subpackets;
+    const opgp_job *jobs;
+    size_t rows, first;
+    struct count count = {0, 0, 0, OPGP_GOOD};
+    status = opgp_check(keyring, NULL, count_row, &count);
+    holds(status == OPGP_DONE || (status == OPGP_MEMORY && count.told == 0), "a check where memory runs out");
+    is_well = is_well && status == OPGP_DONE;
+    status = opgp_packets(keyring, &packets, &rows);
+    holds(status == OPGP_DONE ? packets && rows : status == OPGP_MEMORY && !packets && !rows, "packets where memory runs out");
+    is_well = is_well && status == OPGP_DONE;
+    status = opgp_keys(keyring, &keys, &rows);
+    holds(status == OPGP_DONE ? keys != NULL : status == OPGP_MEMORY && !keys && !rows, "keys where memory runs out");
+    is_well = is_well && status == OPGP_DONE;
+    status = opgp_subpackets(keyring, &subpackets, &rows);
+    holds(status == OPGP_DONE ? subpackets != NULL : status == OPGP_MEMORY && !subpackets && !rows, "subpackets where memory runs out");
+    is_well = is_well && status == OPGP_DONE;
+    status = opgp_jobs(keyring, &jobs, &rows);
+    holds(status == OPGP_DONE ? jobs != NULL : status == OPGP_MEMORY && !jobs && !rows, "jobs where memory runs out");
+    is_well = is_well && status == OPGP_DONE;
+    status = opgp_subpackets_of(keyring, 0, &subpackets, &first);
+    holds(status == OPGP_DONE || status == OPGP_NO_ROW || status == OPGP_MEMORY, "subpackets of a row where memory runs out");
+    is_well = is_well && status != OPGP_MEMORY;
+    for (size_t row = 0; row <= rows; row++) {
         status = opgp_octets(keyring, row, &octets, &n);
         holds(status == OPGP_DONE ? n > 0 : (status == OPGP_NO_ROW || status == OPGP_MEMORY) && !octets && n == 0,
               "octets where memory runs out");
@@ -643,12 +894,13 @@ static bool everything(void)
     }
     opgp_keyring *other, *made;
     status = opgp_normalise(keyring, &other);
-    for (int way = 0; way < 4 && status == OPGP_DONE; way++) {
+    for (int way = 0; way < 5 && status == OPGP_DONE; way++) {
         status = way == 0   ? opgp_merge(keyring, &made)
                  : way == 1 ? opgp_join(keyring, other, &made)
-                 : way == 2 ? opgp_certificate(keyring, 0, &made)
+                 : way == 2 ? opgp_join(keyring, keyring, &made)
+                 : way == 3 ? opgp_certificate(keyring, 0, &made)
                             : opgp_certificate(keyring, UINT64_MAX, &made);
-        holds(status == OPGP_DONE ? way < 3 : !made && (status == OPGP_MEMORY || (way == 3 && status == OPGP_NO_ROW)),
+        holds(status == OPGP_DONE ? way < 4 : !made && (status == OPGP_MEMORY || (way == 4 && status == OPGP_NO_ROW)),
               "a keyring made where memory runs out");
         opgp_close(made);
         status = status == OPGP_NO_ROW ? OPGP_DONE : status;
@@ -658,6 +910,45 @@ static bool everything(void)
     opgp_close(other);
     opgp_close(keyring);
     return is_well;
+}
+
+/* Reads the input in small pieces by the loop of docs/LIBRARY-C.md, which goes on where a part can't be taken now: with OPGP_DONE of
+ * the end and OPGP_NO_ROW of the last take, all parts were taken; whether it went well. */
+static size_t all_parts;
+
+static bool take_patiently(void)
+{
+    opgp_limits limits;
+    opgp_reader reader = {false, NULL};
+    opgp_keyring *part;
+    opgp_fault fault;
+    size_t parts = 0;
+    opgp_usual_limits(&limits);
+    uint32_t status = opgp_reader_open(&limits, &reader), taken_status = OPGP_NO_ROW;
+    for (size_t at = 0; status == OPGP_DONE && at < size; at += 60) {
+        status = opgp_reader_push(&reader, in + at, size - at < 60 ? size - at : 60);
+        while (status == OPGP_DONE && (taken_status = opgp_take(&reader, &part)) == OPGP_DONE) {
+            parts++;
+            opgp_close(part);
+        }
+    }
+    status = status == OPGP_DONE ? opgp_reader_end(&reader, &fault) : status;
+    while (status == OPGP_DONE && (taken_status = opgp_take(&reader, &part)) == OPGP_DONE) {
+        parts++;
+        opgp_close(part);
+    }
+    /* A part for whose struct there was no memory waits; one more turn gives it. */
+    if (status == OPGP_DONE && taken_status == OPGP_MEMORY && opgp_reader_end(&reader, &fault) == OPGP_DONE) {
+        while ((taken_status = opgp_take(&reader, &part)) == OPGP_DONE) {
+            parts++;
+            opgp_close(part);
+        }
+    }
+    bool is_whole = status == OPGP_DONE && taken_status == OPGP_NO_ROW;
+    all_parts = fails_at == 0 ? parts : all_parts;
+    holds(!is_whole || parts == all_parts, "no part is lost where a reading ends well");
+    opgp_reader_close(reader);
+    return is_whole;
 }
 
 /* Reads the input in one piece, and takes each part with its tables; whether it went well. */
@@ -674,7 +965,13 @@ static bool take_everything(void)
     status = status == OPGP_DONE ? opgp_reader_end(&reader, &fault) : status;
     while (status == OPGP_DONE) {
         status = opgp_take(&reader, &part);
-        holds(status == OPGP_DONE ? opgp_packet_count(part) > 0 : !part, "a part where memory runs out");
+        holds(status == OPGP_DONE ? part != NULL : !part, "a part where memory runs out");
+        if (status == OPGP_DONE) {
+            const opgp_packet *packets;
+            size_t count;
+            status = opgp_packets(part, &packets, &count);
+            holds(status == OPGP_DONE ? count > 0 : status == OPGP_MEMORY, "the packets of a part where memory runs out");
+        }
         opgp_close(part);
     }
     holds(status == OPGP_NO_ROW || status == OPGP_MEMORY, "what taking parts answers where memory runs out");
@@ -699,6 +996,8 @@ static void memory(void)
 {
     wants_memory(everything);
     wants_memory(take_everything);
+    take_patiently();
+    wants_memory(take_patiently);
 }
 
 /* ---- Reading in pieces */
@@ -791,7 +1090,9 @@ static void reader_statuses(void)
     holds(opgp_reader_push(&reader, in, 0) == OPGP_ENDED, "an empty piece behind the end");
     size_t count = 0;
     while (opgp_take(&reader, &keyring) == OPGP_DONE) {
-        holds(opgp_packet_count(keyring) > 0, "the packets of a part");
+        size_t packets;
+        packets_in(keyring, &packets);
+        holds(packets > 0, "the packets of a part");
         opgp_close(keyring);
         count++;
     }
@@ -812,11 +1113,12 @@ static void pieces(void)
     memset(&fault, 0xA5, sizeof fault);
     uint32_t status = opgp_open(in, size, NULL, &whole, &fault);
     if (status == OPGP_DONE) {
-        size_t count = opgp_packet_count(whole);
+        size_t count;
+        const opgp_packet *packets = packets_in(whole, &count);
         holds(opgp_write(whole, false, &octets, &n) == OPGP_DONE, "the packets of the whole");
         for (size_t i = 0; i < count; i++) {
-            uint64_t before = i ? opgp_packet_at(whole, i - 1)->certificate : UINT64_MAX - 1;
-            parts += opgp_packet_at(whole, i)->certificate != before;
+            uint64_t before = i ? packets[i - 1].certificate : UINT64_MAX - 1;
+            parts += packets[i].certificate != before;
         }
     }
     opgp_close(whole);
@@ -1024,20 +1326,40 @@ static int count_good(void *context, size_t row, const opgp_job *job, opgp_verdi
     return 0;
 }
 
+/* Whether calls on the keyring of all threads answer as calls on one of this thread's own; the tables are made by whoever is first. */
+static bool are_alike(const opgp_keyring *own, const opgp_keyring *shared, int turn)
+{
+    const opgp_key *keys;
+    const opgp_job *jobs;
+    uint8_t *texts[2] = {NULL, NULL}, *octets[2] = {NULL, NULL};
+    size_t count[2], rows[2], n[2], hashed[2], good = 0;
+    opgp_keyring *made = NULL;
+    bool is_well = opgp_join(shared, turn % 2 ? own : shared, &made) == OPGP_DONE;
+    opgp_close(made);
+    for (int i = 0; i < 2; i++) {
+        const opgp_keyring *it = i ? shared : own;
+        is_well = is_well && opgp_keys(it, &keys, &count[i]) == OPGP_DONE && opgp_jobs(it, &jobs, &rows[i]) == OPGP_DONE
+                  && opgp_write(it, turn % 2 == 0, &texts[i], &n[i]) == OPGP_DONE;
+        uint32_t status = opgp_octets(it, (uint64_t)turn % 4, &octets[i], &hashed[i]);
+        is_well = is_well && (status == OPGP_DONE || status == OPGP_NO_ROW);
+    }
+    is_well = is_well && count[0] == count[1] && rows[0] == rows[1] && n[0] == n[1] && memcmp(texts[0], texts[1], n[0]) == 0
+              && hashed[0] == hashed[1] && (hashed[0] == 0 || memcmp(octets[0], octets[1], hashed[0]) == 0)
+              && opgp_check(shared, NULL, count_good, &good) == OPGP_DONE && good == 0;
+    for (int i = 0; i < 2; i++) {
+        free(texts[i]);
+        free(octets[i]);
+    }
+    return is_well;
+}
+
 static void *reader(void *argument)
 {
     struct shared *shared = argument;
     for (int turn = 0; turn < TURNS; turn++) {
         opgp_keyring *keyring;
-        uint8_t *octets = NULL;
-        size_t n, good = 0;
         bool is_open = opgp_open(in, size, NULL, &keyring, NULL) == OPGP_DONE;
-        if (!is_open || opgp_key_count(keyring) != opgp_key_count(shared->keyring)
-            || opgp_write(keyring, turn % 2 == 0, &octets, &n) != OPGP_DONE
-            || opgp_check(shared->keyring, NULL, count_good, &good) != 0 || good != 0) {
-            shared->is_wrong = true;
-        }
-        free(octets);
+        shared->is_wrong = shared->is_wrong || !is_open || !are_alike(keyring, shared->keyring, turn);
         opgp_close(keyring);
     }
     return NULL;

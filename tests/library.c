@@ -67,16 +67,35 @@ static void print_key(FILE *file, const opgp_key *key)
     fputc('\n', file);
 }
 
+#define ROWS_BY(NAME, CALL, TYPE)                                       \
+    static const TYPE *NAME(const opgp_keyring *keyring, size_t *count) \
+    {                                                                   \
+        const TYPE *rows;                                               \
+        if (CALL(keyring, &rows, count) != OPGP_DONE) {                 \
+            fail(#CALL);                                                \
+        }                                                               \
+        return rows;                                                    \
+    }
+
+ROWS_BY(packets_in, opgp_packets, opgp_packet)
+ROWS_BY(keys_in, opgp_keys, opgp_key)
+ROWS_BY(jobs_in, opgp_jobs, opgp_job)
+
 /* The data of each subpacket stands right behind that of the one before, and its fields behind the octets of its numbers; they end
  * where the data does, but for the octet 0 behind a text. Each has the place of its signature. */
 static void hold_subpackets(const opgp_keyring *keyring)
 {
     static const uint8_t of_numbers[] = {0, 4, 1, 2, 0, 0, 2, 0, 8, 1, 2, 0, 1, 0};
     uint64_t data = 0;
-    for (size_t row = 0; row < opgp_job_count(keyring); row++) {
-        const opgp_job *job = opgp_job_at(keyring, row);
+    size_t jobs;
+    const opgp_job *first = jobs_in(keyring, &jobs);
+    for (size_t row = 0; row < jobs; row++) {
+        const opgp_job *job = &first[row];
         size_t count;
-        const opgp_subpacket *rows = opgp_subpackets_of(keyring, row, &count);
+        const opgp_subpacket *rows;
+        if (opgp_subpackets_of(keyring, row, &rows, &count) != OPGP_DONE) {
+            fail("opgp_subpackets_of");
+        }
         for (size_t number = 0; number < count; number++) {
             const opgp_subpacket *it = &rows[number];
             uint64_t fields = it->field_sizes[0] + it->field_sizes[1];
@@ -96,20 +115,24 @@ static void hold_subpackets(const opgp_keyring *keyring)
 static void hold_places(const opgp_keyring *keyring)
 {
     uint64_t packets = 0, keys = 0, jobs = 0;
-    for (size_t number = 0; number < opgp_packet_count(keyring); packets += opgp_packet_at(keyring, number++)->size) {
-        if (opgp_packet_at(keyring, number)->at != packets) {
+    size_t count;
+    const opgp_packet *packet = packets_in(keyring, &count);
+    for (size_t number = 0; number < count; packets += packet[number++].size) {
+        if (packet[number].at != packets) {
             fail("the place of a packet");
         }
     }
-    for (size_t number = 0; number < opgp_key_count(keyring); number++) {
-        const opgp_key *key = opgp_key_at(keyring, number);
+    const opgp_key *first_key = keys_in(keyring, &count);
+    for (size_t number = 0; number < count; number++) {
+        const opgp_key *key = &first_key[number];
         if (key->at != keys) {
             fail("the place of a key");
         }
         keys += key->sizes[0] + key->sizes[1] + key->sizes[2] + key->sizes[3];
     }
-    for (size_t number = 0; number < opgp_job_count(keyring); number++) {
-        const opgp_job *job = opgp_job_at(keyring, number);
+    const opgp_job *first_job = jobs_in(keyring, &count);
+    for (size_t number = 0; number < count; number++) {
+        const opgp_job *job = &first_job[number];
         if (job->at != jobs) {
             fail("the place of a signature");
         }
@@ -131,8 +154,10 @@ static void add(struct found *found, opgp_keyring *keyring)
     size_t size;
     hold_places(keyring);
     found->parts++;
-    for (size_t number = 0; number < opgp_key_count(keyring); number++) {
-        print_key(found->lines.file, opgp_key_at(keyring, number));
+    size_t keys;
+    const opgp_key *first = keys_in(keyring, &keys);
+    for (size_t number = 0; number < keys; number++) {
+        print_key(found->lines.file, &first[number]);
     }
     if (opgp_write(keyring, false, &octets, &size) != OPGP_DONE) {
         fail("opgp_write");
@@ -219,11 +244,13 @@ static void add_made(struct found *found, uint32_t status, opgp_keyring *made)
 /* Adds what each signature hashes that is hashed, behind a line with its row and how much that is. */
 static void add_whole(struct found *found, opgp_keyring *keyring)
 {
-    for (size_t row = 0; row < opgp_job_count(keyring); row++) {
+    size_t jobs;
+    const opgp_job *first = jobs_in(keyring, &jobs);
+    for (size_t row = 0; row < jobs; row++) {
         uint8_t *octets;
         size_t size;
         uint32_t status = opgp_octets(keyring, row, &octets, &size);
-        if ((status != OPGP_DONE) != (opgp_job_at(keyring, row)->why != 0) || (status != OPGP_DONE && status != OPGP_NO_ROW)) {
+        if ((status != OPGP_DONE) != (first[row].why != OPGP_WHY_HASHED) || (status != OPGP_DONE && status != OPGP_NO_ROW)) {
             fail("opgp_octets");
         }
         if (status == OPGP_DONE) {
@@ -237,7 +264,7 @@ static void add_whole(struct found *found, opgp_keyring *keyring)
 /* What a row's line is made of. */
 struct lines {
     FILE *file;
-    const opgp_keyring *keyring;
+    const opgp_key *keys;
 };
 
 static void print_place(FILE *file, const char *word, uint64_t number)
@@ -267,7 +294,7 @@ static int print_row(void *context, size_t row, const opgp_job *job, opgp_verdic
         fputc('-', lines->file);
     } else {
         for (size_t i = 0; i < 8; i++) {
-            fprintf(lines->file, "%02X", opgp_key_at(lines->keyring, (size_t)job->signer)->key_id[i]);
+            fprintf(lines->file, "%02X", lines->keys[job->signer].key_id[i]);
         }
     }
     fprintf(lines->file, " digest %02X%02X verdict %s\n", job->digest[0], job->digest[1], verdict == OPGP_BAD ? "bad" : "undecided");
@@ -291,7 +318,9 @@ static void add_last(struct found *found, opgp_keyring *keyring)
 {
     uint8_t *octets;
     size_t size;
-    uint32_t status = opgp_octets(keyring, opgp_job_count(keyring) - 1, &octets, &size);
+    size_t jobs;
+    jobs_in(keyring, &jobs);
+    uint32_t status = opgp_octets(keyring, jobs - 1, &octets, &size);
     if (status == OPGP_DONE) {
         fwrite(octets, 1, size, found->octets.file);
         free(octets);
@@ -303,7 +332,7 @@ static void add_last(struct found *found, opgp_keyring *keyring)
 /* What is made of the keyring of one call. */
 static void make(struct found *found, const char *way, const uint8_t *in, size_t n)
 {
-    opgp_keyring *keyring, *other, *made = NULL;
+    opgp_keyring *keyring, *made = NULL;
     opgp_fault fault;
     uint32_t status = opgp_open(in, n, NULL, &keyring, &fault);
     if (status != OPGP_DONE) {
@@ -311,14 +340,15 @@ static void make(struct found *found, const char *way, const uint8_t *in, size_t
         return;
     }
     if (strchr("lawr", way[0])) {
-        struct lines lines = {found->octets.file, keyring};
+        size_t keys;
+        struct lines lines = {found->octets.file, keys_in(keyring, &keys)};
         if (strcmp(way, "last") == 0) {
             add_last(found, keyring);
         } else if (strcmp(way, "armor") == 0) {
             add_armor(found, keyring);
         } else if (strcmp(way, "whole") == 0) {
             add_whole(found, keyring);
-        } else if (opgp_check(keyring, NULL, print_row, &lines) != 0) {
+        } else if (opgp_check(keyring, NULL, print_row, &lines) != OPGP_DONE) {
             fail("opgp_check");
         }
         opgp_close(keyring);
@@ -331,10 +361,11 @@ static void make(struct found *found, const char *way, const uint8_t *in, size_t
     } else if (strcmp(way, "first") == 0) {
         status = opgp_certificate(keyring, 0, &made);
     } else if (strcmp(way, "end") == 0) {
-        status = opgp_certificate(keyring, opgp_packet_at(keyring, opgp_packet_count(keyring) - 1)->certificate, &made);
-    } else if ((status = opgp_open(in, n, NULL, &other, &fault)) == OPGP_DONE) {
-        status = opgp_join(keyring, other, &made);
-        opgp_close(other);
+        size_t certificates;
+        status = opgp_certificate_count(keyring, &certificates);
+        status = status == OPGP_DONE ? opgp_certificate(keyring, certificates - 1, &made) : status;
+    } else {
+        status = opgp_join(keyring, keyring, &made);
     }
     add_made(found, status, made);
     opgp_close(keyring);

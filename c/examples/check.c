@@ -8,8 +8,6 @@
 
 #include <openssl/evp.h>
 
-enum { ED25519 = 27 };
-
 /* Whether the key made this signature over the digest, which is the message that Ed25519 signs. */
 static opgp_verdict verify(void *context, const opgp_question *question)
 {
@@ -17,7 +15,7 @@ static opgp_verdict verify(void *context, const opgp_question *question)
     opgp_span made = question->made[0], point = question->key[0];
     opgp_verdict verdict = OPGP_UNDECIDED;
     (void)context;
-    if (job->algorithm != ED25519 || question->signer->algorithm != ED25519) {
+    if (job->algorithm != OPGP_KEY_ED25519 || question->signer->algorithm != OPGP_KEY_ED25519) {
         return OPGP_UNDECIDED;
     }
     EVP_PKEY *key = EVP_PKEY_new_raw_public_key(EVP_PKEY_ED25519, NULL, point.octets, point.size);
@@ -47,7 +45,7 @@ int main(void)
     if (!keyring) {
         return status;
     }
-    opgp_check(keyring, verify, report, NULL);
+    uint32_t checked = opgp_check(keyring, verify, report, NULL);
     opgp_close(keyring);
-    return fflush(stdout) ? 3 : 0;
+    return checked != OPGP_DONE || fflush(stdout) ? 3 : 0;
 }

@@ -31,9 +31,12 @@ int main(void)
     if (!keyring) {
         return status;
     }
-    for (size_t number = 0; number < opgp_key_count(keyring); number++) {
-        print_key(opgp_key_at(keyring, number));
+    const opgp_key *keys;
+    size_t count;
+    uint32_t made = opgp_keys(keyring, &keys, &count);
+    for (size_t number = 0; number < count; number++) {
+        print_key(&keys[number]);
     }
     opgp_close(keyring);
-    return fflush(stdout) ? 3 : 0;
+    return made != OPGP_DONE || fflush(stdout) ? 3 : 0;
 }

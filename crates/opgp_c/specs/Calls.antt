@@ -6,9 +6,10 @@ use Rattle.opgp_octets.specs.declared.limits.Limits.{Limits}
 use Rattle.opgp_ring.specs.Keyring.{KeyringValue}
 use Rattle.opgp_engine.specs.Keyrings.{ComposesTo, key_label}
 use Rattle.opgp_engine.specs.Reading.{AnswerOf, Outcome}
-use Rattle.opgp_engine.specs.declared.mode.Mode.TheVariants.{Auto}
+use Rattle.opgp_engine.specs.declared.mode.Mode.{Mode}
+use Rattle.opgp_engine.specs.declared.mode.Mode.TheVariants.{Auto, Armor, Binary}
 use Rattle.opgp_engine.specs.declared.out.Out.{Out}
-use Rattle.opgp_engine.specs.declared.out.Out.TheVariants.{Armor, Binary}
+use Rattle.opgp_engine.specs.declared.out.Out.TheVariants as written
 use Rattle.opgp_flat.specs.declared.fault_row.FaultRow.{FaultRow}
 use Rattle.opgp_flat.specs.declared.given_limits.GivenLimits.{GivenLimits}
 use Rattle.opgp_flat.specs.FaultRow.{fault_row}
@@ -18,14 +19,27 @@ use Rattle.opgp_flat.specs.declared.names.NumberTable.{NumberTable}
 use Rattle.opgp_c.specs.declared.ring.Ring.{Ring}
 use Rattle.opgp_c.specs.declared.sizes.Sizes.{Sizes}
 
--- this is the answer to an input, armored or binary, within the given limits
-abbrev pub Answers : GivenLimits → List ℕ → Outcome KeyringValue → Type 0
-Answers given input answer =
-    (l : Limits) × AreThese l given × AnswerOf key_label (ComposesTo l) Auto l input answer
+-- this is the answer to an input that is read by a mode, within the given limits
+abbrev pub AnswersBy : Mode → GivenLimits → List ℕ → Outcome KeyringValue → Type 0
+AnswersBy mode given input answer =
+    (l : Limits) × AreThese l given × AnswerOf key_label (ComposesTo l) mode l input answer
 
 -- the input is refused for the fault of this row
+abbrev pub RefusesBy : Mode → GivenLimits → List ℕ → FaultRow → Type 0
+RefusesBy mode given input row =
+    (f : Fault) × AnswersBy mode given input (Err f) × (row ≡ fault_row f)
+
+-- the same of an input that is armored or binary, as its first octet says
+abbrev pub Answers : GivenLimits → List ℕ → Outcome KeyringValue → Type 0
+Answers = AnswersBy Auto
+
 abbrev pub Refuses : GivenLimits → List ℕ → FaultRow → Type 0
-Refuses given input row = (f : Fault) × Answers given input (Err f) × (row ≡ fault_row f)
+Refuses = RefusesBy Auto
+
+-- the mode of a number, if there is one
+abbrev pub mode_by : ℕ → Option Mode
+mode_by n = if n == 0 then Some Auto else if n == 1 then Some Armor else if n == 2 then Some Binary
+    else None
 
 -- a table that begins with these items, and else is as it was
 abbrev pub IsFilled : {A : Type 0} → List A → List A → List A → Type 0
@@ -75,7 +89,7 @@ pub record KeepsMade (made : KeyringValue → KeyringValue) (ring ring' into int
 
 -- any number but 0 asks for armor
 abbrev pub out_of : ℕ → Out
-out_of armor = if armor == 0 then Binary else Armor
+out_of armor = if armor == 0 then written.Binary else written.Armor
 
 -- the name that a table, if there is one, has for a number
 abbrev pub name_by : Option NumberTable → ℕ → Option (List ℕ)

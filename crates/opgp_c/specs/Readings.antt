@@ -44,12 +44,19 @@ IsReading u (Ended waiting) = Ends u (Ok waiting)
 IsReading u (Refused fault) = Ends u (Err fault)
 IsReading u Lost = Unit {0}
 
--- the reading was used so, and has ended, or ran out of memory
+-- the reading was used so, and has ended
 abbrev pub HasEnded : Use → Reading → Type 0
 HasEnded u (Going reader) = ⊥
 HasEnded u (Ended waiting) = Ends u (Ok waiting)
 HasEnded u (Refused fault) = Ends u (Err fault)
-HasEnded u Lost = Unit {0}
+HasEnded u Lost = ⊥
+
+-- the reading was used so, and has ended, or ran out of memory
+abbrev pub IsOver : Use → Reading → Type 0
+IsOver u (Going reader) = ⊥
+IsOver u (Ended waiting) = Ends u (Ok waiting)
+IsOver u (Refused fault) = Ends u (Err fault)
+IsOver u Lost = Unit {0}
 
 -- the parts that wait to be taken, in order
 abbrev pub waiting_in : Reading → List PartValue

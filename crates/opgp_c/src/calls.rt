@@ -4,7 +4,8 @@ ghost use Rattle.std.specs.Prelude.{◌≡◌, ◌≢◌, ◌↔◌, ◌⊎◌, 
 ghost use Rattle.opgp_ring.specs.Keyring.{flat};
 ghost use Rattle.opgp_engine.specs.Writing.{packets_text};
 ghost use Rattle.opgp_flat.specs.GivenLimits.{MayBeGiven};
-ghost use Rattle.opgp_c.specs.Calls.{Answers, AreSized, IsFilled, IsShort, Refuses, out_of};
+ghost use Rattle.opgp_c.specs.Calls.{AnswersBy, AreSized, IsFilled, IsShort, RefusesBy, mode_by};
+ghost use Rattle.opgp_c.specs.Calls.{out_of};
 
 use crate::sizes::Sizes;
 use crate::status::{DONE, LIMITS, MEMORY, REFUSED, ROOM};
@@ -14,15 +15,16 @@ use opgp_flat::{FaultRow, GivenLimits, fill};
 use opgp_ring::Keyring;
 use std::alloc::Global;
 
-/// The keyring of an input; or the status that says why there is none.
+/// The keyring of an input that is read by a mode; or the status that says why there is none.
 pub(crate) fn read_ring(
     alloc: Global,
     input: &[u8],
+    mode: Mode,
     limits: &GivenLimits,
     fault: &mut FaultRow,
 ) -> Result<Keyring, u32>
-    ensures ring { IfOk result (λ r. Answers limits.now input.now (Ok r)) }
-    ensures refused { result ≡ Err 1 → Refuses limits.now input.now fault.new }
+    ensures ring { IfOk result (λ r. AnswersBy mode limits.now input.now (Ok r)) }
+    ensures refused { result ≡ Err 1 → RefusesBy mode limits.now input.now fault.new }
     ensures fault { result ≢ Err 1 → fault.new ≡ fault.old }
     ensures limits { result ≡ Err 4 → MayBeGiven limits.now → ⊥ }
     ensures allowed { result ≢ Err 4 → MayBeGiven limits.now }
@@ -32,13 +34,25 @@ pub(crate) fn read_ring(
         return Err(LIMITS);
     };
     let mut source = Watched::new(input);
-    match read_keyring(alloc, &mut source, Mode::Auto, &limits) {
+    match read_keyring(alloc, &mut source, mode, &limits) {
         Ok(Answer::Ring(keyring)) => Ok(keyring),
         Ok(Answer::Refused(found)) => {
             *fault = FaultRow::of(found);
             Err(REFUSED)
         }
         Err(_) => Err(MEMORY),
+    }
+}
+
+/// The mode of a number, if there is one.
+pub(crate) fn mode_by(number: u32) -> Option<Mode>
+    ensures { result ≡ mode_by number }
+{
+    match number {
+        0 => Some(Mode::Auto),
+        1 => Some(Mode::Armor),
+        2 => Some(Mode::Binary),
+        _ => None,
     }
 }
 

@@ -21,9 +21,11 @@ ghost use Rattle.opgp_merge.specs.Merged.{merged_of};
 ghost use Rattle.opgp_ring.specs.Joining.{nth_of};
 ghost use Rattle.opgp_ring.specs.Keyring.{flat};
 ghost use Rattle.opgp_ring.specs.Normal.{normal_of};
-ghost use Rattle.opgp_c.specs.Calls.{Answers, HoldsTheSame, IsFilled, KeepsMade, PutsTables};
-ghost use Rattle.opgp_c.specs.Calls.{Refuses};
-ghost use Rattle.opgp_c.specs.Calls.{name_by, out_of};
+ghost use Rattle.opgp_c.specs.Calls.{Answers, AnswersBy, HoldsTheSame, IsFilled, KeepsMade};
+ghost use Rattle.opgp_c.specs.Calls.{PutsTables, Refuses, RefusesBy, mode_by, name_by, out_of};
+ghost use Rattle.opgp_c.specs.declared.reading_slot.Reading.TheVariants.{Lost};
+ghost use Rattle.opgp_engine.specs.declared.mode.Mode.{Mode};
+ghost use Rattle.opgp_flat.specs.HashedRows.{hashed_bytes, hashed_rows};
 ghost use Rattle.opgp_c.specs.Readings.{HasEnded, Holds, HoldsPart, IsEnded, IsGoing, IsRefused};
 ghost use Rattle.opgp_c.specs.Readings.{StaysWhat, begun, waiting_in};
 ghost use Rattle.opgp_engine.specs.PartReader.{Use, given, taking};
@@ -48,17 +50,20 @@ mod status;
 mod tables;
 mod text;
 
-use crate::calls::{put_octets, put_text, read_ring};
-use crate::making::{Merged, Normal, keep, keep_joined, keep_made, keep_nth};
+use crate::calls::{mode_by, put_octets, put_text, read_ring};
+use crate::making::{Merged, Normal, joined, keep, keep_found, keep_made};
 use crate::reader::Reader;
 use crate::reading::{begin, end_input, push_piece, take_part};
 use crate::ring::Ring;
 use crate::sizes::Sizes;
-use crate::status::{DONE, LIMITS, MEMORY, NO_ROW};
-use crate::tables::{put_row_octets, put_table};
+use crate::status::{CLOSED, DONE, LIMITS, MEMORY, NO_ROW};
+use crate::tables::{Window, put_hashed, put_row_octets, put_table};
+use opgp_engine::Mode;
 use opgp_flat::{
-    FaultRow, GivenLimits, JobRow, KeyRow, NumberTable, PacketRow, SubpacketRow, short_line,
+    FaultRow, GivenLimits, HashedRow, JobRow, KeyRow, NumberTable, PacketRow, SubpacketRow,
+    short_line,
 };
+use opgp_ring::nth;
 use std::alloc::Global;
 use std::mem;
 
@@ -66,9 +71,9 @@ use std::mem;
 /// the library.
 #[unsafe(no_mangle)]
 pub extern "C" fn opgp_abi() -> u32
-    ensures { result ≡ 2 }
+    ensures { result ≡ 3 }
 {
-    2
+    3
 }
 
 /// The usual limits.
@@ -151,7 +156,39 @@ pub extern "C" fn opgp_ring_open(
     ensures fault { result ≢ 1 → fault.new ≡ fault.old }
     ensures status { (result ≡ 0) ⊎ ((result ≡ 1) ⊎ ((result ≡ 3) ⊎ (result ≡ 4))) }
 {
-    let keyring = match read_ring(alloc, input, limits, fault) {
+    let keyring = match read_ring(alloc, input, Mode::Auto, limits, fault) {
+        Ok(keyring) => keyring,
+        Err(status) => return status,
+    };
+    keep(alloc, ring, keyring)
+}
+
+/// Reads the keyring of an input by a mode: 0 as [`opgp_ring_open`], 1 as armored text, 2 as packets.
+///
+/// The statuses are those of [`opgp_ring_open`]; that of a limit is also that of any other number.
+#[unsafe(no_mangle)]
+pub extern "C" fn opgp_ring_open_mode(
+    alloc: Global,
+    input: &[u8],
+    mode: u32,
+    limits: &GivenLimits,
+    ring: &mut Ring,
+    fault: &mut FaultRow,
+) -> u32
+    ensures done { result ≡ 0 → (m : Mode) × (mode_by mode ≡ Some m) × (ring.new.is_open ≡ true)
+        × AnswersBy m limits.now input.now (Ok ring.new.slot.held.keyring) }
+    ensures refused { result ≡ 1 → (m : Mode) × (mode_by mode ≡ Some m)
+        × RefusesBy m limits.now input.now fault.new }
+    ensures limits { result ≡ 4 → (mode < 3) × MayBeGiven limits.now → ⊥ }
+    ensures allowed { result ≢ 4 → (mode < 3) × MayBeGiven limits.now }
+    ensures kept { result ≢ 0 → ring.new ≡ ring.old }
+    ensures fault { result ≢ 1 → fault.new ≡ fault.old }
+    ensures status { (result ≡ 0) ⊎ ((result ≡ 1) ⊎ ((result ≡ 3) ⊎ (result ≡ 4))) }
+{
+    let Some(mode) = mode_by(mode) else {
+        return LIMITS;
+    };
+    let keyring = match read_ring(alloc, input, mode, limits, fault) {
         Ok(keyring) => keyring,
         Err(status) => return status,
     };
@@ -162,6 +199,14 @@ pub extern "C" fn opgp_ring_open(
 #[unsafe(no_mangle)]
 pub extern "C" fn opgp_ring_close(ring: Ring) {
     drop(ring.into_box());
+}
+
+/// Lets go what a handle holds, and leaves it closed.
+#[unsafe(no_mangle)]
+pub extern "C" fn opgp_ring_clear(alloc: Global, ring: &mut Ring)
+    ensures { ring.new.is_open ≡ false }
+{
+    drop(ring.take(alloc));
 }
 
 /// Fills the tables with the packets of a keyring, in order, and the octets of their bodies.
@@ -263,13 +308,35 @@ pub extern "C" fn opgp_ring_octets(
     ensures status { (result ≡ 0) ⊎ ((result ≡ 2) ⊎ ((result ≡ 3) ⊎ ((result ≡ 5)
         ⊎ (result ≡ 6)))) }
 {
-    let held = match ring.take(alloc) {
-        Ok(held) => held,
-        Err(status) => return status,
+    let Some(held) = ring.take(alloc) else {
+        return CLOSED;
     };
     let status = put_row_octets(alloc, &held.keyring, row, octets, size);
     ring.give(held);
     status
+}
+
+/// Fills the tables with what the signatures of some rows of the table of jobs hash (RFC 9580, 5.2.4):
+/// of at most so many rows, from the first one on, as many as hash no more than `most` octets together;
+/// a row for each signature that is hashed, and the octets.
+///
+/// The statuses are those of [`opgp_ring_packets`].
+#[unsafe(no_mangle)]
+pub extern "C" fn opgp_ring_hashed(
+    alloc: Global,
+    ring: &mut Ring,
+    first: u64,
+    count: u64,
+    most: u64,
+    rows: &mut [HashedRow],
+    bytes: &mut [u8],
+    sizes: &mut Sizes,
+) -> u32
+    ensures { PutsTables (hashed_rows first count most) (hashed_bytes first count most) ring.old ring.new
+        rows.old rows.new bytes.old bytes.new sizes.new result }
+{
+    let window = Window { first, count, most };
+    put_hashed(alloc, ring, window, rows, bytes, sizes)
 }
 
 /// Puts the packets of a keyring, octet for octet as they were read: bare, or as one block of armor
@@ -295,9 +362,8 @@ pub extern "C" fn opgp_ring_write(
     ensures ring { HoldsTheSame ring.old ring.new }
     ensures status { (result ≡ 0) ⊎ ((result ≡ 2) ⊎ ((result ≡ 3) ⊎ (result ≡ 5))) }
 {
-    let held = match ring.take(alloc) {
-        Ok(held) => held,
-        Err(status) => return status,
+    let Some(held) = ring.take(alloc) else {
+        return CLOSED;
     };
     let status = put_text(alloc, &held.keyring, armor, text, size);
     ring.give(held);
@@ -346,13 +412,12 @@ pub extern "C" fn opgp_ring_certificate(
     ensures ring { HoldsTheSame ring.old ring.new }
     ensures status { (result ≡ 0) ⊎ ((result ≡ 3) ⊎ ((result ≡ 5) ⊎ (result ≡ 6))) }
 {
-    let held = match ring.take(alloc) {
-        Ok(held) => held,
-        Err(status) => return status,
+    let Some(held) = ring.take(alloc) else {
+        return CLOSED;
     };
-    let status = keep_nth(alloc, &held.keyring, number, into);
+    let found = nth(alloc, &held.keyring, number as usize);
     ring.give(held);
-    status
+    keep_found(alloc, found, into)
 }
 
 /// Keeps a keyring of the packets of two, those of the other behind those of the first.
@@ -376,21 +441,20 @@ pub extern "C" fn opgp_ring_join(
     ensures other { HoldsTheSame other.old other.new }
     ensures status { (result ≡ 0) ⊎ ((result ≡ 3) ⊎ (result ≡ 5)) }
 {
-    let held = match ring.take(alloc) {
-        Ok(held) => held,
-        Err(status) => return status,
+    let Some(held) = ring.take(alloc) else {
+        return CLOSED;
     };
-    let more = match other.take(alloc) {
-        Ok(more) => more,
-        Err(status) => {
-            ring.give(held);
-            return status;
-        }
+    let Some(more) = other.take(alloc) else {
+        ring.give(held);
+        return CLOSED;
     };
-    let status = keep_joined(alloc, &held.keyring, &more.keyring, into);
+    let made = joined(alloc, &held.keyring, &more.keyring);
     ring.give(held);
     other.give(more);
-    status
+    match made {
+        Ok(made) => keep(alloc, into, made),
+        Err(_) => MEMORY,
+    }
 }
 
 /// Begins to read a keyring, armored or binary, that comes in pieces; what the handle held before is
@@ -422,8 +486,8 @@ pub extern "C" fn opgp_reader_open(alloc: Global, limits: &GivenLimits, reader: 
 /// Takes the next piece of the input. The conditions are that the handle was used so, and that fewer
 /// than 2^63 octets are given in all.
 ///
-/// The status says whether it is done; else the piece isn't taken: the input has ended, out of
-/// memory, which loses the reading, or the handle holds nothing.
+/// The status says whether it is done; else the piece isn't taken: the input had ended, which changes
+/// nothing, or memory ran out, which loses the reading, or the handle holds nothing.
 #[unsafe(no_mangle)]
 pub extern "C" fn opgp_reader_push(alloc: Global, reader: &mut Reader, piece: &[u8]) -> u32
     ghost so_far: { Use }
@@ -431,14 +495,17 @@ pub extern "C" fn opgp_reader_push(alloc: Global, reader: &mut Reader, piece: &[
     requires room { length so_far.input + length piece.now < 2 ^ 63 }
     ensures done { result ≡ 0 → (reader.new.is_open ≡ true)
         × IsGoing (given so_far piece.now) reader.new.slot.held }
-    ensures ended { result ≡ 7 → HasEnded so_far reader.new.slot.held }
+    ensures ended { result ≡ 7 → HasEnded so_far reader.old.slot.held
+        × (reader.new.slot.held ≡ reader.old.slot.held) }
+    ensures lost { result ≡ 3 → reader.new.slot.held ≡ Lost }
+    ensures before { reader.old.is_open ≡ true → reader.old.slot.held ≡ Lost → result ≡ 3 }
+    ensures open { reader.new.is_open ≡ reader.old.is_open }
     ensures kept { result ≢ 0 → Holds so_far reader.new }
     ensures closed { (result ≡ 5) ↔ (reader.old.is_open ≡ false) }
     ensures status { (result ≡ 0) ⊎ ((result ≡ 3) ⊎ ((result ≡ 5) ⊎ (result ≡ 7))) }
 {
-    let mut held = match reader.take(alloc) {
-        Ok(held) => held,
-        Err(status) => return status,
+    let Some(mut held) = reader.take(alloc) else {
+        return CLOSED;
     };
     let status = push_piece(&mut held, piece);
     reader.give(held);
@@ -461,14 +528,16 @@ pub extern "C" fn opgp_reader_take(alloc: Global, reader: &mut Reader, into: &mu
     ensures stays { (result ≡ 0) ⊎ (result ≡ 6) → (reader.new.is_open ≡ true)
         × StaysWhat reader.old.slot.held reader.new.slot.held }
     ensures none { result ≡ 6 → waiting_in reader.old.slot.held ≡ [] }
+    ensures lost { result ≡ 3 → reader.new.slot.held ≡ Lost }
+    ensures before { reader.old.is_open ≡ true → reader.old.slot.held ≡ Lost → result ≡ 3 }
+    ensures open { reader.new.is_open ≡ reader.old.is_open }
     ensures same { result ≢ 0 → Holds so_far reader.new }
     ensures kept { result ≢ 0 → into.new ≡ into.old }
     ensures closed { (result ≡ 5) ↔ (reader.old.is_open ≡ false) }
     ensures status { (result ≡ 0) ⊎ ((result ≡ 3) ⊎ ((result ≡ 5) ⊎ (result ≡ 6))) }
 {
-    let mut held = match reader.take(alloc) {
-        Ok(held) => held,
-        Err(status) => return status,
+    let Some(mut held) = reader.take(alloc) else {
+        return CLOSED;
     };
     let status = take_part(alloc, &mut held, into);
     reader.give(held);
@@ -491,13 +560,17 @@ pub extern "C" fn opgp_reader_end(alloc: Global, reader: &mut Reader, fault: &mu
     ensures refused { result ≡ 1 → (f : Fault) × (reader.new.is_open ≡ true)
         × IsRefused so_far reader.new.slot.held f × (fault.new ≡ fault_row f) }
     ensures fault { result ≢ 1 → fault.new ≡ fault.old }
+    ensures again { reader.old.is_open ≡ true → HasEnded so_far reader.old.slot.held
+        → reader.new.slot.held ≡ reader.old.slot.held }
+    ensures lost { result ≡ 3 → reader.new.slot.held ≡ Lost }
+    ensures before { reader.old.is_open ≡ true → reader.old.slot.held ≡ Lost → result ≡ 3 }
+    ensures open { reader.new.is_open ≡ reader.old.is_open }
     ensures kept { Holds so_far reader.new }
     ensures closed { (result ≡ 5) ↔ (reader.old.is_open ≡ false) }
     ensures status { (result ≡ 0) ⊎ ((result ≡ 1) ⊎ ((result ≡ 3) ⊎ (result ≡ 5))) }
 {
-    let mut held = match reader.take(alloc) {
-        Ok(held) => held,
-        Err(status) => return status,
+    let Some(mut held) = reader.take(alloc) else {
+        return CLOSED;
     };
     let status = end_input(&mut held, fault);
     reader.give(held);
@@ -508,4 +581,12 @@ pub extern "C" fn opgp_reader_end(alloc: Global, reader: &mut Reader, fault: &mu
 #[unsafe(no_mangle)]
 pub extern "C" fn opgp_reader_close(reader: Reader) {
     drop(reader.into_box());
+}
+
+/// Lets go what a handle holds, and leaves it closed.
+#[unsafe(no_mangle)]
+pub extern "C" fn opgp_reader_clear(alloc: Global, reader: &mut Reader)
+    ensures { reader.new.is_open ≡ false }
+{
+    drop(reader.take(alloc));
 }

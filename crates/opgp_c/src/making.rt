@@ -1,18 +1,17 @@
 //! Keyrings made of one that a handle holds, and kept in another handle.
 
-ghost use Rattle.std.specs.Prelude.{◌≡◌, ◌≢◌, ◌⊎◌, ◌++◌, true, Some, None, IfOk};
+ghost use Rattle.std.specs.Prelude.{◌≡◌, ◌≢◌, ◌⊎◌, ◌++◌, true, Some, None, Ok, IfOk};
 ghost use Rattle.opgp_merge.specs.Merged.{merged_of};
-ghost use Rattle.opgp_ring.specs.Joining.{nth_of};
 ghost use Rattle.opgp_ring.specs.Keyring.{KeyringValue, flat};
 ghost use Rattle.opgp_ring.specs.Normal.{normal_of};
 ghost use Rattle.opgp_c.specs.Calls.{KeepsMade};
 
 use crate::ring::Ring;
 use crate::slot::Held;
-use crate::status::{DONE, MEMORY, NO_ROW};
+use crate::status::{CLOSED, DONE, MEMORY, NO_ROW};
 use opgp_merge::merge;
 use opgp_octets::OutOfMemory;
-use opgp_ring::{Keyring, join, normalise, nth};
+use opgp_ring::{Keyring, join, normalise};
 use std::alloc::Global;
 
 /// Keeps a keyring in a handle; what that held before is let go.
@@ -62,31 +61,35 @@ impl Making for Merged {
     }
 }
 
-/// Keeps in another handle what is made of the keyring that a handle holds.
+/// Keeps in another handle what is made of the keyring that a handle holds, which it holds again
+/// before that: so nothing is lost where a caller gives one handle for both.
 pub(crate) fn keep_made<M: Making>(alloc: Global, ring: &mut Ring, into: &mut Ring) -> u32
     ensures { KeepsMade M.made ring.old ring.new into.old into.new result }
 {
-    let held = match ring.take(alloc) {
-        Ok(held) => held,
-        Err(status) => return status,
+    let Some(held) = ring.take(alloc) else {
+        return CLOSED;
     };
-    let status = match M::make(alloc, &held.keyring) {
+    let made = M::make(alloc, &held.keyring);
+    ring.give(held);
+    match made {
         Ok(made) => keep(alloc, into, made),
         Err(_) => MEMORY,
-    };
-    ring.give(held);
-    status
+    }
 }
 
-/// Keeps the certificate of this number as a keyring.
-pub(crate) fn keep_nth(alloc: Global, keyring: &Keyring, number: u64, into: &mut Ring) -> u32
+/// Keeps the certificate of this number, if there is one, as a keyring.
+pub(crate) fn keep_found(
+    alloc: Global,
+    found: Result<Option<Keyring>, OutOfMemory>,
+    into: &mut Ring,
+) -> u32
     ensures done { result ≡ 0 → (into.new.is_open ≡ true)
-        × (nth_of keyring.now number ≡ Some into.new.slot.held.keyring) }
-    ensures none { result ≡ 6 → nth_of keyring.now number ≡ None }
+        × (found ≡ Ok (Some into.new.slot.held.keyring)) }
+    ensures none { result ≡ 6 → found ≡ Ok None }
     ensures kept { result ≢ 0 → into.new ≡ into.old }
     ensures status { (result ≡ 0) ⊎ ((result ≡ 3) ⊎ (result ≡ 6)) }
 {
-    match nth(alloc, keyring, number as usize) {
+    match found {
         Ok(Some(made)) => keep(alloc, into, made),
         Ok(None) => NO_ROW,
         Err(_) => MEMORY,
@@ -94,21 +97,12 @@ pub(crate) fn keep_nth(alloc: Global, keyring: &Keyring, number: u64, into: &mut
 }
 
 /// The packets of both, those of the second behind those of the first.
-fn joined(alloc: Global, first: &Keyring, second: &Keyring) -> Result<Keyring, OutOfMemory>
+pub(crate) fn joined(
+    alloc: Global,
+    first: &Keyring,
+    second: &Keyring,
+) -> Result<Keyring, OutOfMemory>
     ensures { IfOk result (λ r. flat r ≡ flat first.now ++ flat second.now) }
 {
     join(first.copy(alloc)?, second.copy(alloc)?)
-}
-
-/// Keeps a keyring of the packets of both.
-pub(crate) fn keep_joined(alloc: Global, first: &Keyring, second: &Keyring, into: &mut Ring) -> u32
-    ensures done { result ≡ 0 → (into.new.is_open ≡ true)
-        × (flat into.new.slot.held.keyring ≡ flat first.now ++ flat second.now) }
-    ensures kept { result ≢ 0 → into.new ≡ into.old }
-    ensures status { (result ≡ 0) ⊎ (result ≡ 3) }
-{
-    match joined(alloc, first, second) {
-        Ok(made) => keep(alloc, into, made),
-        Err(_) => MEMORY,
-    }
 }

@@ -1,10 +1,9 @@
 //! A handle of a reading.
 
-ghost use Rattle.std.specs.Prelude.{◌≡◌, ◌↔◌, ◌⊎◌, true, false, IfOk, IfErr, IfSome, IsSome, OnOk};
+ghost use Rattle.std.specs.Prelude.{◌≡◌, ◌↔◌, true, false, None, IfOk, IfSome, IsSome};
 
 use crate::parts::Parts;
 use crate::reading_slot::{Reading, ReadingSlot};
-use crate::status::{CLOSED, MEMORY};
 use std::alloc::{AllocError, Global};
 use std::mem;
 
@@ -17,8 +16,6 @@ pub struct Reader {
 }
 
 impl Reader {
-    ghost use Rattle.opgp_c.specs.declared.reading_slot.Reading.TheVariants.{Lost};
-
     /// A handle of a reading. Fails only when out of memory.
     pub(crate) fn of(alloc: Global, reading: Reading) -> Result<Reader, AllocError>
         ensures { IfOk result (λ r. (r.is_open ≡ true) × (r.slot.held ≡ reading)) }
@@ -49,27 +46,22 @@ impl Reader {
         }
     }
 
-    /// Takes out what it holds, and holds a lost reading meanwhile. The error is the status: the
-    /// handle holds nothing, or out of memory; it is then unchanged.
-    pub(crate) fn take(&mut self, alloc: Global) -> Result<Box<Reading>, u32>
-        ensures taken { IfOk result
+    /// Takes out what it holds, and is closed meanwhile, so that another call that uses it finds nothing;
+    /// None if it holds nothing.
+    pub(crate) fn take(&mut self, alloc: Global) -> Option<Box<Reading>>
+        ensures taken { IfSome result
             (λ b. (self.old.is_open ≡ true) × (b.value ≡ self.old.slot.held)) }
-        ensures lost { OnOk result ((self.new.is_open ≡ true) × (self.new.slot.held ≡ Lost)) }
-        ensures kept { IfErr result (λ status. self.new ≡ self.old) }
-        ensures status { IfErr result (λ status.
-            ((status ≡ 5) × (self.old.is_open ≡ false))
-            ⊎ ((status ≡ 3) × (self.old.is_open ≡ true))) }
+        ensures none { result ≡ None → (self.old.is_open ≡ false) × (self.new ≡ self.old) }
+        ensures closed { self.new.is_open ≡ false }
     {
         if !self.is_open {
-            return Err(CLOSED);
+            return None;
         }
-        let Ok(other) = Reader::of(alloc, Reading::Lost) else {
-            return Err(MEMORY);
+        let closed = Reader {
+            is_open: false,
+            slot: ReadingSlot::none(alloc),
         };
-        match mem::replace(self, other).into_box() {
-            Some(held) => Ok(held),
-            None => unreachable!(),
-        }
+        mem::replace(self, closed).into_box()
     }
 
     /// Holds this; what it held before is let go.

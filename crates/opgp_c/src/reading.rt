@@ -1,14 +1,15 @@
 //! What a handle does with the reading that it holds.
 
-ghost use Rattle.std.specs.Prelude.{◌≡◌, ◌≢◌, ◌<◌, ◌+◌, ◌^◌, ◌⊎◌, ◌++◌, [], ◌∷◌, length, true, None};
+ghost use Rattle.std.specs.Prelude.{◌≡◌, ◌≢◌, ◌↔◌, ◌<◌, ◌+◌, ◌^◌, ◌⊎◌, ◌++◌, [], ◌∷◌, length};
+ghost use Rattle.std.specs.Prelude.{true, None};
 ghost use Rattle.opgp_octets.specs.declared.fault.Fault.{Fault};
 ghost use Rattle.opgp_octets.specs.declared.limits.Limits.{Limits};
 ghost use Rattle.opgp_ring.specs.Composed.{PartValue};
 ghost use Rattle.opgp_ring.specs.State.{part_of, ready_parts};
 ghost use Rattle.opgp_engine.specs.PartReader.{Use, given, taking};
 ghost use Rattle.opgp_flat.specs.FaultRow.{fault_row};
-ghost use Rattle.opgp_c.specs.Readings.{HasEnded, HoldsPart, IsEnded, IsGoing, IsReading, IsRefused};
-ghost use Rattle.opgp_c.specs.Readings.{StaysWhat, begun, waiting_in};
+ghost use Rattle.opgp_c.specs.Readings.{HasEnded, HoldsPart, IsEnded, IsGoing, IsOver, IsReading};
+ghost use Rattle.opgp_c.specs.Readings.{IsRefused, StaysWhat, begun, waiting_in};
 ghost use Rattle.opgp_c.specs.declared.reading_slot.Reading.TheVariants.{Lost};
 
 use crate::making::keep;
@@ -35,8 +36,9 @@ pub(crate) fn push_piece(reading: &mut Reading, piece: &[u8]) -> u32
     requires used { IsReading so_far reading.old }
     requires room { length so_far.input + length piece.now < 2 ^ 63 }
     ensures done { result ≡ 0 → IsGoing (given so_far piece.now) reading.new }
-    ensures ended { result ≡ 7 → HasEnded so_far reading.new }
+    ensures ended { result ≡ 7 → HasEnded so_far reading.old × (reading.new ≡ reading.old) }
     ensures lost { result ≡ 3 → reading.new ≡ Lost }
+    ensures before { reading.old ≡ Lost → result ≡ 3 }
     ensures status { (result ≡ 0) ⊎ ((result ≡ 3) ⊎ (result ≡ 7)) }
 {
     let pushed = match reading {
@@ -57,7 +59,9 @@ pub(crate) fn push_piece(reading: &mut Reading, piece: &[u8]) -> u32
 fn end(held: Reading) -> Reading
     ghost so_far: { Use }
     requires { IsReading so_far held }
-    ensures { HasEnded so_far result }
+    ensures over { IsOver so_far result }
+    ensures again { HasEnded so_far held → result ≡ held }
+    ensures before { held ≡ Lost → result ≡ Lost }
 {
     let reader = match held {
         Reading::Going(reader) => reader,
@@ -75,11 +79,11 @@ fn end(held: Reading) -> Reading
 /// How the input has ended.
 fn tell_end(held: &Reading, fault: &mut FaultRow) -> u32
     ghost so_far: { Use }
-    requires { HasEnded so_far held.now }
+    requires { IsOver so_far held.now }
     ensures done { result ≡ 0 → IsEnded so_far held.now }
     ensures refused { result ≡ 1
         → (f : Fault) × IsRefused so_far held.now f × (fault.new ≡ fault_row f) }
-    ensures lost { result ≡ 3 → held.now ≡ Lost }
+    ensures lost { (result ≡ 3) ↔ (held.now ≡ Lost) }
     ensures fault { result ≢ 1 → fault.new ≡ fault.old }
     ensures status { (result ≡ 0) ⊎ ((result ≡ 1) ⊎ (result ≡ 3)) }
 {
@@ -103,6 +107,9 @@ pub(crate) fn end_input(reading: &mut Reading, fault: &mut FaultRow) -> u32
         → (f : Fault) × IsRefused so_far reading.new f × (fault.new ≡ fault_row f) }
     ensures fault { result ≢ 1 → fault.new ≡ fault.old }
     ensures used { IsReading so_far reading.new }
+    ensures again { HasEnded so_far reading.old → reading.new ≡ reading.old }
+    ensures lost { result ≡ 3 → reading.new ≡ Lost }
+    ensures before { reading.old ≡ Lost → result ≡ 3 }
     ensures status { (result ≡ 0) ⊎ ((result ≡ 1) ⊎ (result ≡ 3)) }
 {
     let ended = end(mem::replace(reading, Reading::Lost));
@@ -150,6 +157,7 @@ pub(crate) fn take_part(alloc: Global, reading: &mut Reading, into: &mut Ring) -
     ensures stays { result ≢ 3 → StaysWhat reading.old reading.new }
     ensures none { result ≡ 6 → (waiting_in reading.old ≡ []) × IsReading so_far reading.new }
     ensures lost { result ≡ 3 → reading.new ≡ Lost }
+    ensures before { reading.old ≡ Lost → result ≡ 3 }
     ensures kept { result ≢ 0 → into.new ≡ into.old }
     ensures status { (result ≡ 0) ⊎ ((result ≡ 3) ⊎ (result ≡ 6)) }
 {

@@ -1,6 +1,6 @@
 //! A pointer to a reading that C keeps.
 
-ghost use Rattle.std.specs.Prelude.{◌≡◌, Bool, true};
+ghost use Rattle.std.specs.Prelude.{◌≡◌, Bool, true, false};
 ghost use Rattle.opgp_c.specs.declared.reading_slot.Reading.{Reading};
 ghost use Rattle.opgp_c.specs.ReadingSlot.{reading_coded, reading_owns};
 
@@ -9,6 +9,7 @@ use opgp_engine::{PartReader, Waiting};
 use opgp_octets::Fault;
 use std::alloc::Global;
 use std::marker::Model;
+use std::ptr;
 
 /// A keyring that is read in pieces.
 #[derive(Drop)]
@@ -44,6 +45,16 @@ impl ReadingSlot {
         let Parts { ptr, alloc } = parts;
         ReadingSlot {
             ptr: ptr as *mut u8,
+            alloc,
+        }
+    }
+
+    /// A pointer to nothing.
+    pub(crate) fn none(alloc: Global) -> ReadingSlot
+        ensures { result.full ≡ false }
+    {
+        ReadingSlot {
+            ptr: ptr::null_mut(),
             alloc,
         }
     }

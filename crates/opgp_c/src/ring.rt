@@ -1,11 +1,9 @@
 //! A handle of a keyring.
 
-ghost use Rattle.std.specs.Prelude.{◌≡◌, ◌↔◌, ◌⊎◌, true, false, IfOk, IfErr, IfSome, IsSome};
+ghost use Rattle.std.specs.Prelude.{◌≡◌, ◌↔◌, true, false, None, IfOk, IfSome, IsSome};
 
 use crate::parts::Parts;
 use crate::slot::{Held, Slot};
-use crate::status::{CLOSED, MEMORY};
-use opgp_ring::Keyring;
 use std::alloc::{AllocError, Global};
 use std::mem;
 
@@ -48,29 +46,22 @@ impl Ring {
         }
     }
 
-    /// Takes out what it holds, and holds an empty keyring meanwhile. The error is the status: the
-    /// handle holds nothing, or out of memory; it is then unchanged.
-    pub(crate) fn take(&mut self, alloc: Global) -> Result<Box<Held>, u32>
-        ensures taken { IfOk result
+    /// Takes out what it holds, and is closed meanwhile, so that another call that uses it finds nothing;
+    /// None if it holds nothing.
+    pub(crate) fn take(&mut self, alloc: Global) -> Option<Box<Held>>
+        ensures taken { IfSome result
             (λ b. (self.old.is_open ≡ true) × (b.value ≡ self.old.slot.held)) }
-        ensures kept { IfErr result (λ status. self.new ≡ self.old) }
-        ensures status { IfErr result (λ status.
-            ((status ≡ 5) × (self.old.is_open ≡ false))
-            ⊎ ((status ≡ 3) × (self.old.is_open ≡ true))) }
+        ensures none { result ≡ None → (self.old.is_open ≡ false) × (self.new ≡ self.old) }
+        ensures closed { self.new.is_open ≡ false }
     {
         if !self.is_open {
-            return Err(CLOSED);
+            return None;
         }
-        let blank = Held {
-            keyring: Keyring::empty(alloc),
+        let closed = Ring {
+            is_open: false,
+            slot: Slot::none(alloc),
         };
-        let Ok(other) = Ring::of(alloc, blank) else {
-            return Err(MEMORY);
-        };
-        match mem::replace(self, other).into_box() {
-            Some(held) => Ok(held),
-            None => unreachable!(),
-        }
+        mem::replace(self, closed).into_box()
     }
 
     /// Holds this; what it held before is let go.

@@ -1,6 +1,6 @@
 //! A pointer that C keeps.
 
-ghost use Rattle.std.specs.Prelude.{◌≡◌, Bool, true};
+ghost use Rattle.std.specs.Prelude.{◌≡◌, Bool, true, false};
 ghost use Rattle.opgp_c.specs.declared.slot.Held.{Held};
 ghost use Rattle.opgp_c.specs.Slot.{held_coded, slot_owns};
 
@@ -8,6 +8,7 @@ use crate::parts::Parts;
 use opgp_ring::Keyring;
 use std::alloc::Global;
 use std::marker::Model;
+use std::ptr;
 
 /// What is held.
 #[derive(Drop)]
@@ -37,6 +38,16 @@ impl Slot {
         let Parts { ptr, alloc } = parts;
         Slot {
             ptr: ptr as *mut u8,
+            alloc,
+        }
+    }
+
+    /// A pointer to nothing.
+    pub(crate) fn none(alloc: Global) -> Slot
+        ensures { result.full ≡ false }
+    {
+        Slot {
+            ptr: ptr::null_mut(),
             alloc,
         }
     }

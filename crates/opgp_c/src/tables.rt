@@ -2,6 +2,7 @@
 
 ghost use Rattle.std.specs.Prelude.{◌≡◌, ◌≢◌, ◌⊎◌, ◌<◌, ℕ, List, length, IfOk, Some, None};
 ghost use Rattle.std.specs.List.{slice_get};
+ghost use Rattle.opgp_flat.specs.HashedRows.{hashed_bytes, hashed_rows};
 ghost use Rattle.opgp_flat.specs.Jobs.{job_bytes, job_rows};
 ghost use Rattle.opgp_flat.specs.Keys.{key_bytes, key_rows};
 ghost use Rattle.opgp_flat.specs.Packets.{packet_bytes, packet_rows};
@@ -15,9 +16,10 @@ ghost use Rattle.opgp_c.specs.Calls.{AreSized, IsFilled, IsShort, PutsTables};
 use crate::calls::{put_both, put_octets};
 use crate::ring::Ring;
 use crate::sizes::Sizes;
-use crate::status::{MEMORY, NO_ROW};
+use crate::status::{CLOSED, MEMORY, NO_ROW};
 use opgp_flat::{
-    JobRow, KeyRow, PacketRow, SubpacketRow, jobs, keys, packets, row_octets, subpackets,
+    HashedRow, JobRow, KeyRow, PacketRow, SubpacketRow, hashed_rows, jobs, keys, packets,
+    row_octets, subpackets,
 };
 use opgp_octets::OutOfMemory;
 use opgp_ring::Keyring;
@@ -87,9 +89,8 @@ pub(crate) fn put_table<T: Row>(
     ensures { PutsTables T.rows T.bytes ring.old ring.new rows.old rows.new bytes.old bytes.new
         sizes.new result }
 {
-    let held = match ring.take(alloc) {
-        Ok(held) => held,
-        Err(status) => return status,
+    let Some(held) = ring.take(alloc) else {
+        return CLOSED;
     };
     let status = put_rows(alloc, &held.keyring, rows, bytes, sizes);
     ring.give(held);
@@ -141,4 +142,38 @@ pub(crate) fn put_row_octets(
         Ok(None) => NO_ROW,
         Err(_) => MEMORY,
     }
+}
+
+/// Which signatures are asked for: from the first row on, at most so many, as many as hash no more
+/// octets than `most`.
+#[derive(Clone, Copy)]
+pub(crate) struct Window {
+    pub(crate) first: u64,
+    pub(crate) count: u64,
+    pub(crate) most: u64,
+}
+
+/// Puts the table of what some signatures of what a handle holds hash.
+pub(crate) fn put_hashed(
+    alloc: Global,
+    ring: &mut Ring,
+    window: Window,
+    rows: &mut [HashedRow],
+    bytes: &mut [u8],
+    sizes: &mut Sizes,
+) -> u32
+    ensures { PutsTables (hashed_rows window.first window.count window.most)
+        (hashed_bytes window.first window.count window.most) ring.old ring.new rows.old rows.new
+        bytes.old bytes.new sizes.new result }
+{
+    let Some(held) = ring.take(alloc) else {
+        return CLOSED;
+    };
+    let Window { first, count, most } = window;
+    let status = match hashed_rows(alloc, &held.keyring, first, count, most) {
+        Ok((found, octets)) => put_both(&found, &octets, rows, bytes, sizes),
+        Err(_) => MEMORY,
+    };
+    ring.give(held);
+    status
 }

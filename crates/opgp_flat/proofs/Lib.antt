@@ -1,4 +1,6 @@
 mod Cutting
+mod Collecting
+mod Holding
 mod Joining
 mod Lines
 mod Naming

@@ -1,6 +1,8 @@
 pub mod FaultLine
 pub mod FaultRow
 pub mod GivenLimits
+pub mod HashedRows
+pub mod HashedTable
 pub mod Jobs
 pub mod Keys
 pub mod Names

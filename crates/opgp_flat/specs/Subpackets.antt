@@ -1,7 +1,7 @@
 -- The table of the subpackets of a keyring's signatures: a row for each, those of each signature in
 -- the order of the report, and the data that they point into.
 use Rattle.std.specs.Prelude.{◌≡◌, ℕ, ◌+◌, ⊤, Bool, true, false, List, [], ◌∷◌, ◌++◌, length}
-use Rattle.std.specs.Prelude.{replicate, Result, Ok, Err}
+use Rattle.std.specs.Prelude.{drop, replicate, take, Result, Ok, Err}
 use Rattle.std.specs.List.{flat_map}
 use Rattle.opgp_octets.specs.SubpacketKind.{subpacket_kind_of}
 use Rattle.opgp_octets.specs.declared.fault.BodyFault.{BodyFault}
@@ -83,6 +83,14 @@ abbrev pub octets_read : Result SignatureValue BodyFault → List ℕ
 octets_read (Ok v) = areas_octets (hashed_subs v) (unhashed_subs v)
 octets_read (Err fault) = []
 
+-- all its subpackets, the hashed ones first
+abbrev pub subs_read : Result SignatureValue BodyFault → List Sub
+subs_read (Ok v) = hashed_subs v ++ unhashed_subs v
+subs_read (Err fault) = []
+
+abbrev pub subs_of : Standing → List Sub
+subs_of s = subs_read (signature_at s.body)
+
 abbrev pub subpacket_octets : Standing → List ℕ
 subpacket_octets s = octets_read (signature_at s.body)
 
@@ -98,6 +106,14 @@ subpacket_rows r = subpackets_from 0 (standing_in r)
 
 abbrev pub subpacket_bytes : KeyringValue → List ℕ
 subpacket_bytes r = flat_map subpacket_octets (standing_in r)
+
+-- the kind of a subpacket, and its data
+abbrev pub sub_shown : Sub → ℕ × List ℕ
+sub_shown s = (kind_shown s.kind, s.octets)
+
+-- those of a row, whose data is in these octets
+abbrev pub subpacket_shown : List ℕ → SubpacketRow → ℕ × List ℕ
+subpacket_shown bytes row = (row.kind, take row.size (drop row.at bytes))
 
 -- the rows of each signature that the maker of the table visits are added, unless memory runs out
 abbrev pub AddsSubpackets : {E : Type 0} → SubpacketTable → List Standing

@@ -1,6 +1,7 @@
 //! What the definitions of the tables imply.
 
 ghost use Rattle.std.specs.Prelude.{◌≡◌, ℕ, List, Some, length, map};
+ghost use Rattle.std.specs.List.{flat_map};
 ghost use Rattle.opgp_octets.specs.declared.fault.Fault.{Fault};
 ghost use Rattle.opgp_packet.specs.Forms.{Fields, Form, IsOf};
 ghost use Rattle.opgp_hash.specs.declared.why.Why.{Why};
@@ -20,6 +21,8 @@ ghost use Rattle.opgp_flat.specs.Packets.{packet_bytes, packet_rows, packet_show
 ghost use Rattle.opgp_flat.specs.Parts.{cuts};
 ghost use Rattle.opgp_flat.specs.Room.{padded};
 ghost use Rattle.opgp_flat.specs.SubpacketValues.{before_octets, octets_in};
+ghost use Rattle.opgp_flat.specs.Subpackets.{sub_shown, subpacket_bytes, subpacket_rows};
+ghost use Rattle.opgp_flat.specs.Subpackets.{subpacket_shown, subs_of};
 
 /// The rows of a keyring's packets belong to its packets, in order: each states its packet's type,
 /// and where its body is in the octets.
@@ -60,6 +63,16 @@ pub fn rows_of_jobs_are_those_of_questions()
 pub fn rows_of_faults_stand_for_them()
     ensures fault { (f : Fault) → fault_of (fault_row f) ≡ Some f }
     ensures why { (w : Why) → why_of (why_number w) ≡ Some w }
+{}
+
+/// The rows of a keyring's subpackets belong to its subpackets, those of each signature in the order
+/// of its report, and of these the hashed ones first: each states its subpacket's kind, and where
+/// its data is in the octets.
+#[tactic(auto, using(crate::proofs::Holding::data_lies))]
+pub fn rows_of_subpackets_point_at_their_data()
+    ensures { (r : KeyringValue)
+        → map (subpacket_shown (subpacket_bytes r)) (subpacket_rows r)
+        ≡ map sub_shown (flat_map subs_of (standing_in r)) }
 {}
 
 /// The fields of octets of a subpacket's data are where its values say: behind so many octets, one

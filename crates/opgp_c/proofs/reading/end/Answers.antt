@@ -1,7 +1,9 @@
+use Rattle.std.proofs.Common.{refl}
 use Rattle.opgp_c.proofs.reading.end.Goals as goal
 
-pub returns-in-Refused : goal.returns-in-Refused
-returns-in-Refused g c = rw c.in-Refused.is at c.requires
+-- a reading that was refused is refused again
+pub returns-in-Refused-clause-over : goal.returns-in-Refused-clause-over
+returns-in-Refused-clause-over g c = rw c.in-Refused.is at c.requires
 
-pub returns-in-Ok-Err : goal.returns-in-Ok-Err
-returns-in-Ok-Err g c = rw c.in-Ok-Err.field-0-is at c.in-Ok-Err.ensures
+pub returns-in-Ok-Err-clause-over : goal.returns-in-Ok-Err-clause-over
+returns-in-Ok-Err-clause-over g c = rw c.in-Ok-Err.field-0-is at c.in-Ok-Err.ensures

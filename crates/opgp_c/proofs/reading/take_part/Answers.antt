@@ -13,6 +13,7 @@ returns-in-None g c = record {
     subst (λ (ps : List PartValue). IsReading (record g.so_far { taken = ps }) c.next.new.reading) (append-nil g.so_far.taken) c.in-None.ensures.used,
   );
   lost = λ e. absurd cc;
+  before = λ e. absurd (c.in_default.not-Lost e);
   kept = λ e. refl;
   status = inr (inr refl);
 }

@@ -1,0 +1,68 @@
+use Rattle.std.proofs.Common.{rules, ◌≡◌, ◌<◌, ◌∙◌, length, Err, Ok, refl}
+use Rattle.std.proofs.lemmas.Bool.{le-leb, lt-leb}
+use Rattle.opgp_hash.specs.CertificateHasher.{hasher_subject}
+use Rattle.opgp_hash.specs.Hashed.{hashed}
+use Rattle.opgp_hash.specs.Question.{question_value}
+use Rattle.opgp_hash.specs.declared.why.Why.TheVariants.{Opaque}
+use Rattle.opgp_report.specs.Asked.{asked_by}
+use Rattle.opgp_report.specs.Standing.{Standing, stands}
+use Rattle.opgp_flat.specs.declared.hashed_table.Halt.TheVariants.{Full, Memory}
+use Rattle.opgp_flat.proofs.Collecting.{grown, passed, stopped}
+use Rattle.opgp_flat.proofs.hashing.HashedTableVisitor.meet.Goals as goal
+
+-- octets that aren't a signature hash nothing
+pub returns-in_default-clause-shown : goal.returns-in_default-clause-shown
+returns-in_default-clause-shown c body reads more (Ok u) =
+    let s : Standing = stands c.args.site c.args._place (hasher_subject c.args.hasher.now) body in
+    let is : asked_by s ≡ Err Opaque = search rules in
+    let first : c.args.self.now.skip ≡ 0 = search rules in
+    let some : 0 < c.args.self.now.left = search rules in
+    λ h. passed c.args.self.now (Err Opaque) s more u.rows.items u.bytes.items is refl refl first some h
+returns-in_default-clause-shown c body reads more (Err (Full rows bytes)) =
+    let s : Standing = stands c.args.site c.args._place (hasher_subject c.args.hasher.now) body in
+    let is : asked_by s ≡ Err Opaque = search rules in
+    let first : c.args.self.now.skip ≡ 0 = search rules in
+    let some : 0 < c.args.self.now.left = search rules in
+    λ h. passed c.args.self.now (Err Opaque) s more rows.items bytes.items is refl refl first some h
+returns-in_default-clause-shown c body reads more (Err Memory) = λ h. tt
+
+-- nor does a signature for which there is a reason
+pub returns-in_default-ask_at-clause-shown : goal.returns-in_default-ask_at-clause-shown
+returns-in_default-ask_at-clause-shown c body reads more (Ok u) =
+    let s : Standing = stands c.args.site c.args._place (hasher_subject c.args.hasher.now) body in
+    let is : asked_by s ≡ Err c.in_default-ask_at.field-0 = search rules in
+    let first : c.args.self.now.skip ≡ 0 = search rules in
+    let some : 0 < c.args.self.now.left = search rules in
+    λ h. passed c.args.self.now (Err c.in_default-ask_at.field-0) s more u.rows.items u.bytes.items is refl refl first some h
+returns-in_default-ask_at-clause-shown c body reads more (Err (Full rows bytes)) =
+    let s : Standing = stands c.args.site c.args._place (hasher_subject c.args.hasher.now) body in
+    let is : asked_by s ≡ Err c.in_default-ask_at.field-0 = search rules in
+    let first : c.args.self.now.skip ≡ 0 = search rules in
+    let some : 0 < c.args.self.now.left = search rules in
+    λ h. passed c.args.self.now (Err c.in_default-ask_at.field-0) s more rows.items bytes.items is refl refl first some h
+returns-in_default-ask_at-clause-shown c body reads more (Err Memory) = λ h. tt
+
+-- any other one gets a row
+pub returns-in-Ok-true-clause-shown : goal.returns-in-Ok-true-clause-shown
+returns-in-Ok-true-clause-shown c body reads more end =
+    let s : Standing = stands c.args.site c.args._place (hasher_subject c.args.hasher.now) body in
+    let q = question_value c.in-Ok-ask_at.question in
+    let is : asked_by s ≡ Ok q = search rules in
+    let first : c.args.self.now.skip ≡ 0 = search rules in
+    let some : 0 < c.args.self.now.left = search rules in
+    let kept = c.in-Ok-true.ensures in
+    let done = kept.done c.in-Ok-true.field-0-test in
+    let fit = le-leb (length (hashed q)) c.args.self.now.room done.0 in
+    grown c.args.self.now c.add.new.self (Ok q) s is first some fit (kept.skip ∙ first) kept.left kept.count done.1 done.2 done.3 more end
+
+-- or there is no room for it
+pub returns-in-Ok-false-clause-shown : goal.returns-in-Ok-false-clause-shown
+returns-in-Ok-false-clause-shown c body reads more =
+    let s : Standing = stands c.args.site c.args._place (hasher_subject c.args.hasher.now) body in
+    let q = question_value c.in-Ok-ask_at.question in
+    let is : asked_by s ≡ Ok q = search rules in
+    let first : c.args.self.now.skip ≡ 0 = search rules in
+    let some : 0 < c.args.self.now.left = search rules in
+    let none = c.in-Ok-false.ensures.full c.in-Ok-false.field-0-test in
+    let large = lt-leb (length (hashed q)) c.args.self.now.room none.0 in
+    rw c.halt-in-Ok-false.ensures (stopped c.args.self.now (Ok q) s is first some more c.add.new.self.rows.items c.add.new.self.bytes.items large none.1 none.2)

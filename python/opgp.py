@@ -6,13 +6,13 @@
         for key in keyring.keys():
             print(key.fingerprint.hex().upper())
 
-An input is armored or binary. It is read as the one keyring that its octets spell, or `Fault` says where and why it is refused. This
-module reads no octet of it itself. It needs the shared library (`make install-library`), which it looks for at the path that the
-environment's OPGP_LIBRARY names, or else as libopgp.so.0 where the system looks for libraries.
+An input is armored or binary. It is read as the one keyring that its octets spell, or `Fault` says where and why it is refused.
+This module reads no octet of it itself. It needs the shared library (`make install-library`), which it looks for at the path that
+the environment's OPGP_LIBRARY names, or else as libopgp.so.3 where the system looks for libraries.
 
 Sizes and places are in octets, and count from 0. Sections are those of RFC 9580. `Fault` is a ValueError, want of memory a
-MemoryError, a limit out of its range a ValueError, a row that isn't there an IndexError. Rows are values of their own, which live
-longer than their keyring. Keyrings may be used in any number of threads, each by one call at a time.
+MemoryError, a limit out of its range a ValueError, a row that isn't there an IndexError, and what is of a wrong type a TypeError.
+Rows are values of their own, which live longer than their keyring. Any number of threads may use a keyring or a reader at once.
 """
 
 from __future__ import annotations
@@ -21,21 +21,24 @@ import ctypes
 import dataclasses
 import enum
 import functools
+import mmap
+import operator
 import os
-from types import TracebackType
-from typing import Any, BinaryIO, Callable, Iterator, NamedTuple, Optional, Type, Union
+import threading
+from typing import Any, BinaryIO, Callable, Iterator, NamedTuple, Optional, TypeVar, Union
 
-__all__ = ["Certificate", "Fault", "Key", "KeyFlags", "Keyring", "Limits", "Packet", "Question", "Reader", "Signature", "Subpacket"]
-__all__ += ["Verdict", "parts", "read"]
+__all__ = ["Certificate", "Fault", "Key", "KeyFlags", "Keyring", "Limits", "Packet", "Question", "Reader", "Signature"]
+__all__ += ["Subpacket", "Verdict", "parts", "read"]
 
-_ABI = 2
+_ABI = 3
 _NONE = 2**64 - 1
 _DONE, _REFUSED, _ROOM, _MEMORY, _LIMITS, _CLOSED, _NO_ROW, _ENDED = range(8)
 
 # The library's tables of names.
 _PACKET_TYPES, _KEY_ALGORITHMS, _HASH_ALGORITHMS, _SIGNATURE_TYPES, _SUBPACKET_KINDS, _LAYERS, _REASONS, _WHYS = range(8)
 
-Octets = Union[bytes, bytearray, memoryview]
+Octets = Union[bytes, bytearray, memoryview, mmap.mmap]
+"""Octets in memory: these, and all else that memoryview takes."""
 
 
 # ---- The library's structs, field by field as opgp.h has them
@@ -129,41 +132,48 @@ _Reporter = ctypes.CFUNCTYPE(ctypes.c_int, ctypes.c_void_p, ctypes.c_size_t, cty
 
 def _load() -> ctypes.CDLL:
     """The library, with the types of the calls that are made."""
-    library = ctypes.CDLL(os.environ.get("OPGP_LIBRARY") or "libopgp.so.0")
-    if library.opgp_abi() != _ABI:
-        raise ImportError(f"libopgp has version {library.opgp_abi()} of its structs, and not {_ABI}")
+    path = os.environ.get("OPGP_LIBRARY") or "libopgp.so.3"
+    try:
+        library = ctypes.CDLL(path)
+        abi = library.opgp_abi()
+    except (OSError, AttributeError) as why:
+        raise ImportError(f"libopgp is wanted ({why}): OPGP_LIBRARY may name its path", name="opgp", path=path) from why
+    if abi != _ABI:
+        raise ImportError(f"{path} has version {abi} of libopgp's structs, and not {_ABI}", name="opgp", path=path)
     keyring, octets = ctypes.c_void_p, ctypes.POINTER(ctypes.c_uint8)
-    size = ctypes.c_size_t
+    status, size, number, pointer = ctypes.c_uint32, ctypes.c_size_t, ctypes.c_uint64, ctypes.POINTER
+    table = {row: (pointer(pointer(row)), pointer(size)) for row in (_Packet, _Key, _Job, _Subpacket)}
     for name, gives, *takes in (
-        ("usual_limits", None, ctypes.POINTER(_Limits)),
-        ("open", ctypes.c_uint32, octets, size, ctypes.POINTER(_Limits), ctypes.POINTER(keyring), ctypes.POINTER(_Fault)),
+        ("wrong_limit", ctypes.c_uint, pointer(_Limits)),
+        ("open_mode", status, ctypes.c_char_p, size, status, pointer(_Limits), pointer(keyring), pointer(_Fault)),
         ("close", None, keyring),
-        ("packet_count", size, keyring),
-        ("packet_at", ctypes.POINTER(_Packet), keyring, size),
-        ("key_count", size, keyring),
-        ("key_at", ctypes.POINTER(_Key), keyring, size),
-        ("job_count", size, keyring),
-        ("job_at", ctypes.POINTER(_Job), keyring, size),
-        ("subpackets_of", ctypes.POINTER(_Subpacket), keyring, size, ctypes.POINTER(size)),
-        ("data", _Span, keyring, ctypes.POINTER(_Subpacket)),
-        ("subpacket_field", _Span, keyring, ctypes.POINTER(_Subpacket), ctypes.c_uint),
-        ("body", _Span, keyring, ctypes.POINTER(_Packet)),
-        ("key_field", _Span, keyring, ctypes.POINTER(_Key), ctypes.c_uint),
-        ("job_field", _Span, keyring, ctypes.POINTER(_Job), ctypes.c_uint),
-        ("octets", ctypes.c_uint32, keyring, ctypes.c_uint64, ctypes.POINTER(octets), ctypes.POINTER(size)),
-        ("write", ctypes.c_uint32, keyring, ctypes.c_bool, ctypes.POINTER(octets), ctypes.POINTER(size)),
-        ("normalise", ctypes.c_uint32, keyring, ctypes.POINTER(keyring)),
-        ("merge", ctypes.c_uint32, keyring, ctypes.POINTER(keyring)),
-        ("certificate", ctypes.c_uint32, keyring, ctypes.c_uint64, ctypes.POINTER(keyring)),
-        ("join", ctypes.c_uint32, keyring, keyring, ctypes.POINTER(keyring)),
-        ("reader_open", ctypes.c_uint32, ctypes.POINTER(_Limits), ctypes.POINTER(_Reader)),
-        ("reader_push", ctypes.c_uint32, ctypes.POINTER(_Reader), octets, size),
-        ("reader_end", ctypes.c_uint32, ctypes.POINTER(_Reader), ctypes.POINTER(_Fault)),
-        ("reader_close", None, _Reader),
-        ("take", ctypes.c_uint32, ctypes.POINTER(_Reader), ctypes.POINTER(keyring)),
-        ("check", ctypes.c_int, keyring, _Verifier, _Reporter, ctypes.c_void_p),
-        ("status_text", ctypes.c_char_p, ctypes.c_uint32),
-        ("name", ctypes.c_uint32, ctypes.c_uint32, ctypes.c_uint8, octets, size, ctypes.POINTER(ctypes.c_uint64)),
+        ("certificate_count", status, keyring, pointer(size)),
+        ("packets", status, keyring, *table[_Packet]),
+        ("packets_of", status, keyring, number, *table[_Packet]),
+        ("keys", status, keyring, *table[_Key]),
+        ("keys_of", status, keyring, number, *table[_Key]),
+        ("jobs", status, keyring, *table[_Job]),
+        ("jobs_of", status, keyring, number, *table[_Job]),
+        ("subpackets_of", status, keyring, size, *table[_Subpacket]),
+        ("data", _Span, keyring, pointer(_Subpacket)),
+        ("subpacket_field", _Span, keyring, pointer(_Subpacket), ctypes.c_uint),
+        ("body", _Span, keyring, pointer(_Packet)),
+        ("key_field", _Span, keyring, pointer(_Key), ctypes.c_uint),
+        ("job_field", _Span, keyring, pointer(_Job), ctypes.c_uint),
+        ("octets", status, keyring, number, pointer(octets), pointer(size)),
+        ("write", status, keyring, ctypes.c_bool, pointer(octets), pointer(size)),
+        ("normalise", status, keyring, pointer(keyring)),
+        ("merge", status, keyring, pointer(keyring)),
+        ("certificate", status, keyring, number, pointer(keyring)),
+        ("join", status, keyring, keyring, pointer(keyring)),
+        ("reader_open", status, pointer(_Limits), pointer(_Reader)),
+        ("reader_push", status, pointer(_Reader), ctypes.c_char_p, size),
+        ("reader_end", status, pointer(_Reader), pointer(_Fault)),
+        ("reader_clear", None, pointer(_Reader)),
+        ("take", status, pointer(_Reader), pointer(keyring)),
+        ("check", status, keyring, _Verifier, _Reporter, ctypes.c_void_p),
+        ("status_text", ctypes.c_char_p, status),
+        ("name", status, status, ctypes.c_uint8, octets, size, pointer(number)),
     ):
         call = getattr(library, f"opgp_{name}")
         call.restype, call.argtypes = gives, takes
@@ -173,6 +183,17 @@ def _load() -> ctypes.CDLL:
 _library = _load()
 _free = ctypes.CDLL(None).free
 _free.restype, _free.argtypes = None, [ctypes.c_void_p]
+
+
+class _Handle:
+    """A keyring of the library. It is freed when nothing refers to it any more: no Keyring, no Certificate, and no call that is
+    under way in any thread."""
+
+    def __init__(self) -> None:
+        self._as_parameter_ = ctypes.c_void_p()
+
+    def __del__(self, close: Any = _library.opgp_close) -> None:
+        close(self._as_parameter_)
 
 
 def _number(number: int) -> Optional[int]:
@@ -204,7 +225,7 @@ def _fields(spans: Any) -> tuple[bytes, ...]:
 
 class Limits(NamedTuple):
     """The most of everything, and policies. `Limits()` are the library's usual ones; a number out of its range is a ValueError of
-    `read`."""
+    `read`, and of `Reader`."""
 
     line: int = 2**13
     """Octets of an armored line, without its line feed: 128 to 2**20."""
@@ -289,9 +310,9 @@ class Key:
     key_id: bytes
     """5.5.4: 8 octets."""
     material: tuple[bytes, ...]
-    """Its fields (5.5.5), integers big-endian without the count of their bits: RSA n, e; Elgamal p, g, y; DSA p, q, g, y; ECDH curve,
-    point, parameters; ECDSA and EdDSALegacy curve, point; of any other one field. A curve is an object identifier (9.2) without its
-    length. Empty fields at the end are left out."""
+    """Its fields (5.5.5), integers big-endian without the count of their bits: RSA n, e; Elgamal p, g, y; DSA p, q, g, y; ECDH
+    curve, point, parameters; ECDSA and EdDSALegacy curve, point; of any other one field. A curve is an object identifier (9.2)
+    without its length. Empty fields at the end are left out."""
 
     @property
     def is_primary(self) -> bool:
@@ -329,9 +350,10 @@ class Subpacket:
     data: bytes
     """What is behind its type octet."""
     form: int
-    """The form of its data, one of opgp.h's, which say what its numbers and fields are: 1 a number, such as a time; 2 an octet; 3 depth
-    and amount; 4 a regular expression; 5 octets, such as algorithms, flags or a text; 6 a revocation key; 7 a key ID; 8 a notation; 9 a
-    code and a text; 10 a target; 11 a signature; 12 a version and a fingerprint; 13 pairs of algorithms; 0: it isn't typed."""
+    """The form of its data, one of opgp.h's, which say what its numbers and fields are: 1 a number, such as a time; 2 an octet; 3
+    depth and amount; 4 a regular expression; 5 octets, such as algorithms, flags or a text; 6 a revocation key; 7 a key ID; 8 a
+    notation; 9 a code and a text; 10 a target; 11 a signature; 12 a version and a fingerprint; 13 pairs of algorithms; 0: it
+    isn't typed."""
     numbers: tuple[int, int]
     """The numbers that its data says; 0 for one that the form doesn't have."""
     fields: tuple[bytes, bytes]
@@ -375,8 +397,8 @@ class Signature:
     digest: bytes
     """The digest of what it hashes (5.2.4); empty: it isn't hashed."""
     made: tuple[bytes, ...]
-    """What its algorithm made (5.2.3): of RSA one integer; of DSA, ECDSA and EdDSALegacy r, s; of any other one field. Empty fields at
-    the end are left out."""
+    """What its algorithm made (5.2.3): of RSA one integer; of DSA, ECDSA and EdDSALegacy r, s; of any other one field. Empty
+    fields at the end are left out."""
     subpackets: tuple[Subpacket, ...]
     """Those of its hashed area first."""
 
@@ -445,18 +467,131 @@ class Question(NamedTuple):
 Verifier = Callable[[Question], Verdict]
 
 
-@dataclasses.dataclass(frozen=True)
-class Certificate:
-    """The packets, keys and signatures of one certificate, in order."""
+# ---- Rows of the library's tables
 
-    number: int
-    packets: tuple[Packet, ...]
-    keys: tuple[Key, ...]
-    """The primary key first."""
-    signatures: tuple[Signature, ...]
+
+def _table(call: Any, kind: Any, *where: Any) -> tuple[Any, int]:
+    """The rows that this call gives, and how many they are."""
+    rows, count = ctypes.POINTER(kind)(), ctypes.c_size_t()
+    _raise_but_for_done(call(*where, ctypes.byref(rows), ctypes.byref(count)))
+    return rows, count.value
+
+
+def _rows(name: str, kind: Any, handle: _Handle, certificate: Optional[int]) -> Iterator[tuple[int, Any]]:
+    """The rows of the table of this name, or of one certificate in it, each behind its number in the table."""
+    rows, count = _table(getattr(_library, f"opgp_{name}"), kind, handle)
+    first = 0
+    if certificate is not None:
+        begin = ctypes.cast(rows, ctypes.c_void_p).value or 0
+        rows, count = _table(getattr(_library, f"opgp_{name}_of"), kind, handle, certificate)
+        first = ((ctypes.cast(rows, ctypes.c_void_p).value or 0) - begin) // ctypes.sizeof(kind)
+    return enumerate(rows[:count], first)
+
+
+def _packets(handle: _Handle, certificate: Optional[int] = None) -> list[Packet]:
+    return [
+        Packet(_number(it.certificate), _number(it.component), _number(it.hang), it.kind, _octets(_library.opgp_body(handle, it)))
+        for _, it in _rows("packets", _Packet, handle, certificate)
+    ]
+
+
+def _keys(handle: _Handle, certificate: Optional[int] = None) -> list[Key]:
+    return [
+        Key(
+            row,
+            it.certificate,
+            _number(it.component),
+            it.version,
+            it.algorithm,
+            it.created,
+            bytes(it.print[: it.print_size]),
+            bytes(it.key_id),
+            _fields(_library.opgp_key_field(handle, it, number) for number in range(4)),
+        )
+        for row, it in _rows("keys", _Key, handle, certificate)
+    ]
+
+
+def _signatures(handle: _Handle, certificate: Optional[int] = None) -> list[Signature]:
+    return [
+        Signature(
+            row,
+            it.certificate,
+            _number(it.component),
+            it.hang,
+            _number(it.nested),
+            _number(it.signer),
+            _name(_WHYS, it.why),
+            it.version,
+            it.kind,
+            it.algorithm,
+            it.hash,
+            bytes(it.left),
+            bool(it.is_bad),
+            bytes(it.digest[: it.digest_size]),
+            _fields(_library.opgp_job_field(handle, it, number) for number in range(2)),
+            _subpackets(handle, row),
+        )
+        for row, it in _rows("jobs", _Job, handle, certificate)
+    ]
+
+
+_MEANINGS = ("typed", "unfit", "unknown")
+
+
+def _subpackets(handle: _Handle, row: int) -> tuple[Subpacket, ...]:
+    rows, count = _table(_library.opgp_subpackets_of, _Subpacket, handle, row)
+    return tuple(_subpacket(handle, it) for it in rows[:count])
+
+
+def _subpacket(handle: _Handle, it: Any) -> Subpacket:
+    (first, second), (one, other) = it.field_sizes, it.numbers
+    return Subpacket(
+        it.kind,
+        bool(it.is_critical),
+        bool(it.is_hashed),
+        _MEANINGS[it.meaning],
+        _octets(_library.opgp_data(handle, it)),
+        it.form,
+        (one, other),
+        (
+            _octets(_library.opgp_subpacket_field(handle, it, 0)) if first else b"",
+            _octets(_library.opgp_subpacket_field(handle, it, 1)) if second else b"",
+        ),
+    )
+
+
+# ---- Keyrings
+
+
+class Certificate:
+    """A certificate of a keyring: its packets, keys and signatures, each of which are made when they are first asked for. Asked
+    for signatures, it has the library make the digests of all signatures of the keyring. It keeps what the keyring holds, also
+    where that is closed. Two are equal if their packets are."""
+
+    def __init__(self, handle: _Handle, number: int) -> None:
+        self._handle = handle
+        self.number = number
+        """Its number in the keyring, from 0."""
+
+    @functools.cached_property
+    def packets(self) -> tuple[Packet, ...]:
+        """Its packets, in order."""
+        return tuple(_packets(self._handle, self.number))
+
+    @functools.cached_property
+    def keys(self) -> tuple[Key, ...]:
+        """Its keys, in order, the primary key first."""
+        return tuple(_keys(self._handle, self.number))
+
+    @functools.cached_property
+    def signatures(self) -> tuple[Signature, ...]:
+        """Its signatures, in the order of `opgp check`, those embedded in bindings included."""
+        return tuple(_signatures(self._handle, self.number))
 
     @property
     def primary(self) -> Key:
+        """Its primary key."""
         return self.keys[0]
 
     @property
@@ -464,171 +599,130 @@ class Certificate:
         """The user IDs (5.11), in UTF-8; an octet that isn't is a lone surrogate, as os.fsdecode makes it."""
         return tuple(it.body.decode("utf-8", "surrogateescape") for it in self.packets if it.kind == 13)
 
+    def __eq__(self, other: object) -> bool:
+        if not isinstance(other, Certificate):
+            return NotImplemented
+        return self.packets == other.packets
 
-# ---- Keyrings
+    def __hash__(self) -> int:
+        return hash(self.packets)
 
+    def __repr__(self) -> str:
+        return f"<Certificate {self.number} {self.primary.fingerprint.hex().upper()}>"
 
-def _key(keyring: ctypes.c_void_p, row: int, key: Any) -> Key:
-    return Key(
-        row,
-        key.certificate,
-        _number(key.component),
-        key.version,
-        key.algorithm,
-        key.created,
-        bytes(key.print[: key.print_size]),
-        bytes(key.key_id),
-        _fields(_library.opgp_key_field(keyring, key, it) for it in range(4)),
-    )
+    def __getstate__(self) -> dict[str, Any]:
+        """All its rows, without what the keyring holds: what is copied and pickled."""
+        return {name: getattr(self, name) for name in ("number", "packets", "keys", "signatures")}
 
 
-def _signature(keyring: ctypes.c_void_p, row: int, job: Any) -> Signature:
-    return Signature(
-        row,
-        job.certificate,
-        _number(job.component),
-        job.hang,
-        _number(job.nested),
-        _number(job.signer),
-        _name(_WHYS, job.why),
-        job.version,
-        job.kind,
-        job.algorithm,
-        job.hash,
-        bytes(job.left),
-        bool(job.is_bad),
-        bytes(job.digest[: job.digest_size]),
-        _fields(_library.opgp_job_field(keyring, job, it) for it in range(2)),
-        _subpackets(keyring, row),
-    )
+_It = TypeVar("_It", bound="_Held")
 
 
-_MEANINGS = ("typed", "unfit", "unknown")
+class _Held:
+    """What stands for memory of the library: the end of a `with` closes it, and it has no copies."""
+
+    def close(self) -> None:
+        """Frees it."""
+        raise NotImplementedError
+
+    def __enter__(self: _It) -> _It:
+        return self
+
+    def __exit__(self, *_: object) -> None:
+        self.close()
+
+    def __reduce__(self) -> Any:
+        raise TypeError(f"a {type(self).__name__} can't be copied or pickled")
 
 
-def _subpackets(keyring: ctypes.c_void_p, row: int) -> tuple[Subpacket, ...]:
-    count = ctypes.c_size_t()
-    rows = _library.opgp_subpackets_of(keyring, row, ctypes.byref(count))
-    return tuple(_subpacket(keyring, rows[number]) for number in range(count.value))
-
-
-def _subpacket(keyring: ctypes.c_void_p, it: Any) -> Subpacket:
-    first, second = (_octets(_library.opgp_subpacket_field(keyring, it, number)) for number in range(2))
-    return Subpacket(
-        it.kind,
-        bool(it.is_critical),
-        bool(it.is_hashed),
-        _MEANINGS[it.meaning],
-        _octets(_library.opgp_data(keyring, it)),
-        it.form,
-        (it.numbers[0], it.numbers[1]),
-        (first, second),
-    )
-
-
-class Keyring:
+class Keyring(_Held):
     """A keyring, as `read` gives it. It is closed by `close`, at the end of its `with`, or when nothing refers to it."""
 
-    def __init__(self, octets: Octets, limits: Optional[Limits] = None) -> None:
-        self._at = ctypes.c_void_p()
-        self._checks = 0
-        whole, fault = bytes(octets), _Fault()
-        status = _library.opgp_open(_lent(whole), len(whole), _limits(limits), ctypes.byref(self._at), ctypes.byref(fault))
-        _raise_if_refused(status, fault)
+    _handle: Optional[_Handle] = None
+
+    def __init__(self, octets: Octets, limits: Optional[Limits] = None, mode: str = "auto") -> None:
+        if mode not in _MODES:
+            raise ValueError(f"the mode is {mode!r}, and none of {', '.join(_MODES)}")
+        whole, fault, handle = _bytes(octets), _Fault(), _Handle()
+        to = ctypes.byref(handle._as_parameter_), ctypes.byref(fault)
+        _raise_if_refused(_library.opgp_open_mode(whole, len(whole), _MODES.index(mode), _limits(limits), *to), fault)
+        self._handle = handle
 
     @classmethod
     def _made(cls, call: Callable[[Any], Any]) -> Keyring:
         """The keyring that this call makes."""
-        made = cls.__new__(cls)
-        made._at, made._checks = ctypes.c_void_p(), 0
-        _raise_but_for_done(call(ctypes.byref(made._at)))
+        made, handle = cls.__new__(cls), _Handle()
+        _raise_but_for_done(call(ctypes.byref(handle._as_parameter_)))
+        made._handle = handle
         return made
 
     def close(self) -> None:
-        """Frees the keyring, which can't be asked again. While a check is under way: ValueError."""
-        if self._checks:
-            raise ValueError("a check of the keyring is under way")
-        at, self._at = self._at, ctypes.c_void_p()
-        _library.opgp_close(at)
+        """Ends the keyring, which can't be asked again. It is freed when the calls and the checks that are under way have ended,
+        and no Certificate of it is left."""
+        self._handle = None
 
-    def __enter__(self) -> Keyring:
-        return self
-
-    def __exit__(
-        self, kind: Optional[Type[BaseException]], value: Optional[BaseException], trace: Optional[TracebackType]
-    ) -> None:
-        self.close()
-
-    def __del__(self) -> None:
-        if getattr(self, "_at", None):
-            self.close()
-
-    def _open(self) -> ctypes.c_void_p:
-        if not self._at:
+    def _open(self) -> _Handle:
+        """What the library holds, which stays as long as the caller keeps it."""
+        if (handle := self._handle) is None:
             raise ValueError("the keyring is closed")
-        return self._at
+        return handle
 
     def packets(self) -> list[Packet]:
         """All packets, in order."""
-        at, rows = self._open(), []
-        for number in range(_library.opgp_packet_count(at)):
-            row = _library.opgp_packet_at(at, number)
-            it = row.contents
-            body = _octets(_library.opgp_body(at, row))
-            rows.append(Packet(_number(it.certificate), _number(it.component), _number(it.hang), it.kind, body))
-        return rows
+        return _packets(self._open())
 
     def keys(self) -> list[Key]:
         """All keys, in order, a primary key before its subkeys."""
-        at = self._open()
-        return [_key(at, it, _library.opgp_key_at(at, it).contents) for it in range(_library.opgp_key_count(at))]
+        return _keys(self._open())
 
     def signatures(self) -> list[Signature]:
-        """All signatures, in the order of `opgp check`, those embedded in bindings included."""
-        at = self._open()
-        return [_signature(at, it, _library.opgp_job_at(at, it).contents) for it in range(_library.opgp_job_count(at))]
+        """All signatures, in the order of `opgp check`, those embedded in bindings included. Their digests are made when they are
+        first asked for: docs/LIBRARY-PYTHON.md says what that costs of a stranger's keyring."""
+        return _signatures(self._open())
 
     def certificates(self) -> list[Certificate]:
-        """The certificates, in order, each with its packets, keys and signatures."""
-        parts: dict[int, tuple[list[Packet], list[Key], list[Signature]]] = {}
-        tables: tuple[list[Any], ...] = (self.packets(), self.keys(), self.signatures())
-        for kind, rows in enumerate(tables):
-            for row in rows:
-                if row.certificate is not None:
-                    parts.setdefault(row.certificate, ([], [], []))[kind].append(row)
-        return [Certificate(number, *map(tuple, parts[number])) for number in sorted(parts)]  # type: ignore[arg-type]
+        """The certificates, in order. Nothing is made of them before it is asked for."""
+        handle, count = self._open(), ctypes.c_size_t()
+        _raise_but_for_done(_library.opgp_certificate_count(handle, ctypes.byref(count)))
+        return [Certificate(handle, number) for number in range(count.value)]
+
+    def find(self, name: Union[str, Octets]) -> list[Key]:
+        """The keys of this fingerprint or key ID, as octets or in hexadecimal digits, with spaces and `0x` or without. A text of
+        others is a ValueError."""
+        wanted = bytes.fromhex(name.removeprefix("0x")) if isinstance(name, str) else _bytes(name)
+        return [it for it in self.keys() if wanted in (it.fingerprint, it.key_id)]
 
     def octets(self, row: int) -> bytes:
         """What the signature of this row hashes (5.2.4). There is no such row, or it isn't hashed: IndexError."""
-        at = self._open()
-        if not 0 <= row < _NONE:
-            raise IndexError(row)
-        return self._given(lambda octets, size: _library.opgp_octets(at, row, octets, size))
+        handle, at = self._open(), _row(row)
+        return self._given(lambda octets, size: _library.opgp_octets(handle, at, octets, size))
 
     def write(self, armor: bool = False) -> bytes:
         """The packets of the keyring, octet for octet as they were read: bare, or as one block of armor."""
-        at = self._open()
-        return self._given(lambda octets, size: _library.opgp_write(at, armor, octets, size))
+        handle = self._open()
+        return self._given(lambda octets, size: _library.opgp_write(handle, armor, octets, size))
 
     def normalised(self) -> Keyring:
         """A keyring of the same packets, each in the current format and its shortest length (4.2.1)."""
-        return self._made(lambda made: _library.opgp_normalise(self._open(), made))
+        handle = self._open()
+        return self._made(lambda made: _library.opgp_normalise(handle, made))
 
     def merged(self) -> Keyring:
         """A keyring where certificates of the same primary key are one, and equal packets of a place appear once (10.1)."""
-        return self._made(lambda made: _library.opgp_merge(self._open(), made))
+        handle = self._open()
+        return self._made(lambda made: _library.opgp_merge(handle, made))
 
     def certificate(self, number: int) -> Keyring:
         """The certificate of this number, from 0, as a keyring. There is none: IndexError."""
-        if not 0 <= number < _NONE:
-            raise IndexError(number)
-        return self._made(lambda made: _library.opgp_certificate(self._open(), number, made))
+        handle, at = self._open(), _row(number)
+        return self._made(lambda made: _library.opgp_certificate(handle, at, made))
 
     def joined(self, other: Keyring) -> Keyring:
-        """A keyring of the packets of this one, and behind them those of another one."""
-        if other is self:
-            raise ValueError("a keyring isn't joined with itself")
-        return self._made(lambda made: _library.opgp_join(self._open(), other._open(), made))
+        """A keyring of the packets of this one, and behind them those of another one, or of itself."""
+        if not isinstance(other, Keyring):
+            raise TypeError(f"a Keyring is wanted, and not a {type(other).__name__}")
+        handle, behind = self._open(), other._open()
+        return self._made(lambda made: _library.opgp_join(handle, behind, made))
 
     @staticmethod
     def _given(call: Callable[[Any, Any], Any]) -> bytes:
@@ -648,66 +742,72 @@ class Keyring:
         GOOD is arithmetic and no more: expiries, revocations, key flags and critical subpackets aren't looked at, so whether a
         signature may be relied on is for the caller.
         """
-        at = self._open()
+        handle = self._open()
+        signatures, keys = _signatures(handle), _keys(handle)
         found: list[tuple[Signature, Verdict]] = []
         raised: list[BaseException] = []
 
         def answer(_: Any, asked: Any) -> int:
             try:
-                question, signer = asked.contents, asked.contents.signer.contents
-                job = question.job.contents
-                key = _key(at, job.signer, signer)
-                given = verify(Question(_signature(at, question.row, job), key)) if verify else Verdict.UNDECIDED
+                question = asked.contents
+                signature, signer = signatures[question.row], keys[question.job.contents.signer]
+                given = verify(Question(signature, signer)) if verify else Verdict.UNDECIDED
                 return Verdict(given).value
             except BaseException as it:  # pylint: disable=broad-except
                 raised.append(it)
                 return Verdict.UNDECIDED.value
 
-        def report(_: Any, row: int, job: Any, verdict: int) -> int:
+        def report(_: Any, row: int, __: Any, verdict: int) -> int:
             try:
-                found.append((_signature(at, row, job.contents), Verdict(verdict)))
+                found.append((signatures[row], Verdict(verdict)))
             except BaseException as it:  # pylint: disable=broad-except
                 raised.append(it)
             return int(bool(raised))
 
-        self._checks += 1
-        try:
-            _library.opgp_check(at, _Verifier(answer) if verify else _Verifier(0), _Reporter(report), None)
-        finally:
-            self._checks -= 1
+        status = _library.opgp_check(handle, _Verifier(answer) if verify else _Verifier(0), _Reporter(report), None)
         if raised:
             raise raised[0]
+        _raise_but_for_done(status)
         return found
 
 
-class Reader:
-    """Reads a keyring whose octets, armored or binary, come in pieces of any size, and gives its parts as they come: the packets before
-    the first certificate, if there are any, and each certificate, as keyrings of their own.
+class Reader(_Held):
+    """Reads a keyring whose octets, armored or binary, come in pieces of any size, and gives its parts as they come: the packets
+    before the first certificate, if there are any, and each certificate, as keyrings of their own.
 
-    It keeps what is unfinished, and the parts that weren't taken, so an input of any size is read in bounded memory. Whether the input
-    is a keyring is known at its end alone: `end` may raise a fault after parts were given. It is closed by `close`, at the end of its
-    `with`, or when nothing refers to it; and is used by one thread at a time.
+    It keeps what is unfinished, and the parts that weren't taken, so an input of any size is read in bounded memory. Whether the
+    input is a keyring is known at its end alone: `end` may raise a fault after parts were given. It is closed by `close`, at the
+    end of its `with`, or when nothing refers to it. Calls of several threads wait for one another.
     """
 
+    _lock: Any
+    _reader: Any
+
+    def __new__(cls, *_: Any, **__: Any) -> Reader:
+        reader = super().__new__(cls)
+        reader._lock, reader._reader = threading.RLock(), _Reader()
+        return reader
+
     def __init__(self, limits: Optional[Limits] = None) -> None:
-        self._reader = _Reader()
         given = _limits(limits)
-        if given is None:
-            usual = _Limits()
-            _library.opgp_usual_limits(ctypes.byref(usual))
-            given = ctypes.byref(usual)
-        _raise_but_for_done(_library.opgp_reader_open(given, ctypes.byref(self._reader)))
+        with self._lock:
+            _raise_but_for_done(_library.opgp_reader_open(given, self._reader))
+
+    def __del__(self, clear: Any = _library.opgp_reader_clear) -> None:
+        clear(self._reader)
 
     def push(self, piece: Octets) -> None:
-        """Takes the next piece of the input. The input has ended, or the reader is closed: ValueError. MemoryError: the piece isn't
-        taken, and the reading may be lost, which each later call says again."""
-        octets = bytes(piece)
-        _raise_but_for_done(_library.opgp_reader_push(ctypes.byref(self._reader), _lent(octets), len(octets)))
+        """Takes the next piece of the input. The input has ended, or the reader is closed: ValueError. MemoryError: the piece
+        isn't taken, and the reading is lost, which each later call says again."""
+        octets = _bytes(piece)
+        with self._lock:
+            _raise_but_for_done(_library.opgp_reader_push(self._reader, octets, len(octets)))
 
     def take(self) -> Optional[Keyring]:
         """The next part as a keyring, or None where no part is complete that wasn't taken."""
         try:
-            return Keyring._made(lambda made: _library.opgp_take(ctypes.byref(self._reader), made))
+            with self._lock:
+                return Keyring._made(lambda made: _library.opgp_take(self._reader, made))
         except IndexError:
             return None
 
@@ -717,41 +817,42 @@ class Reader:
             yield part
 
     def end(self) -> None:
-        """Ends the input. It isn't a keyring: Fault. The parts that weren't taken can be taken then."""
+        """Ends the input. It isn't a keyring: Fault, and parts that weren't taken are gone. Else they can be taken then."""
         fault = _Fault()
-        _raise_if_refused(_library.opgp_reader_end(ctypes.byref(self._reader), ctypes.byref(fault)), fault)
+        with self._lock:
+            _raise_if_refused(_library.opgp_reader_end(self._reader, fault), fault)
 
     def close(self) -> None:
         """Frees what the reader keeps. It can't be used again."""
-        reader, self._reader = self._reader, _Reader()
-        _library.opgp_reader_close(reader)
-
-    def __enter__(self) -> Reader:
-        return self
-
-    def __exit__(
-        self, kind: Optional[Type[BaseException]], value: Optional[BaseException], trace: Optional[TracebackType]
-    ) -> None:
-        self.close()
-
-    def __del__(self) -> None:
-        if getattr(self, "_reader", None) is not None:
-            self.close()
+        with self._lock:
+            _library.opgp_reader_clear(self._reader)
 
 
-def _lent(octets: bytes) -> Any:
-    """A pointer to these octets, which the caller keeps."""
-    return ctypes.cast(ctypes.c_char_p(octets), ctypes.POINTER(ctypes.c_uint8)) if octets else (ctypes.c_uint8 * 1)()
+def _bytes(octets: Octets) -> bytes:
+    """These octets. What isn't octets in memory, such as a number, a text, a list or a path, is a TypeError."""
+    return octets if isinstance(octets, bytes) else bytes(memoryview(octets))
+
+
+def _row(number: int) -> int:
+    """The number of a row. None can have it: IndexError."""
+    if not 0 <= (row := operator.index(number)) < _NONE:
+        raise IndexError(number)
+    return row
+
+
+_MODES = ("auto", "armor", "binary")
 
 
 def _limits(limits: Optional[Limits]) -> Any:
-    if limits is None:
-        return None
-    numbers = limits[:5]
-    for it in numbers:
-        if not 0 <= it < 2**64:
-            raise ValueError(_library.opgp_status_text(_LIMITS).decode("ascii"))
-    return ctypes.byref(_Limits(*numbers, bool(limits.refuse_outside) + 2 * bool(limits.keep_malformed)))
+    """The library's struct of these limits, or of the usual ones."""
+    limits = Limits() if limits is None else limits
+    if not isinstance(limits, Limits):
+        raise TypeError(f"Limits are wanted, and not a {type(limits).__name__}")
+    numbers = [it if 0 <= it < _NONE else _NONE for it in map(operator.index, limits[:5])]
+    given = _Limits(*numbers, bool(limits.refuse_outside) + 2 * bool(limits.keep_malformed))
+    if (wrong := _library.opgp_wrong_limit(given)) < len(numbers):
+        raise ValueError(f"the limit {Limits._fields[wrong]} is out of its range: {limits[wrong]}")
+    return given
 
 
 def _raise_but_for_done(status: int) -> None:
@@ -775,22 +876,39 @@ def _raise_if_refused(status: int, fault: Any) -> None:
     _raise_but_for_done(status)
 
 
-def read(octets: Octets, limits: Optional[Limits] = None) -> Keyring:
-    """Reads the keyring of these octets, armored or binary, with these limits, or the usual ones.
+def read(octets: Octets, limits: Optional[Limits] = None, mode: str = "auto") -> Keyring:
+    """Reads the keyring of these octets with these limits, or the usual ones, by a mode: auto (the first octet says whether they
+    are armored or binary), armor or binary.
 
-    Raises Fault where they are refused; ValueError where a limit is out of its range; MemoryError.
+    Raises Fault where they are refused; TypeError where they aren't octets, but a number, a text or a path; ValueError where a
+    limit is out of its range, or there is no such mode; MemoryError.
     """
-    return Keyring(octets, limits)
+    return Keyring(octets, limits, mode)
 
 
 def parts(source: BinaryIO, limits: Optional[Limits] = None, size: int = 1 << 16) -> Iterator[Keyring]:
-    """The parts of the keyring that this file holds, read in pieces of this size, each as soon as it is complete: see `Reader`.
+    """The parts of the keyring that this file holds, read in pieces of at most this size, each as soon as it is complete: see
+    `Reader`.
 
-    Raises Fault behind the last part where the input is refused: the parts before it are then those of no keyring.
+    Raises Fault behind the last part where the input is refused: the parts before it are then those of no keyring. A size below 1
+    is a ValueError. A source that doesn't block, and has nothing to read yet, is a BlockingIOError, which ends the reading.
     """
-    with Reader(limits) as reader:
-        while piece := source.read(size):
+    if size < 1:
+        raise ValueError(f"the size of pieces is {size}")
+    return _parts(Reader(limits), source, size)
+
+
+def _parts(reader: Reader, source: BinaryIO, size: int) -> Iterator[Keyring]:
+    with reader:
+        while piece := _piece(source.read(size)):
             reader.push(piece)
             yield from reader.taken()
         reader.end()
         yield from reader.taken()
+
+
+def _piece(read_octets: Optional[Octets]) -> bytes:
+    """What a source gave; none are the end of it."""
+    if read_octets is None:
+        raise BlockingIOError("the source has nothing to read yet")
+    return _bytes(read_octets)

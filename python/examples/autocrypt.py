@@ -1,6 +1,6 @@
 #!/usr/bin/env python3
 """Prints the keys that the Autocrypt headers (autocrypt.org) of a mail on standard input bring: each with the address that the
-header is for, its fingerprint, and its user IDs.
+header is for, its fingerprint, and its user IDs. The limits are those of a stranger's certificate, and no signature is asked for.
 
     python3 autocrypt.py < mail"""
 
@@ -9,6 +9,8 @@ import email
 import sys
 
 import opgp
+
+LIMITS = opgp.Limits(body=1 << 16, cert=1 << 20, input=1 << 20)
 
 
 def attributes(header: str) -> dict[str, str]:
@@ -21,9 +23,9 @@ def main() -> int:
     """Ends with 1 where one of the headers has no certificate."""
     status = 0
     for header in email.message_from_binary_file(sys.stdin.buffer).get_all("Autocrypt", []):
-        found = attributes(header)
+        found = attributes(str(header))
         try:
-            with opgp.read(base64.b64decode(found.get("keydata", ""), validate=True)) as keyring:
+            with opgp.read(base64.b64decode(found.get("keydata", ""), validate=True), LIMITS, "binary") as keyring:
                 certificates = keyring.certificates()
             if not certificates:
                 raise ValueError("no certificate")

@@ -1,46 +1,69 @@
 #!/usr/bin/env python3
-"""Prints when each key of the keyring on standard input expires, and what it may be used for, as the newest signature of its
-certificate's own primary key says. No signature is verified, and no revocation looked at.
+"""Prints when each key of the keyring on standard input expires, and what it may be used for, as the signatures of its
+certificate's own primary key say.
 
-    python3 expiry.py < keyring.asc"""
+    python3 expiry.py < keyring.asc
+
+In each place, which is the primary key, a user ID or a subkey, the newest self-signature counts and no other (RFC 9580,
+5.2.3.10). Of a subkey that is its newest binding. Of the primary key it is the newest direct key signature. Where that doesn't
+say when the key expires, or what it is for, as is usual in version 4, the user IDs' certifications do: the newest of those that
+count and say it. A user ID whose newest signature is its revocation doesn't count.
+
+No signature is verified: the times are what the input says, whoever made it. Whether a key is revoked, and when a signature
+expires, isn't looked at."""
 
 import datetime
 import sys
+from typing import Optional
 
 import opgp
 
-BINDING = 0x18
-OF_A_PRIMARY_KEY = (0x10, 0x11, 0x12, 0x13, 0x1F)
+REVOCATION = 0x30  # of a user ID
+KINDS = (0x10, 0x11, 0x12, 0x13, 0x18, 0x1F, REVOCATION)
+USER_ID = 13
 
 
-def about(key: opgp.Key, certificate: opgp.Certificate) -> list[opgp.Signature]:
-    """The signatures by the primary key, with a time, that say something of this key."""
-    own = [it for it in certificate.signatures if it.signer == certificate.primary.row and it.created is not None]
-    if key.is_primary:
-        return [it for it in own if it.kind in OF_A_PRIMARY_KEY and it.nested is None]
-    return [it for it in own if it.kind == BINDING and it.component == key.component and it.nested is None]
+def newest(certificate: opgp.Certificate, keys: list[opgp.Key]) -> dict[Optional[int], opgp.Signature]:
+    """The self-signature that counts in each place, by its component, or None of the primary key: the newest that belongs there
+    and whose digest begins as it states, where it is one that the library makes; of several of one time the last."""
+    found: dict[Optional[int], opgp.Signature] = {}
+    for it in certificate.signatures:
+        if it.kind not in KINDS or it.nested is not None or it.why_not not in (None, "hash") or it.is_bad or it.signer is None:
+            continue
+        if keys[it.signer].fingerprint == certificate.primary.fingerprint and it.created is not None:
+            if it.component not in found or it.created >= (found[it.component].created or 0):
+                found[it.component] = it
+    return found
 
 
-def line(key: opgp.Key, certificate: opgp.Certificate) -> str:
+def about(key: opgp.Key, certificate: opgp.Certificate, found: dict[Optional[int], opgp.Signature]) -> list[opgp.Signature]:
+    """The signatures that count of a key, the first before the second where both say something."""
+    if not key.is_primary:
+        return [found[key.component]] if key.component in found else []
+    certified = [found[it.component] for it in certificate.packets if it.kind == USER_ID and it.component in found]
+    certified.sort(key=lambda it: it.created or 0, reverse=True)
+    direct = [found[None]] if None in found else []
+    return [it for it in direct + certified if it.kind != REVOCATION]
+
+
+def line(key: opgp.Key, signatures: list[opgp.Signature]) -> str:
     """The fingerprint, the time, and the names of the flags."""
-    newest = max(about(key, certificate), key=lambda it: it.created or 0, default=None)
-    until, flags = "unknown", "unknown"
-    if newest:
-        seconds = newest.key_expires or 0
-        until = "never"
-        if seconds:
-            until = datetime.datetime.fromtimestamp(key.created + seconds, datetime.timezone.utc).strftime("%Y-%m-%dT%H:%M:%SZ")
-        if newest.key_flags is not None:
-            flags = ",".join(it.name.lower() for it in opgp.KeyFlags if it in newest.key_flags and it.name) or "none"
+    until, flags = "never" if signatures else "unknown", "unknown"
+    for seconds in [it.key_expires for it in signatures if it.key_expires][:1]:
+        until = datetime.datetime.fromtimestamp(key.created + seconds, datetime.timezone.utc).strftime("%Y-%m-%dT%H:%M:%SZ")
+    for said in [it.key_flags for it in signatures if it.key_flags is not None][:1]:
+        flags = ",".join(it.name.lower() for it in opgp.KeyFlags if it in said and it.name) or "none"
     return f"{key.fingerprint.hex().upper()} expires {until} flags {flags}"
 
 
 def main() -> None:
     """A keyring that is refused ends with the fault."""
     with opgp.read(sys.stdin.buffer.read()) as keyring:
+        keys = keyring.keys()
         for certificate in keyring.certificates():
+            found = newest(certificate, keys)
             for key in certificate.keys:
-                print(line(key, certificate))
+                print(line(key, about(key, certificate, found)))
 
 
 if __name__ == "__main__":

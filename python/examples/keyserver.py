@@ -1,6 +1,6 @@
 #!/usr/bin/env python3
-"""Merges what a key server sent, armored text of any number of blocks, with the keyring that one has, and writes the merged keyring
-in armor. Standard error has a line for each packet that is new: what it is, and the certificate that it is of.
+"""Merges what a key server sent, armored text of any number of blocks, with the keyring that one has, and writes the merged
+keyring in armor. Standard error has a line for each packet that is new: what it is, and the certificate that it is of.
 
     python3 keyserver.py MINE < SENT > MERGED
 

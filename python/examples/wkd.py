@@ -1,10 +1,11 @@
 #!/usr/bin/env python3
-"""Writes the certificates for a mail address that a Web Key Directory answered: those of which a user ID has that address. The answer
-is the bare octets of certificates (draft-koch-openpgp-webkey-service, 3.1), here of a file, a URL or standard input.
+"""Writes the certificates for a mail address that a Web Key Directory answered: those of which a user ID has that address. The
+answer is the bare octets of certificates (draft-koch-openpgp-webkey-service, 3.1), here of a file, a URL or standard input.
 
     python3 wkd.py alice@example.org [FILE or URL] > alice.gpg
 
-Standard error has the fingerprint and the user IDs of each certificate that is written. No signature is verified."""
+Standard error has the fingerprint and the user IDs of each certificate that is written. No signature is verified, nor asked for:
+whoever made the answer chose its user IDs. The limits are those of a stranger's keyring."""
 
 import sys
 import urllib.request
@@ -12,6 +13,7 @@ import urllib.request
 import opgp
 
 MOST = 1 << 20  # octets of an answer
+LIMITS = opgp.Limits(body=1 << 16, cert=MOST, input=MOST)
 
 
 def address_of(user_id: str) -> str:
@@ -30,8 +32,6 @@ def answer_of(words: list[str]) -> bytes:
             octets = source.read(MOST + 1)
     if len(octets) > MOST:
         raise ValueError(f"the answer has more than {MOST} octets")
-    if octets[:1] < b"\x80":  # each packet begins with an octet of 80 to FF
-        raise ValueError("the answer isn't the octets of a certificate")
     return octets
 
 
@@ -41,7 +41,7 @@ def main() -> int:
     try:
         if "@" not in address:
             raise ValueError(f"{address!r} is no mail address")
-        with opgp.read(answer_of(sys.argv[2:])) as keyring:
+        with opgp.read(answer_of(sys.argv[2:]), LIMITS, "binary") as keyring:
             for certificate in keyring.certificates():
                 if address in map(address_of, certificate.user_ids):
                     found += 1

@@ -3,8 +3,10 @@
  *
  *     call RUNS FILE     opens the keyring of the file 10,000 times, takes the fingerprint of its first key, and closes it: of one time
  *     handle RUNS FILE   the same by opgp_ring_open and opgp_ring_keys, without the layer on top
- *     open RUNS FILE     opens and closes the keyring
- *     ring RUNS FILE     the same without its tables
+ *     open RUNS FILE     opens the keyring, makes all its tables, and closes it
+ *     packets RUNS FILE  the same with the table of packets alone
+ *     octets RUNS FILE   the same with what each signature hashes, row after row, and no table
+ *     ring RUNS FILE     the same with none of it
  *     pieces RUNS FILE   reads it in pieces of 65,536 octets, and takes each part
  *     verify RUNS FILE   collects all questions first: how many; then all answers of the verifier, and within them the calls of
  *                        libcrypto that verify, without those that make a key of its integers */
@@ -57,6 +59,7 @@ static void wanted(bool holds, const char *what)
 static uint8_t *in;
 static size_t size;
 static uint8_t print[32]; /* the last fingerprint */
+static size_t signatures; /* of the keyring whose tables were made */
 
 static void call(void)
 {
@@ -91,7 +94,39 @@ static void handle(void)
 static void open_all(void)
 {
     opgp_keyring *keyring;
+    const opgp_packet *packets;
+    const opgp_key *keys;
+    const opgp_subpacket *subpackets;
+    const opgp_job *jobs;
+    size_t count;
     wanted(opgp_open(in, size, NULL, &keyring, NULL) == OPGP_DONE, "opgp_open");
+    wanted(opgp_packets(keyring, &packets, &count) == OPGP_DONE && opgp_keys(keyring, &keys, &count) == OPGP_DONE
+               && opgp_subpackets(keyring, &subpackets, &count) == OPGP_DONE && opgp_jobs(keyring, &jobs, &count) == OPGP_DONE,
+           "the tables");
+    signatures = count;
+    opgp_close(keyring);
+}
+
+static void open_packets(void)
+{
+    opgp_keyring *keyring;
+    const opgp_packet *packets;
+    size_t count;
+    wanted(opgp_open(in, size, NULL, &keyring, NULL) == OPGP_DONE && opgp_packets(keyring, &packets, &count) == OPGP_DONE, "opgp_packets");
+    opgp_close(keyring);
+}
+
+static void all_octets(void)
+{
+    opgp_keyring *keyring;
+    wanted(opgp_open(in, size, NULL, &keyring, NULL) == OPGP_DONE, "opgp_open");
+    for (size_t row = 0; row < signatures; row++) {
+        uint8_t *octets;
+        size_t n;
+        uint32_t status = opgp_octets(keyring, row, &octets, &n);
+        wanted(status == OPGP_DONE || status == OPGP_NO_ROW, "opgp_octets");
+        free(octets);
+    }
     opgp_close(keyring);
 }
 
@@ -197,8 +232,8 @@ int main(int argc, char **argv)
         const char *word;
         void (*work)(void);
         double times;
-    } works[] = {{"call", call, TIMES}, {"handle", handle, TIMES}, {"open", open_all, 1}, {"ring", open_ring, 1},
-                 {"pieces", in_pieces, 1}};
+    } works[] = {{"call", call, TIMES}, {"handle", handle, TIMES}, {"open", open_all, 1}, {"packets", open_packets, 1},
+                 {"octets", all_octets, 1}, {"ring", open_ring, 1}, {"pieces", in_pieces, 1}};
     wanted(argc == 4, "the words");
     unsigned long runs = strtoul(argv[2], NULL, 10);
     FILE *file = fopen(argv[3], "rb");
@@ -208,6 +243,9 @@ int main(int argc, char **argv)
     fclose(file);
     if (strcmp(argv[1], "verify") == 0) {
         verify_all(runs);
+    }
+    if (strcmp(argv[1], "octets") == 0) {
+        open_all();
     }
     for (size_t i = 0; i < sizeof works / sizeof *works; i++) {
         if (strcmp(argv[1], works[i].word) == 0) {

@@ -220,6 +220,13 @@ unsigned opgp_wrong_limit(const opgp_limits *limits)
     return sizeof given / sizeof *given;
 }
 
+uint32_t opgp_begin(const opgp_limits *limits, opgp_reader *reader)
+{
+    opgp_limits usual;
+    opgp_usual_limits(&usual);
+    return opgp_reader_open(limits ? limits : &usual, reader);
+}
+
 /* The part is taken behind all that may fail, so it waits where there is no memory for a keyring. */
 uint32_t opgp_take(opgp_reader *reader, opgp_keyring **keyring)
 {

@@ -516,6 +516,9 @@ OPGP_API uint32_t opgp_open_mode(const uint8_t *in, size_t n, uint32_t mode, con
  * 6 where none is. */
 OPGP_API unsigned opgp_wrong_limit(const opgp_limits *limits);
 
+/* Begins to read a keyring in pieces, as opgp_reader_open does; limits may be NULL for the usual ones. */
+OPGP_API uint32_t opgp_begin(const opgp_limits *limits, opgp_reader *reader);
+
 /* Takes the next part of a keyring that is read in pieces, as opgp_reader_take does. Give *keyring to opgp_close.
  *
  * OPGP_DONE, OPGP_NO_ROW, OPGP_MEMORY, OPGP_CLOSED. *keyring is NULL with any but OPGP_DONE. Go on while it is OPGP_DONE, and end
@@ -538,7 +541,8 @@ OPGP_API uint32_t opgp_jobs(const opgp_keyring *keyring, const opgp_job **rows, 
 /* How many certificates the keyring has; and the rows of the one of this number, from 0, in each table: of its keys the first is
  * the primary key. They live as long as the keyring.
  *
- * OPGP_DONE, OPGP_MEMORY; OPGP_NO_ROW: there is no such certificate. With any but OPGP_DONE *rows is NULL, and *count 0. */
+ * OPGP_DONE, where *rows is NULL if there are none; OPGP_MEMORY; OPGP_NO_ROW: there is no such certificate. With any but OPGP_DONE
+ * *rows is NULL, and *count 0. */
 OPGP_API uint32_t opgp_certificate_count(const opgp_keyring *keyring, size_t *count);
 OPGP_API uint32_t opgp_packets_of(const opgp_keyring *keyring, uint64_t certificate, const opgp_packet **rows, size_t *count);
 OPGP_API uint32_t opgp_keys_of(const opgp_keyring *keyring, uint64_t certificate, const opgp_key **rows, size_t *count);

@@ -145,12 +145,7 @@ private:
 /* Reads a keyring whose octets come in pieces. */
 class Reader {
 public:
-    explicit Reader(const opgp_limits *limits = nullptr)
-    {
-        opgp_limits usual;
-        opgp_usual_limits(&usual);
-        check(opgp_reader_open(limits ? limits : &usual, &handle));
-    }
+    explicit Reader(const opgp_limits *limits = nullptr) { check(opgp_begin(limits, &handle)); }
 
     Reader(const Reader &) = delete;
     Reader &operator=(const Reader &) = delete;

@@ -555,6 +555,10 @@ static void modes(const opgp_limits *limits)
     opgp_reader_clear(&reader);
     holds(!reader.is_open && opgp_reader_push(&reader, filler, 1) == OPGP_CLOSED, "a reader that is cleared");
     opgp_reader_clear(&reader);
+    opgp_limits none = {0, 0, 0, 0, 0, 0};
+    holds(opgp_begin(&none, &reader) == OPGP_LIMITS && !reader.is_open && opgp_begin(limits, &reader) == OPGP_DONE && reader.is_open,
+          "a reading that begins within limits");
+    opgp_reader_clear(&reader);
     holds(held == 0, "what cleared handles held is let go");
 }
 
@@ -918,13 +922,11 @@ static size_t all_parts;
 
 static bool take_patiently(void)
 {
-    opgp_limits limits;
     opgp_reader reader = {false, NULL};
     opgp_keyring *part;
     opgp_fault fault;
     size_t parts = 0;
-    opgp_usual_limits(&limits);
-    uint32_t status = opgp_reader_open(&limits, &reader), taken_status = OPGP_NO_ROW;
+    uint32_t status = opgp_begin(NULL, &reader), taken_status = OPGP_NO_ROW;
     for (size_t at = 0; status == OPGP_DONE && at < size; at += 60) {
         status = opgp_reader_push(&reader, in + at, size - at < 60 ? size - at : 60);
         while (status == OPGP_DONE && (taken_status = opgp_take(&reader, &part)) == OPGP_DONE) {

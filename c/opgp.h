@@ -269,6 +269,8 @@ typedef struct opgp_job {
     uint64_t signer;     /* the row of the key that it names as its issuer's; OPGP_NONE: not in this keyring */
     uint64_t at;
     uint64_t sizes[2];
+    uint64_t created;    /* when it says it was made, in seconds since 1970: version 3 in a field (5.2.2), others by the one time in
+                            their hashed area (5.2.3.11); OPGP_NONE: that has none, or several */
     uint8_t why;         /* OPGP_WHY_HASHED: it is hashed; else why not */
     uint8_t version;     /* 3, 4 or 6; 0: not parsed */
     uint8_t kind;        /* its type (5.2.1) */
@@ -277,8 +279,12 @@ typedef struct opgp_job {
     uint8_t left[2];     /* the left 16 bits of the signed hash value, as it states them (5.2.3) */
     uint8_t is_bad;      /* 1: it is hashed, and its digest doesn't begin with them */
     uint8_t digest_size; /* 0: it isn't hashed */
+    uint8_t issuer_size; /* 20 or 32: a fingerprint; 8: a key ID; 0: it names no issuer */
     uint8_t digest[64];  /* the digest of what it hashes (5.2.4), and zeros after it */
-    uint8_t reserved[7];
+    uint8_t issuer[32];  /* the key that it names as its issuer's, in this keyring or not, and zeros after it: the first fingerprint in
+                            its hashed area (5.2.3.35), else the first key ID, of that area before the other (5.2.3.12); version 3: of
+                            its field (5.2.2) */
+    uint8_t reserved[6];
 } opgp_job;
 
 /* A subpacket of a signature (5.2.3.7). Its data, what is behind its type octet, is bytes[at .. at + size). Where that has

@@ -86,6 +86,7 @@ class _Key(ctypes.Structure):
 class _Job(ctypes.Structure):
     _fields_ = [(name, ctypes.c_uint64) for name in ("certificate", "component", "hang", "nested", "signer", "at")] + [
         ("sizes", ctypes.c_uint64 * 2),
+        ("created", ctypes.c_uint64),
         ("why", ctypes.c_uint8),
         ("version", ctypes.c_uint8),
         ("kind", ctypes.c_uint8),
@@ -94,8 +95,10 @@ class _Job(ctypes.Structure):
         ("left", ctypes.c_uint8 * 2),
         ("is_bad", ctypes.c_uint8),
         ("digest_size", ctypes.c_uint8),
+        ("issuer_size", ctypes.c_uint8),
         ("digest", ctypes.c_uint8 * 64),
-        ("reserved", ctypes.c_uint8 * 7),
+        ("issuer", ctypes.c_uint8 * 32),
+        ("reserved", ctypes.c_uint8 * 6),
     ]
 
 
@@ -399,6 +402,12 @@ class Signature:
     made: tuple[bytes, ...]
     """What its algorithm made (5.2.3): of RSA one integer; of DSA, ECDSA and EdDSALegacy r, s; of any other one field. Empty
     fields at the end are left out."""
+    created: Optional[int]
+    """When it says it was made, in seconds since 1970: in version 3 in a field (5.2.2), else by the one time in its hashed area
+    (5.2.3.11); None: that has none, or several."""
+    issuer: bytes
+    """The fingerprint or the key ID of the key that it names as its issuer's, in this keyring or not (5.2.2, 5.2.3.12, 5.2.3.35);
+    empty: it names none."""
     subpackets: tuple[Subpacket, ...]
     """Those of its hashed area first."""
 
@@ -427,13 +436,8 @@ class Signature:
         return _name(_HASH_ALGORITHMS, self.hash)
 
     @property
-    def created(self) -> Optional[int]:
-        """When it was made, in seconds since 1970 (5.2.3.11), as its hashed area says."""
-        return self._number(2)
-
-    @property
     def expires(self) -> Optional[int]:
-        """How many seconds after that it expires (5.2.3.18); 0: never."""
+        """How many seconds after its creation it expires (5.2.3.18); 0: never."""
         return self._number(3)
 
     @property
@@ -530,6 +534,8 @@ def _signatures(handle: _Handle, certificate: Optional[int] = None) -> list[Sign
             bool(it.is_bad),
             bytes(it.digest[: it.digest_size]),
             _fields(_library.opgp_job_field(handle, it, number) for number in range(2)),
+            _number(it.created),
+            bytes(it.issuer[: it.issuer_size]),
             _subpackets(handle, row),
         )
         for row, it in _rows("jobs", _Job, handle, certificate)

@@ -163,6 +163,8 @@ static int print_row(void *context, size_t row, const opgp_job *job, opgp_verdic
     print_number(job->hang);
     print_number(job->nested);
     print_number(job->signer);
+    print_number(job->created);
+    print_span((opgp_span){job->issuer, job->issuer_size});
     char why[OPGP_NAME_ROOM];
     printf(" why %s v%u type %02X alg %u hash %u left ", job->why ? opgp_name_text(OPGP_WHYS, job->why, why) : "-", job->version,
            job->kind, job->algorithm, job->hash);
@@ -171,7 +173,8 @@ static int print_row(void *context, size_t row, const opgp_job *job, opgp_verdic
     print_span((opgp_span){job->digest, job->digest_size});
     print_span(opgp_job_field(keyring, job, 0));
     print_span(opgp_job_field(keyring, job, 1));
-    bool is_padded = is_zero(job->digest + job->digest_size, sizeof job->digest - job->digest_size);
+    bool is_padded = is_zero(job->digest + job->digest_size, sizeof job->digest - job->digest_size)
+                     && is_zero(job->issuer + job->issuer_size, sizeof job->issuer - job->issuer_size);
     printf(" zeros %d\n", is_padded && is_zero(job->reserved, sizeof job->reserved) && !opgp_job_field(keyring, job, 2).size);
     return 0;
 }

@@ -608,6 +608,12 @@ def issuer_of(it):
     return (prints + ids + [b""])[0]
 
 
+def created_of(it):
+    """The one time at which a signature says it was made, or None where it says none or several."""
+    times = [it.body[3:7]] if it.version == 3 else [octets for octet, _, octets in it.hashed if octet & 127 == 2 and len(octets) == 4]
+    return number(times[0]) if len(times) == 1 else None
+
+
 def stated(it):
     """What the line of a signature goes on with in list --values."""
     times = [it.body[3:7]] if it.version == 3 else [octets for octet, _, octets in it.hashed if octet & 127 == 2 and len(octets) == 4]

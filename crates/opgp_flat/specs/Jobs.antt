@@ -4,9 +4,14 @@ use Rattle.std.specs.Prelude.{◌≡◌, ℕ, ◌+◌, ⊤, List, [], ◌∷◌,
 use Rattle.std.specs.Prelude.{Option, Some, None, Result, Ok, Err}
 use Rattle.std.specs.List.{flat_map}
 use Rattle.opgp_octets.specs.declared.fault.BodyFault.{BodyFault}
+use Rattle.opgp_octets.specs.declared.subpacket_kind.SubpacketKind.TheVariants as kind
+use Rattle.opgp_packet.specs.Areas.{hashed_subs}
 use Rattle.opgp_packet.specs.Fields.{Field}
+use Rattle.opgp_packet.specs.Forms as form
 use Rattle.opgp_packet.specs.SignatureBody.{SignatureValue, of_three, of_four, of_six, of_other}
 use Rattle.opgp_packet.specs.SignatureBody.{signature_at}
+use Rattle.opgp_packet.specs.Subpackets.{Sub}
+use Rattle.opgp_packet.specs.SubView.{fields_of}
 use Rattle.opgp_hash.specs.Digest.{digest_of, digest_octets, digest_size}
 use Rattle.opgp_hash.specs.declared.fingerprints.Fingerprint.{Fingerprint}
 use Rattle.opgp_hash.specs.declared.why.Why.{Why}
@@ -19,7 +24,8 @@ use Rattle.opgp_report.specs.First.{print_of}
 use Rattle.opgp_report.specs.Left.{left_in, left_verdict}
 use Rattle.opgp_report.specs.KeyIndex.{prints_shown}
 use Rattle.opgp_report.specs.Report.{keys_in}
-use Rattle.opgp_report.specs.Signer.{signer_of}
+use Rattle.opgp_report.specs.Named.{named_of}
+use Rattle.opgp_report.specs.Signer.{NameValue, by_print, by_id, unnamed, signer_of}
 use Rattle.opgp_report.specs.Standing.{Standing, standing_in}
 use Rattle.opgp_ring.specs.Keyring.{KeyringValue}
 use Rattle.opgp_flat.specs.declared.job_row.Answered.{Answered}
@@ -60,6 +66,38 @@ hash_in (of_other octets) = 0
 abbrev pub octets_or_zeros : Option (List ℕ) → List ℕ
 octets_or_zeros (Some octets) = octets
 octets_or_zeros None = 0 ∷ 0 ∷ []
+
+-- the creation time that a subpacket states (5.2.3.11)
+abbrev pub time_in : Sub → Option ℕ
+time_in s = fields_of kind.Created form.number s
+
+abbrev pub at_most_one : Option ℕ → List ℕ
+at_most_one (Some n) = n ∷ []
+at_most_one None = []
+
+abbrev pub times_in : List Sub → List ℕ
+times_in subs = flat_map (λ s. at_most_one (time_in s)) subs
+
+-- the one in the list, if there is one and no other
+abbrev pub the_one : List ℕ → Option ℕ
+the_one (n ∷ []) = Some n
+the_one list = None
+
+-- when it was made: in version 3 its fourth field, in versions 4 and 6 the one time in its hashed
+-- area
+abbrev pub created_in : SignatureValue → Option ℕ
+created_in (of_three fields) = Some (number_at fields 3)
+created_in signature = the_one (times_in (hashed_subs signature))
+
+-- the fingerprint or the key ID that a name is
+abbrev pub name_octets : NameValue → List ℕ
+name_octets (by_print version octets) = octets
+name_octets (by_id id) = id
+name_octets unnamed = []
+
+-- the one by which it names its issuer
+abbrev pub issuer_in : SignatureValue → List ℕ
+issuer_in signature = name_octets (named_of signature)
 
 -- what its algorithm made: the fields after the left octets, and in version 6 after the salt
 abbrev pub made_in : SignatureValue → List Field
@@ -119,6 +157,7 @@ opaque_row place at = record {
   signer = none;
   at = at;
   sizes = 0 ∷ 0 ∷ [];
+  created = none;
   why = why_number Opaque;
   version = 0;
   kind = 0;
@@ -127,8 +166,10 @@ opaque_row place at = record {
   left = 0 ∷ 0 ∷ [];
   is_bad = 0;
   digest_size = 0;
+  issuer_size = 0;
   digest = replicate 64 0;
-  reserved = replicate 7 0;
+  issuer = replicate 32 0;
+  reserved = replicate 6 0;
 }
 
 module _ (prints : List Fingerprint) where
@@ -142,6 +183,7 @@ module _ (prints : List Fingerprint) where
     signer = or_none (signer_of prints v);
     at = at;
     sizes = map length (signature_parts v);
+    created = or_none (created_in v);
     why = answer.why;
     version = version_in v;
     kind = kind_in v;
@@ -150,8 +192,10 @@ module _ (prints : List Fingerprint) where
     left = octets_or_zeros (left_in v);
     is_bad = answer.is_bad;
     digest_size = answer.digest_size;
+    issuer_size = length (issuer_in v);
     digest = answer.digest;
-    reserved = replicate 7 0;
+    issuer = padded 32 (issuer_in v);
+    reserved = replicate 6 0;
   }
 
   abbrev pub row_read : Place → ℕ → Result SignatureValue BodyFault → Asked → JobRow

@@ -5,25 +5,30 @@ ghost use Rattle.std.specs.List.{flat_map};
 ghost use Rattle.std.specs.Result.{ForOk};
 ghost use Rattle.opgp_octets.specs.Reading.{Reads};
 ghost use Rattle.opgp_packet.specs.SigView.{sig_view_value};
+ghost use Rattle.opgp_packet.specs.SubView.{sub_shown};
+ghost use Rattle.opgp_packet.specs.Subs.{subs_to_come};
 ghost use Rattle.opgp_hash.specs.CertificateHasher.{hasher_subject};
 ghost use Rattle.opgp_hash.specs.Question.{question_value};
 ghost use Rattle.opgp_hash.specs.QuestionValue.{QuestionValue};
 ghost use Rattle.opgp_hash.specs.declared.why.Why.{Why};
 ghost use Rattle.opgp_report.specs.Left.{left_in};
 ghost use Rattle.opgp_report.specs.KeyIndex.{prints_shown};
-ghost use Rattle.opgp_flat.specs.Jobs.{AddsJobs, algorithm_in, answer_to, bad_number, hash_in};
+ghost use Rattle.opgp_flat.specs.Jobs.{AddsJobs, algorithm_in, answer_to, bad_number, created_in};
+ghost use Rattle.opgp_flat.specs.Jobs.{hash_in, issuer_in};
 ghost use Rattle.opgp_flat.specs.Jobs.{job_bytes, job_rows, kind_in, octets_or_zeros, opaque_row};
 ghost use Rattle.opgp_flat.specs.Jobs.{or_none, signature_parts, signature_row, version_in};
-ghost use Rattle.opgp_flat.specs.Jobs.{why_number};
+ghost use Rattle.opgp_flat.specs.Jobs.{the_one, time_in, times_in, why_number};
+ghost use Rattle.opgp_flat.specs.Room.{padded};
 
-use crate::job_row::{Answered, JobRow, digest_padded};
+use crate::job_row::{Answered, JobRow, Named, digest_padded, name_padded};
 use crate::key_row::NONE;
 use crate::parts::signature_parts;
-use opgp_hash::{CertificateHasher, Question, Site, Why, ask_at};
-use opgp_octets::{BodyFault, OutOfMemory};
-use opgp_packet::SigView;
+use opgp_hash::{CertificateHasher, KeyId, Question, Site, Why, ask_at};
+use opgp_octets::{BodyFault, OutOfMemory, SubpacketKind};
+use opgp_packet::{SigView, SubView, Subs};
 use opgp_report::{
-    Job, KeyIndex, LeftOctets, Place, Verdict, Verifier, Visitor, index_keys, signer, visit,
+    IssuerName, Job, KeyIndex, LeftOctets, Place, Verdict, Verifier, Visitor, index_keys,
+    issuer_named, signer, visit,
 };
 use opgp_ring::Keyring;
 use std::alloc::Global;
@@ -55,6 +60,15 @@ pub(crate) fn or_none(number: Option<usize>) -> u64
 {
     match number {
         Some(number) => number as u64,
+        None => NONE,
+    }
+}
+
+fn time_or_none(time: Option<u32>) -> u64
+    ensures { result ≡ or_none time }
+{
+    match time {
+        Some(time) => u64::from(time),
         None => NONE,
     }
 }
@@ -121,6 +135,59 @@ fn stated_in(view: SigView<'_>) -> Stated
     }
 }
 
+/// The creation time that a subpacket states, in seconds since 1970, if the kind is 2 and there are
+/// 4 octets (RFC 9580, 5.2.3.11).
+fn time_in(subpacket: SubView<'_>) -> Option<u32>
+    ensures { result ≡ time_in (sub_shown subpacket.entry) }
+{
+    if subpacket.kind() != SubpacketKind::Created.number() {
+        return None;
+    }
+    match subpacket.octets() {
+        [a, b, c, d] => Some(u32::from_be_bytes([*a, *b, *c, *d])),
+        _ => None,
+    }
+}
+
+/// The one creation time in an area; `None` for none, and for several.
+fn one_time(subpackets: Subs<'_>) -> Option<u32>
+    ensures { result ≡ the_one (times_in (subs_to_come subpackets.entry)) }
+{
+    let mut found = None;
+    for subpacket in subpackets {
+        if let Some(time) = time_in(subpacket) {
+            if found.is_some() {
+                return None;
+            }
+            found = Some(time);
+        }
+    }
+    found
+}
+
+/// When a signature says it was made, in seconds since 1970 (RFC 9580, 5.2.2, 5.2.3.11).
+fn created_in(view: SigView<'_>) -> Option<u32>
+    ensures { result ≡ created_in (sig_view_value view.entry) }
+{
+    match view {
+        SigView::Three(three) => Some(three.created()),
+        SigView::Four(four) => one_time(four.hashed()),
+        SigView::Six(six) => one_time(six.hashed()),
+        SigView::Other(_) => None,
+    }
+}
+
+/// By what a signature names its issuer's key (RFC 9580, 5.2.2, 5.2.3.12, 5.2.3.35).
+fn issuer_in(view: SigView<'_>) -> Named
+    ensures size { result.size ≡ length (issuer_in (sig_view_value view.entry)) }
+    ensures octets { result.octets ≡ padded 32 (issuer_in (sig_view_value view.entry)) }
+{
+    match view {
+        SigView::Three(three) => name_padded(IssuerName::Id(KeyId(three.issuer()))),
+        SigView::Four(_) | SigView::Six(_) | SigView::Other(_) => name_padded(issuer_named(view)),
+    }
+}
+
 /// The row of embedded octets that aren't a signature.
 fn opaque_row(place: Place, at: u64) -> JobRow
     ensures { result ≡ opaque_row place at }
@@ -133,6 +200,7 @@ fn opaque_row(place: Place, at: u64) -> JobRow
         signer: NONE,
         at,
         sizes: [0; 2],
+        created: NONE,
         why: 1,
         version: 0,
         kind: 0,
@@ -141,8 +209,10 @@ fn opaque_row(place: Place, at: u64) -> JobRow
         left: [0; 2],
         is_bad: 0,
         digest_size: 0,
+        issuer_size: 0,
         digest: [0; 64],
-        reserved: [0; 7],
+        issuer: [0; 32],
+        reserved: [0; 6],
     }
 }
 
@@ -210,6 +280,9 @@ impl JobTable {
         let stated = stated_in(view);
         let left = stated.left;
         let digest = answer.digest;
+        let created = time_or_none(created_in(view));
+        let named = issuer_in(view);
+        let issuer = named.octets;
         self.rows.push(JobRow {
             certificate: place.certificate as u64,
             component: or_none(place.component),
@@ -218,6 +291,7 @@ impl JobTable {
             signer: or_none(signer(&self.names, view)),
             at,
             sizes,
+            created,
             why: answer.why,
             version: stated.version,
             kind: stated.kind,
@@ -226,8 +300,10 @@ impl JobTable {
             left,
             is_bad: answer.is_bad,
             digest_size: answer.digest_size,
+            issuer_size: named.size,
             digest,
-            reserved: [0; 7],
+            issuer,
+            reserved: [0; 6],
         })?;
         Ok(())
     }

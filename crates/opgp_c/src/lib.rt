@@ -86,7 +86,7 @@ pub extern "C" fn opgp_usual_limits(limits: &mut GivenLimits)
 
 /// Puts the name that a table has for a number: those of the standard for packet types, algorithms,
 /// signature types and kinds of subpackets, those of the program for the layers and reasons of
-/// faults, and for why a signature isn't hashed.
+/// faults, and for why a signature isn't hashed. It has 52 octets at most.
 ///
 /// The status says whether it is done; else the text is unchanged: it has too little room, or there
 /// is no such table, or it has no name for the number.
@@ -98,6 +98,7 @@ pub extern "C" fn opgp_name(table: u32, number: u8, text: &mut [u8], size: &mut 
     ensures room { result ≡ 2 → (name : List ℕ)
         × (name_by (table_of table) number ≡ Some name)
         × (length text.old < length name) × (size.new ≡ length name) }
+    ensures short { result ≡ 2 → length text.old < 52 }
     ensures none { (result ≡ 6) ↔ (name_by (table_of table) number ≡ None) }
     ensures kept { result ≢ 0 → text.new ≡ text.old }
     ensures size { result ≡ 6 → size.new ≡ size.old }

@@ -1,6 +1,6 @@
 //! The names of the numbers that rows have.
 
-ghost use Rattle.std.specs.Prelude.{◌≡◌, MatchOption, Some, None};
+ghost use Rattle.std.specs.Prelude.{◌≡◌, ◌≤◌, ⊤, MatchOption, Some, None, length};
 ghost use Rattle.opgp_octets.specs.HashAlgorithm.{hash_algorithm_of};
 ghost use Rattle.opgp_octets.specs.KeyAlgorithm.{key_algorithm_of};
 ghost use Rattle.opgp_octets.specs.PacketType.{packet_type_of};
@@ -55,9 +55,12 @@ impl NumberTable {
     }
 
     /// The name that the table has for a number, as the standard or the program has it; or None.
+    /// It has 52 octets at most.
+    #[tactic(auto, using(crate::proofs::Lines::layer_short, crate::proofs::Lines::reason_short, crate::proofs::Lines::why_short))]
     pub fn name(self, number: u8) -> Option<&'static str>
-        ensures { MatchOption result (name_in self number ≡ None)
+        ensures value { MatchOption result (name_in self number ≡ None)
             (λ name. name_in self number ≡ Some name.now) }
+        ensures short { MatchOption result ⊤ (λ name. length name.now ≤ 52) }
     {
         match self {
             NumberTable::PacketTypes => packet_name(PacketType::from(number)),
@@ -72,9 +75,11 @@ impl NumberTable {
     }
 }
 
+#[tactic(auto, using(crate::proofs::Lines::packet_short))]
 fn packet_name(number: PacketType) -> Option<&'static str>
-    ensures { MatchOption result (packet_named number ≡ None)
+    ensures value { MatchOption result (packet_named number ≡ None)
         (λ name. packet_named number ≡ Some name.now) }
+    ensures short { MatchOption result ⊤ (λ name. length name.now ≤ 52) }
 {
     match number {
         PacketType::Other(_) => None,
@@ -82,9 +87,11 @@ fn packet_name(number: PacketType) -> Option<&'static str>
     }
 }
 
+#[tactic(auto, using(crate::proofs::Lines::key_short))]
 fn key_name(number: KeyAlgorithm) -> Option<&'static str>
-    ensures { MatchOption result (key_named number ≡ None)
+    ensures value { MatchOption result (key_named number ≡ None)
         (λ name. key_named number ≡ Some name.now) }
+    ensures short { MatchOption result ⊤ (λ name. length name.now ≤ 52) }
 {
     match number {
         KeyAlgorithm::Other(_) => None,
@@ -92,9 +99,11 @@ fn key_name(number: KeyAlgorithm) -> Option<&'static str>
     }
 }
 
+#[tactic(auto, using(crate::proofs::Lines::hash_short))]
 fn hash_name(number: HashAlgorithm) -> Option<&'static str>
-    ensures { MatchOption result (hash_named number ≡ None)
+    ensures value { MatchOption result (hash_named number ≡ None)
         (λ name. hash_named number ≡ Some name.now) }
+    ensures short { MatchOption result ⊤ (λ name. length name.now ≤ 52) }
 {
     match number {
         HashAlgorithm::Other(_) => None,
@@ -102,9 +111,11 @@ fn hash_name(number: HashAlgorithm) -> Option<&'static str>
     }
 }
 
+#[tactic(auto, using(crate::proofs::Lines::signature_short))]
 fn signature_name(number: SignatureType) -> Option<&'static str>
-    ensures { MatchOption result (signature_named number ≡ None)
+    ensures value { MatchOption result (signature_named number ≡ None)
         (λ name. signature_named number ≡ Some name.now) }
+    ensures short { MatchOption result ⊤ (λ name. length name.now ≤ 52) }
 {
     match number {
         SignatureType::Other(_) => None,
@@ -112,9 +123,11 @@ fn signature_name(number: SignatureType) -> Option<&'static str>
     }
 }
 
+#[tactic(auto, using(crate::proofs::Lines::kind_short))]
 fn kind_name(number: SubpacketKind) -> Option<&'static str>
-    ensures { MatchOption result (kind_named number ≡ None)
+    ensures value { MatchOption result (kind_named number ≡ None)
         (λ name. kind_named number ≡ Some name.now) }
+    ensures short { MatchOption result ⊤ (λ name. length name.now ≤ 52) }
 {
     match number {
         SubpacketKind::Other(_) => None,

@@ -1,4 +1,3 @@
-use Rattle.std.proofs.Common.{refl}
 use Rattle.opgp_c.proofs.reading.end.Goals as goal
 
 -- a reading that was refused is refused again

@@ -50,7 +50,7 @@ IS_AT(opgp_key, print, 63);
 IS_AT(opgp_key, key_id, 95);
 IS_AT(opgp_key, reserved, 103);
 
-_Static_assert(sizeof(opgp_job) == 184, "opgp_job");
+_Static_assert(sizeof(opgp_job) == 144, "opgp_job");
 IS_AT(opgp_job, certificate, 0);
 IS_AT(opgp_job, component, 8);
 IS_AT(opgp_job, hang, 16);
@@ -59,18 +59,18 @@ IS_AT(opgp_job, signer, 32);
 IS_AT(opgp_job, at, 40);
 IS_AT(opgp_job, sizes, 48);
 IS_AT(opgp_job, created, 64);
-IS_AT(opgp_job, why, 72);
-IS_AT(opgp_job, version, 73);
-IS_AT(opgp_job, kind, 74);
-IS_AT(opgp_job, algorithm, 75);
-IS_AT(opgp_job, hash, 76);
-IS_AT(opgp_job, left, 77);
-IS_AT(opgp_job, is_bad, 79);
-IS_AT(opgp_job, digest_size, 80);
-IS_AT(opgp_job, issuer_size, 81);
-IS_AT(opgp_job, digest, 82);
-IS_AT(opgp_job, issuer, 146);
-IS_AT(opgp_job, reserved, 178);
+IS_AT(opgp_job, why, 68);
+IS_AT(opgp_job, version, 69);
+IS_AT(opgp_job, kind, 70);
+IS_AT(opgp_job, algorithm, 71);
+IS_AT(opgp_job, hash, 72);
+IS_AT(opgp_job, left, 73);
+IS_AT(opgp_job, is_bad, 75);
+IS_AT(opgp_job, digest_size, 76);
+IS_AT(opgp_job, is_dated, 77);
+IS_AT(opgp_job, issuer_size, 78);
+IS_AT(opgp_job, digest, 79);
+IS_AT(opgp_job, reserved, 143);
 
 _Static_assert(sizeof(opgp_subpacket) == 88, "opgp_subpacket");
 IS_AT(opgp_subpacket, certificate, 0);
@@ -575,6 +575,12 @@ opgp_span opgp_key_field(const opgp_keyring *keyring, const opgp_key *key, unsig
 opgp_span opgp_job_field(const opgp_keyring *keyring, const opgp_job *job, unsigned number)
 {
     return field(keyring->made, job->at, job->sizes, 2, number);
+}
+
+opgp_span opgp_issuer(const opgp_keyring *keyring, const opgp_job *job)
+{
+    opgp_span found = {keyring->made + job->at + job->sizes[0] + job->sizes[1], job->issuer_size};
+    return found;
 }
 
 opgp_span opgp_data(const opgp_keyring *keyring, const opgp_subpacket *subpacket)

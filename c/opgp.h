@@ -260,7 +260,7 @@ typedef struct opgp_key {
 /* A signature, and what a verifier is asked about it. What its algorithm made (5.2.3) is in bytes, from at on: of RSA one
  * integer; of DSA, ECDSA and EdDSALegacy r, s; of Ed25519, Ed448 and any other one field. An integer has no zeros in front
  * mostly, so one in 256 is shorter than the others: most libraries want RSA's as long as the modulus, and r and s of
- * EdDSALegacy as 32 octets. The point of an EdDSALegacy key has 0x40 in front. */
+ * EdDSALegacy as 32 octets. The point of an EdDSALegacy key has 0x40 in front. Behind that stands the name of its issuer. */
 typedef struct opgp_job {
     uint64_t certificate;
     uint64_t component;  /* the component that it is on; OPGP_NONE for the primary key */
@@ -269,8 +269,8 @@ typedef struct opgp_job {
     uint64_t signer;     /* the row of the key that it names as its issuer's; OPGP_NONE: not in this keyring */
     uint64_t at;
     uint64_t sizes[2];
-    uint64_t created;    /* when it says it was made, in seconds since 1970: version 3 in a field (5.2.2), others by the one time in
-                            their hashed area (5.2.3.11); OPGP_NONE: that has none, or several */
+    uint32_t created;    /* when it says it was made, in seconds since 1970: version 3 in a field (5.2.2), others by the one time in
+                            their hashed area (5.2.3.11); 0: that has none, or several */
     uint8_t why;         /* OPGP_WHY_HASHED: it is hashed; else why not */
     uint8_t version;     /* 3, 4 or 6; 0: not parsed */
     uint8_t kind;        /* its type (5.2.1) */
@@ -279,12 +279,10 @@ typedef struct opgp_job {
     uint8_t left[2];     /* the left 16 bits of the signed hash value, as it states them (5.2.3) */
     uint8_t is_bad;      /* 1: it is hashed, and its digest doesn't begin with them */
     uint8_t digest_size; /* 0: it isn't hashed */
-    uint8_t issuer_size; /* 20 or 32: a fingerprint; 8: a key ID; 0: it names no issuer */
+    uint8_t is_dated;    /* 1: it says when it was made */
+    uint8_t issuer_size; /* 20 or 32: it names its issuer by a fingerprint; 8: by a key ID; 0: not at all. opgp_issuer finds that name */
     uint8_t digest[64];  /* the digest of what it hashes (5.2.4), and zeros after it */
-    uint8_t issuer[32];  /* the key that it names as its issuer's, in this keyring or not, and zeros after it: the first fingerprint in
-                            its hashed area (5.2.3.35), else the first key ID, of that area before the other (5.2.3.12); version 3: of
-                            its field (5.2.2) */
-    uint8_t reserved[6];
+    uint8_t reserved;
 } opgp_job;
 
 /* A subpacket of a signature (5.2.3.7). Its data, what is behind its type octet, is bytes[at .. at + size). Where that has
@@ -571,10 +569,13 @@ OPGP_API uint32_t opgp_find_key(const opgp_keyring *keyring, const uint8_t *name
 
 /* What a row of this keyring points to: a packet's body; the field of a key's material (0 to 3), or of what a signature's
  * algorithm made (0, 1), empty if there is none of that number; a subpacket's data, and its field of octets (0, 1). It lives as
- * long as the keyring. Which of several subpackets of a kind counts: the last in the hashed area (5.2.3.9). */
+ * long as the keyring. Which of several subpackets of a kind counts: the last in the hashed area (5.2.3.9). opgp_issuer is the
+ * fingerprint or the key ID of the key that a signature names as its issuer's, in this keyring or not: the first fingerprint in its
+ * hashed area (5.2.3.35), else the first key ID, of that area before the other (5.2.3.12); of version 3 its field (5.2.2). */
 OPGP_API opgp_span opgp_body(const opgp_keyring *keyring, const opgp_packet *packet);
 OPGP_API opgp_span opgp_key_field(const opgp_keyring *keyring, const opgp_key *key, unsigned number);
 OPGP_API opgp_span opgp_job_field(const opgp_keyring *keyring, const opgp_job *job, unsigned number);
+OPGP_API opgp_span opgp_issuer(const opgp_keyring *keyring, const opgp_job *job);
 OPGP_API opgp_span opgp_data(const opgp_keyring *keyring, const opgp_subpacket *subpacket);
 OPGP_API opgp_span opgp_subpacket_field(const opgp_keyring *keyring, const opgp_subpacket *subpacket, unsigned number);
 

@@ -86,7 +86,7 @@ class _Key(ctypes.Structure):
 class _Job(ctypes.Structure):
     _fields_ = [(name, ctypes.c_uint64) for name in ("certificate", "component", "hang", "nested", "signer", "at")] + [
         ("sizes", ctypes.c_uint64 * 2),
-        ("created", ctypes.c_uint64),
+        ("created", ctypes.c_uint32),
         ("why", ctypes.c_uint8),
         ("version", ctypes.c_uint8),
         ("kind", ctypes.c_uint8),
@@ -95,10 +95,10 @@ class _Job(ctypes.Structure):
         ("left", ctypes.c_uint8 * 2),
         ("is_bad", ctypes.c_uint8),
         ("digest_size", ctypes.c_uint8),
+        ("is_dated", ctypes.c_uint8),
         ("issuer_size", ctypes.c_uint8),
         ("digest", ctypes.c_uint8 * 64),
-        ("issuer", ctypes.c_uint8 * 32),
-        ("reserved", ctypes.c_uint8 * 6),
+        ("reserved", ctypes.c_uint8),
     ]
 
 
@@ -163,6 +163,7 @@ def _load() -> ctypes.CDLL:
         ("body", _Span, keyring, pointer(_Packet)),
         ("key_field", _Span, keyring, pointer(_Key), ctypes.c_uint),
         ("job_field", _Span, keyring, pointer(_Job), ctypes.c_uint),
+        ("issuer", _Span, keyring, pointer(_Job)),
         ("octets", status, keyring, number, pointer(octets), pointer(size)),
         ("write", status, keyring, ctypes.c_bool, pointer(octets), pointer(size)),
         ("normalise", status, keyring, pointer(keyring)),
@@ -534,8 +535,8 @@ def _signatures(handle: _Handle, certificate: Optional[int] = None) -> list[Sign
             bool(it.is_bad),
             bytes(it.digest[: it.digest_size]),
             _fields(_library.opgp_job_field(handle, it, number) for number in range(2)),
-            _number(it.created),
-            bytes(it.issuer[: it.issuer_size]),
+            it.created if it.is_dated else None,
+            _octets(_library.opgp_issuer(handle, it)),
             _subpackets(handle, row),
         )
         for row, it in _rows("jobs", _Job, handle, certificate)

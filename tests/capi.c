@@ -163,8 +163,8 @@ static int print_row(void *context, size_t row, const opgp_job *job, opgp_verdic
     print_number(job->hang);
     print_number(job->nested);
     print_number(job->signer);
-    print_number(job->created);
-    print_span((opgp_span){job->issuer, job->issuer_size});
+    print_number(job->is_dated ? job->created : OPGP_NONE);
+    print_span(opgp_issuer(keyring, job));
     char why[OPGP_NAME_ROOM];
     printf(" why %s v%u type %02X alg %u hash %u left ", job->why ? opgp_name_text(OPGP_WHYS, job->why, why) : "-", job->version,
            job->kind, job->algorithm, job->hash);
@@ -173,9 +173,8 @@ static int print_row(void *context, size_t row, const opgp_job *job, opgp_verdic
     print_span((opgp_span){job->digest, job->digest_size});
     print_span(opgp_job_field(keyring, job, 0));
     print_span(opgp_job_field(keyring, job, 1));
-    bool is_padded = is_zero(job->digest + job->digest_size, sizeof job->digest - job->digest_size)
-                     && is_zero(job->issuer + job->issuer_size, sizeof job->issuer - job->issuer_size);
-    printf(" zeros %d\n", is_padded && is_zero(job->reserved, sizeof job->reserved) && !opgp_job_field(keyring, job, 2).size);
+    bool is_padded = is_zero(job->digest + job->digest_size, sizeof job->digest - job->digest_size) && (job->is_dated || !job->created);
+    printf(" zeros %d\n", is_padded && !job->reserved && !opgp_job_field(keyring, job, 2).size);
     return 0;
 }
 

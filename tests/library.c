@@ -136,7 +136,7 @@ static void hold_places(const opgp_keyring *keyring)
         if (job->at != jobs) {
             fail("the place of a signature");
         }
-        jobs += job->sizes[0] + job->sizes[1];
+        jobs += job->sizes[0] + job->sizes[1] + job->issuer_size;
     }
     hold_subpackets(keyring);
 }

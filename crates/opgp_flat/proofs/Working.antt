@@ -1,7 +1,8 @@
--- The rows of jobs are those of the questions, and say where what algorithms made lies.
+-- The rows of jobs are those of the questions, and say where what algorithms made and names of issuers lie.
 use Rattle.std.proofs.Common.{◌≡◌, ◌∙◌, ℕ, ◌+◌, List, [], ◌∷◌, ◌++◌, length, map, Result, Ok, Err, refl, sym, ap, append_assoc, append-nil}
 use Rattle.std.specs.Prelude.{drop}
 use Rattle.std.specs.List.{flat_map}
+use Rattle.std.proofs.lemmas.List.{map-append}
 use Rattle.opgp_octets.specs.declared.fault.BodyFault.{BodyFault}
 use Rattle.opgp_packet.specs.SignatureBody.{SignatureValue, signature_at}
 use Rattle.opgp_hash.specs.declared.fingerprints.Fingerprint.{Fingerprint}
@@ -13,7 +14,7 @@ use Rattle.opgp_report.specs.declared.place.Place.{Place}
 use Rattle.opgp_report.specs.Asked.{Asked, asked_by, asked_in, asked_of}
 use Rattle.opgp_report.specs.Standing.{Standing, standing_in}
 use Rattle.opgp_flat.specs.declared.job_row.JobRow.{JobRow}
-use Rattle.opgp_flat.specs.Jobs.{answer_to, asked_shown, job_bytes, job_octets, job_parts, job_rows, job_shown, jobs_from, parts_read, prints_in, row_read, signature_row}
+use Rattle.opgp_flat.specs.Jobs.{answer_to, asked_shown, job_bytes, job_octets, job_parts, job_rows, job_shown, jobs_from, parts_read, prints_in, issuer_in, row_read, signature_parts, signature_row, sizes_in}
 use Rattle.opgp_flat.specs.Parts.{cuts}
 use Rattle.opgp_flat.proofs.Cutting.{cut_all, next}
 
@@ -38,10 +39,12 @@ are_questions r = all (prints_in r) 0 (standing_in r)
 -- ---- what algorithms made
 module _ (bytes : List ℕ) (prints : List Fingerprint) where
   abbrev cut : JobRow → List (List ℕ)
-  cut row = cuts bytes row.at row.sizes
+  cut row = cuts bytes row.at (sizes_in row)
 
   cut_one : (place : Place) (at : ℕ) (read : Result SignatureValue BodyFault) (asked : Asked) (rest : List ℕ) → drop at bytes ≡ flat_map (λ (o : List ℕ). o) (parts_read read) ++ rest → cut (row_read prints place at read asked) ≡ parts_read read
-  cut_one place at (Ok v) asked rest e = cut_all bytes at (parts_read (Ok v)) rest e
+  cut_one place at (Ok v) asked rest e =
+      ap (λ (sizes : List ℕ). cuts bytes at sizes) (sym (map-append length (signature_parts v) (issuer_in v ∷ [])))
+      ∙ cut_all bytes at (parts_read (Ok v)) rest e
   cut_one place at (Err fault) asked rest e = cut_all bytes at (parts_read (Err fault)) rest e
 
   cut_each : (at : ℕ) (list : List Standing) (rest : List ℕ) → drop at bytes ≡ flat_map job_octets list ++ rest → map cut (jobs_from prints at list) ≡ map job_parts list
@@ -52,5 +55,5 @@ module _ (bytes : List ℕ) (prints : List Fingerprint) where
       ap (λ (x : List (List ℕ)). x ∷ map cut (jobs_from prints (at + length (job_octets s)) list)) (cut_one s.place at (signature_at s.body) (asked_by s) (more ++ rest) f)
       ∙ ap (λ (l : List (List (List ℕ))). job_parts s ∷ l) (cut_each (at + length (job_octets s)) list rest (next bytes at (job_octets s) (more ++ rest) f))
 
-pub made_lies : (r : KeyringValue) → map (λ row. cuts (job_bytes r) row.at row.sizes) (job_rows r) ≡ map job_parts (standing_in r)
+pub made_lies : (r : KeyringValue) → map (λ row. cuts (job_bytes r) row.at (sizes_in row)) (job_rows r) ≡ map job_parts (standing_in r)
 made_lies r = cut_each (job_bytes r) (prints_in r) 0 (standing_in r) [] (sym (append-nil (job_bytes r)))

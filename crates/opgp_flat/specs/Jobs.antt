@@ -99,6 +99,15 @@ name_octets unnamed = []
 abbrev pub issuer_in : SignatureValue → List ℕ
 issuer_in signature = name_octets (named_of signature)
 
+-- a time, or 0; and 1 if there is one
+abbrev pub or_zero : Option ℕ → ℕ
+or_zero (Some n) = n
+or_zero None = 0
+
+abbrev pub counted : Option ℕ → ℕ
+counted (Some n) = 1
+counted None = 0
+
 -- what its algorithm made: the fields after the left octets, and in version 6 after the salt
 abbrev pub made_in : SignatureValue → List Field
 made_in (of_three fields) = drop 8 fields
@@ -108,6 +117,10 @@ made_in (of_other octets) = []
 
 abbrev pub signature_parts : SignatureValue → List (List ℕ)
 signature_parts v = two (values_of (made_in v))
+
+-- and behind it the name of its issuer
+abbrev pub said_parts : SignatureValue → List (List ℕ)
+said_parts v = signature_parts v ++ issuer_in v ∷ []
 
 -- ---- what is said of its question
 abbrev pub why_number : Why → ℕ
@@ -157,7 +170,7 @@ opaque_row place at = record {
   signer = none;
   at = at;
   sizes = 0 ∷ 0 ∷ [];
-  created = none;
+  created = 0;
   why = why_number Opaque;
   version = 0;
   kind = 0;
@@ -166,10 +179,10 @@ opaque_row place at = record {
   left = 0 ∷ 0 ∷ [];
   is_bad = 0;
   digest_size = 0;
+  is_dated = 0;
   issuer_size = 0;
   digest = replicate 64 0;
-  issuer = replicate 32 0;
-  reserved = replicate 6 0;
+  reserved = 0;
 }
 
 module _ (prints : List Fingerprint) where
@@ -183,7 +196,7 @@ module _ (prints : List Fingerprint) where
     signer = or_none (signer_of prints v);
     at = at;
     sizes = map length (signature_parts v);
-    created = or_none (created_in v);
+    created = or_zero (created_in v);
     why = answer.why;
     version = version_in v;
     kind = kind_in v;
@@ -192,10 +205,10 @@ module _ (prints : List Fingerprint) where
     left = octets_or_zeros (left_in v);
     is_bad = answer.is_bad;
     digest_size = answer.digest_size;
+    is_dated = counted (created_in v);
     issuer_size = length (issuer_in v);
     digest = answer.digest;
-    issuer = padded 32 (issuer_in v);
-    reserved = replicate 6 0;
+    reserved = 0;
   }
 
   abbrev pub row_read : Place → ℕ → Result SignatureValue BodyFault → Asked → JobRow
@@ -205,13 +218,17 @@ module _ (prints : List Fingerprint) where
   abbrev pub job_row : ℕ → Standing → JobRow
   job_row at s = row_read s.place at (signature_at s.body) (asked_by s)
 
--- what its algorithm made; nothing if it isn't a signature
+-- what its algorithm made, and its issuer's name; nothing if it isn't a signature
 abbrev pub parts_read : Result SignatureValue BodyFault → List (List ℕ)
-parts_read (Ok v) = signature_parts v
-parts_read (Err fault) = [] ∷ [] ∷ []
+parts_read (Ok v) = said_parts v
+parts_read (Err fault) = [] ∷ [] ∷ [] ∷ []
 
 abbrev pub job_parts : Standing → List (List ℕ)
 job_parts s = parts_read (signature_at s.body)
+
+-- their sizes in a row
+abbrev pub sizes_in : JobRow → List ℕ
+sizes_in row = row.sizes ++ row.issuer_size ∷ []
 
 abbrev pub job_octets : Standing → List ℕ
 job_octets s = flat_map (λ o. o) (job_parts s)

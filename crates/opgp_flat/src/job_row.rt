@@ -1,16 +1,13 @@
 //! A row of the table of jobs.
 
-ghost use Rattle.std.specs.Prelude.{◌≡◌, length};
+ghost use Rattle.std.specs.Prelude.{◌≡◌};
 ghost use Rattle.opgp_hash.specs.Digest.{digest_octets};
-ghost use Rattle.opgp_report.specs.IssuerName.{name_value};
-ghost use Rattle.opgp_flat.specs.Jobs.{name_octets};
 ghost use Rattle.opgp_flat.specs.Room.{padded};
 
-use opgp_hash::{Digest, Fingerprint, KeyId};
-use opgp_report::IssuerName;
+use opgp_hash::Digest;
 
 /// A signature of a keyring, and what a verifier is asked about it. What its algorithm made is in
-/// the table's octets: from `at` its first field, of `sizes[0]` octets, then the second.
+/// the table's octets: from `at` its first field, of `sizes[0]` octets, then the second, and then its issuer's name.
 #[repr(C)]
 #[derive(Clone, Copy)]
 pub struct JobRow {
@@ -31,8 +28,8 @@ pub struct JobRow {
     /// How many octets its fields have; 0 for one that it doesn't have.
     pub sizes: [u64; 2],
     /// When it says it was made, in seconds since 1970: in version 3 its field (RFC 9580, 5.2.2), else
-    /// the one time in its hashed area (5.2.3.11); `NONE` if that has none or several.
-    pub created: u64,
+    /// the one time in its hashed area (5.2.3.11); 0 if that has none or several.
+    pub created: u32,
     /// 0 if it is hashed; else why not: 1 opaque, 2 kind, 3 misplaced, 4 version, 5 hash.
     pub why: u8,
     /// Its version: 3, 4 or 6; 0 if it isn't parsed.
@@ -49,16 +46,17 @@ pub struct JobRow {
     pub is_bad: u8,
     /// How many octets its digest has; 0 if it isn't hashed.
     pub digest_size: u8,
-    /// How many octets `issuer` has: 20 or 32 for a fingerprint, 8 for a key ID, 0 if it names none.
+    /// 1 if it says when it was made; else 0.
+    pub is_dated: u8,
+    /// How many octets the name of its issuer has: 20 or 32 for a fingerprint, 8 for a key ID, 0 if it
+    /// names none. It stands behind what its algorithm made, whether or not the keyring has that key:
+    /// the first fingerprint in its hashed area, or else the first key ID, of the hashed area first
+    /// (5.2.3.12, 5.2.3.35); in version 3 the key ID in its field (5.2.2).
     pub issuer_size: u8,
     /// The digest of what it hashes, and zeros after it.
     pub digest: [u8; 64],
-    /// The key that it names as its issuer's, whether or not the keyring has it, and zeros after it:
-    /// the first fingerprint in its hashed area, or else the first key ID, the hashed area first
-    /// (5.2.3.12, 5.2.3.35); in version 3 the key ID in its field (5.2.2).
-    pub issuer: [u8; 32],
-    /// Zeros.
-    pub reserved: [u8; 6],
+    /// Zero.
+    pub reserved: u8,
 }
 
 /// What a row says of a signature's question.
@@ -94,36 +92,4 @@ pub(crate) fn digest_padded(digest: Digest) -> [u8; 64]
             room
         }
     }
-}
-
-/// The octets of the name of an issuer.
-#[derive(Clone, Copy)]
-pub(crate) struct Named {
-    pub(crate) size: u8,
-    pub(crate) octets: [u8; 32],
-}
-
-/// The octets of a fingerprint or a key ID, and zeros after them.
-pub(crate) fn name_padded(name: IssuerName) -> Named
-    ensures size { result.size ≡ length (name_octets (name_value name)) }
-    ensures octets { result.octets ≡ padded 32 (name_octets (name_value name)) }
-{
-    let mut octets = [0; 32];
-    let size = match name {
-        IssuerName::Print(Fingerprint::Four(print)) => {
-            octets[..20].copy_from_slice(&print);
-            20
-        }
-        IssuerName::Print(Fingerprint::Six(print)) => {
-            octets.copy_from_slice(&print);
-            32
-        }
-        IssuerName::Id(named) => {
-            let KeyId(id) = named;
-            octets[..8].copy_from_slice(&id);
-            8
-        }
-        IssuerName::Unnamed => 0,
-    };
-    Named { size, octets }
 }

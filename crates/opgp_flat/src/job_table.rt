@@ -12,18 +12,18 @@ ghost use Rattle.opgp_hash.specs.Question.{question_value};
 ghost use Rattle.opgp_hash.specs.QuestionValue.{QuestionValue};
 ghost use Rattle.opgp_hash.specs.declared.why.Why.{Why};
 ghost use Rattle.opgp_report.specs.Left.{left_in};
+ghost use Rattle.opgp_report.specs.IssuerName.{name_value};
 ghost use Rattle.opgp_report.specs.KeyIndex.{prints_shown};
 ghost use Rattle.opgp_flat.specs.Jobs.{AddsJobs, algorithm_in, answer_to, bad_number, created_in};
-ghost use Rattle.opgp_flat.specs.Jobs.{hash_in, issuer_in};
+ghost use Rattle.opgp_flat.specs.Jobs.{hash_in, issuer_in, name_octets, said_parts};
 ghost use Rattle.opgp_flat.specs.Jobs.{job_bytes, job_rows, kind_in, octets_or_zeros, opaque_row};
 ghost use Rattle.opgp_flat.specs.Jobs.{or_none, signature_parts, signature_row, version_in};
 ghost use Rattle.opgp_flat.specs.Jobs.{the_one, time_in, times_in, why_number};
-ghost use Rattle.opgp_flat.specs.Room.{padded};
 
-use crate::job_row::{Answered, JobRow, Named, digest_padded, name_padded};
+use crate::job_row::{Answered, JobRow, digest_padded};
 use crate::key_row::NONE;
 use crate::parts::signature_parts;
-use opgp_hash::{CertificateHasher, KeyId, Question, Site, Why, ask_at};
+use opgp_hash::{CertificateHasher, Fingerprint, KeyId, Question, Site, Why, ask_at};
 use opgp_octets::{BodyFault, OutOfMemory, SubpacketKind};
 use opgp_packet::{SigView, SubView, Subs};
 use opgp_report::{
@@ -60,15 +60,6 @@ pub(crate) fn or_none(number: Option<usize>) -> u64
 {
     match number {
         Some(number) => number as u64,
-        None => NONE,
-    }
-}
-
-fn time_or_none(time: Option<u32>) -> u64
-    ensures { result ≡ or_none time }
-{
-    match time {
-        Some(time) => u64::from(time),
         None => NONE,
     }
 }
@@ -178,13 +169,37 @@ fn created_in(view: SigView<'_>) -> Option<u32>
 }
 
 /// By what a signature names its issuer's key (RFC 9580, 5.2.2, 5.2.3.12, 5.2.3.35).
-fn issuer_in(view: SigView<'_>) -> Named
-    ensures size { result.size ≡ length (issuer_in (sig_view_value view.entry)) }
-    ensures octets { result.octets ≡ padded 32 (issuer_in (sig_view_value view.entry)) }
+fn name_in(view: SigView<'_>) -> IssuerName
+    ensures { name_octets (name_value result) ≡ issuer_in (sig_view_value view.entry) }
 {
     match view {
-        SigView::Three(three) => name_padded(IssuerName::Id(KeyId(three.issuer()))),
-        SigView::Four(_) | SigView::Six(_) | SigView::Other(_) => name_padded(issuer_named(view)),
+        SigView::Three(three) => IssuerName::Id(KeyId(three.issuer())),
+        SigView::Four(_) | SigView::Six(_) | SigView::Other(_) => issuer_named(view),
+    }
+}
+
+/// Appends the octets of a fingerprint or a key ID, and says how many they are. Fails only when out of
+/// memory.
+fn push_name(bytes: &mut Vec<u8>, name: IssuerName) -> Result<u8, OutOfMemory>
+    ensures octets { OnOk result
+        (bytes.new.items ≡ bytes.old.items ++ name_octets (name_value name)) }
+    ensures size { IfOk result (λ n. n ≡ length (name_octets (name_value name))) }
+{
+    match name {
+        IssuerName::Print(Fingerprint::Four(print)) => {
+            bytes.extend_from_slice(&print)?;
+            Ok(20)
+        }
+        IssuerName::Print(Fingerprint::Six(print)) => {
+            bytes.extend_from_slice(&print)?;
+            Ok(32)
+        }
+        IssuerName::Id(named) => {
+            let KeyId(id) = named;
+            bytes.extend_from_slice(&id)?;
+            Ok(8)
+        }
+        IssuerName::Unnamed => Ok(0),
     }
 }
 
@@ -200,7 +215,7 @@ fn opaque_row(place: Place, at: u64) -> JobRow
         signer: NONE,
         at,
         sizes: [0; 2],
-        created: NONE,
+        created: 0,
         why: 1,
         version: 0,
         kind: 0,
@@ -209,10 +224,10 @@ fn opaque_row(place: Place, at: u64) -> JobRow
         left: [0; 2],
         is_bad: 0,
         digest_size: 0,
+        is_dated: 0,
         issuer_size: 0,
         digest: [0; 64],
-        issuer: [0; 32],
-        reserved: [0; 6],
+        reserved: 0,
     }
 }
 
@@ -263,26 +278,25 @@ struct JobTable {
 
 impl JobTable {
     /// Adds the row of a signature. Fails only when out of memory.
-    #[tactic(auto, using(crate::proofs::Joining::joined_two))]
+    #[tactic(auto, using(crate::proofs::Joining::joined_three))]
     fn add(&mut self, place: Place, view: SigView<'_>, answer: Answered) -> Result<(), OutOfMemory>
         ensures rows { OnOk result (self.new.rows.items ≡ self.old.rows.items
             ++ signature_row (prints_shown self.old.names) place (length self.old.bytes.items)
             (sig_view_value view.entry) answer ∷ []) }
         ensures bytes { OnOk result (self.new.bytes.items ≡ self.old.bytes.items
-            ++ flat_map (λ o. o) (signature_parts (sig_view_value view.entry))) }
+            ++ flat_map (λ o. o) (said_parts (sig_view_value view.entry))) }
         ensures names { self.new.names ≡ self.old.names }
     {
         let at = self.bytes.len() as u64;
         let [first, second] = parts_of(view);
         self.bytes.extend_from_slice(first)?;
         self.bytes.extend_from_slice(second)?;
+        let issuer_size = push_name(&mut self.bytes, name_in(view))?;
         let sizes = [first.len() as u64, second.len() as u64];
         let stated = stated_in(view);
         let left = stated.left;
         let digest = answer.digest;
-        let created = time_or_none(created_in(view));
-        let named = issuer_in(view);
-        let issuer = named.octets;
+        let created = created_in(view);
         self.rows.push(JobRow {
             certificate: place.certificate as u64,
             component: or_none(place.component),
@@ -291,7 +305,7 @@ impl JobTable {
             signer: or_none(signer(&self.names, view)),
             at,
             sizes,
-            created,
+            created: created.unwrap_or(0),
             why: answer.why,
             version: stated.version,
             kind: stated.kind,
@@ -300,10 +314,10 @@ impl JobTable {
             left,
             is_bad: answer.is_bad,
             digest_size: answer.digest_size,
-            issuer_size: named.size,
+            is_dated: u8::from(created.is_some()),
+            issuer_size,
             digest,
-            issuer,
-            reserved: [0; 6],
+            reserved: 0,
         })?;
         Ok(())
     }

@@ -14,7 +14,7 @@ ghost use Rattle.opgp_ring.specs.Keyring.{KeyringValue, flat};
 ghost use Rattle.opgp_flat.specs.FaultLine.{fault_of};
 ghost use Rattle.opgp_flat.specs.FaultRow.{fault_row};
 ghost use Rattle.opgp_flat.specs.Jobs.{asked_shown, job_bytes, job_parts, job_rows};
-ghost use Rattle.opgp_flat.specs.Jobs.{job_shown, why_number};
+ghost use Rattle.opgp_flat.specs.Jobs.{job_shown, sizes_in, why_number};
 ghost use Rattle.opgp_flat.specs.Keys.{key_bytes, key_parts, key_rows};
 ghost use Rattle.opgp_flat.specs.Names.{why_of};
 ghost use Rattle.opgp_flat.specs.Packets.{packet_bytes, packet_rows, packet_shown, row_shown};
@@ -46,14 +46,14 @@ pub fn rows_of_keys_are_those_of_signers()
 {}
 
 /// The rows of a keyring's jobs belong to its signatures, in the order of its report: each says why
-/// the signature isn't hashed, or its digest, and states where what its algorithm made is in the
-/// octets.
+/// the signature isn't hashed, or its digest, and states where what its algorithm made, and the name
+/// of its issuer, are in the octets.
 #[tactic(auto, using(crate::proofs::Working::are_questions, crate::proofs::Working::made_lies))]
 pub fn rows_of_jobs_are_those_of_questions()
     ensures asked { (r : KeyringValue) → map job_shown (job_rows r)
         ≡ map asked_shown (asked_of r) }
     ensures made { (r : KeyringValue)
-        → map (λ row. cuts (job_bytes r) row.at row.sizes) (job_rows r)
+        → map (λ row. cuts (job_bytes r) row.at (sizes_in row)) (job_rows r)
         ≡ map job_parts (standing_in r) }
 {}
 

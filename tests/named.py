@@ -1,6 +1,6 @@
 """The names that README, PROOFS, ARCHITECTURE and AUDIT give, held against the sources: functions, types, clauses, laws, definitions,
-files. Each file and heading that any page links must be there, each call with a condition in the table of LIBRARY, and each library
-that is to be used must be named in crates.txt and called.
+files. Each file and heading that any page links must be there, and each call of the library for C that one names; each call with a
+condition in the table of LIBRARY; and each library that is to be used must be named in crates.txt and called.
 
 Each complaint names the page, the name, and where it was looked for. In a list of names, as PROOFS and README have them, names in
 front of a colon are functions, types or modules, and those behind it their clauses, the laws of a module, or definitions that their
@@ -21,6 +21,7 @@ CLAUSE = re.compile(r"^ *(?:ensures|requires) (\w+) \{")
 GHOST = re.compile(r"^ *(?:pub )?ghost (?!use\b)(\w+)(?: =|:)")
 LIBRARIES = ("base64", "memchr", "sha1", "sha2", "hex", "thiserror", "clap", "byteorder")
 PLAIN = ("Err", "Send")  # of std
+MEASURED = "opgp_bench"  # the crate that bench/ makes
 DEFINED = re.compile(r"^(?: *abbrev |unfoldable |)pub (?:(?:record|data) )?(\w+)")
 FIELD = re.compile(r"^ +pub (\w+)")
 # A function with its owners (the type and the trait of its `impl`), its module, the names of its clauses, and its contract's text.
@@ -306,6 +307,16 @@ def is_called(crate, library):
     return False
 
 
+def in_calls():
+    """Each name that begins with opgp_, in any page and in its code too, is one of the library for C's header or a crate's."""
+    declared, found = set(re.findall(r"\bopgp_\w+", read("c/opgp.h"))), []
+    for page in ("README.md", "CONTRIBUTING.md", *files("docs/*.md")):
+        found.append(Claims(page, ""))
+        for name in sorted(set(re.findall(r"\bopgp_[a-z]\w*", read(page)))):
+            found[-1].tell(name in declared or name in crates() or name == MEASURED, name, "in c/opgp.h, nor a crate")
+    return found
+
+
 def in_crates():
     """Each of the libraries is named in crates.txt by a crate that calls it."""
     found = Claims("crates.txt", "")
@@ -336,4 +347,4 @@ def in_library():
 
 def claims():
     """All that the pages say of names, and the libraries in use."""
-    return [*in_readme(), *in_proofs(), *in_architecture(), *in_audit(), *in_library(), *in_links(), *in_crates()]
+    return [*in_readme(), *in_proofs(), *in_architecture(), *in_audit(), *in_library(), *in_links(), *in_calls(), *in_crates()]

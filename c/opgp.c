@@ -394,7 +394,8 @@ static uint32_t find_firsts(opgp_keyring *it)
     return OPGP_DONE;
 }
 
-/* Each digest is made once: there are no more jobs than signatures and embedded ones, and what their algorithms made is in those. */
+/* Each digest is made once: there are no more jobs than signatures and embedded ones, and what their algorithms made and the names
+ * of their issuers are in those. */
 static uint32_t want_jobs(opgp_keyring *it)
 {
     opgp_sizes room = {0, 0};

@@ -500,6 +500,7 @@ pub extern "C" fn opgp_reader_push(alloc: Global, reader: &mut Reader, piece: &[
         × (reader.new.slot.held ≡ reader.old.slot.held) }
     ensures lost { result ≡ 3 → reader.new.slot.held ≡ Lost }
     ensures before { reader.old.is_open ≡ true → reader.old.slot.held ≡ Lost → result ≡ 3 }
+    ensures behind { reader.old.is_open ≡ true → HasEnded so_far reader.old.slot.held → result ≡ 7 }
     ensures open { reader.new.is_open ≡ reader.old.is_open }
     ensures kept { result ≢ 0 → Holds so_far reader.new }
     ensures closed { (result ≡ 5) ↔ (reader.old.is_open ≡ false) }
@@ -531,6 +532,8 @@ pub extern "C" fn opgp_reader_take(alloc: Global, reader: &mut Reader, into: &mu
     ensures none { result ≡ 6 → waiting_in reader.old.slot.held ≡ [] }
     ensures lost { result ≡ 3 → reader.new.slot.held ≡ Lost }
     ensures before { reader.old.is_open ≡ true → reader.old.slot.held ≡ Lost → result ≡ 3 }
+    ensures empty { reader.old.is_open ≡ true → waiting_in reader.old.slot.held ≡ []
+        → (result ≡ 6) ⊎ (reader.old.slot.held ≡ Lost) }
     ensures open { reader.new.is_open ≡ reader.old.is_open }
     ensures same { result ≢ 0 → Holds so_far reader.new }
     ensures kept { result ≢ 0 → into.new ≡ into.old }

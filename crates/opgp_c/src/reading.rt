@@ -39,6 +39,7 @@ pub(crate) fn push_piece(reading: &mut Reading, piece: &[u8]) -> u32
     ensures ended { result ≡ 7 → HasEnded so_far reading.old × (reading.new ≡ reading.old) }
     ensures lost { result ≡ 3 → reading.new ≡ Lost }
     ensures before { reading.old ≡ Lost → result ≡ 3 }
+    ensures behind { HasEnded so_far reading.old → result ≡ 7 }
     ensures status { (result ≡ 0) ⊎ ((result ≡ 3) ⊎ (result ≡ 7)) }
 {
     let pushed = match reading {
@@ -158,6 +159,7 @@ pub(crate) fn take_part(alloc: Global, reading: &mut Reading, into: &mut Ring) -
     ensures none { result ≡ 6 → (waiting_in reading.old ≡ []) × IsReading so_far reading.new }
     ensures lost { result ≡ 3 → reading.new ≡ Lost }
     ensures before { reading.old ≡ Lost → result ≡ 3 }
+    ensures empty { waiting_in reading.old ≡ [] → (result ≡ 6) ⊎ (reading.old ≡ Lost) }
     ensures kept { result ≢ 0 → into.new ≡ into.old }
     ensures status { (result ≡ 0) ⊎ ((result ≡ 3) ⊎ (result ≡ 6)) }
 {

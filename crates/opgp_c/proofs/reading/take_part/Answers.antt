@@ -1,4 +1,4 @@
-use Rattle.std.proofs.Common.{List, append-nil, inr, refl, subst}
+use Rattle.std.proofs.Common.{List, append-nil, inl, inr, refl, subst}
 use Rattle.opgp_ring.specs.Composed.{PartValue}
 use Rattle.opgp_c.specs.Readings.{IsReading}
 use Rattle.opgp_c.proofs.reading.take_part.Goals as goal
@@ -14,6 +14,7 @@ returns-in-None g c = record {
   );
   lost = λ e. absurd cc;
   before = λ e. absurd (c.in_default.not-Lost e);
+  empty = λ e. inl refl;
   kept = λ e. refl;
   status = inr (inr refl);
 }

@@ -485,10 +485,10 @@ OPGP_API uint32_t opgp_ring_join(opgp_ring *ring, opgp_ring *other, opgp_ring *i
  *
  * Proved: however the octets are cut, with OPGP_DONE of end they encode one keyring, whose parts are those that were taken, in
  * order, and those that can still be taken; with OPGP_REFUSED they encode none, and *fault is the one fault of the lowest layer
- * that refuses them, as opgp_ring_open answers for them in one piece; OPGP_NO_ROW is answered only where no part waits in a
- * reading that isn't lost; OPGP_ENDED only where the input had ended, and changes nothing of what can still be taken; OPGP_MEMORY
- * only where the reading is lost, before or now; OPGP_CLOSED if and only if the handle holds nothing; and a handle that is open
- * stays open. */
+ * that refuses them, as opgp_ring_open answers for them in one piece; OPGP_NO_ROW is answered if and only if no part waits in a
+ * reading that isn't lost; OPGP_ENDED if and only if the input had ended, and changes nothing of what can still be taken;
+ * OPGP_MEMORY only where the reading is lost, before or now; OPGP_CLOSED if and only if the handle holds nothing; and a handle
+ * that is open stays open. */
 OPGP_API uint32_t opgp_reader_open(const opgp_limits *limits, opgp_reader *reader);
 OPGP_API uint32_t opgp_reader_push(opgp_reader *reader, const uint8_t *piece, size_t n);
 OPGP_API uint32_t opgp_reader_take(opgp_reader *reader, opgp_ring *into);
@@ -579,9 +579,9 @@ OPGP_API opgp_span opgp_issuer(const opgp_keyring *keyring, const opgp_job *job)
 OPGP_API opgp_span opgp_data(const opgp_keyring *keyring, const opgp_subpacket *subpacket);
 OPGP_API opgp_span opgp_subpacket_field(const opgp_keyring *keyring, const opgp_subpacket *subpacket, unsigned number);
 
-/* What opgp_ring_octets and opgp_ring_write put, in memory that the caller frees by free(). Who asks for row after row gets them in
- * a time that is linear in all: the keyring keeps those of some rows that come next, a quarter of the octets that it was read from
- * at most, or 1 MiB.
+/* What opgp_ring_octets and opgp_ring_write put, in memory that the caller frees by free(). Who has asked for the jobs, and then asks
+ * for row after row, gets them in a time that is linear in all: the keyring keeps those of some rows that come next, a quarter of the
+ * octets that it was read from at most, or 1 MiB.
  *
  * OPGP_DONE, OPGP_MEMORY; of a row also OPGP_NO_ROW. With any but OPGP_DONE the octets are NULL, and *size is 0. */
 OPGP_API uint32_t opgp_octets(const opgp_keyring *keyring, uint64_t row, uint8_t **octets, size_t *size);

@@ -1,18 +1,23 @@
 # make installs what is proved below PREFIX, in DESTDIR: the program, its manual and completions; and the library for C with its
-# header, whose layer on top is compiled by CC. opgp-verify is built where the headers of libcrypto are. make dist packs the same.
-# bin/opgp is build/installed, which runs lib/opgp/opgp and answers --version.
+# header, whose layer on top is compiled by CC. opgp-verify is built where the headers of libcrypto are. make dist packs the same as
+# a tarball, make deb as packages of Debian. bin/opgp is build/installed, which runs lib/opgp/opgp and answers --version.
 PREFIX = /usr/local
 # Where libraries go: a distribution of several architectures may say LIBDIR=/usr/lib/x86_64-linux-gnu.
 LIBDIR = $(PREFIX)/lib
 INCLUDEDIR = $(PREFIX)/include
+# Where zsh looks for completions: Debian's packages have them in $(PREFIX)/share/zsh/vendor-completions.
+ZSHDIR = $(PREFIX)/share/zsh/site-functions
 DESTDIR =
 CFLAGS = -O2
 LDFLAGS =
+# Who answers for the packages of make deb, as 'Name <address>'; else the author of the commit.
+MAINTAINER =
 bin = "$(DESTDIR)$(PREFIX)/bin"
 share = "$(DESTDIR)$(PREFIX)/share"
 program_lib = "$(DESTDIR)$(PREFIX)/lib"
 lib = "$(DESTDIR)$(LIBDIR)"
 include = "$(DESTDIR)$(INCLUDEDIR)"
+zsh = "$(DESTDIR)$(ZSHDIR)"
 # The folders, as the file for pkg-config names them: below its prefix where they are.
 root = $(PREFIX)
 named_lib = $(patsubst $(PREFIX)/%,$${prefix}/%,$(LIBDIR))
@@ -68,11 +73,10 @@ install-program: program
 	install -D -m 755 build/installed $(bin)/opgp
 	install -D -m 644 man/opgp.1 $(share)/man/man1/opgp.1
 	install -D -m 644 completions/opgp.bash $(share)/bash-completion/completions/opgp
-	install -D -m 644 completions/opgp.zsh $(share)/zsh/site-functions/_opgp
+	install -D -m 644 completions/opgp.zsh $(zsh)/_opgp
 	install -D -m 644 completions/opgp.fish $(share)/fish/vendor_completions.d/opgp.fish
-	install -d $(share)/doc/opgp
-	build/version > $(share)/doc/opgp/VERSION
-	chmod 644 $(share)/doc/opgp/VERSION
+	build/version > $(program_lib)/opgp/VERSION
+	chmod 644 $(program_lib)/opgp/VERSION
 
 install-library: library
 	install -D -m 644 $(made)/libopgp.a $(lib)/libopgp.a
@@ -86,21 +90,31 @@ install-library: library
 		'Description: OpenPGP certificates and keyrings (RFC 9580), proved' 'Version: $(version)' 'Cflags: -I$${includedir}' \
 		'Libs: -L$${libdir} -lopgp' > $(lib)/pkgconfig/opgp.pc
 	chmod 644 $(lib)/pkgconfig/opgp.pc
+	install -d $(lib)/cmake/opgp
+	sed -e 's|@abi@|$(abi)|g' -e "s|@include@|$$(realpath -ms --relative-to='$(LIBDIR)/cmake/opgp' '$(INCLUDEDIR)')|" \
+		packaging/opgpConfig.cmake > $(lib)/cmake/opgp/opgpConfig.cmake
+	sed -e 's|@version@|$(version)|' packaging/opgpConfigVersion.cmake > $(lib)/cmake/opgp/opgpConfigVersion.cmake
+	chmod 644 $(lib)/cmake/opgp/opgpConfig.cmake $(lib)/cmake/opgp/opgpConfigVersion.cmake
 	if [ -e $(made)/opgp-verify ]; then \
 		install -D -m 755 $(made)/opgp-verify $(bin)/opgp-verify && \
 		install -D -m 644 man/opgp-verify.1 $(share)/man/man1/opgp-verify.1; \
 	fi
 
 uninstall:
-	rm -f $(bin)/opgp $(program_lib)/opgp/opgp $(bin)/opgp-verify $(share)/man/man1/opgp-verify.1 $(share)/man/man3/libopgp.3 $(share)/man/man1/opgp.1 $(share)/bash-completion/completions/opgp \
-		$(share)/zsh/site-functions/_opgp $(share)/fish/vendor_completions.d/opgp.fish $(lib)/libopgp.a $(lib)/libopgp.so.$(abi) \
-		$(lib)/libopgp.so $(include)/opgp.h $(include)/opgp.hpp $(lib)/pkgconfig/opgp.pc $(share)/doc/opgp/VERSION
-	for it in $(share)/doc/opgp $(program_lib)/opgp; do if [ -d "$$it" ]; then rmdir --ignore-fail-on-non-empty "$$it"; fi; done
+	rm -f $(bin)/opgp $(program_lib)/opgp/opgp $(program_lib)/opgp/VERSION $(share)/man/man1/opgp.1 \
+		$(share)/bash-completion/completions/opgp $(zsh)/_opgp $(share)/fish/vendor_completions.d/opgp.fish
+	rm -f $(lib)/libopgp.a $(lib)/libopgp.so.$(abi) $(lib)/libopgp.so $(include)/opgp.h $(include)/opgp.hpp \
+		$(lib)/pkgconfig/opgp.pc $(lib)/cmake/opgp/opgpConfig.cmake $(lib)/cmake/opgp/opgpConfigVersion.cmake \
+		$(share)/man/man3/libopgp.3 $(bin)/opgp-verify $(share)/man/man1/opgp-verify.1
+	for it in $(program_lib)/opgp $(lib)/cmake/opgp; do if [ -d "$$it" ]; then rmdir --ignore-fail-on-non-empty "$$it"; fi; done
 
 dist:
 	made='$(made)' CC='$(CC)' CFLAGS='$(CFLAGS)' build/dist $(MAKE)
 
+deb:
+	made='$(made)' maintainer='$(MAINTAINER)' build/deb $(MAKE)
+
 check:
 	.ci/run
 
-.PHONY: all program library verifier install install-program install-library uninstall dist check
+.PHONY: all program library verifier install install-program install-library uninstall dist deb check

@@ -1,19 +1,27 @@
-/* opgp: OpenPGP certificates and keyrings (RFC 9580), read, asked and written.
+/* opgp: parse and write OpenPGP certificates and keyrings (RFC 9580).
  *
- * There are two layers. The calls under "Proved calls" are compiled from functions that are proved to meet their
- * contracts, and what is proved of each is said there under "Proved". Those under "On top" are opgp.c: allocation, loops
- * and callbacks in C, which read no octet of the input. They aren't proved.
+ * There are two layers. The calls under "Proved calls" are compiled from functions that are proved to meet their contracts. What
+ * is proved of each is said there under "Proved". The calls under "On top" are opgp.c: allocation, loops and callbacks in C,
+ * which read no octet of the input. They aren't proved.
  *
- * No call prints, reads a file, starts anything, or keeps anything but what a handle or an opgp_keyring holds. Threads:
- * calls on different handles and keyrings may be made at once, and all calls on one opgp_keyring but opgp_close, which locks
- * itself. A handle (opgp_ring, opgp_reader) is for one call at a time: each call takes out what it holds and puts it back. A
- * handle may pass from one thread to another. No call may be made from a signal handler, or in the forked child of a process
- * with threads.
+ * No call prints, reads a file, or starts anything. Nothing is kept but what a handle or an opgp_keyring holds.
  *
- * Sizes and places are in octets, and count from 0. What a caller owes: no pointer is NULL unless that is allowed, each
- * points to as much as the call says, and no two arguments overlap. Where a table has room for nothing, its pointer may be
- * NULL. A copy of a handle can't be used once a call has changed or closed the handle. The library is for x86-64-v2 processors
- * and later. Sections are those of RFC 9580. */
+ * Threads:
+ *
+ * - Calls on different handles and keyrings may be made at once.
+ * - All calls on one opgp_keyring may be made at once, except opgp_close: it has a lock.
+ * - A handle (opgp_ring, opgp_reader) is for one call at a time: each call takes out what it holds, and puts it back. A handle
+ *   may pass from one thread to another.
+ * - No call may be made from a signal handler, or in the forked child of a process with threads.
+ *
+ * Sizes and places are in octets, and count from 0. The caller must keep these conditions:
+ *
+ * - No pointer is NULL unless that is allowed. Where a table has room for nothing, its pointer may be NULL.
+ * - Each pointer points to as much as the call says.
+ * - No two arguments overlap.
+ * - No call is made on a copy of a handle that a call has changed or closed.
+ *
+ * The library is for x86-64-v2 processors and later. Sections are those of RFC 9580. */
 #ifndef OPGP_H
 #define OPGP_H
 
@@ -31,25 +39,25 @@ extern "C" {
 #define OPGP_API
 #endif
 
-/* The version of the structs and calls below: what opgp_abi() of the library must answer. */
+/* The version of the structs and calls below. opgp_abi() of the library must return it. */
 #define OPGP_ABI 3
 
 /* The version of the library, for people. */
 #define OPGP_VERSION "0.1"
 
-/* ---- Statuses: what calls answer. The numbers never change. */
+/* ---- Statuses, which calls return. The numbers never change. */
 enum {
     OPGP_DONE = 0,    /* it is done */
     OPGP_REFUSED = 1, /* the input is refused: the fault says where and why */
-    OPGP_ROOM = 2,    /* a table has less room than the sizes now say; it is unchanged */
+    OPGP_ROOM = 2,    /* a table has less room than the sizes now say, and is unchanged */
     OPGP_MEMORY = 3,  /* out of memory, or there is more than a size_t counts */
-    OPGP_LIMITS = 4,  /* a limit is out of its range, or a policy or a mode stands for nothing */
+    OPGP_LIMITS = 4,  /* a limit is out of its range, or there is no such policy or mode */
     OPGP_CLOSED = 5,  /* the handle holds nothing, or another call is using it */
-    OPGP_NO_ROW = 6,  /* there is no such row, or its signature isn't hashed; no such certificate, name or fault; no part waits */
-    OPGP_ENDED = 7    /* the input of the reader has ended; or the reporter of opgp_check ended it */
+    OPGP_NO_ROW = 6,  /* no such row, or its signature isn't hashed; no such certificate, name or fault; no part is complete */
+    OPGP_ENDED = 7    /* the input of the reader has ended; or the reporter ended opgp_check */
 };
 
-/* The number that says that there is none. */
+/* In place of a number: there is none. */
 #define OPGP_NONE 0xFFFFFFFFFFFFFFFFU
 
 /* ---- Tables of numbers that have names, for opgp_name. The numbers never change. */
@@ -169,16 +177,16 @@ enum {
 /* Why a signature isn't hashed: the field `why` of an opgp_job. */
 enum {
     OPGP_WHY_HASHED = 0,    /* it is */
-    OPGP_WHY_OPAQUE = 1,    /* it isn't parsed, or it is of version 3 */
+    OPGP_WHY_OPAQUE = 1,    /* it isn't parsed, or is of version 3 */
     OPGP_WHY_KIND = 2,      /* its type isn't one of certificates */
-    OPGP_WHY_MISPLACED = 3, /* its type doesn't belong where it stands */
-    OPGP_WHY_VERSION = 4,   /* its version isn't that of a key that it is about */
-    OPGP_WHY_HASH = 5       /* its hash algorithm isn't computed, or not in its version */
+    OPGP_WHY_MISPLACED = 3, /* its type doesn't belong where it is */
+    OPGP_WHY_VERSION = 4,   /* its version isn't that of a key that it would hash */
+    OPGP_WHY_HASH = 5       /* its hash algorithm isn't supported, or not in its version */
 };
 
-/* ---- Forms of a subpacket's data: which numbers it says, and which fields of octets. The numbers of the forms never change. */
+/* ---- Forms of a subpacket's data: which numbers it has, and which fields of octets. The numbers of the forms never change. */
 enum {
-    OPGP_FORM_NONE = 0,          /* no numbers and no fields: it hasn't the form of its kind, or its kind is unknown */
+    OPGP_FORM_NONE = 0,          /* none: the data hasn't the form of its kind, or the kind is unknown */
     OPGP_FORM_NUMBER = 1,        /* numbers: seconds (5.2.3.11, 5.2.3.13, 5.2.3.18) */
     OPGP_FORM_OCTET = 2,         /* numbers: 0 for no, any other for yes (5.2.3.19, 5.2.3.20, 5.2.3.27) */
     OPGP_FORM_TWO_OCTETS = 3,    /* numbers: depth, amount (5.2.3.21) */
@@ -194,22 +202,22 @@ enum {
     OPGP_FORM_PAIRS = 13         /* fields: pairs of a symmetric and an AEAD algorithm (5.2.3.15) */
 };
 
-/* ---- Structs. Each is what the proved calls fill, field by field; reserved octets are zeros. */
+/* ---- Structs. The proved calls fill each field; reserved octets are zeros. */
 
-/* Policies of reading, to be added up. */
+/* Policies of reading. Add up those that you want. */
 enum {
-    OPGP_REFUSE_OUTSIDE = 1, /* lines outside of armored blocks are refused unless they are blank; usually they are passed over */
-    OPGP_KEEP_MALFORMED = 2  /* signatures that are malformed are kept, octet for octet (5.2.5); usually they refuse the input */
+    OPGP_REFUSE_OUTSIDE = 1, /* refuse lines outside of armored blocks unless they are blank; usually they are skipped */
+    OPGP_KEEP_MALFORMED = 2  /* keep malformed signatures, octet for octet (5.2.5); usually they refuse the input */
 };
 
-/* The most of everything, and policies. opgp_usual_limits gives the usual ones. */
+/* Limits, and policies. opgp_usual_limits gives the usual ones. */
 typedef struct opgp_limits {
     uint64_t line;     /* octets of an armored line, without its line feed: 128 to 2^20 */
     uint64_t body;     /* octets of a packet's body: 512 to 2^32 - 1 */
     uint64_t cert;     /* octets of a certificate's packets, headers included: 512 to 2^40 */
     uint64_t input;    /* octets of the input: 0 to 2^62 */
     uint64_t pieces;   /* partial lengths of one packet (4.2.1.4): 1 to 2^24 */
-    uint64_t policies; /* 0, or the sum of the policies that are wanted */
+    uint64_t policies; /* 0, or a sum of policies */
 } opgp_limits;
 
 /* Why an input is refused. docs/FAULTS.md says what each reason means. */
@@ -222,7 +230,7 @@ typedef struct opgp_fault {
     uint8_t reserved[6];
 } opgp_fault;
 
-/* How many rows and octets a call has to give. */
+/* How many rows and octets a call gives. */
 typedef struct opgp_sizes {
     uint64_t rows;
     uint64_t bytes;
@@ -232,17 +240,22 @@ typedef struct opgp_sizes {
 typedef struct opgp_packet {
     uint64_t certificate; /* the number of its certificate; OPGP_NONE for a filler before the first */
     uint64_t component;   /* the number of the component that it begins or is on; OPGP_NONE for the primary key */
-    uint64_t hang;        /* its number among the packets that follow that; OPGP_NONE for what begins it */
+    uint64_t hang;        /* its number among the signatures and fillers behind that, or before the first certificate; OPGP_NONE: it
+                             is a key, a user ID or an attribute */
     uint64_t at;
     uint64_t size;
     uint8_t kind;         /* its type (5): 2 signature, 6 public key, 13 user ID, 14 public subkey, 17 user attribute */
     uint8_t reserved[7];
 } opgp_packet;
 
-/* A key. The fields of its material (5.5.5) are in bytes, from at on, one after the other: integers big-endian, without
- * the count of their bits and, in version 6, without zeros in front: pad them where a fixed size is wanted. RSA n, e; Elgamal p, g, y; DSA p, q, g, y; ECDH curve, point, parameters; ECDSA and EdDSALegacy
- * curve, point; of X25519, X448, Ed25519, Ed448 and any other one field. A curve is an object identifier (9.2) without its
- * length. */
+/* A key. The fields of its material (5.5.5) are in bytes, from at on, one after the other:
+ *
+ * - RSA: n, e; Elgamal: p, g, y; DSA: p, q, g, y;
+ * - ECDH: curve, point, parameters; ECDSA and EdDSALegacy: curve, point;
+ * - X25519, X448, Ed25519, Ed448 and any other: one field.
+ *
+ * Integers are big-endian, without the count of their bits. In version 6 they have no zeros in front: pad them where a fixed
+ * size is wanted. A curve is an object identifier (9.2) without its length. */
 typedef struct opgp_key {
     uint64_t certificate;
     uint64_t component; /* the number of the component that it is; OPGP_NONE for a primary key */
@@ -257,20 +270,24 @@ typedef struct opgp_key {
     uint8_t reserved[9];
 } opgp_key;
 
-/* A signature, and what a verifier is asked about it. What its algorithm made (5.2.3) is in bytes, from at on: of RSA one
- * integer; of DSA, ECDSA and EdDSALegacy r, s; of Ed25519, Ed448 and any other one field. An integer has no zeros in front
- * mostly, so one in 256 is shorter than the others: most libraries want RSA's as long as the modulus, and r and s of
- * EdDSALegacy as 32 octets. The point of an EdDSALegacy key has 0x40 in front. Behind that stands the name of its issuer. */
+/* A job: a signature, and what a verifier needs. What its algorithm made (5.2.3) is in bytes, from at on, and behind that the
+ * issuer's name:
+ *
+ * - RSA: one integer; DSA, ECDSA and EdDSALegacy: r, s;
+ * - Ed25519, Ed448 and any other: one field.
+ *
+ * Most integers have no zeros in front, so one in 256 is shorter than the others. Most libraries want RSA's as long as the
+ * modulus, and r and s of EdDSALegacy as 32 octets. The point of an EdDSALegacy key has 0x40 in front. */
 typedef struct opgp_job {
     uint64_t certificate;
     uint64_t component;  /* the component that it is on; OPGP_NONE for the primary key */
-    uint64_t hang;       /* its number among the packets that follow that, fillers included */
+    uint64_t hang;       /* its number among the signatures and fillers behind that */
     uint64_t nested;     /* its number among the signatures embedded in that packet; OPGP_NONE: the packet's own */
     uint64_t signer;     /* the row of the key that it names as its issuer's; OPGP_NONE: not in this keyring */
     uint64_t at;
     uint64_t sizes[2];
-    uint32_t created;    /* when it says it was made, in seconds since 1970: version 3 in a field (5.2.2), others by the one time in
-                            their hashed area (5.2.3.11); 0: that has none, or several */
+    uint32_t created;    /* when it was made, as it states, in seconds since 1970: in version 3 in a field (5.2.2), else by the
+                            one time in its hashed area (5.2.3.11); 0: that has none, or several */
     uint8_t why;         /* OPGP_WHY_HASHED: it is hashed; else why not */
     uint8_t version;     /* 3, 4 or 6; 0: not parsed */
     uint8_t kind;        /* its type (5.2.1) */
@@ -279,15 +296,15 @@ typedef struct opgp_job {
     uint8_t left[2];     /* the left 16 bits of the signed hash value, as it states them (5.2.3) */
     uint8_t is_bad;      /* 1: it is hashed, and its digest doesn't begin with them */
     uint8_t digest_size; /* 0: it isn't hashed */
-    uint8_t is_dated;    /* 1: it says when it was made */
+    uint8_t is_dated;    /* 1: it states when it was made */
     uint8_t issuer_size; /* 20 or 32: it names its issuer by a fingerprint; 8: by a key ID; 0: not at all. opgp_issuer finds that name */
     uint8_t digest[64];  /* the digest of what it hashes (5.2.4), and zeros after it */
     uint8_t reserved;
 } opgp_job;
 
-/* A subpacket of a signature (5.2.3.7). Its data, what is behind its type octet, is bytes[at .. at + size). Where that has
- * the form of its kind, it says at most two numbers, and at most two fields of octets, which are in bytes, from fields_at on, one
- * after the other. */
+/* A subpacket of a signature (5.2.3.7). Its data, behind its type octet, is bytes[at .. at + size). If the data has the form of
+ * its kind, it has at most two numbers, and at most two fields of octets. The fields are in bytes, from fields_at on, one after
+ * the other. */
 typedef struct opgp_subpacket {
     uint64_t certificate;    /* where its signature is: the same four numbers as in the signature's opgp_job */
     uint64_t component;
@@ -308,27 +325,27 @@ typedef struct opgp_subpacket {
 
 /* What a signature hashes: bytes[at .. at + size). */
 typedef struct opgp_hashed {
-    uint64_t row; /* the number of its job, from the first that is asked for */
+    uint64_t row; /* the number of its job, counted from the row `first` of the call */
     uint64_t at;
     uint64_t size;
 } opgp_hashed;
 
-/* A handle of a keyring, all zeros at first. Only the proved calls may change it. */
+/* A handle of a keyring. Begin with all zeros; only the proved calls may change it. */
 typedef struct opgp_ring {
     bool is_open;
     void *at;
 } opgp_ring;
 
-/* A handle of a keyring that is read in pieces, all zeros at first. Only the proved calls may change it. */
+/* A handle of a keyring that is read in pieces. Begin with all zeros; only the proved calls may change it. */
 typedef struct opgp_reader {
     bool is_open;
     void *at;
 } opgp_reader;
 
-/* ---- Proved calls. Also proved of each: it returns, and nothing that it does is undefined, if the caller keeps what it
- * owes. What a handle points to, and a call's work, is allocated by rattle_alloc of heap.c, which is malloc. */
+/* ---- Proved calls. Also proved of each: it returns, and has no undefined behaviour, if the caller keeps the conditions. They
+ * allocate by rattle_alloc of heap.c, which is malloc. */
 
-/* The version of the structs and calls of the library. A program that was compiled for another one can't use it.
+/* The version of the library's structs and calls. A program that was compiled for another one can't use it.
  *
  * Proved: it is 3. */
 OPGP_API uint32_t opgp_abi(void);
@@ -338,69 +355,83 @@ OPGP_API uint32_t opgp_abi(void);
  * Proved: these are they. */
 OPGP_API void opgp_usual_limits(opgp_limits *limits);
 
-/* Puts the name that a table (OPGP_PACKET_TYPES and so on) has for a number into text[0 .. room), in ASCII, without a NUL; *size
- * is how much that is, 52 octets at most. The names are those of the standard, as docs/NUMBERS.md has them; of layers, reasons
- * (docs/FORMAT.md) and of why a signature isn't hashed, those that the program prints.
+/* Writes the name that a table (OPGP_PACKET_TYPES and so on) has for a number to text[0 .. room), in ASCII, without a NUL. *size
+ * is its length, 52 octets at most. docs/NUMBERS.md has the standard's names, docs/FAULTS.md those of layers and reasons. Whys
+ * are named as `opgp check` prints them.
  *
- * OPGP_DONE, OPGP_ROOM; OPGP_NO_ROW where there is no such table, or it has no name for the number; *size is unchanged then.
+ * OPGP_DONE; OPGP_ROOM; OPGP_NO_ROW: there is no such table, or it has no name for the number, and *size is unchanged.
  *
- * Proved: with OPGP_DONE the text begins with that name, and is otherwise as it was; with any other status it is unchanged; with
- * OPGP_ROOM it has less room than the name wants; OPGP_NO_ROW is answered if and only if there is none. */
+ * Proved:
+ *
+ * - OPGP_DONE: the text begins with that name, and is otherwise as it was.
+ * - OPGP_ROOM: the text has less room than the name needs.
+ * - OPGP_NO_ROW is returned if and only if there is no name.
+ * - With any status but OPGP_DONE the text is unchanged. */
 OPGP_API uint32_t opgp_name(uint32_t table, uint8_t number, uint8_t *text, size_t room, uint64_t *size);
 
-/* Puts a fault's line, as the program writes it, such as "armor: EndLabel block 0 at 112 inner 0", into text[0 .. room), in ASCII,
- * without a line feed or a NUL; *size is how much that is, 108 octets at most.
+/* Writes a fault's line to text[0 .. room), as the program writes it, such as "armor: EndLabel block 0 at 112 inner 0". It is
+ * ASCII, without a line feed or a NUL. *size is its length, 108 octets at most.
  *
- * OPGP_DONE, OPGP_ROOM; OPGP_NO_ROW where there is no such layer, or no such reason; *size is unchanged then.
+ * OPGP_DONE; OPGP_ROOM; OPGP_NO_ROW: there is no such layer, or no such reason, and *size is unchanged.
  *
- * Proved: with OPGP_DONE the text begins with that line, and is otherwise as it was; with any other status it is unchanged; with
- * OPGP_ROOM it has less room than the line wants, and fewer than 108 octets; OPGP_NO_ROW is answered if and only if the layer or
- * the reason has no such number. */
+ * Proved:
+ *
+ * - OPGP_DONE: the text begins with that line, and is otherwise as it was.
+ * - OPGP_ROOM: the text has less room than the line needs, and fewer than 108 octets.
+ * - OPGP_NO_ROW is returned if and only if the layer or the reason has no such number.
+ * - With any status but OPGP_DONE the text is unchanged. */
 OPGP_API uint32_t opgp_fault_line(const opgp_fault *fault, uint8_t *text, size_t room, uint64_t *size);
 
-/* Reads the keyring of the octets in[0 .. n), armored or binary, and keeps it in the handle; what that held before is let
- * go. in isn't needed after the call. Give the handle to opgp_ring_close.
+/* Parses the keyring in the octets in[0 .. n), armored or binary, and keeps it in the handle. What the handle held before is
+ * freed. `in` isn't needed after the call. Give the handle to opgp_ring_close.
  *
- * OPGP_DONE, OPGP_REFUSED with *fault, OPGP_LIMITS, OPGP_MEMORY. With any but OPGP_DONE the handle is unchanged, and with
- * any but OPGP_REFUSED *fault is.
+ * OPGP_DONE, OPGP_REFUSED with *fault, OPGP_LIMITS, OPGP_MEMORY. With any but OPGP_DONE the handle is unchanged. With any but
+ * OPGP_REFUSED *fault is unchanged.
  *
- * Proved: with OPGP_DONE it holds the one keyring that the octets encode; with OPGP_REFUSED they encode none, and *fault is
- * the one fault of the lowest layer that refuses them; OPGP_LIMITS is answered if and only if a limit is out of its range or
- * a policy stands for nothing. */
+ * Proved:
+ *
+ * - OPGP_DONE: the handle holds the one keyring that the octets encode.
+ * - OPGP_REFUSED: they encode none, and *fault is the one fault of the lowest layer that refuses them.
+ * - OPGP_LIMITS is returned if and only if a limit is out of its range, or there is no such policy. */
 OPGP_API uint32_t opgp_ring_open(const uint8_t *in, size_t n, const opgp_limits *limits, opgp_ring *ring, opgp_fault *fault);
 
 /* How an input is read, for opgp_ring_open_mode. The numbers never change. */
 enum {
-    OPGP_MODE_AUTO = 0,  /* as opgp_ring_open: the first octet decides; 128 or more is binary, and so is an empty input */
+    OPGP_MODE_AUTO = 0,  /* as opgp_ring_open: 128 or more as first octet is binary, and so is an empty input */
     OPGP_MODE_ARMOR = 1, /* as armored text (6.2) */
     OPGP_MODE_BINARY = 2 /* as packets (4) */
 };
 
-/* The same for an input that is read by this mode; OPGP_LIMITS is answered for a number that is no mode, too. */
+/* The same for an input that is read by this mode. OPGP_LIMITS is also returned if there is no such mode. */
 OPGP_API uint32_t opgp_ring_open_mode(const uint8_t *in, size_t n, uint32_t mode, const opgp_limits *limits, opgp_ring *ring,
                                       opgp_fault *fault);
 
-/* Lets go what a handle holds, if it holds something. opgp_ring_close takes the handle by value: it, and each copy of it, can't
- * be used again. opgp_ring_clear leaves it closed, so that a second one does nothing, and the handle may be used anew.
+/* Free what a handle holds, if anything. opgp_ring_close takes the handle by value: neither it nor a copy of it can be used
+ * again. opgp_ring_clear leaves it closed, so a second call does nothing, and the handle can be used anew.
  *
  * Proved: opgp_ring_clear leaves the handle closed. */
 OPGP_API void opgp_ring_close(opgp_ring ring);
 OPGP_API void opgp_ring_clear(opgp_ring *ring);
 
-/* Fill tables of the caller, rows[0 .. row_room) and bytes[0 .. byte_room), and *sizes with how much they want:
+/* Fill the caller's tables, rows[0 .. row_room) and bytes[0 .. byte_room), and *sizes with the room that they need:
  *
  * - packets: all packets of the keyring in order, and their bodies;
  * - keys: all keys in order, a primary key before its subkeys, and their material;
  * - jobs: all signatures in the order of `opgp check`, those embedded in bindings included, and what their algorithms made;
  * - subpackets: those of each signature in the order of the jobs, its hashed area first, and their data.
  *
- * OPGP_DONE; OPGP_ROOM where one of the tables is too short; OPGP_MEMORY; OPGP_CLOSED. With the last two *sizes says
- * nothing. To learn the sizes, call with room for nothing.
+ * To learn the sizes, call with room for nothing.
  *
- * Proved: with OPGP_DONE each table begins with these rows and octets of the keyring held, which crates/opgp_flat/specs
- * defines, and is otherwise as it was; with any other status both are unchanged; with OPGP_ROOM one of them has less room
- * than *sizes says, and *sizes is how much they are; OPGP_CLOSED is answered if and only if the handle holds nothing; and
- * the handle holds what it held. */
+ * OPGP_DONE; OPGP_ROOM: one of the tables is too short; OPGP_MEMORY; OPGP_CLOSED. With the last two *sizes means nothing.
+ *
+ * Proved:
+ *
+ * - OPGP_DONE: each table begins with these rows or octets of the keyring, which crates/opgp_flat/specs defines, and is
+ *   otherwise as it was.
+ * - OPGP_ROOM: one of them has less room than *sizes says, and *sizes is how much they are.
+ * - OPGP_CLOSED is returned if and only if the handle holds nothing.
+ * - With any status but OPGP_DONE both tables are unchanged.
+ * - The handle holds what it held. */
 OPGP_API uint32_t opgp_ring_packets(opgp_ring *ring, opgp_packet *rows, size_t row_room, uint8_t *bytes, size_t byte_room,
                                     opgp_sizes *sizes);
 OPGP_API uint32_t opgp_ring_keys(opgp_ring *ring, opgp_key *rows, size_t row_room, uint8_t *bytes, size_t byte_room,
@@ -410,53 +441,61 @@ OPGP_API uint32_t opgp_ring_jobs(opgp_ring *ring, opgp_job *rows, size_t row_roo
 OPGP_API uint32_t opgp_ring_subpackets(opgp_ring *ring, opgp_subpacket *rows, size_t row_room, uint8_t *bytes,
                                        size_t byte_room, opgp_sizes *sizes);
 
-/* Puts what the signature of a row hashes (5.2.4) into octets[0 .. room), by the row's number in the table of jobs; *size is
- * how much that is.
+/* Writes what the signature in a row of the jobs hashes (5.2.4) to octets[0 .. room). *size is how much that is.
  *
- * OPGP_DONE, OPGP_ROOM, OPGP_NO_ROW, OPGP_MEMORY, OPGP_CLOSED. With the last three *size says nothing.
+ * OPGP_DONE, OPGP_ROOM, OPGP_NO_ROW, OPGP_MEMORY, OPGP_CLOSED. With the last three *size means nothing.
  *
- * Proved: with OPGP_DONE the table begins with the octets that the standard says, and is otherwise as it was; with any other
- * status it is unchanged; OPGP_NO_ROW is answered only for a row that isn't there or whose signature isn't hashed; and the
- * handle holds what it held. */
+ * Proved:
+ *
+ * - OPGP_DONE: the table begins with the octets that the standard says, and is otherwise as it was.
+ * - OPGP_NO_ROW is returned only if there is no such row, or its signature isn't hashed.
+ * - With any status but OPGP_DONE the table is unchanged.
+ * - The handle holds what it held. */
 OPGP_API uint32_t opgp_ring_octets(opgp_ring *ring, uint64_t row, uint8_t *octets, size_t room, uint64_t *size);
 
-/* Fills tables of the caller, rows[0 .. row_room) and bytes[0 .. byte_room), with what signatures of the table of jobs hash
- * (5.2.4), from the row `first` on: of at most `count` rows, as many as hash no more than `most` octets together. There is a row
- * for each signature among them that is hashed, in order, and those octets, one after the other. So what all signatures hash can
- * be had in a few walks. *sizes is how much they want.
+/* Fills the caller's tables, rows[0 .. row_room) and bytes[0 .. byte_room), with what signatures of the jobs hash (5.2.4), from
+ * the row `first` on. Of at most `count` rows it takes as many as hash no more than `most` octets together. There is a row for
+ * each signature among them that is hashed, in order, and those octets, one after the other. *sizes is the room that they need.
+ * So what all signatures hash takes a few walks.
  *
  * The statuses, and what is proved, are those of opgp_ring_packets. */
 OPGP_API uint32_t opgp_ring_hashed(opgp_ring *ring, uint64_t first, uint64_t count, uint64_t most, opgp_hashed *rows,
                                    size_t row_room, uint8_t *bytes, size_t byte_room, opgp_sizes *sizes);
 
-/* Puts the keyring's packets into text[0 .. room): bare if armor is 0, else as one block of armor; *size is how much that is.
+/* Writes the keyring's packets to text[0 .. room): bare if armor is 0, else as one block of armor. *size is how much that is.
  *
- * OPGP_DONE, OPGP_ROOM, OPGP_MEMORY, OPGP_CLOSED. With the last two *size says nothing.
+ * OPGP_DONE, OPGP_ROOM, OPGP_MEMORY, OPGP_CLOSED. With the last two *size means nothing.
  *
- * Proved: with OPGP_DONE the table begins with the packets, octet for octet as they were read, and is otherwise as it was;
- * with any other status it is unchanged; and the handle holds what it held. */
+ * Proved:
+ *
+ * - OPGP_DONE: the table begins with the packets, octet for octet as they were read, and is otherwise as it was.
+ * - With any other status the table is unchanged.
+ * - The handle holds what it held. */
 OPGP_API uint32_t opgp_ring_write(opgp_ring *ring, uint32_t armor, uint8_t *text, size_t room, uint64_t *size);
 
-/* Make another keyring, which *into holds; what that held before is let go. Give it to opgp_ring_close. ring, other and into are
- * different handles; where other is ring, OPGP_CLOSED is answered, and nothing is lost.
+/* Make another keyring, which *into holds. What *into held before is freed. Give it to opgp_ring_close. ring, other and into are
+ * different handles. If other is ring, OPGP_CLOSED is returned, and nothing is lost.
  *
  * - normalise: the packets, each in the current format and its shortest length (4.2.1);
  * - merge: certificates of the same primary key become one, and equal packets of a place appear once (10.1);
- * - certificate: the certificate of this number, from 0, alone;
+ * - certificate: only the certificate of this number, from 0;
  * - join: the packets of ring, and behind them those of other.
  *
  * OPGP_DONE, OPGP_MEMORY, OPGP_CLOSED; of a certificate also OPGP_NO_ROW. With any but OPGP_DONE *into is unchanged.
  *
- * Proved: with OPGP_DONE *into holds that keyring; OPGP_NO_ROW is answered only where there is no certificate of that number;
- * and the other handles hold what they held. */
+ * Proved:
+ *
+ * - OPGP_DONE: *into holds that keyring.
+ * - OPGP_NO_ROW is returned only if there is no certificate of that number.
+ * - The other handles hold what they held. */
 OPGP_API uint32_t opgp_ring_normalise(opgp_ring *ring, opgp_ring *into);
 OPGP_API uint32_t opgp_ring_merge(opgp_ring *ring, opgp_ring *into);
 OPGP_API uint32_t opgp_ring_certificate(opgp_ring *ring, uint64_t number, opgp_ring *into);
 OPGP_API uint32_t opgp_ring_join(opgp_ring *ring, opgp_ring *other, opgp_ring *into);
 
-/* Read a keyring whose octets, armored or binary, come in pieces of any size, and hand out its parts as they come: the packets
- * before the first certificate, if there are any, and each certificate. A reader keeps what is unfinished, within its limits,
- * and the parts that wait to be taken; so an input of any size is read in bounded memory, if the parts are taken after each piece.
+/* Read a keyring whose octets, armored or binary, come in pieces of any size, and give its parts as they are complete: each
+ * certificate, and the packets before the first one, if there are any. A reader keeps what is unfinished, within its limits, and the
+ * parts that weren't taken. So an input of any size is read in bounded memory, if the parts are taken after each piece.
  *
  *     opgp_reader reader = {0};
  *     opgp_ring part = {0};
@@ -467,28 +506,32 @@ OPGP_API uint32_t opgp_ring_join(opgp_ring *ring, opgp_ring *other, opgp_ring *i
  *     while (opgp_reader_take(&reader, &part) == OPGP_DONE) ..
  *     opgp_ring_close(part), opgp_reader_close(reader);
  *
- * In full, each status is looked at: only after OPGP_DONE of each push and of the end, and OPGP_NO_ROW of each last take, were all
- * parts handed out. Whether the input is a keyring is known at its end alone: a fault may follow the parts that were handed out,
- * and those that still waited are then gone.
+ * A program must look at each status. All parts were given only if each push and the end returned OPGP_DONE, and each last take
+ * OPGP_NO_ROW. Only the end says whether the input is a keyring. A fault may follow parts that were taken; those that weren't taken
+ * are gone then.
  *
- * - open: begins; what the handle held before is let go. OPGP_DONE, OPGP_LIMITS, OPGP_MEMORY; with any but OPGP_DONE the handle is
+ * - open: begins. What the handle held before is freed. OPGP_DONE, OPGP_LIMITS, OPGP_MEMORY. With any but OPGP_DONE the handle is
  *   unchanged.
- * - push: takes the next piece, piece[0 .. n), all of it. OPGP_DONE, OPGP_ENDED, OPGP_MEMORY, OPGP_CLOSED. Fewer than 2^63 octets
- *   are given in all.
- * - take: keeps the next part in *into, as a keyring of its own; what that held before is let go. OPGP_DONE; OPGP_NO_ROW where no
- *   part is complete that wasn't taken; OPGP_MEMORY, OPGP_CLOSED. With any but OPGP_DONE *into is unchanged.
- * - end: ends the input. OPGP_DONE: it is a keyring; OPGP_REFUSED with *fault: it isn't; OPGP_MEMORY, OPGP_CLOSED. Asked again it
- *   answers the same. With any but OPGP_REFUSED *fault is unchanged.
- * - close, clear: let go what the handle holds, as opgp_ring_close and opgp_ring_clear do.
+ * - push: takes the next piece, piece[0 .. n), all of it. Give fewer than 2^63 octets in all. OPGP_DONE, OPGP_ENDED, OPGP_MEMORY,
+ *   OPGP_CLOSED.
+ * - take: keeps the next part in *into, as a keyring of its own. What *into held before is freed. OPGP_DONE; OPGP_NO_ROW: no part is
+ *   complete that wasn't taken; OPGP_MEMORY, OPGP_CLOSED. With any but OPGP_DONE *into is unchanged.
+ * - end: ends the input. OPGP_DONE: it is a keyring; OPGP_REFUSED with *fault: it isn't; OPGP_MEMORY, OPGP_CLOSED. A second call
+ *   returns the same. With any but OPGP_REFUSED *fault is unchanged.
+ * - close, clear: free what the handle holds, as opgp_ring_close and opgp_ring_clear do.
  *
- * Out of memory a piece isn't taken, and the reading is lost: each later call but those that close answers OPGP_MEMORY.
+ * Out of memory a piece isn't taken, and the reading is lost. Each later call but those that close returns OPGP_MEMORY.
  *
- * Proved: however the octets are cut, with OPGP_DONE of end they encode one keyring, whose parts are those that were taken, in
- * order, and those that can still be taken; with OPGP_REFUSED they encode none, and *fault is the one fault of the lowest layer
- * that refuses them, as opgp_ring_open answers for them in one piece; OPGP_NO_ROW is answered if and only if no part waits in a
- * reading that isn't lost; OPGP_ENDED if and only if the input had ended, and changes nothing of what can still be taken;
- * OPGP_MEMORY only where the reading is lost, before or now; OPGP_CLOSED if and only if the handle holds nothing; and a handle
- * that is open stays open. */
+ * Proved, however the octets are cut:
+ *
+ * - OPGP_DONE of end: they encode one keyring. Its parts are those that were taken, in order, and those that can still be taken.
+ * - OPGP_REFUSED: they encode none. *fault is the one fault of the lowest layer that refuses them, as opgp_ring_open returns it for
+ *   them in one piece.
+ * - OPGP_NO_ROW is returned if and only if the reading isn't lost, and no part is complete that wasn't taken.
+ * - OPGP_ENDED is returned if and only if the input had ended. It changes nothing of what can still be taken.
+ * - OPGP_MEMORY is returned only if the reading is lost, before or now.
+ * - OPGP_CLOSED is returned if and only if the handle holds nothing.
+ * - A handle that is open stays open. */
 OPGP_API uint32_t opgp_reader_open(const opgp_limits *limits, opgp_reader *reader);
 OPGP_API uint32_t opgp_reader_push(opgp_reader *reader, const uint8_t *piece, size_t n);
 OPGP_API uint32_t opgp_reader_take(opgp_reader *reader, opgp_ring *into);
@@ -498,26 +541,25 @@ OPGP_API void opgp_reader_clear(opgp_reader *reader);
 
 /* ---- On top. Not proved. */
 
-/* A keyring with its tables, each of which is made when it is first asked for. */
+/* A keyring with its tables. The first call for a table makes it. */
 typedef struct opgp_keyring opgp_keyring;
 
-/* Octets that something else keeps. */
+/* Octets that belong to something else. */
 typedef struct opgp_span {
     const uint8_t *octets;
     size_t size;
 } opgp_span;
 
-/* Reads the keyring of in[0 .. n), as opgp_ring_open does. in may be NULL if n is 0, limits for the usual ones, and fault if it
- * isn't wanted. Give *keyring to opgp_close. opgp_open_mode reads by a mode, as opgp_ring_open_mode does.
+/* Parses the keyring in in[0 .. n), as opgp_ring_open does. `in` may be NULL if n is 0, limits for the usual ones, and fault if
+ * you don't want it. Give *keyring to opgp_close. opgp_open_mode reads by a mode, as opgp_ring_open_mode does.
  *
- * OPGP_DONE, OPGP_REFUSED with *fault, OPGP_LIMITS, OPGP_MEMORY. *keyring is NULL with any but OPGP_DONE, and *fault
- * unchanged with any but OPGP_REFUSED. */
+ * OPGP_DONE, OPGP_REFUSED with *fault, OPGP_LIMITS, OPGP_MEMORY. With any but OPGP_DONE *keyring is NULL. With any but
+ * OPGP_REFUSED *fault is unchanged. */
 OPGP_API uint32_t opgp_open(const uint8_t *in, size_t n, const opgp_limits *limits, opgp_keyring **keyring, opgp_fault *fault);
 OPGP_API uint32_t opgp_open_mode(const uint8_t *in, size_t n, uint32_t mode, const opgp_limits *limits, opgp_keyring **keyring,
                                  opgp_fault *fault);
 
-/* Which of these limits is out of its range: its number in opgp_limits, from 0, which is 5 for policies that stand for nothing;
- * 6 where none is. */
+/* Which of these limits is out of its range: its number in opgp_limits, from 0; 5 if there is no such policy; 6 if none is. */
 OPGP_API unsigned opgp_wrong_limit(const opgp_limits *limits);
 
 /* Begins to read a keyring in pieces, as opgp_reader_open does; limits may be NULL for the usual ones. */
@@ -525,16 +567,15 @@ OPGP_API uint32_t opgp_begin(const opgp_limits *limits, opgp_reader *reader);
 
 /* Takes the next part of a keyring that is read in pieces, as opgp_reader_take does. Give *keyring to opgp_close.
  *
- * OPGP_DONE, OPGP_NO_ROW, OPGP_MEMORY, OPGP_CLOSED. *keyring is NULL with any but OPGP_DONE. Go on while it is OPGP_DONE, and end
- * the reading where it is then any but OPGP_NO_ROW: parts may be left, or lost. */
+ * OPGP_DONE, OPGP_NO_ROW, OPGP_MEMORY, OPGP_CLOSED. With any but OPGP_DONE *keyring is NULL. Go on as long as it is OPGP_DONE.
+ * Then end the reading, unless it is OPGP_NO_ROW: parts may be left, or lost. */
 OPGP_API uint32_t opgp_take(opgp_reader *reader, opgp_keyring **keyring);
 
-/* Frees a keyring and all that points into it; NULL is allowed. No other call may use the keyring then. */
+/* Frees a keyring and all that points into it. NULL is allowed. No other call may use the keyring then, or at the same time. */
 OPGP_API void opgp_close(opgp_keyring *keyring);
 
-/* A table: rows[0 .. *count), in the order of the keyring, which live as long as it. The first call makes the table, which costs
- * the more the further down it stands: the jobs hash what each signature is over, so for a stranger's keyring see "Strangers'
- * keyrings" in docs/LIBRARY-C.md.
+/* A table: rows[0 .. *count), in the order of the keyring. The rows live as long as the keyring. The first call makes the table.
+ * That of the jobs hashes what each signature is over: for a stranger's keyring see "Strangers' keyrings" in docs/LIBRARY-C.md.
  *
  * OPGP_DONE; OPGP_MEMORY: *rows is NULL, and *count 0. */
 OPGP_API uint32_t opgp_packets(const opgp_keyring *keyring, const opgp_packet **rows, size_t *count);
@@ -542,11 +583,11 @@ OPGP_API uint32_t opgp_keys(const opgp_keyring *keyring, const opgp_key **rows, 
 OPGP_API uint32_t opgp_subpackets(const opgp_keyring *keyring, const opgp_subpacket **rows, size_t *count);
 OPGP_API uint32_t opgp_jobs(const opgp_keyring *keyring, const opgp_job **rows, size_t *count);
 
-/* How many certificates the keyring has; and the rows of the one of this number, from 0, in each table: of its keys the first is
+/* How many certificates the keyring has; and the rows of the one of this number, from 0, in each table. The first of its keys is
  * the primary key. They live as long as the keyring.
  *
- * OPGP_DONE, where *rows is NULL if there are none; OPGP_MEMORY; OPGP_NO_ROW: there is no such certificate. With any but OPGP_DONE
- * *rows is NULL, and *count 0. */
+ * OPGP_DONE, with NULL as *rows if there are none; OPGP_MEMORY; OPGP_NO_ROW: there is no such certificate. With any but
+ * OPGP_DONE *rows is NULL, and *count 0. */
 OPGP_API uint32_t opgp_certificate_count(const opgp_keyring *keyring, size_t *count);
 OPGP_API uint32_t opgp_packets_of(const opgp_keyring *keyring, uint64_t certificate, const opgp_packet **rows, size_t *count);
 OPGP_API uint32_t opgp_keys_of(const opgp_keyring *keyring, uint64_t certificate, const opgp_key **rows, size_t *count);
@@ -554,24 +595,34 @@ OPGP_API uint32_t opgp_jobs_of(const opgp_keyring *keyring, uint64_t certificate
 
 /* The subpackets of the signature in a row of the jobs, its hashed area first. They live as long as the keyring.
  *
- * OPGP_DONE, where *rows is NULL if there are none; OPGP_MEMORY; OPGP_NO_ROW: there is no such row. With any but OPGP_DONE *rows is
- * NULL, and *count 0. */
+ * OPGP_DONE, with NULL as *rows if there are none; OPGP_MEMORY; OPGP_NO_ROW: there is no such row. With any but OPGP_DONE *rows
+ * is NULL, and *count 0. */
 OPGP_API uint32_t opgp_subpackets_of(const opgp_keyring *keyring, size_t row, const opgp_subpacket **rows, size_t *count);
 
-/* From row to row: the packet of a signature, in which an embedded one is; what it is on, which is the packet of the primary key, a
- * user ID, an attribute or a subkey; and the row of the first key from `from` on whose fingerprint or key ID, of 20, 32 or 8
- * octets, name[0 .. size) is. Several keys may have one key ID: go on from the row behind.
+/* From row to row:
+ *
+ * - opgp_packet_of: the packet of a signature, or that which an embedded one is in;
+ * - opgp_subject_of: what a signature is on, as the packet of a primary key, a user ID, an attribute or a subkey;
+ * - opgp_find_key: the row of the first key, from `from` on, whose fingerprint or key ID is name[0 .. size), of 20, 32 or 8
+ *   octets. Several keys may have one key ID: go on from the next row.
  *
  * OPGP_DONE, OPGP_MEMORY; OPGP_NO_ROW: there is none. With any but OPGP_DONE *packet is NULL, and *row unchanged. */
 OPGP_API uint32_t opgp_packet_of(const opgp_keyring *keyring, const opgp_job *job, const opgp_packet **packet);
 OPGP_API uint32_t opgp_subject_of(const opgp_keyring *keyring, const opgp_job *job, const opgp_packet **packet);
 OPGP_API uint32_t opgp_find_key(const opgp_keyring *keyring, const uint8_t *name, size_t size, size_t from, size_t *row);
 
-/* What a row of this keyring points to: a packet's body; the field of a key's material (0 to 3), or of what a signature's
- * algorithm made (0, 1), empty if there is none of that number; a subpacket's data, and its field of octets (0, 1). It lives as
- * long as the keyring. Which of several subpackets of a kind counts: the last in the hashed area (5.2.3.9). opgp_issuer is the
- * fingerprint or the key ID of the key that a signature names as its issuer's, in this keyring or not: the first fingerprint in its
- * hashed area (5.2.3.35), else the first key ID, of that area before the other (5.2.3.12); of version 3 its field (5.2.2). */
+/* What a row of this keyring points to. It lives as long as the keyring.
+ *
+ * - opgp_body: a packet's body.
+ * - opgp_key_field: a field of a key's material (0 to 3).
+ * - opgp_job_field: a field of what a signature's algorithm made (0, 1).
+ * - opgp_data: a subpacket's data; opgp_subpacket_field: a field of it (0, 1). Of several subpackets of a kind the last in the
+ *   hashed area counts (5.2.3.9).
+ * - opgp_issuer: the fingerprint or key ID of the key that a signature names as its issuer, in this keyring or not. It is the
+ *   first fingerprint in the hashed area (5.2.3.35), else the first key ID, of that area before the other (5.2.3.12); in version
+ *   3 a field (5.2.2).
+ *
+ * A field is empty if there is none of that number. */
 OPGP_API opgp_span opgp_body(const opgp_keyring *keyring, const opgp_packet *packet);
 OPGP_API opgp_span opgp_key_field(const opgp_keyring *keyring, const opgp_key *key, unsigned number);
 OPGP_API opgp_span opgp_job_field(const opgp_keyring *keyring, const opgp_job *job, unsigned number);
@@ -579,27 +630,27 @@ OPGP_API opgp_span opgp_issuer(const opgp_keyring *keyring, const opgp_job *job)
 OPGP_API opgp_span opgp_data(const opgp_keyring *keyring, const opgp_subpacket *subpacket);
 OPGP_API opgp_span opgp_subpacket_field(const opgp_keyring *keyring, const opgp_subpacket *subpacket, unsigned number);
 
-/* What opgp_ring_octets and opgp_ring_write put, in memory that the caller frees by free(). Who has asked for the jobs, and then asks
- * for row after row, gets them in a time that is linear in all: the keyring keeps those of some rows that come next, a quarter of the
- * octets that it was read from at most, or 1 MiB.
+/* What opgp_ring_octets and opgp_ring_write write, in memory that the caller frees by free(). If you have made the jobs, and
+ * then ask for row after row, the time is linear in all. The keyring keeps the octets of some rows that come next, at most a
+ * quarter of its input, or 1 MiB.
  *
  * OPGP_DONE, OPGP_MEMORY; of a row also OPGP_NO_ROW. With any but OPGP_DONE the octets are NULL, and *size is 0. */
 OPGP_API uint32_t opgp_octets(const opgp_keyring *keyring, uint64_t row, uint8_t **octets, size_t *size);
 OPGP_API uint32_t opgp_write(const opgp_keyring *keyring, bool armor, uint8_t **text, size_t *size);
 
-/* What opgp_ring_normalise, opgp_ring_merge, opgp_ring_certificate and opgp_ring_join make. other may be keyring. Give *made to
- * opgp_close.
+/* The keyrings that opgp_ring_normalise, opgp_ring_merge, opgp_ring_certificate and opgp_ring_join make. other may be keyring.
+ * Give *made to opgp_close.
  *
- * OPGP_DONE, OPGP_MEMORY; of a certificate also OPGP_NO_ROW. *made is NULL with any but OPGP_DONE. */
+ * OPGP_DONE, OPGP_MEMORY; of a certificate also OPGP_NO_ROW. With any but OPGP_DONE *made is NULL. */
 OPGP_API uint32_t opgp_normalise(const opgp_keyring *keyring, opgp_keyring **made);
 OPGP_API uint32_t opgp_merge(const opgp_keyring *keyring, opgp_keyring **made);
 OPGP_API uint32_t opgp_certificate(const opgp_keyring *keyring, uint64_t number, opgp_keyring **made);
 OPGP_API uint32_t opgp_join(const opgp_keyring *keyring, const opgp_keyring *other, opgp_keyring **made);
 
-/* What is found of a signature. */
+/* What a verifier finds. */
 typedef enum opgp_verdict { OPGP_UNDECIDED = 0, OPGP_GOOD = 1, OPGP_BAD = 2 } opgp_verdict;
 
-/* What a verifier is asked: whether what this signature's algorithm made fits this digest and this key. */
+/* A verifier's question: does what this signature's algorithm made fit this digest and this key? */
 typedef struct opgp_question {
     size_t row;             /* the number of the job */
     const opgp_job *job;
@@ -608,34 +659,39 @@ typedef struct opgp_question {
     opgp_span key[4];       /* its material */
 } opgp_question;
 
-/* Answers OPGP_GOOD or OPGP_BAD; or, as any other number, OPGP_UNDECIDED, for each algorithm, curve, key or hash that it
- * doesn't know or trust. It has to compare the algorithms of the signature and the key itself. */
+/* Returns OPGP_GOOD or OPGP_BAD. Any other number is OPGP_UNDECIDED: for each algorithm, curve, key or hash that it doesn't know
+ * or trust. It has to compare the algorithms of the signature and the key itself. */
 typedef opgp_verdict opgp_verifier(void *context, const opgp_question *question);
 
-/* Is told of the signature in a row; a number other than 0 ends the call that tells it. */
+/* Gets the verdict on the signature in a row. A number other than 0 ends opgp_check. */
 typedef int opgp_reporter(void *context, size_t row, const opgp_job *job, opgp_verdict verdict);
 
-/* Tells the reporter of each signature, in order: OPGP_BAD where its digest doesn't begin with the 16 bits that it states;
- * else, where it is hashed and its issuer's key is in the keyring and has its version, what the verifier answers, who is asked
- * once; else OPGP_UNDECIDED. verify NULL: none is asked. Both get the context, may ask the keyring, and may not close it.
+/* Calls the reporter for each signature, in order, with a verdict:
  *
- * OPGP_DONE; OPGP_ENDED: the reporter ended it; OPGP_MEMORY: nothing was told. OPGP_GOOD is arithmetic and no more: expiries,
- * revocations, key flags and critical subpackets aren't looked at, so whether a signature may be relied on is for the caller. */
+ * - OPGP_BAD if its digest doesn't begin with the 16 bits that it states;
+ * - what the verifier returns, which is called once, if it is hashed, and its issuer's key is in the keyring and has its
+ *   version;
+ * - OPGP_UNDECIDED for all others; with NULL as verify, for all that aren't bad.
+ *
+ * Both get the context. They may make calls on the keyring, but not close it.
+ *
+ * OPGP_DONE; OPGP_ENDED: the reporter ended it; OPGP_MEMORY: the reporter wasn't called. OPGP_GOOD is arithmetic and no more.
+ * Expiries, revocations, key flags and critical subpackets aren't looked at: whether to rely on a signature is up to you. */
 OPGP_API uint32_t opgp_check(const opgp_keyring *keyring, opgp_verifier *verify, opgp_reporter *report, void *context);
 
-/* What a status means, in a few words; "unknown" for any other number. It lives for ever. */
+/* What a status means, in a few words, or "unknown". The text is static. */
 OPGP_API const char *opgp_status_text(uint32_t status);
 
-/* As much room as each name needs, with its NUL. */
+/* The room that each name needs, with its NUL. */
 #define OPGP_NAME_ROOM 64
 
-/* Writes the name that opgp_name puts, with a NUL, or "unknown" where there is none, and answers text. */
+/* Writes the name that opgp_name writes, with a NUL, or "unknown" if there is none, and returns text. */
 OPGP_API char *opgp_name_text(uint32_t table, uint8_t number, char text[OPGP_NAME_ROOM]);
 
-/* As much room as each fault's line needs, with its NUL. */
+/* The room that each fault's line needs, with its NUL. */
 #define OPGP_FAULT_ROOM 128
 
-/* Writes the line that opgp_fault_line puts, with a NUL, or "unknown" where there is no such fault, and answers text. */
+/* Writes the line that opgp_fault_line writes, with a NUL, or "unknown" if there is no such fault, and returns text. */
 OPGP_API char *opgp_fault_text(const opgp_fault *fault, char text[OPGP_FAULT_ROOM]);
 
 #ifdef __cplusplus

@@ -1,5 +1,5 @@
-/* opgp for C++17: keyrings and readers that close themselves, and exceptions in place of statuses. Each call is that of opgp.h,
- * which documents it; what isn't wrapped here is called by `get()`. */
+/* opgp for C++17: keyrings and readers that close themselves, and exceptions in place of statuses. opgp.h documents each call. For
+ * calls that aren't wrapped here, `get()` returns the keyring. */
 #ifndef OPGP_HPP
 #define OPGP_HPP
 
@@ -31,7 +31,7 @@ private:
     }
 };
 
-/* Throws what a status stands for: std::bad_alloc out of memory, std::out_of_range where there is no such row or certificate,
+/* Throws an exception for a status: std::bad_alloc out of memory, std::out_of_range if there is no such row or certificate,
  * std::invalid_argument for a limit or a mode, std::logic_error for a handle that is closed or has ended. */
 inline void check(uint32_t status)
 {
@@ -44,7 +44,7 @@ inline void check(uint32_t status)
     }
 }
 
-/* The rows of a table, for a loop over a range; they live as long as their keyring. */
+/* The rows of a table, for a range-based loop. They live as long as their keyring. */
 template <class Row> class Rows {
 public:
     Rows(const Row *rows, std::size_t count) : first(rows), rows(count) {}
@@ -63,7 +63,7 @@ public:
     /* Takes over a keyring of opgp.h. */
     explicit Keyring(opgp_keyring *given) : at(given, &opgp_close) {}
 
-    /* Reads the keyring of these octets. Throws Fault where they are refused. */
+    /* Parses the keyring in these octets. Throws Fault if they are refused. */
     static Keyring read(std::string_view octets, const opgp_limits *limits = nullptr, uint32_t mode = OPGP_MODE_AUTO)
     {
         opgp_keyring *found = nullptr;
@@ -132,7 +132,7 @@ private:
         return Keyring(found);
     }
 
-    /* The octets as a string; they are freed, also where there is no memory for it. */
+    /* The octets as a string. They are freed, even if there is no memory for it. */
     static std::string text(uint8_t *found, std::size_t size)
     {
         std::unique_ptr<uint8_t, decltype(&std::free)> owned(found, &std::free);
@@ -164,7 +164,7 @@ public:
         check(opgp_reader_push(&handle, reinterpret_cast<const uint8_t *>(piece.data()), piece.size()));
     }
 
-    /* The next part, or none where none is complete that wasn't taken. */
+    /* The next part, or none if no part is complete that wasn't taken. */
     std::optional<Keyring> take()
     {
         opgp_keyring *part = nullptr;
@@ -176,7 +176,7 @@ public:
         return Keyring(part);
     }
 
-    /* Ends the input. Throws Fault where it is no keyring. */
+    /* Ends the input. Throws Fault if it is no keyring. */
     void end()
     {
         opgp_fault fault = {};

@@ -1,7 +1,7 @@
 # Completion of opgp for bash.
 _opgp() {
     local word=${COMP_WORDS[COMP_CWORD]} before=${COMP_WORDS[COMP_CWORD - 1]} words
-    local limits="--mode --outside --malformed --line --body --cert --input --pieces --progress --spool --help"
+    local limits="--mode --outside --malformed --line --body --cert --input --pieces --progress --quiet --spool --help"
     # Bash takes --out=binary for three words.
     if [ "$word" = = ]; then
         word=

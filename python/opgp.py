@@ -1,4 +1,4 @@
-"""OpenPGP certificates and keyrings (RFC 9580), read by libopgp, whose reader is proved.
+"""OpenPGP certificates and keyrings (RFC 9580), parsed by libopgp, whose reader is proved.
 
     import opgp
 
@@ -6,13 +6,18 @@
         for key in keyring.keys():
             print(key.fingerprint.hex().upper())
 
-An input is armored or binary. It is read as the one keyring that its octets spell, or `Fault` says where and why it is refused.
-This module reads no octet of it itself. It needs the shared library (`make install-library`), which it looks for at the path that
-the environment's OPGP_LIBRARY names, or else as libopgp.so.3 where the system looks for libraries.
+An input is armored or binary. It is parsed as the one keyring that its octets encode, or `Fault` says where and why it is
+refused. This module reads no octet of it itself. It needs the shared library (`make install-library`). It looks for that at the
+path in the environment's OPGP_LIBRARY, else as libopgp.so.3 where the system looks for libraries.
 
-Sizes and places are in octets, and count from 0. Sections are those of RFC 9580. `Fault` is a ValueError, want of memory a
-MemoryError, a limit out of its range a ValueError, a row that isn't there an IndexError, and what is of a wrong type a TypeError.
-Rows are values of their own, which live longer than their keyring. Any number of threads may use a keyring or a reader at once.
+Sizes and places are in octets, and count from 0. Sections are those of RFC 9580. Rows outlive their keyring. Any number of
+threads may use a keyring or a reader at once. Exceptions are
+
+- Fault, a ValueError: the input is refused;
+- ValueError: a limit is out of its range, or what is used is closed;
+- IndexError: there is no such row or certificate;
+- TypeError: a value has a wrong type;
+- MemoryError: memory ran out.
 """
 
 from __future__ import annotations
@@ -38,7 +43,7 @@ _DONE, _REFUSED, _ROOM, _MEMORY, _LIMITS, _CLOSED, _NO_ROW, _ENDED = range(8)
 _PACKET_TYPES, _KEY_ALGORITHMS, _HASH_ALGORITHMS, _SIGNATURE_TYPES, _SUBPACKET_KINDS, _LAYERS, _REASONS, _WHYS = range(8)
 
 Octets = Union[bytes, bytearray, memoryview, mmap.mmap]
-"""Octets in memory: these, and all else that memoryview takes."""
+"""Octets in memory: these types, and all others that memoryview takes."""
 
 
 # ---- The library's structs, field by field as opgp.h has them
@@ -190,8 +195,8 @@ _free.restype, _free.argtypes = None, [ctypes.c_void_p]
 
 
 class _Handle:
-    """A keyring of the library. It is freed when nothing refers to it any more: no Keyring, no Certificate, and no call that is
-    under way in any thread."""
+    """A keyring of the library. It is freed when nothing refers to it any more: no Keyring, no Certificate, and no call in any
+    thread."""
 
     def __init__(self) -> None:
         self._as_parameter_ = ctypes.c_void_p()
@@ -217,7 +222,7 @@ def _octets(span: Any) -> bytes:
 
 
 def _fields(spans: Any) -> tuple[bytes, ...]:
-    """What these spans speak of, without the empty ones at the end."""
+    """The octets of these spans, without the empty ones at the end."""
     fields = [_octets(it) for it in spans]
     while fields and not fields[-1]:
         fields.pop()
@@ -228,8 +233,8 @@ def _fields(spans: Any) -> tuple[bytes, ...]:
 
 
 class Limits(NamedTuple):
-    """The most of everything, and policies. `Limits()` are the library's usual ones; a number out of its range is a ValueError of
-    `read`, and of `Reader`."""
+    """Limits and policies. `Limits()` are the library's usual ones. `read` and `Reader` raise ValueError for one out of its
+    range."""
 
     line: int = 2**13
     """Octets of an armored line, without its line feed: 128 to 2**20."""
@@ -242,9 +247,9 @@ class Limits(NamedTuple):
     pieces: int = 2**20
     """Partial lengths of one packet (4.2.1.4): 1 to 2**24."""
     refuse_outside: bool = False
-    """Whether lines outside of armored blocks are refused unless they are blank; else they are passed over."""
+    """Refuse lines outside of armored blocks unless they are blank; else such lines are skipped."""
     keep_malformed: bool = False
-    """Whether malformed signatures are kept, octet for octet (5.2.5); else they refuse the input."""
+    """Keep malformed signatures, octet for octet (5.2.5); else they refuse the input."""
 
 
 class Fault(ValueError):
@@ -283,7 +288,7 @@ class Packet:
     component: Optional[int]
     """The number of the component that it begins or is on; None for the primary key."""
     hang: Optional[int]
-    """Its number among the packets that follow that; None for what begins it."""
+    """Its number among the signatures and fillers behind that; None: it is a key, a user ID or an attribute."""
     kind: int
     """Its type (5): 2 signature, 6 public key, 13 user ID, 14 public subkey, 17 user attribute."""
     body: bytes
@@ -314,9 +319,12 @@ class Key:
     key_id: bytes
     """5.5.4: 8 octets."""
     material: tuple[bytes, ...]
-    """Its fields (5.5.5), integers big-endian without the count of their bits: RSA n, e; Elgamal p, g, y; DSA p, q, g, y; ECDH
-    curve, point, parameters; ECDSA and EdDSALegacy curve, point; of any other one field. A curve is an object identifier (9.2)
-    without its length. Empty fields at the end are left out."""
+    """Its fields (5.5.5), without empty ones at the end. Integers are big-endian, without the count of their bits. A curve is an
+    object identifier (9.2) without its length.
+
+    - RSA: n, e; Elgamal: p, g, y; DSA: p, q, g, y;
+    - ECDH: curve, point, parameters; ECDSA and EdDSALegacy: curve, point;
+    - any other: one field."""
 
     @property
     def is_primary(self) -> bool:
@@ -348,20 +356,32 @@ class Subpacket:
     """Its type without the critical bit, 0 to 127."""
     is_critical: bool
     is_hashed: bool
-    """It is in the hashed area; the other one isn't signed."""
+    """It is in the hashed area; the other area isn't signed."""
     meaning: str
     """typed: its data has the form of its kind; unfit: it hasn't; unknown: its kind is unknown."""
     data: bytes
-    """What is behind its type octet."""
+    """Its data, behind the type octet."""
     form: int
-    """The form of its data, one of opgp.h's, which say what its numbers and fields are: 1 a number, such as a time; 2 an octet; 3
-    depth and amount; 4 a regular expression; 5 octets, such as algorithms, flags or a text; 6 a revocation key; 7 a key ID; 8 a
-    notation; 9 a code and a text; 10 a target; 11 a signature; 12 a version and a fingerprint; 13 pairs of algorithms; 0: it
-    isn't typed."""
+    """The form of its data. opgp.h says what the numbers and fields of each form are:
+
+    - 0: the data isn't typed;
+    - 1: a number, such as a time;
+    - 2: an octet;
+    - 3: depth and amount;
+    - 4: a regular expression;
+    - 5: octets, such as algorithms, flags or a text;
+    - 6: a revocation key;
+    - 7: a key ID;
+    - 8: a notation;
+    - 9: a code and a text;
+    - 10: a target;
+    - 11: a signature;
+    - 12: a version and a fingerprint;
+    - 13: pairs of algorithms."""
     numbers: tuple[int, int]
-    """The numbers that its data says; 0 for one that the form doesn't have."""
+    """The numbers in its data; 0 for one that the form doesn't have."""
     fields: tuple[bytes, bytes]
-    """The octets that its data says, such as a notation's name and value; empty for one that the form doesn't have."""
+    """The fields of its data, such as a notation's name and value; empty for one that the form doesn't have."""
 
     @property
     def name(self) -> Optional[str]:
@@ -379,7 +399,7 @@ class Signature:
     component: Optional[int]
     """The component that it is on; None for the primary key."""
     hang: int
-    """Its number among the packets that follow that, fillers included."""
+    """Its number among the signatures and fillers behind that."""
     nested: Optional[int]
     """Its number among the signatures embedded in that packet; None: the packet's own."""
     signer: Optional[int]
@@ -401,16 +421,16 @@ class Signature:
     digest: bytes
     """The digest of what it hashes (5.2.4); empty: it isn't hashed."""
     made: tuple[bytes, ...]
-    """What its algorithm made (5.2.3): of RSA one integer; of DSA, ECDSA and EdDSALegacy r, s; of any other one field. Empty
-    fields at the end are left out."""
+    """What its algorithm made (5.2.3), without empty fields at the end: of RSA one integer; of DSA, ECDSA and EdDSALegacy r, s;
+    of any other one field."""
     created: Optional[int]
-    """When it says it was made, in seconds since 1970: in version 3 in a field (5.2.2), else by the one time in its hashed area
-    (5.2.3.11); None: that has none, or several."""
+    """When it was made, as it states, in seconds since 1970. In version 3 that is a field (5.2.2), else the one time in its
+    hashed area (5.2.3.11). None: that has none, or several."""
     issuer: bytes
-    """The fingerprint or the key ID of the key that it names as its issuer's, in this keyring or not (5.2.2, 5.2.3.12, 5.2.3.35);
-    empty: it names none."""
+    """The fingerprint or key ID that it names as its issuer's (5.2.2, 5.2.3.12, 5.2.3.35), in this keyring or not; empty: it
+    names none."""
     subpackets: tuple[Subpacket, ...]
-    """Those of its hashed area first."""
+    """Its subpackets, those of the hashed area first."""
 
     def last(self, kind: int) -> Optional[Subpacket]:
         """The last hashed subpacket of this kind whose data has its form: the one that counts (5.2.3.9); None: there is none."""
@@ -454,7 +474,7 @@ class Signature:
 
 
 class Verdict(enum.Enum):
-    """What is found of a signature."""
+    """What a verifier finds."""
 
     UNDECIDED = 0
     GOOD = 1
@@ -462,7 +482,7 @@ class Verdict(enum.Enum):
 
 
 class Question(NamedTuple):
-    """What a verifier is asked: whether what the signature's algorithm made fits its digest and this key."""
+    """A verifier's question: does what the signature's algorithm made fit its digest and this key?"""
 
     signature: Signature
     signer: Key
@@ -476,7 +496,7 @@ Verifier = Callable[[Question], Verdict]
 
 
 def _table(call: Any, kind: Any, *where: Any) -> tuple[Any, int]:
-    """The rows that this call gives, and how many they are."""
+    """The rows that this call gives, and their number."""
     rows, count = ctypes.POINTER(kind)(), ctypes.c_size_t()
     _raise_but_for_done(call(*where, ctypes.byref(rows), ctypes.byref(count)))
     return rows, count.value
@@ -572,9 +592,9 @@ def _subpacket(handle: _Handle, it: Any) -> Subpacket:
 
 
 class Certificate:
-    """A certificate of a keyring: its packets, keys and signatures, each of which are made when they are first asked for. Asked
-    for signatures, it has the library make the digests of all signatures of the keyring. It keeps what the keyring holds, also
-    where that is closed. Two are equal if their packets are."""
+    """A certificate of a keyring, with its packets, keys and signatures. The first access makes each of these. That of signatures
+    makes the digests of all signatures of the keyring. A certificate keeps what its keyring holds, even if that is closed. Two
+    are equal if their packets are."""
 
     def __init__(self, handle: _Handle, number: int) -> None:
         self._handle = handle
@@ -603,7 +623,7 @@ class Certificate:
 
     @property
     def user_ids(self) -> tuple[str, ...]:
-        """The user IDs (5.11), in UTF-8; an octet that isn't is a lone surrogate, as os.fsdecode makes it."""
+        """The user IDs (5.11), as UTF-8. An octet that isn't UTF-8 is a lone surrogate, as os.fsdecode makes it."""
         return tuple(it.body.decode("utf-8", "surrogateescape") for it in self.packets if it.kind == 13)
 
     def __eq__(self, other: object) -> bool:
@@ -618,7 +638,7 @@ class Certificate:
         return f"<Certificate {self.number} {self.primary.fingerprint.hex().upper()}>"
 
     def __getstate__(self) -> dict[str, Any]:
-        """All its rows, without what the keyring holds: what is copied and pickled."""
+        """All its rows, without what the keyring holds, to copy and pickle."""
         return {name: getattr(self, name) for name in ("number", "packets", "keys", "signatures")}
 
 
@@ -626,7 +646,7 @@ _It = TypeVar("_It", bound="_Held")
 
 
 class _Held:
-    """What stands for memory of the library: the end of a `with` closes it, and it has no copies."""
+    """What has memory of the library. The end of a `with` closes it, and it can't be copied."""
 
     def close(self) -> None:
         """Frees it."""
@@ -664,12 +684,12 @@ class Keyring(_Held):
         return made
 
     def close(self) -> None:
-        """Ends the keyring, which can't be asked again. It is freed when the calls and the checks that are under way have ended,
-        and no Certificate of it is left."""
+        """Closes the keyring: later calls raise ValueError. It is freed when the calls and checks under way have ended, and no
+        Certificate of it is left."""
         self._handle = None
 
     def _open(self) -> _Handle:
-        """What the library holds, which stays as long as the caller keeps it."""
+        """What the library holds, as long as the caller keeps it."""
         if (handle := self._handle) is None:
             raise ValueError("the keyring is closed")
         return handle
@@ -683,24 +703,24 @@ class Keyring(_Held):
         return _keys(self._open())
 
     def signatures(self) -> list[Signature]:
-        """All signatures, in the order of `opgp check`, those embedded in bindings included. Their digests are made when they are
-        first asked for: docs/LIBRARY-PYTHON.md says what that costs of a stranger's keyring."""
+        """All signatures, in the order of `opgp check`, those embedded in bindings included. The first call makes their digests.
+        docs/LIBRARY-PYTHON.md says what that costs for a stranger's keyring."""
         return _signatures(self._open())
 
     def certificates(self) -> list[Certificate]:
-        """The certificates, in order. Nothing is made of them before it is asked for."""
+        """The certificates, in order. Their rows are made when you first ask for them."""
         handle, count = self._open(), ctypes.c_size_t()
         _raise_but_for_done(_library.opgp_certificate_count(handle, ctypes.byref(count)))
         return [Certificate(handle, number) for number in range(count.value)]
 
     def find(self, name: Union[str, Octets]) -> list[Key]:
-        """The keys of this fingerprint or key ID, as octets or in hexadecimal digits, with spaces and `0x` or without. A text of
-        others is a ValueError."""
+        """The keys with this fingerprint or key ID. It is octets, or a text of hexadecimal digits, perhaps with spaces and `0x`.
+        Any other text raises ValueError."""
         wanted = bytes.fromhex(name.removeprefix("0x")) if isinstance(name, str) else _bytes(name)
         return [it for it in self.keys() if wanted in (it.fingerprint, it.key_id)]
 
     def octets(self, row: int) -> bytes:
-        """What the signature of this row hashes (5.2.4). There is no such row, or it isn't hashed: IndexError."""
+        """What the signature in this row hashes (5.2.4). Raises IndexError if there is no such row, or it isn't hashed."""
         handle, at = self._open(), _row(row)
         return self._given(lambda octets, size: _library.opgp_octets(handle, at, octets, size))
 
@@ -720,12 +740,12 @@ class Keyring(_Held):
         return self._made(lambda made: _library.opgp_merge(handle, made))
 
     def certificate(self, number: int) -> Keyring:
-        """The certificate of this number, from 0, as a keyring. There is none: IndexError."""
+        """The certificate of this number, from 0, as a keyring. Raises IndexError if there is none."""
         handle, at = self._open(), _row(number)
         return self._made(lambda made: _library.opgp_certificate(handle, at, made))
 
     def joined(self, other: Keyring) -> Keyring:
-        """A keyring of the packets of this one, and behind them those of another one, or of itself."""
+        """A keyring of the packets of this one, and behind them those of another one, or of this one."""
         if not isinstance(other, Keyring):
             raise TypeError(f"a Keyring is wanted, and not a {type(other).__name__}")
         handle, behind = self._open(), other._open()
@@ -733,7 +753,7 @@ class Keyring(_Held):
 
     @staticmethod
     def _given(call: Callable[[Any, Any], Any]) -> bytes:
-        """The octets that this call makes, which are freed."""
+        """The octets that this call makes, and frees here."""
         octets, size = ctypes.POINTER(ctypes.c_uint8)(), ctypes.c_size_t()
         _raise_but_for_done(call(ctypes.byref(octets), ctypes.byref(size)))
         try:
@@ -742,12 +762,15 @@ class Keyring(_Held):
             _free(octets)
 
     def check(self, verify: Optional[Verifier] = None) -> list[tuple[Signature, Verdict]]:
-        """Each signature, in order, with what is found: BAD where its digest doesn't begin with the 16 bits that it states; else,
-        where it is hashed and its issuer's key is in the keyring and has its version, what `verify` answers, which is asked once;
-        else UNDECIDED, as all others are where no `verify` is given. What `verify` raises ends the check, and is raised here.
+        """Each signature, in order, with its verdict:
 
-        GOOD is arithmetic and no more: expiries, revocations, key flags and critical subpackets aren't looked at, so whether a
-        signature may be relied on is for the caller.
+        - BAD if its digest doesn't begin with the 16 bits that it states;
+        - what `verify` returns, which is called once, if it is hashed, and its issuer's key is in the keyring and has its
+          version;
+        - UNDECIDED for all others; without a `verify`, for all that aren't bad.
+
+        What `verify` raises ends the check, and is raised here. GOOD is arithmetic and no more. Expiries, revocations, key flags
+        and critical subpackets aren't looked at: whether to rely on a signature is up to you.
         """
         handle = self._open()
         signatures, keys = _signatures(handle), _keys(handle)
@@ -779,12 +802,12 @@ class Keyring(_Held):
 
 
 class Reader(_Held):
-    """Reads a keyring whose octets, armored or binary, come in pieces of any size, and gives its parts as they come: the packets
-    before the first certificate, if there are any, and each certificate, as keyrings of their own.
+    """Reads a keyring whose octets, armored or binary, come in pieces of any size. It gives the parts as they are complete, as
+    keyrings of their own: each certificate, and the packets before the first one, if there are any.
 
-    It keeps what is unfinished, and the parts that weren't taken, so an input of any size is read in bounded memory. Whether the
-    input is a keyring is known at its end alone: `end` may raise a fault after parts were given. It is closed by `close`, at the
-    end of its `with`, or when nothing refers to it. Calls of several threads wait for one another.
+    It keeps what is unfinished, and the parts that weren't taken, so an input of any size is read in bounded memory. Only the end
+    says whether the input is a keyring: `end` may raise a fault after parts were given. A reader is closed by `close`, at the end
+    of its `with`, or when nothing refers to it. Calls of several threads wait for one another.
     """
 
     _lock: Any
@@ -804,14 +827,14 @@ class Reader(_Held):
         clear(self._reader)
 
     def push(self, piece: Octets) -> None:
-        """Takes the next piece of the input. The input has ended, or the reader is closed: ValueError. MemoryError: the piece
-        isn't taken, and the reading is lost, which each later call says again."""
+        """Takes the next piece of the input. Raises ValueError if the input has ended, or the reader is closed. After a
+        MemoryError the reading is lost, and each later call raises it again."""
         octets = _bytes(piece)
         with self._lock:
             _raise_but_for_done(_library.opgp_reader_push(self._reader, octets, len(octets)))
 
     def take(self) -> Optional[Keyring]:
-        """The next part as a keyring, or None where no part is complete that wasn't taken."""
+        """The next part as a keyring, or None if no part is complete that wasn't taken."""
         try:
             with self._lock:
                 return Keyring._made(lambda made: _library.opgp_take(self._reader, made))
@@ -824,7 +847,7 @@ class Reader(_Held):
             yield part
 
     def end(self) -> None:
-        """Ends the input. It isn't a keyring: Fault, and parts that weren't taken are gone. Else they can be taken then."""
+        """Ends the input. Raises Fault if it isn't a keyring: parts that weren't taken are gone then. Else they can be taken."""
         fault = _Fault()
         with self._lock:
             _raise_if_refused(_library.opgp_reader_end(self._reader, fault), fault)
@@ -836,12 +859,12 @@ class Reader(_Held):
 
 
 def _bytes(octets: Octets) -> bytes:
-    """These octets. What isn't octets in memory, such as a number, a text, a list or a path, is a TypeError."""
+    """These octets. Raises TypeError for what isn't octets in memory, such as a number, a text, a list or a path."""
     return octets if isinstance(octets, bytes) else bytes(memoryview(octets))
 
 
 def _row(number: int) -> int:
-    """The number of a row. None can have it: IndexError."""
+    """The number of a row. Raises IndexError if no row can have it."""
     if not 0 <= (row := operator.index(number)) < _NONE:
         raise IndexError(number)
     return row
@@ -884,21 +907,21 @@ def _raise_if_refused(status: int, fault: Any) -> None:
 
 
 def read(octets: Octets, limits: Optional[Limits] = None, mode: str = "auto") -> Keyring:
-    """Reads the keyring of these octets with these limits, or the usual ones, by a mode: auto (the first octet says whether they
-    are armored or binary), armor or binary.
+    """Parses the keyring in these octets, within these limits or the usual ones. The mode is armor, binary, or auto: the first
+    octet says which.
 
-    Raises Fault where they are refused; TypeError where they aren't octets, but a number, a text or a path; ValueError where a
-    limit is out of its range, or there is no such mode; MemoryError.
+    Raises Fault if the octets are refused, TypeError if they are a number, a text, a path and the like, ValueError if a limit is
+    out of its range or there is no such mode, and MemoryError.
     """
     return Keyring(octets, limits, mode)
 
 
 def parts(source: BinaryIO, limits: Optional[Limits] = None, size: int = 1 << 16) -> Iterator[Keyring]:
-    """The parts of the keyring that this file holds, read in pieces of at most this size, each as soon as it is complete: see
-    `Reader`.
+    """The parts of the keyring in this file, each as soon as it is complete: see `Reader`. It is read in pieces of at most this
+    size.
 
-    Raises Fault behind the last part where the input is refused: the parts before it are then those of no keyring. A size below 1
-    is a ValueError. A source that doesn't block, and has nothing to read yet, is a BlockingIOError, which ends the reading.
+    Raises Fault behind the last part if the input is refused: the parts before it are then those of no keyring. Raises ValueError
+    for a size below 1, and BlockingIOError for a source that doesn't block and has nothing to read yet, which ends the reading.
     """
     if size < 1:
         raise ValueError(f"the size of pieces is {size}")
@@ -915,7 +938,7 @@ def _parts(reader: Reader, source: BinaryIO, size: int) -> Iterator[Keyring]:
 
 
 def _piece(read_octets: Optional[Octets]) -> bytes:
-    """What a source gave; none are the end of it."""
+    """The octets that a source gave. None at all are its end."""
     if read_octets is None:
         raise BlockingIOError("the source has nothing to read yet")
     return _bytes(read_octets)

@@ -521,7 +521,7 @@ def said(kind, octets):
     return VALUES.get(kind, digits)(octets) if meaning(kind, octets) == "typed" else digits(octets)
 
 
-# A subpacket's numbers and its fields of octets, by its form, as docs/LIBRARY-C.md has them.
+# A subpacket's numbers and its fields of octets, by its form, as c/opgp.h has them.
 PLAIN = {
     "number": lambda it: ([number(it)], []),
     "octet": lambda it: ([*it], []),
@@ -549,8 +549,8 @@ def names():
     docs = f"{os.path.dirname(os.path.dirname(os.path.realpath(__file__)))}/docs"
     with open(f"{docs}/NUMBERS.md", encoding="utf-8") as it:
         tables = [re.findall(r"^\| (\d+) \| ([^|]+?) \|", part, re.M) for part in it.read().split("\n## ")[1:]]
-    with open(f"{docs}/FORMAT.md", encoding="utf-8") as it:
-        reasons = re.findall(r"^\| (\d+) \| `(\w+)` \|", it.read(), re.M)
+    with open(f"{docs}/FAULTS.md", encoding="utf-8") as it:
+        reasons = sorted(re.findall(r"^### (\d+) `(\w+)`$", it.read(), re.M), key=lambda it: int(it[0]))
     tables += [[*enumerate(("input", "armor", "framing", "body", "composition"))], reasons]
     tables += [[*enumerate(("opaque", "kind", "misplaced", "version", "hash"), 1)]]
     return [(table, int(number), name) for table, rows in enumerate(tables) for number, name in rows]

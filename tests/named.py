@@ -1,10 +1,13 @@
+#!/usr/bin/env python3
 """The names that README, PROOFS, ARCHITECTURE and AUDIT give, held against the sources: functions, types, clauses, laws, definitions,
 files. Each file and heading that any page links must be there, and each call of the library for C that one names; each call with a
 condition in the table of LIBRARY; and each library that is to be used must be named in crates.txt and called.
 
-Each complaint names the page, the name, and where it was looked for. In a list of names, as PROOFS and README have them, names in
-front of a colon are functions, types or modules, and those behind it their clauses, the laws of a module, or definitions that their
-contracts cite; `over` is followed by definitions. What has no colon is a function, a type, or a clause of what is named beside it.
+Each complaint names the page, the name, and where it was looked for. In a list of names, as PROOFS has them, names in front of a
+colon are functions, types or modules, and those behind it their clauses, the laws of a module, or definitions that their contracts
+cite; `over` is followed by definitions. What has no colon is a function, a type, or a clause of what is named beside it.
+
+`tests/named.py` prints what is wrong; `tests/named.py --clauses CRATE` the public functions of a crate with their clauses.
 """
 
 import collections
@@ -12,9 +15,11 @@ import functools
 import glob
 import os
 import re
+import sys
 
 HERE = os.path.dirname(os.path.dirname(os.path.realpath(__file__)))
 FN = re.compile(r"^( *)(?:pub(?:\([a-z ]+\))? )?(?:const |final |unsafe |extern \"C\" )*fn (\w+)")
+PUBLIC = re.compile(r"^ *pub (?:const |final |unsafe |extern \"C\" )*fn ")
 TYPE = re.compile(r"^ *(?:pub(?:\([a-z ]+\))? )?(struct|enum|trait|type|const) (\w+)")
 BLOCK = re.compile(r"^(?:pub(?:\([a-z ]+\))? )?(?:unsafe )?(impl|trait|struct|enum)\b")
 CLAUSE = re.compile(r"^ *(?:ensures|requires) (\w+) \{")
@@ -60,10 +65,10 @@ def contract(lines, at, indent):
 
 def functions_of(path):
     """The functions of a file, and what its types, traits and `impl`s state of themselves."""
-    module, lines, found, owners, shown = os.path.basename(path)[:-3], read(path).split("\n"), [], frozenset(), "pub fn"
+    module, lines, found, owners, shown = os.path.basename(path)[:-3], read(path).split("\n"), [], frozenset(), PUBLIC
     for at, line in enumerate(lines):
         if BLOCK.match(line):
-            owners, shown = owners_of(line), ("pub fn", "fn") if line.startswith("pub trait") else "pub fn"
+            owners, shown = owners_of(line), FN if line.startswith("pub trait") else PUBLIC
         elif line == "}":
             owners = frozenset()
         if it := GHOST.match(line):
@@ -71,7 +76,7 @@ def functions_of(path):
         if it := FN.match(line):
             text = contract(lines, at, it[1])
             clauses = {name[1] for row in text if (name := CLAUSE.match(row))}
-            found.append(Fn(owners, it[2], module, clauses, "\n".join(text), line.lstrip().startswith(shown)))
+            found.append(Fn(owners, it[2], module, clauses, "\n".join(text), bool(shown.match(line))))
     return found
 
 
@@ -166,8 +171,13 @@ class Claims:
         return subjects
 
 
+@functools.cache
+def definitions():
+    return {it.name for crate in crates().values() for it in crate.definitions}
+
+
 def is_defined(name):
-    return any(name == it.name for crate in crates().values() for it in crate.definitions)
+    return name in definitions()
 
 
 def is_known(name):
@@ -177,7 +187,7 @@ def is_known(name):
 
 def paths_in(text):
     """The files and folders of the repository that a text names in backquotes or as a link's end; none is made by a build."""
-    found = re.findall(r"`((?:\.ci|bench|build|c|completions|crates|docs|examples|man|python|tests)/[^ `]*)`", text)
+    found = re.findall(r"`((?:\.ci|bench|build|c|completions|crates|docs|examples|man|packaging|python|tests)/[^ `]*)`", text)
     found += [it.split("#")[0] for it in re.findall(r"\]\(([^):]+)\)", text) if not it.startswith("#")]
     return [it for it in found if "/out" not in it and not re.search(r"[A-Z]{4,}|<", os.path.basename(it.removesuffix(".md")))]
 
@@ -185,7 +195,7 @@ def paths_in(text):
 def in_links():
     """Each file, folder and heading of the repository that a page names or links is there."""
     found = []
-    for page in ("README.md", "CONTRIBUTING.md", *files("docs/*.md")):
+    for page in (*files("*.md"), *files("docs/*.md")):
         text, folder = re.sub(r"```.*?```", "", read(page), flags=re.S), os.path.dirname(page)
         found.append(Claims(page, ""))
         for it in paths_in(text):
@@ -230,15 +240,8 @@ def in_proofs():
 
 
 def in_readme():
-    """The lists in parentheses of what README says is proved; a crate stays that of the names behind it."""
-    page, found = "README.md", []
-    text = read(page)
-    part = text.split("## What is proved")[1].split("\n## ")[0]
-    for promise in re.split(r"\n(?=- )", part):
-        for them in re.findall(r"\(([^()]*`[^()]*)\)", promise.replace("\n  ", " ")):
-            found.append(Claims(page, promise))
-            found[-1].read(them, [it for it in names_in(promise) if it in crates()] or list(crates()))
-    return [*found, complaints_of_prose(page, text)]
+    """What README names of the sources; PROOFS has the names of its promises."""
+    return [complaints_of_prose("README.md", read("README.md"))]
 
 
 def in_audit():
@@ -268,31 +271,67 @@ def stands_on():
 
 
 def in_architecture():
-    """The map: on what each crate stands, in which file each rule is, and the names between."""
-    page, found = "docs/ARCHITECTURE.md", []
-    text, stands = read(page), stands_on()
-    for part in re.sub(r"^\| .*\.antt`.*\n", "", text, flags=re.M).split("\n\n"):
+    """The map: its crates, in an order in which each stands on those above it; in which file each rule is; and the names between."""
+    page = "docs/ARCHITECTURE.md"
+    text = read(page)
+    found = [of_crates(page, section(text, "The crates")), of_rules(page, section(text, "Where each rule lives"))]
+    for block in re.findall(r"^```.*?^```", text, re.M | re.S):
+        found.append(of_diagram(page, block))
+    for part in re.sub(r"^```.*?^```|^\| .*\.(?:antt|rt)`.*\n", "", text, flags=re.M | re.S).split("\n\n"):
         found.append(complaints_of_prose(page, part))
-    for line in text.split("\n"):
-        cells, claims = [it.strip() for it in line.strip().strip("|").split("|")], Claims(page, "")
-        if len(cells) == 3 and (it := re.match(r"`(opgp_?\w*)`", cells[0])) and it[1] in stands:
-            listed, is_all = set(names_in(cells[2])), not re.search(r"\b(?:the|all)\b", cells[2])
-            claims.tell(listed == set(stands[it[1]]) if is_all else listed <= set(stands[it[1]]), it[1], f"said by crates.txt to stand on {cells[2]}")
-        elif line.startswith("| ") and ".antt`" in line:
-            rule_files(claims, cells)
-        found.append(claims)
     return found
 
 
-def rule_files(claims, cells):
-    """The files of a rule: definitions in specs/ of the crate named before, code in src/ of a crate of the row."""
-    crate, named = "", set(re.findall(r"`(opgp_\w+)[`/]", " ".join(cells)))
-    for path in re.findall(r"`([\w/]+\.antt)`", cells[1]):
-        crate = path.split("/")[0] if "/" in path else crate
-        where = f"crates/{crate}/specs/{os.path.basename(path)}"
-        claims.tell(os.path.isfile(f"{HERE}/{where}") or "the kit's" in cells[1], path, f"in crates/{crate}/specs")
-    for file in re.findall(r"`(\w+\.rt)`", cells[2]):
-        claims.tell(any(os.path.isfile(f"{HERE}/crates/{it}/src/{file}") for it in named), file, f"in src/ of {' or '.join(sorted(named))}")
+def section(text, title):
+    """What stands below a heading of the second level."""
+    return text.split(f"\n## {title}\n")[1].split("\n## ")[0]
+
+
+def cells_of(text):
+    """The cells of the rows of the tables in a text."""
+    return [[it.strip() for it in line.strip()[1:-1].split("|")] for line in text.split("\n") if line.startswith("|")]
+
+
+def of_crates(page, text):
+    """The table of the crates has each of them, below all that it stands on."""
+    claims, stands, above = Claims(page, ""), stands_on(), []
+    for cells in cells_of(text):
+        if cells[0].startswith("`"):
+            named = [it for it in names_in(cells[0]) if it in stands]
+            for crate in named:
+                late = [it for it in stands[crate] if it in stands and it not in above]
+                claims.tell(not late, crate, f"in its place: it stands on {', '.join(late)}, which aren't in rows above it")
+            above += named
+    for crate in stands:
+        claims.tell(crate in above, crate, "in the table of the crates, though crates.txt has it")
+    return claims
+
+
+def of_rules(page, text):
+    """The files of each rule: definitions in specs/ and code in src/ of the crate whose row stands before it."""
+    claims, crate, told = Claims(page, ""), "", {}
+    for cells in cells_of(text):
+        if it := re.fullmatch(r"\*\*`(opgp_?\w*)`\*\*", cells[0]):
+            crate = it[1]
+            claims.tell(crate in crates(), crate, "a crate")
+            continue
+        for ending, folder in (("antt", "specs"), ("rt", "src")):
+            for file in re.findall(rf"`(\w+\.{ending})`", " ".join(cells)):
+                where = f"crates/{crate}/{folder}/{file}"
+                claims.tell(os.path.isfile(f"{HERE}/{where}"), file, f"in crates/{crate}/{folder}")
+                told.setdefault(where, cells[0])
+    claims.tell(len(told) > 200, "Where each rule lives", f"a table of more than 200 files, but of {len(told)}")
+    return claims
+
+
+def of_diagram(page, text):
+    """Each name in a diagram is one of the sources."""
+    claims = Claims(page, "")
+    for name in re.findall(r"\b(?:[a-z]+_[a-z_]+|(?:[A-Z][a-z]+){2,})\b(?!\.)", text):
+        claims.tell(is_known(name), name, "a function, a type, a clause or a definition of any crate")
+    for file in re.findall(r"\b\w+\.rt\b", text):
+        claims.tell(bool(files(f"crates/*/src/{file}")), file, "in src/ of any crate")
+    return claims
 
 
 def is_called(crate, library):
@@ -310,7 +349,7 @@ def is_called(crate, library):
 def in_calls():
     """Each name that begins with opgp_, in any page and in its code too, is one of the library for C's header or a crate's."""
     declared, found = set(re.findall(r"\bopgp_\w+", read("c/opgp.h"))), []
-    for page in ("README.md", "CONTRIBUTING.md", *files("docs/*.md")):
+    for page in (*files("*.md"), *files("docs/*.md")):
         found.append(Claims(page, ""))
         for name in sorted(set(re.findall(r"\bopgp_[a-z]\w*", read(page)))):
             found[-1].tell(name in declared or name in crates() or name == MEASURED, name, "in c/opgp.h, nor a crate")
@@ -345,6 +384,49 @@ def in_library():
     return [found]
 
 
+def clauses_of(name):
+    """A line for each public function of a crate, with its file, and the names of its clauses; of a clause without a name, the
+    definitions that it cites, or its text. Behind `keeps` comes what a type states of its values, and a trait of what implements it."""
+    crate, found = crates()[name], {}
+    public = {it[1] for path in files(f"crates/{name}/src/*.rt") for it in re.finditer(r"^pub (?:struct|enum|trait) (\w+)", read(path), re.M)}
+    for f in crate.functions:
+        called, said = f"{f.module}.rt {'::'.join([*sorted(f.owners), f.name]).strip(':')}", []
+        if not f.name:
+            if f.owners & public:
+                found.setdefault(called, ["keeps "])[0] += ("" if found[called] == ["keeps "] else ", ") + ", ".join(f.clauses)
+            continue
+        for kind in ("requires", "ensures"):
+            bodies = re.split(r"^ *(requires|ensures)\b ?(\w*) ?(?=\{)", f.text.split("\n", 1)[-1], flags=re.M)[1:]
+            them = [own or without_name(body) for which, own, body in zip(bodies[::3], bodies[1::3], bodies[2::3]) if which == kind]
+            said += [f"{kind} {', '.join(them)}"] if them else []
+        if f.is_public:
+            found[called] = said or ["no clause"]
+    return sorted(f"{called}: {'; '.join(said)}" for called, said in found.items())
+
+
+def without_name(body):
+    """The definitions that a clause cites, in parentheses; of one that cites none its text."""
+    cited = dict.fromkeys(it for it in re.findall(r"[A-Za-z_]+", body) if is_defined(it))
+    return f"({' '.join(cited)})" if cited else " ".join(body.split("}")[0].split()) + " }"
+
+
 def claims():
     """All that the pages say of names, and the libraries in use."""
     return [*in_readme(), *in_proofs(), *in_architecture(), *in_audit(), *in_library(), *in_links(), *in_calls(), *in_crates()]
+
+
+def main(words):
+    if len(words) == 2 and words[0] == "--clauses" and words[1] in crates():
+        print("\n".join(clauses_of(words[1])))
+        return 0
+    if words:
+        print(f"usage: tests/named.py [--clauses CRATE], of {' '.join(crates())}", file=sys.stderr)
+        return 2
+    them = claims()
+    wrong = [it for each in them for it in each.wrong]
+    print("\n".join([*wrong, f"{sum(it.held for it in them) - len(wrong)} passed, {len(wrong)} failed"]))
+    return int(bool(wrong))
+
+
+if __name__ == "__main__":
+    sys.exit(main(sys.argv[1:]))

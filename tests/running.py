@@ -9,6 +9,7 @@ import sys
 
 HERE = os.path.dirname(os.path.dirname(os.path.realpath(__file__)))
 SECONDS = 30  # for one run
+COMMANDS = ("list", "show", "check", "octets", "write", "normalise", "split", "join")
 
 Ended = collections.namedtuple("Ended", "status out err told")
 
@@ -24,10 +25,11 @@ def built(test):
 
 
 class Runner:
-    """Starts the program. One that takes too long is killed, and ends with the status -9."""
+    """Starts the program, whose commands say no more than a fault (--quiet), unless they are to. One that takes too long is killed, and
+    ends with the status -9."""
 
-    def __init__(self, path):
-        self.path = path
+    def __init__(self, path, quiet=True):
+        self.path, self.quiet = path, quiet
         self.files = [os.memfd_create(name) for name in ("input", "out", "err", "told")]
         self.child = 0
         signal.signal(signal.SIGALRM, self.stop)
@@ -47,6 +49,8 @@ class Runner:
             os.lseek(file, 0, os.SEEK_SET)
             ends.append((os.POSIX_SPAWN_DUP2, file, end))
         signal.alarm(SECONDS)
+        if self.quiet and words and words[0] in COMMANDS:
+            words = [words[0], "--quiet", *words[1:]]
         self.child = os.posix_spawn(self.path, ["opgp", *words], environment, file_actions=ends)
 
     def end(self):

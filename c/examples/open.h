@@ -1,4 +1,4 @@
-/* Opening the keyring of a file, or saying why not: for the programs here, and opgp-verify. */
+/* Opens the keyring of a file, or says why not: for the programs here, and opgp-verify. */
 #ifndef OPGP_EXAMPLES_OPEN_H
 #define OPGP_EXAMPLES_OPEN_H
 
@@ -7,7 +7,7 @@
 #include <stdio.h>
 #include <stdlib.h>
 
-/* All octets of a file, for free(); NULL if there is no memory for them. Where reading fails, ferror says so. */
+/* All octets of a file, for free(); NULL if memory ran out. If reading fails, ferror says so. */
 static uint8_t *read_whole(FILE *file, size_t *size)
 {
     size_t room = 1 << 16;
@@ -28,8 +28,8 @@ static uint8_t *read_whole(FILE *file, size_t *size)
     return NULL;
 }
 
-/* The keyring of a file, for opgp_close. Where there is none, it says why on standard error, and the exit status is that of
- * `opgp`: 1 for a refused input, 3 for a read that failed or want of memory. */
+/* The keyring of a file, for opgp_close. If it can't be read, this says why on standard error, and gives the exit status of
+ * `opgp`: 1 if the input is refused, 3 if reading failed or memory ran out. */
 static opgp_keyring *open_whole(FILE *file, const char *program, int *exit_status)
 {
     size_t size;

@@ -1,6 +1,6 @@
 #!/usr/bin/env python3
-"""Prints the keys that the Autocrypt headers (autocrypt.org) of a mail on standard input bring: each with the address that the
-header is for, its fingerprint, and its user IDs. The limits are those of a stranger's certificate, and no signature is asked for.
+"""Prints the keys in the Autocrypt headers (autocrypt.org) of a mail on standard input: for each the address in the header, the
+fingerprint and the user IDs. The limits are those for a stranger's certificate. No signature is verified.
 
     python3 autocrypt.py < mail"""
 
@@ -20,7 +20,7 @@ def attributes(header: str) -> dict[str, str]:
 
 
 def main() -> int:
-    """Ends with 1 where one of the headers has no certificate."""
+    """Ends with 1 if a header has no certificate."""
     status = 0
     for header in email.message_from_binary_file(sys.stdin.buffer).get_all("Autocrypt", []):
         found = attributes(str(header))

@@ -1,16 +1,17 @@
 #!/usr/bin/env python3
-"""Prints when each key of the keyring on standard input expires, and what it may be used for, as the signatures of its
-certificate's own primary key say.
+"""Prints when each key of the keyring on standard input expires, and what it may be used for. The certificate's self-signatures say
+both.
 
     python3 expiry.py < keyring.asc
 
-In each place, which is the primary key, a user ID or a subkey, the newest self-signature counts and no other (RFC 9580,
-5.2.3.10). Of a subkey that is its newest binding. Of the primary key it is the newest direct key signature. Where that doesn't
-say when the key expires, or what it is for, as is usual in version 4, the user IDs' certifications do: the newest of those that
-count and say it. A user ID whose newest signature is its revocation doesn't count.
+In each place, which is the primary key, a user ID or a subkey, only the newest self-signature counts (RFC 9580, 5.2.3.10).
 
-No signature is verified: the times are what the input says, whoever made it. Whether a key is revoked, and when a signature
-expires, isn't looked at."""
+- For a subkey it is the newest binding.
+- For the primary key it is the newest direct key signature. In version 4 that often doesn't say it. Then it is the newest
+  certification of a user ID that counts and says it. A user ID whose newest signature is its revocation doesn't count.
+
+No signature is verified: the times are what the input says, whoever made it. Revocations of keys, and expiries of signatures, aren't
+looked at."""
 
 import datetime
 import sys
@@ -24,8 +25,8 @@ USER_ID = 13
 
 
 def newest(certificate: opgp.Certificate, keys: list[opgp.Key]) -> dict[Optional[int], opgp.Signature]:
-    """The self-signature that counts in each place, by its component, or None of the primary key: the newest that belongs there
-    and whose digest begins as it states, where it is one that the library makes; of several of one time the last."""
+    """The self-signature that counts in each place, by its component, or None for the primary key. It is the newest that belongs there,
+    the last of several with one time. If the library makes its digest, that begins as the signature states."""
     found: dict[Optional[int], opgp.Signature] = {}
     for it in certificate.signatures:
         if it.kind not in KINDS or it.nested is not None or it.why_not not in (None, "hash") or it.is_bad or it.signer is None:
@@ -37,7 +38,7 @@ def newest(certificate: opgp.Certificate, keys: list[opgp.Key]) -> dict[Optional
 
 
 def about(key: opgp.Key, certificate: opgp.Certificate, found: dict[Optional[int], opgp.Signature]) -> list[opgp.Signature]:
-    """The signatures that count of a key, the first before the second where both say something."""
+    """The signatures that count for a key. If several say something, the first does."""
     if not key.is_primary:
         return [found[key.component]] if key.component in found else []
     certified = [found[it.component] for it in certificate.packets if it.kind == USER_ID and it.component in found]
@@ -57,7 +58,7 @@ def line(key: opgp.Key, signatures: list[opgp.Signature]) -> str:
 
 
 def main() -> None:
-    """A keyring that is refused ends with the fault."""
+    """Ends with the fault if the keyring is refused."""
     with opgp.read(sys.stdin.buffer.read()) as keyring:
         keys = keyring.keys()
         for certificate in keyring.certificates():

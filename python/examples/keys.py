@@ -16,7 +16,7 @@ def line(key: opgp.Key) -> str:
 
 
 def main() -> int:
-    """Ends with 1 where the input is refused."""
+    """Ends with 1 if the input is refused."""
     with open(sys.argv[1], "rb") if sys.argv[1:] else sys.stdin.buffer as source:
         octets = source.read()
     try:

@@ -1,6 +1,6 @@
 #!/usr/bin/env python3
-"""Merges what a key server sent, armored text of any number of blocks, with the keyring that one has, and writes the merged
-keyring in armor. Standard error has a line for each packet that is new: what it is, and the certificate that it is of.
+"""Merges what a key server sent, armored text of any number of blocks, with your keyring, and writes the merged keyring in armor.
+Standard error has a line for each new packet: what it is, and its certificate.
 
     python3 keyserver.py MINE < SENT > MERGED
 
@@ -16,7 +16,7 @@ Place = tuple[bytes, ...]
 
 
 def placed(keyring: opgp.Keyring) -> Iterator[tuple[Place, str]]:
-    """Each packet of the certificates, by its primary key, what it is on and its body, and what is said of it."""
+    """Each packet of the certificates, by its primary key, what it is on and its body, with its description."""
     for certificate in keyring.certificates():
         head = b""
         prints = {key.component: key.fingerprint for key in certificate.keys}
@@ -28,7 +28,7 @@ def placed(keyring: opgp.Keyring) -> Iterator[tuple[Place, str]]:
 
 
 def said(packet: opgp.Packet, fingerprint: str) -> str:
-    """What a packet is; of a key with its fingerprint."""
+    """What a packet is; a key with its fingerprint."""
     if packet.kind == USER_ID:
         return f"user ID {packet.body.decode('utf-8', 'surrogateescape')!r}"
     if packet.kind in (PUBLIC_KEY, PUBLIC_SUBKEY):
@@ -37,7 +37,7 @@ def said(packet: opgp.Packet, fingerprint: str) -> str:
 
 
 def main() -> int:
-    """Ends with 1 where one of the inputs is refused."""
+    """Ends with 1 if one of the inputs is refused."""
     name = sys.argv[1]
     try:
         with open(name, "rb") as file:

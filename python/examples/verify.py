@@ -1,6 +1,6 @@
 #!/usr/bin/env python3
-"""Verifies the Ed25519 signatures (RFC 9580, 5.2.3.4) of the keyring on standard input by the package `cryptography`, and prints
-the number of each row and what is found of it.
+"""Verifies the Ed25519 signatures (RFC 9580, 5.2.3.4) of the keyring on standard input by the package `cryptography`. Prints the
+number of each row and its verdict.
 
     python3 verify.py < keyring.asc"""
 
@@ -27,7 +27,7 @@ def verify(question: opgp.Question) -> opgp.Verdict:
 
 
 def main() -> None:
-    """A keyring that is refused ends with the fault."""
+    """Ends with the fault if the keyring is refused."""
     with opgp.read(sys.stdin.buffer.read()) as keyring:
         for signature, verdict in keyring.check(verify):
             print(f"row {signature.row} : {signature.why_not or verdict.name.lower()}")

@@ -1,11 +1,11 @@
 #!/usr/bin/env python3
-"""Writes the certificates for a mail address that a Web Key Directory answered: those of which a user ID has that address. The
-answer is the bare octets of certificates (draft-koch-openpgp-webkey-service, 3.1), here of a file, a URL or standard input.
+"""Writes the certificates for a mail address from the answer of a Web Key Directory: those with a user ID of that address. The answer
+is certificates in bare octets (draft-koch-openpgp-webkey-service, 3.1), here from a file, a URL or standard input.
 
     python3 wkd.py alice@example.org [FILE or URL] > alice.gpg
 
-Standard error has the fingerprint and the user IDs of each certificate that is written. No signature is verified, nor asked for:
-whoever made the answer chose its user IDs. The limits are those of a stranger's keyring."""
+Standard error has the fingerprint and the user IDs of each certificate that is written. No signature is verified: whoever made the
+answer chose its user IDs. The limits are those for a stranger's keyring."""
 
 import sys
 import urllib.request
@@ -17,14 +17,14 @@ LIMITS = opgp.Limits(body=1 << 16, cert=MOST, input=MOST)
 
 
 def address_of(user_id: str) -> str:
-    """The mail address of a user ID, which is behind its name, as in `Alice <alice@example.org>`, or alone; in small letters."""
+    """The mail address in a user ID, in small letters: behind a name, as in `Alice <alice@example.org>`, or alone."""
     _, begun, rest = user_id.rpartition("<")
     address = rest[:-1] if begun and rest.endswith(">") else user_id
     return address.lower() if "@" in address else ""
 
 
 def answer_of(words: list[str]) -> bytes:
-    """The answer that the words name; one that is too long is a ValueError."""
+    """The answer that the words name. Raises ValueError if it is too long."""
     if not words:
         octets = sys.stdin.buffer.read(MOST + 1)
     else:
@@ -36,7 +36,7 @@ def answer_of(words: list[str]) -> bytes:
 
 
 def main() -> int:
-    """Ends with 1 where no certificate is for the address."""
+    """Ends with 1 if no certificate is for the address."""
     address, found = sys.argv[1].lower(), 0
     try:
         if "@" not in address:

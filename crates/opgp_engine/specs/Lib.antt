@@ -7,7 +7,9 @@ pub mod Packets
 pub mod Pipeline
 pub mod Pulled
 pub mod Reading
+pub mod Foreign
 pub mod Signed
+pub mod Skipped
 pub mod Spool
 pub mod Through
 pub mod Via

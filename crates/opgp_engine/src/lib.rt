@@ -25,6 +25,7 @@ mod reading_packets;
 mod reading_signed;
 mod receiver;
 mod signed;
+mod skipped;
 mod sound_packets;
 mod spool;
 mod spooled;

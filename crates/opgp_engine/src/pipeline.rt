@@ -13,6 +13,7 @@ ghost use Rattle.opgp_engine.specs.declared.pipeline.Front.TheVariants.{Undecide
 use crate::framer::Framer;
 use crate::mode::Mode;
 use crate::receiver::Receiver;
+use crate::skipped::Skipped;
 use crate::unarmoring::{end_text, unarmor};
 use opgp_armor::laws::a_block_has_no_more_octets_than_the_text;
 use opgp_armor::{Dearmor, Label};
@@ -37,6 +38,7 @@ pub struct Pipeline<T> {
     limits: Limits,
     front: Front,
     framer: Framer<T>,
+    skipped: Skipped,
     given: u64,
 }
 
@@ -79,6 +81,7 @@ impl<T: Receiver + Drop> Pipeline<T> {
             limits,
             front,
             framer: Framer::new(alloc, limits, label, top),
+            skipped: Skipped::none(),
             given: 0,
         }
     }
@@ -121,7 +124,13 @@ impl<T: Receiver + Drop> Pipeline<T> {
             return Ok(());
         }
         self.decide(piece[0]);
-        pass(self.alloc, &mut self.front, &mut self.framer, piece)?;
+        pass(
+            self.alloc,
+            &mut self.front,
+            &mut self.framer,
+            &mut self.skipped,
+            piece,
+        )?;
         self.given += piece.len() as u64;
         Ok(())
     }
@@ -148,6 +157,11 @@ impl<T: Receiver + Drop> Pipeline<T> {
         self.framer.packets()
     }
 
+    /// How many octets outside of armored blocks were passed over, if they are no text; else 0.
+    pub fn skipped(&self) -> u64 {
+        self.skipped.foreign()
+    }
+
     /// Ends the input, and returns its result. Fails only when out of memory.
     pub fn finish(self) -> Result<Result<T::Value, Fault>, OutOfMemory>
         requires { (mode : Mode) × (limits : Limits) × (input : List ℕ)
@@ -161,6 +175,7 @@ impl<T: Receiver + Drop> Pipeline<T> {
             limits,
             front,
             mut framer,
+            skipped: _,
             given,
         } = self;
         let ended = end_front(front, &mut framer)?;
@@ -174,6 +189,7 @@ fn pass<T: Receiver + Drop>(
     alloc: Global,
     front: &mut Front,
     framer: &mut Framer<T>,
+    skipped: &mut Skipped,
     piece: &[u8],
 ) -> Result<(), OutOfMemory>
     requires told { front.old ≢ Undecided }
@@ -186,7 +202,7 @@ fn pass<T: Receiver + Drop>(
 {
     match front {
         Front::Armored(dearmor) => {
-            unarmor(alloc, dearmor, framer, piece)?;
+            unarmor(alloc, dearmor, framer, skipped, piece)?;
             Ok(())
         }
         Front::Binary => {

@@ -86,7 +86,7 @@ fn pull_all<R: Source, T: Receiver + Drop>(
         }
         count += n as u64;
         match pipeline.push(&buf[..n]) {
-            Ok(()) => reader.note(pipeline.packets()),
+            Ok(()) => reader.note(pipeline.packets(), pipeline.skipped()),
             Err(_) => return Err(ReadError::Memory),
         }
     }

@@ -13,6 +13,7 @@ ghost use Rattle.opgp_engine.specs.Through.{is_known};
 
 use crate::framer::Framer;
 use crate::receiver::Receiver;
+use crate::skipped::Skipped;
 use opgp_armor::laws::{
     events_are_in_order, no_more_blocks_than_octets, no_more_octets_than_given,
 };
@@ -157,11 +158,12 @@ fn hold<T: Receiver + Drop>(
     }
 }
 
-/// A whole piece of armored text.
+/// A whole piece of armored text, of which what lies outside of blocks is counted.
 pub(crate) fn unarmor<T: Receiver + Drop>(
     alloc: Global,
     dearmor: &mut Dearmor,
     framer: &mut Framer<T>,
+    skipped: &mut Skipped,
     piece: &[u8],
 ) -> Result<(), OutOfMemory>
     requires through { (limits : Limits) × (input : List ℕ)
@@ -177,11 +179,13 @@ pub(crate) fn unarmor<T: Receiver + Drop>(
     let mut waiting = Vec::new(alloc);
     let mut at = 0;
     'pushes: while at < piece.len() {
+        let from = at;
         match dearmor.push(&piece[at..]) {
             Ok(n) => at += n,
             Err(_) => return Err(AllocError),
         }
         let event = dearmor.take();
+        skipped.meet(&piece[from..at], &event);
         let waits = piece.len() - at >= FEW;
         hold(alloc, dearmor, framer, &mut waiting, event, waits)?;
     }

@@ -28,8 +28,9 @@ pub trait Source {
     fn failed(&self) -> bool
         ensures { result ≡ has_failed self.now };
 
-    /// Hears how many packets the octets so far have. A source that tells nobody does nothing.
-    fn note(&mut self, _packets: u64)
+    /// Hears how many packets the octets so far have, and how many octets outside of armored blocks were
+    /// passed over though they are no text. A source that tells nobody does nothing.
+    fn note(&mut self, _packets: u64, _skipped: u64)
         ensures left { left self.new ≡ left self.old }
         ensures failed { has_failed self.new ≡ has_failed self.old }
     {}

@@ -137,15 +137,16 @@ one_said name options a b m n =
     ∙ ap (λ (x : Limits). task_with b.mode x a.action) (one_limits options _ _ m.limits n.limits)
     ∙ ap (task_with b.mode b.limits) (one_action name options _ _ m.action n.action)
 
-abbrev asked_with : Task → Bool → Option Text → Asked
-asked_with task progress spool = record { task = task; progress = progress; spool = spool }
+abbrev asked_with : Task → Bool → Bool → Option Text → Asked
+asked_with task progress quiet spool = record { task = task; progress = progress; quiet = quiet; spool = spool }
 
 one_request : (name : Text) (options : List Row) (a b : Asked) → IsRequest name options a
     → IsRequest name options b → a ≡ b
 one_request name options a b m n =
-    ap (λ (x : Task). asked_with x a.progress a.spool) (one_said name options _ _ m.task n.task)
-    ∙ ap (λ (x : Bool). asked_with b.task x a.spool) (m.progress ∙ sym n.progress)
-    ∙ ap (asked_with b.task b.progress) (m.spool ∙ sym n.spool)
+    ap (λ (x : Task). asked_with x a.progress a.quiet a.spool) (one_said name options _ _ m.task n.task)
+    ∙ ap (λ (x : Bool). asked_with b.task x a.quiet a.spool) (m.progress ∙ sym n.progress)
+    ∙ ap (λ (x : Bool). asked_with b.task b.progress x a.spool) (m.quiet ∙ sym n.quiet)
+    ∙ ap (asked_with b.task b.progress b.quiet) (m.spool ∙ sym n.spool)
 
 pub one_task : (program : App) (words : List Text) (a b : Asked) → SaysTask program words a
     → SaysTask program words b → a ≡ b

@@ -106,6 +106,9 @@ no_attributes_rule = flag_rule (codes "no-attributes")
 abbrev pub progress_rule : Rule
 progress_rule = flag_rule (codes "progress")
 
+abbrev pub quiet_rule : Rule
+quiet_rule = flag_rule (codes "quiet")
+
 -- any text but the empty one
 abbrev pub text_rule : Text → Rule
 text_rule name = valued_rule name parser.NonEmptyString
@@ -149,12 +152,12 @@ pub record AreChoices (choices : Choices) : Type 0 where
   pub signature_policies : AreSignaturePolicies choices.signature_policies
 
 -- the command of this name takes the mode, the policies for lines outside and for malformed
--- signatures, the limits, `--progress`, `--spool`, and these options
+-- signatures, the limits, `--progress`, `--quiet`, `--spool`, and these options
 abbrev pub command_shape : Text → Choices → List Rule → Shape
 command_shape name choices more = record (new_shape name) {
   rules = mode_rule choices.modes ∷ outside_rule choices.policies ∷ malformed_rule choices.signature_policies
-      ∷ line_rule ∷ body_rule ∷ cert_rule ∷ input_rule ∷ pieces_rule ∷ progress_rule ∷ spool_rule
-      ∷ more;
+      ∷ line_rule ∷ body_rule ∷ cert_rule ∷ input_rule ∷ pieces_rule ∷ progress_rule ∷ quiet_rule
+      ∷ spool_rule ∷ more;
 }
 
 pub record IsCommand (name : Text) (more : List Rule) (c : Command) : Type 0 where

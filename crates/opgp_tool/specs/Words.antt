@@ -143,21 +143,24 @@ pub record IsTask (name : Text) (options : List Row) (task : Task) : Type 0 wher
   pub limits : HasLimits options task.limits
   pub action : IsAction name options task.action
 
--- what a command line asks for: a task, whether `--progress` is given, and the directory of `--spool`,
--- if it is
+-- what a command line asks for: a task, whether `--progress` and `--quiet` are given, and the directory
+-- of `--spool`, if it is
 pub record Asked : Type 0 where
   pub task : Task
   pub progress : Bool
+  pub quiet : Bool
   pub spool : Option Text
 
 abbrev pub asked_by : Request → Asked
 asked_by request = record {
   task = request.task;
   progress = request.progress;
+  quiet = request.quiet;
   spool = option_map (λ word. word.now) request.spool;
 }
 
 pub record IsRequest (name : Text) (options : List Row) (asked : Asked) : Type 0 where
   pub task : IsTask name options asked.task
   pub progress : asked.progress ≡ is_given (first_of (codes "progress") options)
+  pub quiet : asked.quiet ≡ is_given (first_of (codes "quiet") options)
   pub spool : asked.spool ≡ first_of (codes "spool") options

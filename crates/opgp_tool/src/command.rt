@@ -68,7 +68,7 @@ fn mode_option<'a>(alloc: Global) -> Arg<'a>
     ensures rule { (words : Choice) × AreModes words × (rule_of result ≡ mode_rule words) }
     ensures own { result.global ≡ false }
 {
-    let help = "How the input is read";
+    let help = "How to read the input";
     choice_option(alloc, "mode", "MODE", MODES.as_slice(), "auto", help)
 }
 
@@ -77,7 +77,7 @@ fn outside_option<'a>(alloc: Global) -> Arg<'a>
     ensures rule { (words : Choice) × ArePolicies words × (rule_of result ≡ outside_rule words) }
     ensures own { result.global ≡ false }
 {
-    let help = "What becomes of lines outside of armored blocks";
+    let help = "What to do with lines outside of armored blocks";
     choice_option(
         alloc,
         "outside",
@@ -93,7 +93,7 @@ fn malformed_option<'a>(alloc: Global) -> Arg<'a>
     ensures rule { (words : Choice) × AreSignaturePolicies words × (rule_of result ≡ malformed_rule words) }
     ensures own { result.global ≡ false }
 {
-    let help = "What becomes of malformed signatures";
+    let help = "What to do with malformed signatures";
     choice_option(
         alloc,
         "malformed",
@@ -109,7 +109,7 @@ fn out_option<'a>(alloc: Global) -> Arg<'a>
     ensures rule { (words : Choice) × AreOuts words × (rule_of result ≡ out_rule words) }
     ensures own { result.global ≡ false }
 {
-    let help = "How keyrings are written";
+    let help = "How to write keyrings";
     choice_option(alloc, "out", "OUT", OUTS.as_slice(), "armor", help)
 }
 
@@ -118,7 +118,7 @@ fn of_option<'a>(alloc: Global) -> Arg<'a>
     ensures rule { (words : Choice) × AreTops words × (rule_of result ≡ of_rule words) }
     ensures own { result.global ≡ false }
 {
-    let help = "What the input is read as";
+    let help = "What to read the input as";
     choice_option(alloc, "of", "TOP", TOPS.as_slice(), "ring", help)
 }
 
@@ -226,36 +226,38 @@ fn new_command<'a>(
     let command = with_option(command, outside_option(alloc));
     let command = with_option(command, malformed_option(alloc));
     let command = with_limits(alloc, command);
-    let help = "Shows on standard error how much was read";
+    let help = "Show on standard error how much was read";
     let command = with_option(command, flag_option(alloc, "progress", help));
-    let help = "Holds the output in a file in this directory";
+    let help = "Print nothing but the fault of a refused input";
+    let command = with_option(command, flag_option(alloc, "quiet", help));
+    let help = "Hold the output in a file in this directory";
     with_option(command, text_option(alloc, "spool", "DIR", help))
 }
 
 fn show_command<'a>(alloc: Global) -> Result<Command<'a>, OutOfMemory>
     ensures { IfOk result (IsCommand (codes "show") (values_rule ∷ [])) }
 {
-    let about = "Lists every packet and every subpacket";
+    let about = "List every packet and every subpacket";
     let command = new_command(alloc, "show", about, SHOW_HELP);
-    let help = "Shows the fields of each packet, and what each subpacket means";
+    let help = "Show the fields of each packet, and what each subpacket means";
     with_option(command, flag_option(alloc, "values", help))
 }
 
 fn list_command<'a>(alloc: Global) -> Result<Command<'a>, OutOfMemory>
     ensures { IfOk result (IsCommand (codes "list") (values_rule ∷ [])) }
 {
-    let about = "Lists the packets of a keyring";
+    let about = "List the packets of a keyring";
     let command = new_command(alloc, "list", about, LIST_HELP);
-    let help = "Shows the left 16 bits, the creation time and the issuer of each signature";
+    let help = "Show the left 16 bits, the creation time and the issuer of each signature";
     with_option(command, flag_option(alloc, "values", help))
 }
 
 fn check_command<'a>(alloc: Global) -> Result<Command<'a>, OutOfMemory>
     ensures { IfOk result (IsCommand (codes "check") (fingerprints_rule ∷ [])) }
 {
-    let about = "Lists the signatures of a keyring";
+    let about = "List the signatures of a keyring";
     let command = new_command(alloc, "check", about, CHECK_HELP);
-    let help = "Shows the fingerprints of each signature's certificate and signer";
+    let help = "Show the fingerprints of each signature's certificate and signer";
     with_option(command, flag_option(alloc, "fingerprints", help))
 }
 
@@ -263,12 +265,12 @@ fn octets_command<'a>(alloc: Global) -> Result<Command<'a>, OutOfMemory>
     ensures { IfOk result (λ c. (tops : Choice) × AreTops tops
         × IsCommand (codes "octets") (row_rule ∷ of_rule tops ∷ all_rule ∷ []) c) }
 {
-    let about = "Writes the octets that signatures hash";
+    let about = "Write the octets that signatures hash";
     let command = new_command(alloc, "octets", about, OCTETS_HELP);
     let help = "The number of the signature's row, from 0";
     let command = with_option(command, number_option(alloc, "row", help));
     let command = with_option(command, of_option(alloc));
-    let help = "Writes those of every row, each behind a line of its own";
+    let help = "Write those of every row, each after a line of its own";
     with_option(command, flag_option(alloc, "all", help))
 }
 
@@ -289,13 +291,13 @@ fn write_command<'a>(alloc: Global) -> Result<Command<'a>, OutOfMemory>
     ensures { IfOk result (λ c. (outs : Choice) × AreOuts outs × IsCommand (codes "write")
         (out_rule outs ∷ own_signatures_rule ∷ no_attributes_rule ∷ user_id_rule ∷ []) c) }
 {
-    let about = "Writes a keyring, its framing kept";
+    let about = "Write a keyring, with its framing";
     let command = writing_command(alloc, "write", about, WRITE_HELP);
-    let help = "Leaves out signatures that don't name the primary key as their issuer";
+    let help = "Leave out signatures that don't name the primary key as their issuer";
     let command = with_option(command, flag_option(alloc, "own-signatures", help));
-    let help = "Leaves out user attributes";
+    let help = "Leave out user attributes";
     let command = with_option(command, flag_option(alloc, "no-attributes", help));
-    let help = "The number of the one user ID that stays in each certificate, from 0";
+    let help = "The number of the one user ID to keep in each certificate, from 0";
     with_option(command, number_option(alloc, "user-id", help))
 }
 
@@ -303,11 +305,11 @@ fn split_command<'a>(alloc: Global) -> Result<Command<'a>, OutOfMemory>
     ensures { IfOk result (λ c. (outs : Choice) × AreOuts outs
         × IsCommand (codes "split") (out_rule outs ∷ nth_rule ∷ key_rule ∷ []) c) }
 {
-    let about = "Writes each certificate apart, or some of them";
+    let about = "Write each certificate by itself, or some of them";
     let command = writing_command(alloc, "split", about, SPLIT_HELP);
-    let help = "The number of the one certificate that is written, from 0";
+    let help = "The number of the one certificate to write, from 0";
     let command = with_option(command, number_option(alloc, "nth", help));
-    let help = "The fingerprint or key ID of a key of the certificates that are written";
+    let help = "The fingerprint or key ID of a key of the certificates to write";
     with_option(command, text_option(alloc, "key", "KEY", help))
 }
 
@@ -315,9 +317,9 @@ fn join_command<'a>(alloc: Global) -> Result<Command<'a>, OutOfMemory>
     ensures { IfOk result (λ c. (outs : Choice) × AreOuts outs
         × IsCommand (codes "join") (out_rule outs ∷ merge_rule ∷ []) c) }
 {
-    let about = "Writes all blocks of the input as one keyring";
+    let about = "Write all blocks of the input as one keyring";
     let command = writing_command(alloc, "join", about, JOIN_HELP);
-    let help = "Makes certificates of one primary key one";
+    let help = "Merge certificates of the same primary key";
     with_option(command, flag_option(alloc, "merge", help))
 }
 
@@ -326,7 +328,7 @@ fn bare_program<'a>(alloc: Global) -> Result<Command<'a>, OutOfMemory>
     ensures { IfOk result (λ c. app_of c ≡ bare_program) }
 {
     Command::new(alloc, "opgp")
-        .about("Reads OpenPGP keyrings from standard input")
+        .about("Read OpenPGP keyrings from standard input")
         .after_help(PROGRAM_HELP)
         .subcommand_required(true)
         .bin_name("opgp")
@@ -342,7 +344,7 @@ pub fn program<'a>(alloc: Global) -> Result<Command<'a>, OutOfMemory>
     let tool = with_command(tool, check_command(alloc))?;
     let tool = with_command(tool, octets_command(alloc))?;
     let tool = with_command(tool, write_command(alloc))?;
-    let about = "Writes a keyring in the current format";
+    let about = "Write a keyring in the current format";
     let tool = with_command(
         tool,
         writing_command(alloc, "normalise", about, NORMALISE_HELP),

@@ -1,42 +1,41 @@
 //! The last paragraph of the help of the program and of each command.
 
 /// After the commands: where input and output are, and the exit statuses.
-pub const PROGRAM_HELP: &str = "The input is standard input, and the output standard output: \
+pub const PROGRAM_HELP: &str = "Each command reads standard input and writes standard output: \
 opgp list < KEYRING
-Exit statuses: 0 done; 1 the input is refused, or has no such row or certificate;
-2 wrong words, or this help, which goes to standard error; 3 reading, writing, memory or
-the spool failed; 4 the launcher couldn't build the program.";
+Exit statuses: 0 success; 1 the input is refused, or has no such row or certificate;
+2 invalid command line, or this help, which goes to standard error; 3 reading, writing,
+memory or the spool failed; 4 the launcher couldn't build the program.";
 
-pub const SHOW_HELP: &str = "The input is any packets, those of a keyring or of a message. \
-A line for each packet
-has its place, type, form and length; a signature's is followed by one for each of its
-subpackets. With --values the fields of each packet follow, and what each subpacket means,
-times as seconds since 1970 and as dates.
+pub const SHOW_HELP: &str = "The input may be any packets, of a keyring or a message. Each \
+packet has a line with its
+place, type, form and length. A signature has a line more for each subpacket. --values adds
+the fields of each packet and the meaning of each subpacket, with times in seconds since
+1970 and as dates.
 
 Example: opgp show --values < KEYRING | grep key-expires";
 
-pub const LIST_HELP: &str = "A line for each packet: pub and sub with algorithm, creation time, \
-fingerprint and
-key ID, uid with its text, uat and sig, and pkt for any other packet. With --values the line
-of a signature goes on with the left 16 bits of its hash, the time when it was made, and the
-fingerprint or key ID of its issuer, as it states them; it and that of a key end with the
-time as a date.
+pub const LIST_HELP: &str = "Each packet has a line: pub and sub with algorithm, creation time, \
+fingerprint and key
+ID, uid with its text, uat, sig, and pkt for any other packet. --values adds to a signature
+what it states: the left 16 bits of its hash, its creation time, and its issuer's fingerprint
+or key ID. It also adds the date to each time.
 
 Example: opgp list --values < KEYRING | grep '^sig'";
 
-pub const CHECK_HELP: &str = "A line for each signature says where it is, which key it names \
-as its issuer, and the first
-octets of the digest of what it signs: bad if they aren't those that it states. No signature
-is verified. With --fingerprints a line goes on with the fingerprint of its certificate's
-primary key, and with that of the key that made the signature, where the keyring has it.
+pub const CHECK_HELP: &str = "Each signature has a line with its place, its issuer's key and \
+the first octets of its
+digest. It is bad if the digest doesn't begin with the 16 bits that the signature states.
+No signature is verified. --fingerprints adds the fingerprints of the certificate's primary
+key and of the issuer's key, if the keyring has it.
 
 Example: opgp check < KEYRING | grep bad";
 
-pub const OCTETS_HELP: &str = "The row is that of check, or with --of literal the number of a \
-signature after the
-literal of a signed message. The octets are written as they are hashed, without armor.
-With --all those of every signature that is hashed follow each other, each behind a line with
-the number of its row and their length.
+pub const OCTETS_HELP: &str = "A row is numbered as check does it; with --of literal it is the \
+number of a signature
+after the literal of a signed message. The octets are written as they are hashed, without
+armor. --all writes those of every hashed signature, each after a line with the row's number
+and their length.
 
 Example: opgp octets --row 0 < KEYRING | sha512sum";
 
@@ -44,26 +43,25 @@ pub const WRITE_HELP: &str = "Each packet is written as it was framed. With --ou
 output is the octets of
 all packets of the input. Three options leave out parts of each certificate:
 --own-signatures the signatures that don't name its primary key as their issuer,
---no-attributes its user attributes, and --user-id all its user IDs but one, with the
-signatures on these. No signature is verified.
+--no-attributes its user attributes, and --user-id all user IDs but one, with their
+signatures. No signature is verified.
 
 Example: opgp write --own-signatures --user-id 0 < KEYRING > MINIMAL.asc";
 
 pub const NORMALISE_HELP: &str = "Each packet gets the current format and its shortest length. \
-No body is changed.
+No body changes.
 
 Example: opgp normalise < KEYRING > KEYRING.asc";
 
-pub const SPLIT_HELP: &str = "Each certificate is a block of its own, or packets one after the \
-other with --out
-binary; packets before the first one are left out. Certificates count from 0.
-The key of --key may be a primary key or a subkey; blanks in it, and 0x in front,
-are passed over.
+pub const SPLIT_HELP: &str = "Each certificate is an armored block of its own, or with --out \
+binary its packets. Packets
+before the first certificate are left out. Certificates are numbered from 0. The key may be a
+primary key or a subkey. Spaces in it, and 0x at its start, are ignored.
 
 Example: opgp split --nth 0 < KEYRING > FIRST.asc";
 
-pub const JOIN_HELP: &str = "With --merge certificates of one primary key become one, in which \
-equal user IDs,
-attributes, subkeys and signatures are written once.
+pub const JOIN_HELP: &str = "--merge makes one certificate of those with the same primary key, \
+and writes equal user
+IDs, attributes, subkeys and signatures once.
 
 Example: cat ONE.asc OTHER.asc | opgp join --merge > BOTH.asc";

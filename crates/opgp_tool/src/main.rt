@@ -1,15 +1,20 @@
 //! Reads OpenPGP keyrings from standard input, and lists or writes them on standard output.
 #![tactic(auto)]
 
+mod advising;
+mod beginning;
 mod command;
 mod ending;
 mod help;
+mod hint;
 pub mod laws;
 mod progress;
 mod spool_file;
 mod task;
 
+use advising::hint_of;
 use ending::end_of;
+use hint::Hint;
 use opgp_stack::{RunFault, Watched, run_last, run_spooled};
 use progress::Progress;
 use spool_file::open_spool;
@@ -19,6 +24,9 @@ use task::{Request, Usage, task_of};
 
 /// The exit status of an invalid command line.
 const USAGE: u8 = 2;
+
+/// The exit status where reading, writing, memory or the spool failed.
+const FAILED: u8 = 3;
 
 fn main(rt: HostRuntime) -> ExitCode {
     let status = match env::args(&rt) {
@@ -67,7 +75,26 @@ fn run_task(rt: &HostRuntime, request: &Request) -> u8 {
         },
     };
     reader.end();
-    end(rt, &outcome)
+    let status = end(rt, &outcome);
+    if !request.quiet && status != FAILED {
+        let mode = request.task.mode;
+        let hint = hint_of(
+            mode,
+            &outcome,
+            reader.beginning(),
+            reader.octets(),
+            reader.skipped(),
+        );
+        explain(rt, hint);
+    }
+    status
+}
+
+/// Prints what is told of the input beside the fault, if there is something to tell.
+fn explain(rt: &HostRuntime, hint: Option<Hint>) {
+    if let Some(hint) = hint {
+        let _ = eprintln!(rt; "{hint}");
+    }
 }
 
 /// Prints the last line of a run. A standard error that is closed or full changes no status.
@@ -79,7 +106,7 @@ fn end(rt: &HostRuntime, outcome: &Result<(), RunFault>) -> u8 {
         }
         Err(_) => {
             let _ = eprintln!(rt; "opgp: out of memory");
-            3
+            FAILED
         }
     }
 }

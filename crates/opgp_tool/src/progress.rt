@@ -1,8 +1,9 @@
-//! How much was read, shown while it is read.
+//! How much was read, shown while it is read; and the first octets, which are kept.
 
 ghost use Rattle.std.specs.Prelude.{◌≡◌, Some};
 ghost use Rattle.opgp_tool.specs.Progress.{counts_text, read_of};
 
+use crate::beginning::Beginning;
 use opgp_stack::Source;
 use std::alloc::Global;
 use std::io::Write;
@@ -29,7 +30,8 @@ impl fmt::Display for Counts {
     }
 }
 
-/// A source that counts what is read of another one, and shows it on a writer, if there is one.
+/// A source that counts what is read of another one, shows it on a writer, if there is one, and keeps
+/// the first octets.
 #[derive(Drop)]
 pub struct Progress<R, W> {
     alloc: Global,
@@ -37,6 +39,8 @@ pub struct Progress<R, W> {
     shown: Option<W>,
     counts: Counts,
     due: u64,
+    beginning: Beginning,
+    skipped: u64,
 }
 
 impl<R: Source, W: Write + Drop> Progress<R, W> {
@@ -53,7 +57,24 @@ impl<R: Source, W: Write + Drop> Progress<R, W> {
                 packets: 0,
             },
             due: STEP,
+            beginning: Beginning::new(alloc),
+            skipped: 0,
         }
+    }
+
+    /// The first octets that were read, at most 65,536, or fewer where there was no memory for them.
+    pub fn beginning(&self) -> &[u8] {
+        self.beginning.octets()
+    }
+
+    /// How many octets were read.
+    pub fn octets(&self) -> u64 {
+        self.counts.octets
+    }
+
+    /// How many octets outside of armored blocks were passed over though they are no text.
+    pub fn skipped(&self) -> u64 {
+        self.skipped
     }
 
     /// Shows the counts, with this text behind them. A writer that fails, or no memory for the text,
@@ -86,6 +107,7 @@ impl<R: Source, W: Write + Drop> Source for Progress<R, W> {
         let result = self.reader.pull(buf);
         if let Ok(n) = &result {
             self.counts.octets = self.counts.octets.saturating_add(*n as u64);
+            self.beginning.add(&buf[..*n]);
         }
         result
     }
@@ -94,8 +116,9 @@ impl<R: Source, W: Write + Drop> Source for Progress<R, W> {
         self.reader.failed()
     }
 
-    fn note(&mut self, packets: u64) {
+    fn note(&mut self, packets: u64, skipped: u64) {
         self.counts.packets = packets;
+        self.skipped = skipped;
         if self.counts.octets >= self.due {
             self.due = self.counts.octets.saturating_add(STEP);
             self.show("");

@@ -32,6 +32,8 @@ pub struct Request<'a> {
     pub task: Task,
     /// Whether standard error shows how much was read.
     pub progress: bool,
+    /// Whether standard error says no more than the fault.
+    pub quiet: bool,
     /// The directory of the file in which the output is held; None: it is held in memory.
     pub spool: Option<&'a str>,
 }
@@ -277,6 +279,7 @@ fn request_from<'a>(name: &str, matches: &ArgMatches<'a>) -> Option<Request<'a>>
     Some(Request {
         task: task_from(name, matches)?,
         progress: is_given(matches, "progress"),
+        quiet: is_given(matches, "quiet"),
         spool: word_of(matches, "spool"),
     })
 }

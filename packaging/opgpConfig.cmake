@@ -1,0 +1,25 @@
+# What find_package(opgp) reads. opgp::opgp is the shared library, opgp::static the static one. `make install-library` puts the folder
+# of the headers and the number of the shared library's name in. All paths begin where this file is, so what is installed can be moved.
+get_filename_component(_opgp_here "${CMAKE_CURRENT_LIST_FILE}" REALPATH)
+get_filename_component(_opgp_here "${_opgp_here}" DIRECTORY)
+get_filename_component(_opgp_lib "${_opgp_here}/../.." ABSOLUTE)
+get_filename_component(_opgp_include "${_opgp_here}/@include@" ABSOLUTE)
+foreach(_opgp_file "${_opgp_lib}/libopgp.so.@abi@" "${_opgp_lib}/libopgp.a" "${_opgp_include}/opgp.h")
+    if(NOT EXISTS "${_opgp_file}")
+        set(opgp_FOUND FALSE)
+        set(opgp_NOT_FOUND_MESSAGE "${_opgp_file} is missing: install libopgp again")
+        return()
+    endif()
+endforeach()
+if(NOT TARGET opgp::opgp)
+    add_library(opgp::opgp SHARED IMPORTED)
+    set_target_properties(opgp::opgp PROPERTIES IMPORTED_LOCATION "${_opgp_lib}/libopgp.so.@abi@" IMPORTED_SONAME "libopgp.so.@abi@"
+        INTERFACE_INCLUDE_DIRECTORIES "${_opgp_include}")
+    add_library(opgp::static STATIC IMPORTED)
+    set_target_properties(opgp::static PROPERTIES IMPORTED_LOCATION "${_opgp_lib}/libopgp.a" IMPORTED_LINK_INTERFACE_LANGUAGES "C"
+        INTERFACE_INCLUDE_DIRECTORIES "${_opgp_include}")
+endif()
+unset(_opgp_here)
+unset(_opgp_lib)
+unset(_opgp_include)
+unset(_opgp_file)

@@ -23,7 +23,7 @@ _opgp() {
         '--input=[the most octets of the input]:number:'
         '--pieces=[the most partial lengths of a packet]:number:'
         '--progress[show on standard error how much was read]'
-        '--quiet[print nothing but the fault of a refused input]'
+        '--quiet[leave out the second line on standard error]'
         '--spool=[hold the output in a file in this directory]:directory:_files -/'
         '--help[prints the help]'
     )

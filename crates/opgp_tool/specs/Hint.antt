@@ -142,10 +142,15 @@ block_advice rest =
     (if begins rest (codes "-----BEGIN PGP SIGNATURE-----") then advice.SignatureBlock else
     (if begins rest (codes "-----BEGIN PGP MESSAGE-----") then advice.MessageBlock else advice.OtherBlock))
 
--- the begin line of block 0 is the first one
+-- from the first line feed that a begin line follows, or nothing
+abbrev pub before_begin : List ℕ → List ℕ
+before_begin octets = drop (unwrap_or (first_of (matches octets (10 ∷ mark) 0)) (length octets)) octets
+
+-- block 0 has the first line that begins as a begin line
 abbrev pub label_of_block : ℕ → List ℕ → Advice
 label_of_block block octets = if block == 0
-    then block_advice (drop (unwrap_or (mark_in octets) (length octets)) octets) else advice.OtherBlock
+    then (if begins octets mark then block_advice octets else block_advice (drop 1 (before_begin octets)))
+    else advice.OtherBlock
 
 -- a fault below the armor; of its packet the octets from the first one on, or none if they aren't known
 abbrev pub reason_advice : Reason → ℕ → List ℕ → List ℕ → Advice
@@ -158,6 +163,7 @@ reason_advice reason.Indeterminate block octets rest = advice.OtherPacket
 reason_advice reason.PartialKind block octets rest = advice.OtherPacket
 reason_advice reason.FirstPartial block octets rest = advice.OtherPacket
 reason_advice reason.BodyTooLong block octets rest = advice.LongBody
+reason_advice reason.KeyVersion block octets rest = advice.OtherKeyVersion
 reason_advice reason.TooManyPieces block octets rest = advice.ManyPieces
 reason_advice reason.NoPrimary block octets rest = advice.NoPrimary
 reason_advice reason.NotInKeyring block octets rest = foreign_advice rest

@@ -3,7 +3,7 @@
 ghost use Rattle.std.specs.Prelude.{◌≡◌, ◌+◌, ◌==◌, ◌≤◌, length, take, drop, count_by, true, false, IsSome, Some, is_some};
 ghost use Rattle.opgp_frame.specs.Header.{kind_in};
 ghost use Rattle.opgp_engine.specs.Reading.{is_binary};
-ghost use Rattle.opgp_tool.specs.Hint.{about, armor_hint, begins, binary_hint, block_advice, end_advice};
+ghost use Rattle.opgp_tool.specs.Hint.{about, armor_hint, before_begin, begins, binary_hint, block_advice, end_advice};
 ghost use Rattle.opgp_tool.specs.Hint.{fault_hint, first_line, foreign_advice, format_of, hint_of, done_hint, label_advice};
 ghost use Rattle.opgp_tool.specs.Hint.{label_of_block, line_advice, mark_in, no_block_hint, no_packet_advice};
 ghost use Rattle.opgp_tool.specs.Hint.{packet_advice, packet_hint, text_format_of, type_advice};
@@ -256,16 +256,26 @@ fn block_advice(rest: &[u8]) -> Advice
     }
 }
 
+/// The octets from the first line feed that a begin line follows, or none.
+fn before_begin(octets: &[u8]) -> &[u8]
+    ensures { result.now ≡ before_begin octets.now }
+{
+    match memmem::find(octets, b"\n-----BEGIN PGP ".as_slice()) {
+        Some(at) => rest_at(octets, at as u64),
+        None => rest_at(octets, octets.len() as u64),
+    }
+}
+
 /// A block with another label than a public key block's.
 fn label_of_block(block: u64, octets: &[u8]) -> Advice
     ensures { result ≡ label_of_block block octets.now }
 {
     if block == 0 {
-        let begin = match mark_in(octets) {
-            Some(at) => at as u64,
-            None => octets.len() as u64,
-        };
-        block_advice(rest_at(octets, begin))
+        if octets.starts_with(b"-----BEGIN PGP ".as_slice()) {
+            block_advice(octets)
+        } else {
+            block_advice(rest_at(before_begin(octets), 1))
+        }
     } else {
         Advice::OtherBlock
     }
@@ -285,6 +295,7 @@ fn packet_advice(fault: &Fault, octets: &[u8], rest: &[u8]) -> Advice
         Reason::PartialKind => Advice::OtherPacket,
         Reason::FirstPartial => Advice::OtherPacket,
         Reason::BodyTooLong => Advice::LongBody,
+        Reason::KeyVersion => Advice::OtherKeyVersion,
         Reason::TooManyPieces => Advice::ManyPieces,
         Reason::NoPrimary => Advice::NoPrimary,
         Reason::NotInKeyring => foreign_advice(rest),

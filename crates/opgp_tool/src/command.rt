@@ -228,7 +228,7 @@ fn new_command<'a>(
     let command = with_limits(alloc, command);
     let help = "Show on standard error how much was read";
     let command = with_option(command, flag_option(alloc, "progress", help));
-    let help = "Print nothing but the fault of a refused input";
+    let help = "Leave out the second line on standard error";
     let command = with_option(command, flag_option(alloc, "quiet", help));
     let help = "Hold the output in a file in this directory";
     with_option(command, text_option(alloc, "spool", "DIR", help))

@@ -64,4 +64,4 @@ pub const JOIN_HELP: &str = "--merge makes one certificate of those with the sam
 and writes equal user
 IDs, attributes, subkeys and signatures once.
 
-Example: cat ONE.asc OTHER.asc | opgp join --merge > BOTH.asc";
+Example: cat ONE.asc OTHER.asc | opgp join --merge --outside refuse > BOTH.asc";

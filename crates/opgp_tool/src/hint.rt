@@ -61,8 +61,9 @@ pub enum Advice {
     LongBody,
     ManyPieces,
     LongCertificate,
-    /// A packet whose body is malformed.
+    /// A packet whose body is malformed, or a key of another version.
     Malformed,
+    OtherKeyVersion,
     /// Packets and blocks that no keyring has.
     SecretKey,
     SignatureBlock,
@@ -90,52 +91,56 @@ impl Advice {
             Advice::Png => "this looks like a PNG picture, not a key",
             Advice::Jpeg => "this looks like a JPEG picture, not a key",
             Advice::Pdf => "this looks like a PDF document, not a key",
-            Advice::Page => "this looks like an HTML or XML page, not a key",
+            Advice::Page => "this looks like an HTML or XML page; save the text of the key alone",
             Advice::Keybox => "this is GnuPG's keybox; gpg --export writes its keys",
-            Advice::Pem => "this looks like PEM, as TLS has it, not like OpenPGP",
+            Advice::Pem =>
+                "this looks like PEM, as TLS and SSH have it; OpenPGP has -----BEGIN PGP",
             Advice::Ssh => "this looks like an SSH key, not like OpenPGP",
             Advice::ByteOrderMark =>
                 "the input begins with a byte order mark; remove its three octets",
             Advice::Wide => "this looks like UTF-16 text; save it as UTF-8",
-            Advice::NotArmored => {
-                "no line begins with -----BEGIN PGP; this isn't armored (--mode binary reads packets)"
-            }
+            Advice::NotArmored => { "no line begins with -----BEGIN PGP; this isn't armored" }
             Advice::Quoted =>
-                "the begin line is quoted or indented; remove what is in front of each line",
+                "a begin line that isn't at the start of its line; remove what is in front of each line",
             Advice::SignedText =>
-                "a cleartext signed message, which opgp doesn't read; gpgv and sqv verify it",
-            Advice::ArmoredFile => "an ARMORED FILE; gpg --dearmor writes its packets",
-            Advice::LostLineEnds => "text follows the begin line's hyphens; line ends were lost",
-            Advice::OtherLabel => "a begin line with a label that isn't OpenPGP's",
+                "a cleartext signed message, which opgp doesn't read; gpgv verifies it",
+            Advice::ArmoredFile => "an ARMORED FILE; gpg --dearmor writes its octets",
+            Advice::LostLineEnds =>
+                "text follows the begin line's hyphens; remove it, or restore the line ends that were lost",
+            Advice::OtherLabel => "a begin line of no block that opgp reads",
             Advice::NoHeader => "not a header; a blank line must be in front of the data",
             Advice::NoLetter => "a character that isn't base64; the text is quoted or was changed",
             Advice::BadPadding =>
                 "the base64 doesn't end as it must; letters are missing or changed",
             Advice::AfterChecksum => "text between the checksum and the end line",
             Advice::GluedFiles =>
-                "an end line and a begin line in one line; a line end is missing between two files",
+                "a begin line within a block; the end line, or the line end in front of it, is missing",
             Advice::NoEndLine => "begins with a hyphen, but isn't the block's end line",
-            Advice::LongLine => "longer than --line allows",
+            Advice::LongLine => "a line longer than --line allows",
             Advice::CutText => "the text ends within a block; its end line is missing",
-            Advice::NotBlank => "text outside of armored blocks; --outside skip passes over it",
+            Advice::NotBlank =>
+                "not blank, outside of armored blocks; read each file by itself, or remove the line",
             Advice::ReadAsPackets =>
-                "a begin line of armor, but this was read as packets; try --mode armor",
-            Advice::LineEndBehind => "a line end follows the packets; remove it",
-            Advice::ZerosBehind => "zeros follow the packets; remove them",
+                "a begin line of armor, but this was read as packets; --mode armor reads armored blocks alone",
+            Advice::LineEndBehind => "a line end where a packet should begin; remove it",
+            Advice::ZerosBehind => "zeros where a packet should begin; remove them",
             Advice::NoPacket => "these octets aren't an OpenPGP packet",
-            Advice::CutPacket => "the input ends within a packet; it was cut, or isn't OpenPGP",
+            Advice::CutPacket => "octets of a packet are missing; it was cut, or isn't OpenPGP",
             Advice::CompressedPacket =>
                 "a packet of compressed data, as messages have; gpg --decrypt unpacks it",
             Advice::OtherPacket => "a packet that opgp doesn't read, or no OpenPGP at all",
-            Advice::LongInput => "longer than --input allows",
-            Advice::LongBody => "a packet longer than --body allows",
+            Advice::LongInput => "the input is longer than --input allows",
+            Advice::LongBody => "a packet longer than --body allows, or no OpenPGP at all",
             Advice::ManyPieces => "a packet in more pieces than --pieces allows",
-            Advice::LongCertificate => "a certificate longer than --cert allows",
+            Advice::LongCertificate =>
+                "a certificate, or what precedes the first one, longer than --cert allows",
             Advice::Malformed =>
-                "a malformed packet; --malformed keep passes over signatures alone",
+                "a malformed packet; --malformed keep accepts malformed signatures",
+            Advice::OtherKeyVersion =>
+                "a key of a version other than 4 and 6, which opgp doesn't read",
             Advice::SecretKey =>
                 "a secret key; don't pass it on (gpg --export writes the public key)",
-            Advice::SignatureBlock => "a signature, not a keyring; opgp show lists its packets",
+            Advice::SignatureBlock => "a signature alone; opgp show lists its packets",
             Advice::MessageBlock => "a message, not a keyring; opgp show lists its packets",
             Advice::OtherBlock =>
                 "a block that this command doesn't read; opgp show lists its packets",
@@ -143,7 +148,7 @@ impl Advice {
                 "no key in front of it; a revocation certificate goes behind its key, a detached signature isn't a keyring"
             }
             Advice::MessagePacket => "a packet of a message, not of a keyring; opgp show lists it",
-            Advice::ForeignPacket => "a packet that no keyring has; opgp show lists it",
+            Advice::ForeignPacket => "a packet that no public keyring has; opgp show lists it",
             Advice::NotSigned => "not one literal packet with its signatures",
         }
     }

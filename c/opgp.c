@@ -138,6 +138,12 @@ static void *room_for(uint64_t count, size_t size)
     return count > SIZE_MAX / size ? NULL : calloc(count ? (size_t)count : 1, size);
 }
 
+/* The same, with whatever is there. */
+static void *bare_room_for(uint64_t count, size_t size)
+{
+    return count > SIZE_MAX / size ? NULL : malloc((count ? (size_t)count : 1) * size);
+}
+
 /* ---- Keyrings */
 
 static opgp_keyring *new_keyring(void)
@@ -315,14 +321,16 @@ uint32_t opgp_join(const opgp_keyring *keyring, const opgp_keyring *other, opgp_
 
 /* ---- Tables: each is made once, of a keyring that is locked. */
 
-/* Makes one table, in this room at first, and where that is too little in as much as it then wants. */
+/* Makes one table if it isn't made yet: asked with no room, the call counts how much is wanted. Each octet of that room is filled then,
+ * or the room is freed, so it is taken as it is. */
 #define FILL(CALL, ROWS, BYTES, SIZES)                                                                             \
-    static uint32_t fill_##ROWS(opgp_keyring *it, opgp_sizes room)                                                 \
+    static uint32_t want_##ROWS(opgp_keyring *it)                                                                  \
     {                                                                                                              \
-        uint32_t status = OPGP_ROOM;                                                                               \
+        opgp_sizes room = {0, 0};                                                                                  \
+        uint32_t status = it->ROWS ? OPGP_DONE : OPGP_ROOM;                                                        \
         for (; status == OPGP_ROOM; room = it->SIZES) {                                                            \
-            it->ROWS = room_for(room.rows, sizeof *it->ROWS);                                                      \
-            it->BYTES = room_for(room.bytes, 1);                                                                   \
+            it->ROWS = bare_room_for(room.rows, sizeof *it->ROWS);                                                 \
+            it->BYTES = bare_room_for(room.bytes, 1);                                                              \
             status = !it->ROWS || !it->BYTES                                                                       \
                          ? OPGP_MEMORY                                                                             \
                          : CALL(&it->ring, it->ROWS, (size_t)room.rows, it->BYTES, (size_t)room.bytes, &it->SIZES); \
@@ -340,34 +348,6 @@ FILL(opgp_ring_packets, packets, bodies, packet_sizes)
 FILL(opgp_ring_keys, keys, material, key_sizes)
 FILL(opgp_ring_jobs, jobs, made, job_sizes)
 FILL(opgp_ring_subpackets, subpackets, data, subpacket_sizes)
-
-static uint32_t want_packets(opgp_keyring *it)
-{
-    const opgp_sizes nothing = {0, 0};
-    return it->packets ? OPGP_DONE : fill_packets(it, nothing);
-}
-
-static uint32_t want_subpackets(opgp_keyring *it)
-{
-    const opgp_sizes nothing = {0, 0};
-    return it->subpackets ? OPGP_DONE : fill_subpackets(it, nothing);
-}
-
-/* The packets say how many keys there are, and more octets than their material has. */
-static uint32_t want_keys(opgp_keyring *it)
-{
-    opgp_sizes room = {0, 0};
-    uint32_t status = it->keys ? OPGP_DONE : want_packets(it);
-    if (it->keys || status != OPGP_DONE) {
-        return status;
-    }
-    for (uint64_t i = 0; i < it->packet_sizes.rows; i++) {
-        bool is_key = it->packets[i].kind == OPGP_PACKET_PUBLIC_KEY || it->packets[i].kind == OPGP_PACKET_PUBLIC_SUBKEY;
-        room.rows += is_key;
-        room.bytes += is_key ? it->packets[i].size : 0;
-    }
-    return fill_keys(it, room);
-}
 
 /* Whether a subpacket is of the signature of this job. */
 static bool is_of(const opgp_subpacket *subpacket, const opgp_job *job)
@@ -394,28 +374,12 @@ static uint32_t find_firsts(opgp_keyring *it)
     return OPGP_DONE;
 }
 
-/* Each digest is made once: there are no more jobs than signatures and embedded ones, and what their algorithms made and the names
- * of their issuers are in those. */
-static uint32_t want_jobs(opgp_keyring *it)
+/* The jobs and the subpackets, and which of these are of each job. */
+static uint32_t want_firsts(opgp_keyring *it)
 {
-    opgp_sizes room = {0, 0};
-    uint32_t status = it->firsts ? OPGP_DONE : want_packets(it);
+    uint32_t status = it->firsts ? OPGP_DONE : want_jobs(it);
     status = status == OPGP_DONE ? want_subpackets(it) : status;
-    if (it->firsts || status != OPGP_DONE) {
-        return status;
-    }
-    for (uint64_t i = 0; i < it->packet_sizes.rows; i++) {
-        bool is_signature = it->packets[i].kind == OPGP_PACKET_SIGNATURE;
-        room.rows += is_signature;
-        room.bytes += is_signature ? it->packets[i].size : 0;
-    }
-    for (uint64_t i = 0; i < it->subpacket_sizes.rows; i++) {
-        bool is_embedded = it->subpackets[i].kind == OPGP_SUBPACKET_EMBEDDED_SIGNATURE && it->subpackets[i].nested == OPGP_NONE;
-        room.rows += is_embedded;
-        room.bytes += is_embedded ? it->subpackets[i].size : 0;
-    }
-    status = it->jobs ? OPGP_DONE : fill_jobs(it, room);
-    return status == OPGP_DONE ? find_firsts(it) : status;
+    return status == OPGP_DONE && !it->firsts ? find_firsts(it) : status;
 }
 
 /* Gives the rows of a table, or none. */
@@ -481,7 +445,7 @@ uint32_t opgp_certificate_count(const opgp_keyring *keyring, size_t *count)
 uint32_t opgp_subpackets_of(const opgp_keyring *keyring, size_t row, const opgp_subpacket **rows, size_t *count)
 {
     opgp_keyring *it = enter(keyring);
-    uint32_t status = want_jobs(it);
+    uint32_t status = want_firsts(it);
     status = status == OPGP_DONE && row >= it->job_sizes.rows ? OPGP_NO_ROW : status;
     *count = status == OPGP_DONE ? it->firsts[row + 1] - it->firsts[row] : 0;
     *rows = *count ? &it->subpackets[it->firsts[row]] : NULL;

@@ -1,11 +1,12 @@
 //! The tables of a keyring, put into those of a caller.
 
-ghost use Rattle.std.specs.Prelude.{◌≡◌, ◌≢◌, ◌⊎◌, ◌<◌, ℕ, List, length, IfOk, Some, None};
+ghost use Rattle.std.specs.Prelude.{◌≡◌, ◌≢◌, ◌⊎◌, ◌<◌, ◌≤◌, ℕ, List, length, OnErr, OnOk, Some, None};
 ghost use Rattle.std.specs.List.{slice_get};
 ghost use Rattle.opgp_flat.specs.HashedRows.{hashed_bytes, hashed_rows};
 ghost use Rattle.opgp_flat.specs.Jobs.{job_bytes, job_rows};
 ghost use Rattle.opgp_flat.specs.Keys.{key_bytes, key_rows};
 ghost use Rattle.opgp_flat.specs.Packets.{packet_bytes, packet_rows};
+ghost use Rattle.opgp_flat.specs.Sizes.{capped};
 ghost use Rattle.opgp_flat.specs.Subpackets.{subpacket_bytes, subpacket_rows};
 ghost use Rattle.opgp_hash.specs.Hashed.{hashed};
 ghost use Rattle.opgp_hash.specs.QuestionValue.{QuestionValue};
@@ -16,10 +17,11 @@ ghost use Rattle.opgp_c.specs.Calls.{AreSized, IsFilled, IsShort, PutsTables};
 use crate::calls::{put_both, put_octets};
 use crate::ring::Ring;
 use crate::sizes::Sizes;
-use crate::status::{CLOSED, MEMORY, NO_ROW};
+use crate::status::{CLOSED, DONE, MEMORY, NO_ROW, ROOM};
 use opgp_flat::{
-    HashedRow, JobRow, KeyRow, PacketRow, SubpacketRow, hashed_rows, jobs, keys, packets,
-    row_octets, subpackets,
+    HashedRow, JobRow, KeyRow, PacketRow, SubpacketRow, TableSizes, fill, fill_jobs, fill_packets,
+    fill_subpackets, hashed_rows, job_sizes, key_sizes, keys, packet_sizes, row_octets,
+    subpacket_sizes,
 };
 use opgp_octets::OutOfMemory;
 use opgp_ring::Keyring;
@@ -32,10 +34,36 @@ pub(crate) trait Row: Copy + Sized {
 
     ghost bytes: { KeyringValue → List ℕ };
 
-    /// Both. Fails only when out of memory.
-    fn both(alloc: Global, keyring: &Keyring) -> Result<(Vec<Self>, Vec<u8>), OutOfMemory>
-        ensures { IfOk result (λ x. (x.0.items ≡ rows keyring.now)
-            × (x.1.items ≡ bytes keyring.now)) };
+    /// How many there are of both. Allocates nothing.
+    fn sizes(keyring: &Keyring) -> TableSizes
+        ensures rows { result.rows ≡ capped (length (rows keyring.now)) }
+        ensures bytes { result.bytes ≡ capped (length (bytes keyring.now)) };
+
+    /// Fills the front of two tables with both, if these have the room. Where the making is in memory of
+    /// its own, the sizes say how much that is at first. Fails only when out of memory.
+    fn fill(
+        alloc: Global,
+        keyring: &Keyring,
+        sizes: TableSizes,
+        table: &mut [Self],
+        octets: &mut [u8],
+    ) -> Result<(), OutOfMemory>
+        requires rows { length (rows keyring.now) ≤ length table.old }
+        requires bytes { length (bytes keyring.now) ≤ length octets.old }
+        ensures rows { OnOk result (IsFilled (rows keyring.now) table.old table.new) }
+        ensures bytes { OnOk result (IsFilled (bytes keyring.now) octets.old octets.new) }
+        ensures kept { OnErr result ((table.new ≡ table.old) × (octets.new ≡ octets.old)) };
+}
+
+/// Fills the front of two tables that have the room.
+fn fill_both<T: Copy>(found: &[T], made: &[u8], table: &mut [T], octets: &mut [u8])
+    requires rows { length found.now ≤ length table.old }
+    requires bytes { length made.now ≤ length octets.old }
+    ensures rows { IsFilled found.now table.old table.new }
+    ensures bytes { IsFilled made.now octets.old octets.new }
+{
+    fill(found, table);
+    fill(made, octets);
 }
 
 impl Row for PacketRow {
@@ -43,8 +71,19 @@ impl Row for PacketRow {
 
     ghost bytes = { packet_bytes };
 
-    fn both(alloc: Global, keyring: &Keyring) -> Result<(Vec<PacketRow>, Vec<u8>), OutOfMemory> {
-        packets(alloc, keyring)
+    fn sizes(keyring: &Keyring) -> TableSizes {
+        packet_sizes(keyring)
+    }
+
+    fn fill(
+        _alloc: Global,
+        keyring: &Keyring,
+        _sizes: TableSizes,
+        table: &mut [PacketRow],
+        octets: &mut [u8],
+    ) -> Result<(), OutOfMemory> {
+        fill_packets(keyring, table, octets);
+        Ok(())
     }
 }
 
@@ -53,8 +92,20 @@ impl Row for KeyRow {
 
     ghost bytes = { key_bytes };
 
-    fn both(alloc: Global, keyring: &Keyring) -> Result<(Vec<KeyRow>, Vec<u8>), OutOfMemory> {
-        keys(alloc, keyring)
+    fn sizes(keyring: &Keyring) -> TableSizes {
+        key_sizes(keyring)
+    }
+
+    fn fill(
+        alloc: Global,
+        keyring: &Keyring,
+        sizes: TableSizes,
+        table: &mut [KeyRow],
+        octets: &mut [u8],
+    ) -> Result<(), OutOfMemory> {
+        let (found, made) = keys(alloc, keyring, sizes)?;
+        fill_both(&found, &made, table, octets);
+        Ok(())
     }
 }
 
@@ -63,8 +114,18 @@ impl Row for JobRow {
 
     ghost bytes = { job_bytes };
 
-    fn both(alloc: Global, keyring: &Keyring) -> Result<(Vec<JobRow>, Vec<u8>), OutOfMemory> {
-        jobs(alloc, keyring)
+    fn sizes(keyring: &Keyring) -> TableSizes {
+        job_sizes(keyring)
+    }
+
+    fn fill(
+        alloc: Global,
+        keyring: &Keyring,
+        _sizes: TableSizes,
+        table: &mut [JobRow],
+        octets: &mut [u8],
+    ) -> Result<(), OutOfMemory> {
+        fill_jobs(alloc, keyring, table, octets)
     }
 }
 
@@ -73,8 +134,19 @@ impl Row for SubpacketRow {
 
     ghost bytes = { subpacket_bytes };
 
-    fn both(alloc: Global, keyring: &Keyring) -> Result<(Vec<SubpacketRow>, Vec<u8>), OutOfMemory> {
-        subpackets(alloc, keyring)
+    fn sizes(keyring: &Keyring) -> TableSizes {
+        subpacket_sizes(keyring)
+    }
+
+    fn fill(
+        _alloc: Global,
+        keyring: &Keyring,
+        _sizes: TableSizes,
+        table: &mut [SubpacketRow],
+        octets: &mut [u8],
+    ) -> Result<(), OutOfMemory> {
+        fill_subpackets(keyring, table, octets);
+        Ok(())
     }
 }
 
@@ -97,7 +169,8 @@ pub(crate) fn put_table<T: Row>(
     status
 }
 
-/// Puts a table of a keyring.
+/// Puts a table of a keyring: where there is too little room, none is made, and where its sizes are beyond
+/// numbers of 64 bits, there is no memory for it.
 fn put_rows<T: Row>(
     alloc: Global,
     keyring: &Keyring,
@@ -113,8 +186,19 @@ fn put_rows<T: Row>(
     ensures sizes { result ≢ 3 → AreSized (T.rows keyring.now) (T.bytes keyring.now) sizes.new }
     ensures status { (result ≡ 0) ⊎ ((result ≡ 2) ⊎ (result ≡ 3)) }
 {
-    match T::both(alloc, keyring) {
-        Ok((found, octets)) => put_both(&found, &octets, rows, bytes, sizes),
+    let wanted = T::sizes(keyring);
+    if wanted.rows == u64::MAX || wanted.bytes == u64::MAX {
+        return MEMORY;
+    }
+    *sizes = Sizes {
+        rows: wanted.rows,
+        bytes: wanted.bytes,
+    };
+    if wanted.rows > rows.len() as u64 || wanted.bytes > bytes.len() as u64 {
+        return ROOM;
+    }
+    match T::fill(alloc, keyring, wanted, rows, bytes) {
+        Ok(()) => DONE,
         Err(_) => MEMORY,
     }
 }

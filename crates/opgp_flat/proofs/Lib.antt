@@ -1,5 +1,9 @@
 mod Cutting
 mod Collecting
+mod Counting
+mod FilledJobs
+mod FilledSubpackets
+mod Filling
 mod Holding
 mod Joining
 mod Lines

@@ -1,6 +1,6 @@
 -- The table of a keyring's jobs: a row for each row of its report, in order, and the octets that
 -- they point into.
-use Rattle.std.specs.Prelude.{◌≡◌, ℕ, ◌+◌, ⊤, List, [], ◌∷◌, ◌++◌, length, map, drop, replicate}
+use Rattle.std.specs.Prelude.{ℕ, ◌+◌, List, [], ◌∷◌, ◌++◌, length, map, drop, replicate}
 use Rattle.std.specs.Prelude.{Option, Some, None, Result, Ok, Err}
 use Rattle.std.specs.List.{flat_map}
 use Rattle.opgp_octets.specs.declared.fault.BodyFault.{BodyFault}
@@ -22,7 +22,6 @@ use Rattle.opgp_report.specs.declared.verifier.Verdict.TheVariants.{Good, Bad, U
 use Rattle.opgp_report.specs.Asked.{Asked, asked_by}
 use Rattle.opgp_report.specs.First.{print_of}
 use Rattle.opgp_report.specs.Left.{left_in, left_verdict}
-use Rattle.opgp_report.specs.KeyIndex.{prints_shown}
 use Rattle.opgp_report.specs.Report.{keys_in}
 use Rattle.opgp_report.specs.Named.{named_of}
 use Rattle.opgp_report.specs.Signer.{NameValue, by_print, by_id, unnamed, signer_of}
@@ -30,7 +29,6 @@ use Rattle.opgp_report.specs.Standing.{Standing, standing_in}
 use Rattle.opgp_ring.specs.Keyring.{KeyringValue}
 use Rattle.opgp_flat.specs.declared.job_row.Answered.{Answered}
 use Rattle.opgp_flat.specs.declared.job_row.JobRow.{JobRow}
-use Rattle.opgp_flat.specs.declared.job_table.JobTable.{JobTable}
 use Rattle.opgp_flat.specs.Parts.{number_at, two, values_of}
 use Rattle.opgp_flat.specs.Room.{none, padded}
 
@@ -248,11 +246,3 @@ job_rows r = jobs_from (prints_in r) 0 (standing_in r)
 
 abbrev pub job_bytes : KeyringValue → List ℕ
 job_bytes r = flat_map job_octets (standing_in r)
-
--- a row is added for each signature that the maker of the table visits, unless memory runs out
-abbrev pub AddsJobs : {E : Type 0} → JobTable → List Standing → Result JobTable E → Type 0
-AddsJobs t list (Ok u) =
-    (u.rows.items ≡ t.rows.items
-    ++ jobs_from (prints_shown t.names) (length t.bytes.items) list)
-    × (u.bytes.items ≡ t.bytes.items ++ flat_map job_octets list)
-AddsJobs t list (Err refusal) = ⊤

@@ -1,5 +1,8 @@
 pub mod FaultLine
 pub mod FaultRow
+pub mod FilledJobs
+pub mod FilledSubpackets
+pub mod Filling
 pub mod GivenLimits
 pub mod HashedRows
 pub mod HashedTable
@@ -9,5 +12,6 @@ pub mod Names
 pub mod Packets
 pub mod Parts
 pub mod Room
+pub mod Sizes
 pub mod SubpacketValues
 pub mod Subpackets

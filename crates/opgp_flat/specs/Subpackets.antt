@@ -1,6 +1,6 @@
 -- The table of the subpackets of a keyring's signatures: a row for each, those of each signature in
 -- the order of the report, and the data that they point into.
-use Rattle.std.specs.Prelude.{◌≡◌, ℕ, ◌+◌, ⊤, Bool, true, false, List, [], ◌∷◌, ◌++◌, length}
+use Rattle.std.specs.Prelude.{ℕ, ◌+◌, Bool, true, false, List, [], ◌∷◌, ◌++◌, length}
 use Rattle.std.specs.Prelude.{drop, replicate, take, Result, Ok, Err}
 use Rattle.std.specs.List.{flat_map}
 use Rattle.opgp_octets.specs.SubpacketKind.{subpacket_kind_of}
@@ -15,7 +15,6 @@ use Rattle.opgp_report.specs.declared.place.Place.{Place}
 use Rattle.opgp_report.specs.Standing.{Standing, standing_in}
 use Rattle.opgp_ring.specs.Keyring.{KeyringValue}
 use Rattle.opgp_flat.specs.declared.subpacket_row.SubpacketRow.{SubpacketRow}
-use Rattle.opgp_flat.specs.declared.subpacket_table.SubpacketTable.{SubpacketTable}
 use Rattle.opgp_flat.specs.declared.subpacket_values.SubpacketValues.{SubpacketValues}
 use Rattle.opgp_flat.specs.Jobs.{or_none}
 use Rattle.opgp_flat.specs.SubpacketValues.{values_of}
@@ -114,11 +113,3 @@ sub_shown s = (kind_shown s.kind, s.octets)
 -- those of a row, whose data is in these octets
 abbrev pub subpacket_shown : List ℕ → SubpacketRow → ℕ × List ℕ
 subpacket_shown bytes row = (row.kind, take row.size (drop row.at bytes))
-
--- the rows of each signature that the maker of the table visits are added, unless memory runs out
-abbrev pub AddsSubpackets : {E : Type 0} → SubpacketTable → List Standing
-    → Result SubpacketTable E → Type 0
-AddsSubpackets t list (Ok u) =
-    (u.rows.items ≡ t.rows.items ++ subpackets_from (length t.bytes.items) list)
-    × (u.bytes.items ≡ t.bytes.items ++ flat_map subpacket_octets list)
-AddsSubpackets t list (Err refusal) = ⊤

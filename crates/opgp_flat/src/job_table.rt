@@ -1,7 +1,6 @@
 //! The table of a keyring's jobs.
 
-ghost use Rattle.std.specs.Prelude.{◌≡◌, ◌++◌, ◌∷◌, [], Result, length, map, OnOk, IfOk};
-ghost use Rattle.std.specs.List.{flat_map};
+ghost use Rattle.std.specs.Prelude.{◌≡◌, ◌≤◌, ◌++◌, Result, drop, length, map, OnOk, OnErr};
 ghost use Rattle.std.specs.Result.{ForOk};
 ghost use Rattle.opgp_octets.specs.Reading.{Reads};
 ghost use Rattle.opgp_packet.specs.SigView.{sig_view_value};
@@ -14,21 +13,23 @@ ghost use Rattle.opgp_hash.specs.declared.why.Why.{Why};
 ghost use Rattle.opgp_report.specs.Left.{left_in};
 ghost use Rattle.opgp_report.specs.IssuerName.{name_value};
 ghost use Rattle.opgp_report.specs.KeyIndex.{prints_shown};
-ghost use Rattle.opgp_flat.specs.Jobs.{AddsJobs, algorithm_in, answer_to, bad_number, created_in};
-ghost use Rattle.opgp_flat.specs.Jobs.{hash_in, issuer_in, name_octets, said_parts};
+ghost use Rattle.opgp_flat.specs.Jobs.{algorithm_in, answer_to, bad_number, created_in};
+ghost use Rattle.opgp_flat.specs.Jobs.{hash_in, issuer_in, name_octets};
 ghost use Rattle.opgp_flat.specs.Jobs.{job_bytes, job_rows, kind_in, octets_or_zeros, opaque_row};
 ghost use Rattle.opgp_flat.specs.Jobs.{or_none, signature_parts, signature_row, version_in};
-ghost use Rattle.opgp_flat.specs.Jobs.{the_one, time_in, times_in, why_number};
+ghost use Rattle.opgp_flat.specs.Jobs.{prints_in, the_one, time_in, times_in, why_number};
 
+use crate::job_filler::{JobFiller, NoRoom};
 use crate::job_row::{Answered, JobRow, digest_padded};
 use crate::key_row::NONE;
 use crate::parts::signature_parts;
-use opgp_hash::{CertificateHasher, Fingerprint, KeyId, Question, Site, Why, ask_at};
-use opgp_octets::{BodyFault, OutOfMemory, SubpacketKind};
+use crate::table_sizes::TableSizes;
+use opgp_hash::{CertificateHasher, Fingerprint, KeyId, Question, Why};
+use opgp_octets::{OutOfMemory, SubpacketKind};
 use opgp_packet::{SigView, SubView, Subs};
 use opgp_report::{
-    IssuerName, Job, KeyIndex, LeftOctets, Place, Verdict, Verifier, Visitor, index_keys,
-    issuer_named, signer, visit,
+    IssuerName, Job, KeyIndex, LeftOctets, Place, Verdict, Verifier, index_keys, issuer_named,
+    signer, visit,
 };
 use opgp_ring::Keyring;
 use std::alloc::Global;
@@ -65,7 +66,7 @@ pub(crate) fn or_none(number: Option<usize>) -> u64
 }
 
 /// What a signature's algorithm made.
-fn parts_of<'a>(view: SigView<'a>) -> [&'a [u8]; 2]
+pub(crate) fn parts_of<'a>(view: SigView<'a>) -> [&'a [u8]; 2]
     ensures { map (λ o. o.now) result ≡ signature_parts (sig_view_value view.entry) }
 {
     match view {
@@ -169,7 +170,7 @@ fn created_in(view: SigView<'_>) -> Option<u32>
 }
 
 /// By what a signature names its issuer's key (RFC 9580, 5.2.2, 5.2.3.12, 5.2.3.35).
-fn name_in(view: SigView<'_>) -> IssuerName
+pub(crate) fn name_in(view: SigView<'_>) -> IssuerName
     ensures { name_octets (name_value result) ≡ issuer_in (sig_view_value view.entry) }
 {
     match view {
@@ -178,33 +179,20 @@ fn name_in(view: SigView<'_>) -> IssuerName
     }
 }
 
-/// Appends the octets of a fingerprint or a key ID, and says how many they are. Fails only when out of
-/// memory.
-fn push_name(bytes: &mut Vec<u8>, name: IssuerName) -> Result<u8, OutOfMemory>
-    ensures octets { OnOk result
-        (bytes.new.items ≡ bytes.old.items ++ name_octets (name_value name)) }
-    ensures size { IfOk result (λ n. n ≡ length (name_octets (name_value name))) }
+/// How many octets a fingerprint or a key ID has.
+pub(crate) fn name_size(name: IssuerName) -> u8
+    ensures { result ≡ length (name_octets (name_value name)) }
 {
     match name {
-        IssuerName::Print(Fingerprint::Four(print)) => {
-            bytes.extend_from_slice(&print)?;
-            Ok(20)
-        }
-        IssuerName::Print(Fingerprint::Six(print)) => {
-            bytes.extend_from_slice(&print)?;
-            Ok(32)
-        }
-        IssuerName::Id(named) => {
-            let KeyId(id) = named;
-            bytes.extend_from_slice(&id)?;
-            Ok(8)
-        }
-        IssuerName::Unnamed => Ok(0),
+        IssuerName::Print(Fingerprint::Four(_)) => 20,
+        IssuerName::Print(Fingerprint::Six(_)) => 32,
+        IssuerName::Id(_) => 8,
+        IssuerName::Unnamed => 0,
     }
 }
 
 /// The row of embedded octets that aren't a signature.
-fn opaque_row(place: Place, at: u64) -> JobRow
+pub(crate) fn opaque_row(place: Place, at: u64) -> JobRow
     ensures { result ≡ opaque_row place at }
 {
     JobRow {
@@ -233,7 +221,7 @@ fn opaque_row(place: Place, at: u64) -> JobRow
 
 /// The digest of a signature's question, and whether it differs from the left octets; or why it
 /// isn't hashed.
-fn answer_to(
+pub(crate) fn answer_to(
     hasher: &mut CertificateHasher<'_>,
     signature: SigView<'_>,
     asked: Result<Question<'_>, Why>,
@@ -268,100 +256,86 @@ fn answer_to(
     }
 }
 
-/// A table of jobs that grows, and the index of the keyring's keys.
-#[derive(Drop)]
-struct JobTable {
-    names: KeyIndex,
-    rows: Vec<JobRow>,
-    bytes: Vec<u8>,
-}
-
-impl JobTable {
-    /// Adds the row of a signature. Fails only when out of memory.
-    #[tactic(auto, using(crate::proofs::Joining::joined_three))]
-    fn add(&mut self, place: Place, view: SigView<'_>, answer: Answered) -> Result<(), OutOfMemory>
-        ensures rows { OnOk result (self.new.rows.items ≡ self.old.rows.items
-            ++ signature_row (prints_shown self.old.names) place (length self.old.bytes.items)
-            (sig_view_value view.entry) answer ∷ []) }
-        ensures bytes { OnOk result (self.new.bytes.items ≡ self.old.bytes.items
-            ++ flat_map (λ o. o) (said_parts (sig_view_value view.entry))) }
-        ensures names { self.new.names ≡ self.old.names }
-    {
-        let at = self.bytes.len() as u64;
-        let [first, second] = parts_of(view);
-        self.bytes.extend_from_slice(first)?;
-        self.bytes.extend_from_slice(second)?;
-        let issuer_size = push_name(&mut self.bytes, name_in(view))?;
-        let sizes = [first.len() as u64, second.len() as u64];
-        let stated = stated_in(view);
-        let left = stated.left;
-        let digest = answer.digest;
-        let created = created_in(view);
-        self.rows.push(JobRow {
-            certificate: place.certificate as u64,
-            component: or_none(place.component),
-            hang: place.hang as u64,
-            nested: or_none(place.nested),
-            signer: or_none(signer(&self.names, view)),
-            at,
-            sizes,
-            created: created.unwrap_or(0),
-            why: answer.why,
-            version: stated.version,
-            kind: stated.kind,
-            algorithm: stated.algorithm,
-            hash: stated.hash,
-            left,
-            is_bad: answer.is_bad,
-            digest_size: answer.digest_size,
-            is_dated: u8::from(created.is_some()),
-            issuer_size,
-            digest,
-            reserved: 0,
-        })?;
-        Ok(())
-    }
-}
-
-impl<'a> Visitor<'a> for JobTable {
-    type Stop = OutOfMemory;
-
-    ghost becomes = { AddsJobs };
-
-    fn meet(
-        &mut self,
-        hasher: &mut CertificateHasher<'a>,
-        site: Site,
-        place: Place,
-        signature: &Result<SigView<'a>, BodyFault>,
-    ) -> Result<(), OutOfMemory> {
-        match signature {
-            Ok(signature) => {
-                let asked = ask_at(site, *signature, hasher.subject());
-                let answer = answer_to(hasher, *signature, asked);
-                self.add(place, *signature, answer)
-            }
-            Err(_) => {
-                self.rows.push(opaque_row(place, self.bytes.len() as u64))?;
-                Ok(())
-            }
-        }
-    }
-}
-
-/// The jobs of a keyring's signatures, in the order of its report, and the octets that they point
-/// into. Fails only when out of memory.
-pub fn jobs(alloc: Global, keyring: &Keyring) -> Result<(Vec<JobRow>, Vec<u8>), OutOfMemory>
-    ensures { IfOk result (λ x. (x.0.items ≡ job_rows keyring.now)
-        × (x.1.items ≡ job_bytes keyring.now)) }
+/// The row of a signature whose octets stand here.
+pub(crate) fn made_row(
+    names: &KeyIndex,
+    place: Place,
+    at: u64,
+    view: SigView<'_>,
+    answer: Answered,
+) -> JobRow
+    ensures { result
+        ≡ signature_row (prints_shown names.now) place at (sig_view_value view.entry) answer }
 {
-    let mut table = JobTable {
-        names: index_keys(alloc, keyring)?,
-        rows: Vec::new(alloc),
-        bytes: Vec::new(alloc),
-    };
-    visit(&mut table, keyring)?;
-    let JobTable { names, rows, bytes } = table;
+    let [first, second] = parts_of(view);
+    let stated = stated_in(view);
+    let left = stated.left;
+    let digest = answer.digest;
+    let created = created_in(view);
+    JobRow {
+        certificate: place.certificate as u64,
+        component: or_none(place.component),
+        hang: place.hang as u64,
+        nested: or_none(place.nested),
+        signer: or_none(signer(names, view)),
+        at,
+        sizes: [first.len() as u64, second.len() as u64],
+        created: created.unwrap_or(0),
+        why: answer.why,
+        version: stated.version,
+        kind: stated.kind,
+        algorithm: stated.algorithm,
+        hash: stated.hash,
+        left,
+        is_bad: answer.is_bad,
+        digest_size: answer.digest_size,
+        is_dated: u8::from(created.is_some()),
+        issuer_size: name_size(name_in(view)),
+        digest,
+        reserved: 0,
+    }
+}
+
+/// Fills the front of two tables with the jobs of a keyring's signatures, in the order of its report, and
+/// the octets that they point into. The condition is that both have the room that [`crate::job_sizes`]
+/// tells. Fails only when out of memory, and the tables are then unchanged.
+pub fn fill_jobs(
+    alloc: Global,
+    keyring: &Keyring,
+    rows: &mut [JobRow],
+    bytes: &mut [u8],
+) -> Result<(), OutOfMemory>
+    requires rows { length (job_rows keyring.now) ≤ length rows.old }
+    requires bytes { length (job_bytes keyring.now) ≤ length bytes.old }
+    ensures rows { OnOk result
+        (rows.new ≡ job_rows keyring.now ++ drop (length (job_rows keyring.now)) rows.old) }
+    ensures bytes { OnOk result
+        (bytes.new ≡ job_bytes keyring.now ++ drop (length (job_bytes keyring.now)) bytes.old) }
+    ensures kept { OnErr result ((rows.new ≡ rows.old) × (bytes.new ≡ bytes.old)) }
+{
+    let names = index_keys(alloc, keyring)?;
+    put_jobs(&names, keyring, rows, bytes);
     drop(names);
-    Ok((rows, bytes))
+    Ok(())
+}
+
+/// Puts the jobs at the front of two tables that have the room.
+fn put_jobs(names: &KeyIndex, keyring: &Keyring, rows: &mut [JobRow], bytes: &mut [u8])
+    requires names { prints_shown names.now ≡ prints_in keyring.now }
+    requires rows { length (job_rows keyring.now) ≤ length rows.old }
+    requires bytes { length (job_bytes keyring.now) ≤ length bytes.old }
+    ensures rows { rows.new ≡ job_rows keyring.now ++ drop (length (job_rows keyring.now)) rows.old }
+    ensures bytes { bytes.new
+        ≡ job_bytes keyring.now ++ drop (length (job_bytes keyring.now)) bytes.old }
+{
+    let mut filler = JobFiller {
+        names,
+        rows,
+        bytes,
+        here: TableSizes::NOTHING,
+    };
+    match visit(&mut filler, keyring) {
+        Ok(()) => {}
+        Err(NoRoom) => unreachable!(),
+    }
 }

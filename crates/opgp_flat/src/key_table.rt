@@ -12,6 +12,7 @@ ghost use Rattle.opgp_flat.specs.Keys.{certificates_rows, key_rows, key_bytes};
 
 use crate::key_row::{KeyRow, NONE, print_padded};
 use crate::parts::key_parts;
+use crate::table_sizes::TableSizes;
 use opgp_hash::{Fingerprint, KeyId, fingerprint_of_view};
 use opgp_octets::OutOfMemory;
 use opgp_packet::KeyView;
@@ -163,14 +164,18 @@ fn add_certificates(
     Ok(())
 }
 
-/// The rows of a keyring's keys, in order, and the octets that they point into. Fails only when out
-/// of memory.
-pub fn keys(alloc: Global, keyring: &Keyring) -> Result<(Vec<KeyRow>, Vec<u8>), OutOfMemory>
+/// The rows of a keyring's keys, in order, and the octets that they point into. The sizes say for how
+/// much room is asked at first. Fails only when out of memory.
+pub fn keys(
+    alloc: Global,
+    keyring: &Keyring,
+    sizes: TableSizes,
+) -> Result<(Vec<KeyRow>, Vec<u8>), OutOfMemory>
     ensures { IfOk result (λ x. (x.0.items ≡ key_rows keyring.now)
         × (x.1.items ≡ key_bytes keyring.now)) }
 {
-    let mut rows = Vec::new(alloc);
-    let mut bytes = Vec::new(alloc);
+    let mut rows = Vec::with_capacity(alloc, sizes.rows as usize)?;
+    let mut bytes = Vec::with_capacity(alloc, sizes.bytes as usize)?;
     add_certificates(&mut rows, &mut bytes, keyring.certificates())?;
     Ok((rows, bytes))
 }

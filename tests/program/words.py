@@ -1,0 +1,243 @@
+#!/usr/bin/env python3
+"""Runs the program with many command lines, over the armored key of RFC 9580, A.1: those that name a task, with what
+the task then does, and those that are invalid, with what the message says. The last line counts the lines."""
+
+import importlib.machinery
+import importlib.util
+import re
+import subprocess
+import sys
+import tempfile
+
+sys.dont_write_bytecode = True
+sys.path.insert(0, f"{sys.path[0]}/../lib")
+
+from running import HERE, built  # noqa: E402
+
+PROGRAM = built("tests/program/words.py")
+# What the launcher answers where nothing is built.
+LOADER = importlib.machinery.SourceFileLoader("first", f"{HERE}/build/first")
+FIRST = importlib.util.module_from_spec(importlib.util.spec_from_loader("first", LOADER))
+LOADER.exec_module(FIRST)
+ROOM = tempfile.TemporaryDirectory()
+KEY = f"{HERE}/examples/rfc9580-a1.asc"
+COMMANDS = ["show", "list", "check", "octets", "write", "normalise", "split", "join"]
+ARMOR, BINARY = b"-----BEGIN PGP PUBLIC KEY BLOCK-----\n\nxjME", b"\xc6\x33\x04"
+NO_ROW, NO_CERTIFICATE = "opgp: no such row", "opgp: no such certificate"
+NO_LITERAL = "composition: BlockLabel block 0 at 0 inner 0"
+# What --progress shows: within the limit 10 one octet more is read, else all of the key.
+READ = {True: "\ropgp: 11 octets, 0 packets\n", False: "\ropgp: 147 octets, 1 packets\n"}
+# What is told beside a fault, without --quiet.
+TOLD = {
+    NO_LITERAL: "opgp: a block that this command doesn't read; opgp show lists its packets\n",
+    "input: InputTooLong block 0 at 10 inner 0": "opgp: the input is longer than --input allows\n",
+    "input: InputTooLong block 0 at 0 inner 0": "opgp: the input is longer than --input allows\n",
+    "framing: NotAPacket block 0 at 0 inner 0": "opgp: line 1: a begin line of armor, but this was read as packets; --mode armor reads armored blocks alone\n",
+}
+# How the output of each command begins; octets has none, since the key has no signature.
+USUAL = {
+    "show": b"block 0 at 0 type 6 ", "list": b"pub v4 alg 22 ", "check": b"", "octets --row 3": NO_ROW,
+    "write": ARMOR, "normalise": ARMOR, "split": ARMOR, "join": ARMOR,
+}
+# A line that names a task, and how its output begins, or the line of its fault.
+ACCEPTED = {
+    "octets --row 0": NO_ROW,
+    "octets --row=7 --of ring": NO_ROW,
+    "octets --of literal --row 18446744073709551615": NO_LITERAL,
+    "octets --of=literal --row +1": NO_LITERAL,
+    "write --out armor": ARMOR,
+    "write --out=binary": BINARY,
+    "write --own-signatures": ARMOR,
+    "write --no-attributes --out binary": BINARY,
+    "write --user-id 0": ARMOR,
+    "write --user-id +007 --no-attributes --own-signatures --out=binary": BINARY,
+    "write --user-id=18446744073709551615 --spool " + ROOM.name: ARMOR,
+    "write --progress --own-signatures --malformed keep": ARMOR,
+    "write --own-signatures --input 10": "input: InputTooLong block 0 at 10 inner 0",
+    "normalise --out binary": BINARY,
+    "split --nth 0": ARMOR,
+    "split --nth +000 --out binary": BINARY,
+    "split --nth=007 --out binary": NO_CERTIFICATE,
+    "split --nth 18446744073709551615": NO_CERTIFICATE,
+    "split --key C959BDBAFA32A2F89A153B678CFDE12197965A9A": ARMOR,
+    "split --key c959bdbafa32a2f89a153b678cfde12197965a9a --out binary": BINARY,
+    "split --key=0xC959BDBAFA32a2f89a153b678cfde12197965A9A --spool " + ROOM.name: ARMOR,
+    "split --key 8CFDE12197965A9A": ARMOR,
+    "split --progress --key 0X8cfde12197965a9a": ARMOR,
+    "split --key 8CFDE12197965A9B": NO_CERTIFICATE,
+    "split --key C959BDBAFA32A2F89A153B678CFDE12197965A9B": NO_CERTIFICATE,
+    "split --key " + 64 * "0": NO_CERTIFICATE,
+    "show --values": USUAL["show"],
+    "list --values": USUAL["list"],
+    "list --values --progress": USUAL["list"],
+    "check --fingerprints": USUAL["check"],
+    "check --fingerprints --progress": USUAL["check"],
+    "check --spool " + ROOM.name + " --fingerprints": USUAL["check"],
+    "octets --all": b"",
+    "octets --all --of ring": b"",
+    "octets --of=ring --progress --all": b"",
+    "octets --all --spool " + ROOM.name: b"",
+    "list --malformed keep --outside=refuse --values": USUAL["list"],
+    "show --values --progress": USUAL["show"],
+    "join --merge": ARMOR,
+    "join --merge --out=binary": BINARY,
+    "join --out binary --": BINARY,
+    "list --": USUAL["list"],
+    "list --line +200 --body 0600 --cert 000700 --input +0800 --pieces 09": USUAL["list"],
+    "octets --progress --of literal --row 1": NO_LITERAL,
+    "join --progress --merge --out binary": BINARY,
+    "list --progress --input 10": "input: InputTooLong block 0 at 10 inner 0",
+    "list --input +010": "input: InputTooLong block 0 at 10 inner 0",
+    "list --quiet --input 10": "input: InputTooLong block 0 at 10 inner 0",
+    "octets --quiet --of literal --row 1": NO_LITERAL,
+    "split --nth=7 --quiet": NO_CERTIFICATE,
+    "list --progress --quiet --input 10": "input: InputTooLong block 0 at 10 inner 0",
+}
+for command, begins in USUAL.items():
+    ACCEPTED[command] = ACCEPTED[f"{command} --progress"] = ACCEPTED[f"{command} --quiet"] = begins
+    ACCEPTED[f"{command} --spool {ROOM.name}"] = ACCEPTED[f"{command} --spool={ROOM.name}/ --progress"] = begins
+    for mode in ("auto", "armor"):
+        ACCEPTED[f"{command} --mode {mode}"] = begins
+    for policy in ("skip", "refuse"):
+        ACCEPTED[f"{command} --outside {policy}"] = begins
+    for policy in ("refuse", "keep"):
+        ACCEPTED[f"{command} --malformed {policy}"] = ACCEPTED[f"{command} --malformed={policy}"] = begins
+    ACCEPTED[f"{command} --mode binary"] = "framing: NotAPacket block 0 at 0 inner 0"
+    name, _, more = command.partition(" ")
+    ACCEPTED[f"{name} --line 128 --body 512 --cert 512 --input 0 --pieces 1 {more}".strip()] = \
+        "input: InputTooLong block 0 at 0 inner 0"
+    ACCEPTED[f"{name} --pieces=16777216 --input=4611686018427387904 --cert=1099511627776 --body=4294967295 "
+             f"--line=1048576 {more}".strip()] = begins
+# A line that is refused, and what the text says.
+REFUSED = [
+    ("list --line 127", "127 is not in 128..=1048576"), ("list --line 1048577", "1048577 is not in 128..=1048576"),
+    ("list --body 511", "511 is not in 512..=4294967295"), ("list --body 4294967296", "is not in 512..=4294967295"),
+    ("list --cert 511", "511 is not in 512..=1099511627776"), ("list --cert 1099511627777", "is not in 512..=1099511627776"),
+    ("list --input 4611686018427387905", "4611686018427387905 is not in 0..=4611686018427387904"),
+    ("list --input -1", "-1"), ("list --input=-1", "-1"),
+    ("list --pieces 0", "0 is not in 1..=16777216"), ("list --pieces 16777217", "16777217 is not in 1..=16777216"),
+    ("list --line 0x80", "0x80"), ("list --line ", "--line"), ("list --line=", "--line"), ("list --body ten", "ten"),
+    ("list --cert 18446744073709551616", "18446744073709551616"), ("octets --row 18446744073709551616", "18446744073709551616"),
+    ("octets --row -1", "-1"), ("octets --row 1.5", "1.5"), ("split --nth 18446744073709551616", "18446744073709551616"),
+    ("split --nth x", "x"),
+    *((f"split --key {it}", f"invalid value '{it}' for '--key <KEY>'") for it in (
+        "x", "0x", "97965A9A", "8CFDE12197965A9", "8CFDE12197965A9AA", "8CFDE12197965A9G", 39 * "0", 41 * "0", 42 * "0", 63 * "0", 65 * "0",
+        66 * "0", "0x" + 66 * "0", "0x0x8CFDE12197965A9A", 1000 * "0", "x8CFDE12197965A9A", "8CFDE121:97965A9A", "\t8CFDE12197965A9A")),
+    ("split --key", "--key"), ("split --key=", "--key"), ("list --key 8CFDE12197965A9A", "--key"),
+    ("split --key 8CFDE12197965A9A --key 8CFDE12197965A9A", "--key"), ("split --key x --nth y", "'y'"),
+    ("split --nth 0 --key 8CFDE12197965A9A", "'--nth <N>' cannot be used with '--key <KEY>'"),
+    ("split --key x --nth 0", "'--nth <N>' cannot be used with '--key <KEY>'"),
+    (None, "'opgp' requires a subcommand but one was not provided"), ("", "unrecognized subcommand ''"),
+    ("lists", "unrecognized subcommand 'lists'"), ("lis", "unrecognized subcommand 'lis'"), ("List", "unrecognized subcommand 'List'"),
+    ("list list", "unexpected argument 'list' found"), ("list -- list", "unexpected argument 'list' found"),
+    ("--mode auto list", "--mode"), ("list --mode", "--mode"), ("list --mode odd", "odd"), ("list --mode AUTO", "AUTO"),
+    ("list --mode auto --mode auto", "--mode"), ("list --line 128 --line 128", "--line"), ("list --mod auto", "--mod"),
+    ("list --outside", "--outside"), ("list --outside odd", "odd"), ("list --outside Refuse", "Refuse"), ("list --outside=", "--outside"),
+    ("list --mode=", "--mode"), ("write --out=", "--out"),
+    ("list --outside skip --outside skip", "--outside"), ("--outside skip list", "--outside"), ("list --outsid skip", "--outsid"),
+    ("list --malformed", "--malformed"), ("list --malformed odd", "odd"), ("list --malformed Keep", "Keep"),
+    ("list --malformed=", "--malformed"), ("list --malformed skip", "skip"), ("list --outside keep", "keep"),
+    ("list --malformed keep --malformed keep", "--malformed"), ("--malformed keep list", "--malformed"), ("list --malforme keep", "--malforme"),
+    ("list -m auto", "-m"), ("list --out armor", "--out"), ("list --row 1", "--row"), ("list --nth 1", "--nth"),
+    ("write --own-signatures --own-signatures", "--own-signatures"), ("write --own-signatures=true", "--own-signatures"), ("write --own", "--own"),
+    ("write --no-attributes --no-attributes", "--no-attributes"), ("write --no-attributes=1", "--no-attributes"),
+    ("write --attributes", "--attributes"),
+    ("write --user-id", "--user-id"), ("write --user-id=", "--user-id"), ("write --user-id -1", "-1"),
+    ("write --user-id 18446744073709551616", "18446744073709551616"),
+    ("write --user-id Alice", "Alice"), ("write --user-id 0 --user-id 1", "--user-id"), ("normalise --user-id 0", "--user-id"),
+    ("split --own-signatures", "--own-signatures"), ("join --no-attributes", "--no-attributes"), ("list --user-id 0", "--user-id"),
+    ("list --merge", "--merge"), ("check --values", "--values"), ("list --fingerprints", "--fingerprints"),
+    ("check --fingerprints --fingerprints", "--fingerprints"), ("check --fingerprints=true", "--fingerprints"),
+    ("check --fingerprint", "--fingerprint"), ("list --values --values", "--values"), ("list --values=true", "--values"),
+    ("show --values --values", "--values"), ("show --values=true", "--values"),
+    ("show --of ring", "--of"), ("octets --of ring", "<--row <N>|--all>"), ("octets --of literal", "<--row <N>|--all>"),
+    ("octets --all --row 1", "'--row <N>' cannot be used with '--all'"), ("octets --row 1 --of literal --all", "'--row <N>' cannot be used with '--all'"),
+    ("octets --all --of literal", "'--of literal' cannot be used with '--all'"), ("octets --all --all", "--all"), ("octets --all=true", "--all"),
+    ("octets --all --row x", "'x'"), ("octets --all --of certificate", "certificate"), ("list --all", "--all"), ("octets --al", "--al"),
+    ("octets --row 1 --of certificate", "certificate"), ("octets --row 1 --row 1", "--row"),
+    ("octets --row 1 --out armor", "--out"), ("write --out text", "text"), ("write --nth 1", "--nth"),
+    ("normalise --merge", "--merge"), ("split --merge", "--merge"), ("split --nth 1 --nth 2", "--nth"), ("join --nth 1", "--nth"),
+    ("join --merge --merge", "--merge"), ("join --merge=true", "--merge"), ("--version", "--version"),
+    ("list --quiet --quiet", "--quiet"), ("list --quiet=true", "--quiet"), ("--quiet list", "--quiet"), ("list -q", "-q"),
+    ("list --progress --progress", "--progress"), ("list --progress=true", "--progress"), ("--progress list", "--progress"),
+    ("list --version", "--version"), ("-V", "-V"), ("list --spool", "--spool"), ("list --spool=", "--spool"),
+    ("list --spool --progress", "--spool"), (f"list --spool {ROOM.name} --spool {ROOM.name}", "--spool"), ("--spool /tmp list", "--spool"),
+    (f"list --spool {ROOM.name} {ROOM.name}", "unexpected argument"),
+]
+for line in ("--help", "-h", "help"):
+    REFUSED += [(line, word) for word in [f"\n  {it} " for it in COMMANDS] + ["Usage: opgp <COMMAND>"]]
+for line in ("list --help", "list -h", "help list"):
+    REFUSED += [(line, word) for word in (
+        "Usage: opgp list [OPTIONS]", "--mode <MODE>", "[possible values: auto, armor, binary]", "[default: auto]",
+        "--outside <POLICY>", "[possible values: skip, refuse]", "[default: skip]",
+        "--malformed <POLICY>", "[possible values: refuse, keep]", "[default: refuse]", "--values",
+        "--line <N>", "--body <N>", "--cert <N>", "--input <N>", "--pieces <N>", "--progress", "--quiet", "--spool <DIR>")]
+REFUSED += [("octets --help", "--of <TOP>"), ("octets --help", "--row <N>"), ("octets --help", "--all"), ("show --help", "--values"), ("check --help", "--fingerprints"), ("split --help", "--nth <N>"), ("write --help", "--own-signatures"), ("write --help", "--no-attributes"), ("write --help", "--user-id <N>"), ("split --help", "--key <KEY>"), ("join --help", "--merge")]
+# A line that is refused, and the whole text.
+TEXTS = {
+    "list --body 511": "error: invalid value '511' for '--body <N>': 511 is not in 512..=4294967295\n\n"
+                       "For more information, try '--help'.\n",
+    "list --mode odd": "error: invalid value 'odd' for '--mode <MODE>'\n  [possible values: auto, armor, binary]\n\n"
+                       "For more information, try '--help'.\n",
+    "list --outside odd": "error: invalid value 'odd' for '--outside <POLICY>'\n  [possible values: skip, refuse]\n\n"
+                          "For more information, try '--help'.\n",
+    "list --malformed odd": "error: invalid value 'odd' for '--malformed <POLICY>'\n  [possible values: refuse, keep]\n\n"
+                            "For more information, try '--help'.\n",
+    "octets": "error: the following required arguments were not provided:\n  <--row <N>|--all>\n\nFor more information, try '--help'.\n",
+    "octets --all --row 0": "error: the argument '--row <N>' cannot be used with '--all'\n\nFor more information, try '--help'.\n",
+    "octets --of literal --all": "error: the argument '--of literal' cannot be used with '--all'\n\nFor more information, try '--help'.\n",
+    "split --key 97965A9A": "error: invalid value '97965A9A' for '--key <KEY>': a fingerprint has 40 or 64 hexadecimal digits, a key ID 16"
+                            "\n\nFor more information, try '--help'.\n",
+    "split --key 97965A9A --nth 0": "error: the argument '--nth <N>' cannot be used with '--key <KEY>'\n\n"
+                                    "For more information, try '--help'.\n",
+    "list extra": "error: unexpected argument 'extra' found\n\nUsage: opgp list [OPTIONS]\n\n"
+                  "For more information, try '--help'.\n\nopgp reads standard input: opgp COMMAND < FILE\n",
+}
+
+
+def run(line):
+    with open(KEY, "rb") as key:
+        words = [] if line is None else line.split(" ")
+        ended = subprocess.run([PROGRAM, *words], stdin=key, capture_output=True, check=False, timeout=30)
+    return ended.returncode, ended.stdout, ended.stderr.decode()
+
+
+passed = failed = 0
+
+
+def verdict(line, holds, said):
+    global passed, failed
+    passed, failed = passed + holds, failed + (not holds)
+    if not holds:
+        print(f"tests/program/words.py: {line}: FAILED {said}", file=sys.stderr)
+
+
+def plain(text):
+    """A text of clap without what it proposes, and which options it names in the usage."""
+    return re.sub(r"^(Usage: opgp \w+) .*", r"\1", re.sub(r"^  tip: .*\n\n?", "", text, flags=re.M), flags=re.M)
+
+
+def at_first(line, wanted):
+    """Where nothing is built, the launcher answers what the program does, but for proposals and usages."""
+    said = FIRST.answer([] if line is None else line.split(" "))
+    verdict(f"without a build: {line}", plain(said) == plain(wanted), (said, wanted))
+
+
+for line, wanted in ACCEPTED.items():
+    status, out, err = run(line)
+    at_first(line, "")
+    read = READ["--input 10" in line] if "--progress" in line else ""
+    if isinstance(wanted, bytes):
+        verdict(line, status == 0 and out.startswith(wanted) and bool(out) == bool(wanted) and err == read, (status, out, err))
+    else:
+        told = "" if "--quiet" in line else TOLD.get(wanted, "")
+        verdict(line, (status, out, err) == (1, b"", f"{read}{wanted}\n{told}"), (status, out, err))
+for line, mention in REFUSED:
+    status, out, err = run(line)
+    verdict(line, status == 2 and not out and mention in err, (status, out, err))
+    at_first(line, err)
+for line, text in TEXTS.items():
+    said = run(line)
+    verdict(line, said == (2, b"", text), said)
+print(f"{passed} passed, {failed} failed")
+sys.exit(failed != 0)

@@ -261,8 +261,9 @@ COMMANDS = (
     "list --malformed keep",
     "check --malformed keep",
 )
-# What is tried over one certificate beside SOME, by the name of its parts.
-ALSO = {"user IDs": ("normalise --out binary", "split", "split --key FIRST", "join --out binary", "write"), "octets of a user ID": ("split",)}
+# What else is tried, by the name of the parts.
+ALSO = {"user IDs": ("normalise --out binary", "split", "split --key FIRST", "join --out binary", "write"), "octets of a user ID": ("split",),
+        "certificates with an issuer among the later ones": ("check --fingerprints",)}  # fmt: skip
 KEEP = "join --merge --out binary"
 # Programs over the libraries, and the kinds that their readers take, armored: armor, packets, bodies and subpackets one by one; the
 # composer that certificates are taken from; signers looked up and hashers kept; a keyring read, reframed and written.
@@ -284,40 +285,30 @@ CALLED = {
     "check_bodies fits": ("certificates", "user IDs", "signatures"),
     f"compose {LIMITS} fits": ("certificates", "fillers", "user IDs", "signatures"),
     f"composer {LIMITS} fits": ("certificates", "fillers", "user IDs", "signatures"),
-    f"composer_normal {LIMITS} fits": ("certificates", "user IDs"),
     "ring_copy": ("certificates", "fillers", "user IDs", "signatures"),
-    "ring_part_copies": ("certificates", "user IDs", "signatures"),
     "block_copy fits": ("certificates", "octets of a user ID"),
-    "normalise": ("certificates", "user IDs"),
     "join -": ("certificates", "fillers"),
     # Behind a key, and behind a filler.
     "join xc6060400000000c8": ("fillers with bodies",),
     "join xe80161": ("fillers with bodies",),
-    "nth 0": ("certificates", "user IDs", "signatures"),
     "merge": ("certificates", "equal certificates", "user IDs", "signatures", "subkeys"),
     "choose own bare 0": ("certificates", "user IDs", "signatures"),
     "choose own": ("certificates", "user IDs", "signatures"),
-    "choose_certificate own bare 0": ("user IDs", "signatures"),
-    "choose_certificate own": ("user IDs", "signatures", "subkeys"),
     "check": ("certificates with an issuer that is absent", "signatures", "signatures of a long user ID", "signatures with a time of a long user ID"),
-    "reporting": ("certificates with an issuer that is absent", "signatures"),
-    "fingerprinted": ("certificates with an issuer that is absent", "certificates with an issuer among the later ones", "signatures"),
     "signed fits": ("signatures of a message",),
     "question_at 0": ("certificates with an issuer that is absent", "signatures"),
     "armor public": ("certificates", "octets of a user ID"),
     f"dearmor {LIMITS}": ("certificates", "blocks of armor", "data lines of four letters", "data lines of 63 letters", "data lines of 64 letters"),
     f"block_copies {LIMITS}": ("blocks of armor", "data lines of 64 letters"),
-    f"read_keyring auto {LIMITS} 1000": ("certificates", "user IDs"),
-    f"read_packets auto {LIMITS} 1000": ("fillers", "octets of a user ID"),
-    f"read_signed auto keep {LIMITS} 1000": ("signatures of a message",),
+    f"read_keyring auto {LIMITS}": ("certificates", "user IDs"),
+    f"read_packets auto {LIMITS}": ("fillers", "octets of a user ID"),
+    f"read_signed auto keep {LIMITS}": ("signatures of a message",),
     # Of pieces of 1,000 octets, and of 60,000, in which many things come at once.
     f"part_reader auto {LIMITS} 1000": ("certificates", "user IDs", "octets of a user ID", "certificates behind a fault", "octets behind a fault"),
     f"part_reader auto {LIMITS} 60000": ("certificates",),
     f"packet_reader auto {LIMITS} 1000": ("octets of a user ID", "pieces of a literal", "certificates behind a fault", "octets behind a fault"),
     f"packet_reader auto {LIMITS} 60000": ("fillers",),
     "write_certificates binary": ("certificates",),
-    "write_report left": ("signatures",),
-    "ring_parts": ("signatures", "user IDs"),
     # Pushed octet by octet.
     f"dearmor_pushed {LIMITS} 1": ("octets of a header", "data lines of 64 letters"),
 }

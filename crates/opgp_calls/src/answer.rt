@@ -81,11 +81,6 @@ impl Answer {
         self.number(number);
     }
 
-    /// Adds `yes` or `no`.
-    pub(crate) fn truth(&mut self, truth: bool) {
-        self.word(if truth { "yes" } else { "no" });
-    }
-
     /// Adds a value as it is displayed.
     pub(crate) fn shown<T: Display>(&mut self, value: &T) {
         self.word("");

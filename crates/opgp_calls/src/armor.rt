@@ -14,9 +14,9 @@ use std::alloc::Global;
 /// Adds the answer to a call of this crate; false where it has none of the name.
 pub(crate) fn answered(alloc: Global, name: &str, given: &Given, answer: &mut Answer) -> bool {
     match name {
-        "dearmor" => dearmored(alloc, given, answer),
+        "dearmor" => dearmored(alloc, given, false, answer),
         "dearmor_pushed" => dearmor_pushed(alloc, given, answer),
-        "block_copies" => block_copies(alloc, given, answer),
+        "block_copies" => dearmored(alloc, given, true, answer),
         "event_copies" => event_copies(alloc, given, answer),
         "armor" => armored(alloc, given, answer),
         _ => return false,
@@ -24,19 +24,11 @@ pub(crate) fn answered(alloc: Global, name: &str, given: &Given, answer: &mut An
     true
 }
 
-/// `dearmor [POLICY].. LIMITS.. TEXT`: the blocks of a text, or its fault.
-fn dearmored(alloc: Global, given: &Given, answer: &mut Answer) {
+/// `dearmor [POLICY].. LIMITS.. TEXT`: the blocks of a text, or its fault. `block_copies`: copies of them.
+fn dearmored(alloc: Global, given: &Given, copies: bool, answer: &mut Answer) {
     match dearmor(alloc, given.octets(0), &limits_of(given)) {
+        Ok(Ok(blocks)) if copies => add_block_copies(alloc, blocks.as_slice(), answer),
         Ok(Ok(blocks)) => add_blocks(blocks.as_slice(), answer),
-        Ok(Err(fault)) => answer.fault(&fault),
-        Err(_) => answer.refuse(End::Memory),
-    }
-}
-
-/// `block_copies [POLICY].. LIMITS.. TEXT`: copies of the blocks of a text.
-fn block_copies(alloc: Global, given: &Given, answer: &mut Answer) {
-    match dearmor(alloc, given.octets(0), &limits_of(given)) {
-        Ok(Ok(blocks)) => add_block_copies(alloc, blocks.as_slice(), answer),
         Ok(Err(fault)) => answer.fault(&fault),
         Err(_) => answer.refuse(End::Memory),
     }
@@ -112,17 +104,11 @@ fn pushed(alloc: Global, limits: Limits, texts: &[Vec<u8>], size: u32, answer: &
     add_end(reader, answer)
 }
 
-/// Pushes texts, so many octets at a time, and adds the events; and where the reader doesn't say so many
-/// octets as it was given.
+/// Pushes texts, so many octets at a time, and adds the events.
 fn push_all(reader: &mut Dearmor, texts: &[Vec<u8>], size: u32, answer: &mut Answer) {
-    let mut given = 0u64;
     for text in texts {
         for piece in text.chunks(size.max(1) as usize) {
             push(reader, piece, answer);
-            given = given.saturating_add(piece.len() as u64);
-            if reader.given() != given {
-                answer.word("miscounted");
-            }
         }
     }
 }
@@ -186,7 +172,7 @@ fn push_some(reader: &mut Dearmor, rest: &[u8], answer: &mut Answer) -> Option<u
 
 /// `event_copies LABEL KEY VALUE OCTETS`: copies of events.
 fn event_copies(alloc: Global, given: &Given, answer: &mut Answer) {
-    add_copy(alloc, ArmorEvent::Begin(label_of(given, 0)), answer);
+    add_copy(alloc, ArmorEvent::Begin(label_of(given)), answer);
     add_header_copy(alloc, given.octets(0), given.octets(1), answer);
     add_octets_copy(alloc, given.octets(2), answer);
     add_copy(alloc, ArmorEvent::End, answer)
@@ -219,8 +205,8 @@ fn add_copy(alloc: Global, event: ArmorEvent, answer: &mut Answer) {
 }
 
 /// The label of a name.
-pub(crate) fn label_of(given: &Given, at: usize) -> Label {
-    match given.name(at) {
+fn label_of(given: &Given) -> Label {
+    match given.name(0) {
         "message" => Label::Message,
         "public" => Label::PublicKeyBlock,
         "private" => Label::PrivateKeyBlock,
@@ -235,7 +221,7 @@ pub(crate) fn label_of(given: &Given, at: usize) -> Label {
 /// `armor LABEL OCTETS - [KEY VALUE]..`: a block as a text, which is written into just the room that
 /// it takes.
 fn armored(alloc: Global, given: &Given, answer: &mut Answer) {
-    let label = label_of(given, 0);
+    let label = label_of(given);
     if let Some(headers) = headers_of(alloc, given.all_octets(), answer) {
         add_armored(alloc, label, headers.as_slice(), given.octets(0), answer);
     }

@@ -1,11 +1,11 @@
-//! The calls of `opgp_engine` and `opgp_stack` that write into a sink.
+//! The calls of `opgp_engine` and `opgp_stack` that write into a sink, and the texts of errors.
 
 use crate::answer::Answer;
 use crate::given::Given;
 use crate::ring::{blocks_of, ring_of};
-use opgp_engine::{Out, Watched, write_certificates};
-use opgp_report::{Job, LeftOctets, Report, Verdict, Verifier, check};
-use opgp_stack::{write_listing, write_report, write_shown};
+use opgp_engine::{EngineError, Out, ReadError, Watched, write_certificates};
+use opgp_octets::{Fault, Layer, Reason};
+use opgp_stack::{write_listing, write_shown};
 use std::alloc::Global;
 
 /// Adds the answer to a call of these; false where there is none of the name.
@@ -14,7 +14,7 @@ pub(crate) fn answered(alloc: Global, name: &str, given: &Given, answer: &mut An
         "write_certificates" => certificates(alloc, given, answer),
         "write_listing" => listing(alloc, given, answer),
         "write_shown" => shown(alloc, given, answer),
-        "write_report" => reported(alloc, given, answer),
+        "errors" => add_errors(answer),
         _ => return false,
     }
     true
@@ -56,36 +56,18 @@ fn shown(alloc: Global, given: &Given, answer: &mut Answer) {
     answer.octets(sink.into_inner().as_slice());
 }
 
-/// Says the same of each signature.
-struct Says(Verdict);
-
-impl Verifier for Says {
-    ghost says = { λ v _. v.0 };
-
-    fn verify(&self, _job: &Job<'_>) -> Verdict {
-        self.0
-    }
-}
-
-/// `write_report VERDICT OCTETS`: the lines of a keyring's report, by the left octets, or by a verifier that
-/// says `good` or `bad` of each signature.
-fn reported(alloc: Global, given: &Given, answer: &mut Answer) {
-    let Some(ring) = ring_of(alloc, given.octets(0), answer) else {
-        return;
-    };
-    let checked = match given.name(0) {
-        "good" => check(alloc, &ring, &Says(Verdict::Good)),
-        "bad" => check(alloc, &ring, &Says(Verdict::Bad)),
-        _ => check(alloc, &ring, &LeftOctets),
-    };
-    if let Some(report) = answer.made(checked) {
-        add_report(alloc, &report, answer);
-    }
-}
-
-/// Adds the lines of a report.
-fn add_report(alloc: Global, report: &Report, answer: &mut Answer) {
-    let mut sink = Watched::new(Vec::new(alloc));
-    answer.made(write_report(alloc, report, &mut sink));
-    answer.octets(sink.into_inner().as_slice());
+/// `errors`: the texts of the errors of the engine, which no clause says.
+fn add_errors(answer: &mut Answer) {
+    answer.shown(&EngineError::Read);
+    answer.shown(&EngineError::Write);
+    answer.shown(&EngineError::Memory);
+    answer.shown(&ReadError::Read);
+    answer.shown(&ReadError::Memory);
+    answer.shown(&ReadError::Refused(Fault {
+        layer: Layer::Framing,
+        reason: Reason::Short,
+        block: 1,
+        pos: 2,
+        inner: 3,
+    }));
 }

@@ -108,17 +108,6 @@ impl<'a> Given<'a> {
         }
     }
 
-    /// A number below 2^16; 0 where it lacks.
-    pub(crate) fn short(&self, at: usize) -> u16 {
-        let number = self.number(at);
-        if number < 65_536 {
-            number as u16
-        } else {
-            self.lack("a number below 2^16");
-            0
-        }
-    }
-
     /// A number below 2^32; 0 where it lacks.
     pub(crate) fn long(&self, at: usize) -> u32 {
         let number = self.number(at);

@@ -1,31 +1,23 @@
-//! Public calls of the crates, for tests alone: a line of standard input names a call and what it is
-//! given, and a line is written with all of its answer.
+//! Public calls of the crates that no other test makes: a line of standard input names a call and what it
+//! is given, and a line is written with its answer.
 #![tactic(auto)]
 
 mod answer;
 mod armor;
-mod asked;
 mod composer;
-mod drips;
 mod end;
 mod engine;
-mod faults;
 mod frame;
 mod given;
-mod hash;
 mod headers;
 mod material;
-mod meaning;
 mod numbers;
 mod octets;
-mod output;
 mod packet;
-mod parts;
 mod pieces;
 mod reading;
 mod report;
 mod ring;
-mod signature;
 mod signed;
 
 use crate::answer::Answer;
@@ -75,9 +67,7 @@ fn answered(alloc: Global, line: &str, answer: &mut Answer) -> Option<End> {
 
 /// Adds the answer to a call; why there is none.
 fn ended(alloc: Global, name: &str, given: &Given, answer: &mut Answer) -> Option<End> {
-    if !called_of_octets(alloc, name, given, answer)
-        && !called_of_keyrings(alloc, name, given, answer)
-    {
+    if !called(alloc, name, given, answer) {
         return Some(End::Bad("the name of a call"));
     }
     match given.lacks() {
@@ -86,26 +76,13 @@ fn ended(alloc: Global, name: &str, given: &Given, answer: &mut Answer) -> Optio
     }
 }
 
-/// Adds the answer to a call about numbers and names, octets, texts, packets and their bodies, or what
-/// is hashed; false where there is none of the name.
-fn called_of_octets(alloc: Global, name: &str, given: &Given, answer: &mut Answer) -> bool {
+/// Adds the answer to a call; false where there is none of the name.
+fn called(alloc: Global, name: &str, given: &Given, answer: &mut Answer) -> bool {
     numbers::answered(name, given, answer)
         || octets::answered(alloc, name, given, answer)
-        || faults::answered(alloc, name, given, answer)
         || armor::answered(alloc, name, given, answer)
-        || output::answered(alloc, name, given, answer)
-        || frame::answered(alloc, name, given, answer)
         || packet::answered(alloc, name, given, answer)
-        || signature::answered(alloc, name, given, answer)
-        || hash::answered(alloc, name, given, answer)
-        || asked::answered(alloc, name, given, answer)
-}
-
-/// The same of keyrings, and of what reads them.
-fn called_of_keyrings(alloc: Global, name: &str, given: &Given, answer: &mut Answer) -> bool {
-    ring::answered(alloc, name, given, answer)
-        || composer::answered(alloc, name, given, answer)
-        || signed::answered(alloc, name, given, answer)
+        || ring::answered(alloc, name, given, answer)
         || engine::answered(alloc, name, given, answer)
         || reading::answered(alloc, name, given, answer)
         || pieces::answered(alloc, name, given, answer)

@@ -7,7 +7,7 @@ ghost use Rattle.opgp_engine.specs.PartReader.{IsReading, octets_given};
 ghost use Rattle.opgp_octets.specs.declared.limits.Limits.{Limits};
 
 use crate::answer::Answer;
-use crate::composer::{Shown, add_part};
+use crate::composer::add_part;
 use crate::frame::add_placed;
 use crate::given::Given;
 use crate::octets::limits_of;
@@ -62,7 +62,7 @@ impl Reader for PartReader {
         'parts: while let Some(part) = self.take() {
             answer.named("behind", behind);
             answer.named("as", self.taken());
-            add_part(alloc, part, Shown::AsItIs, answer);
+            add_part(alloc, part, answer);
         }
     }
 }
@@ -135,7 +135,7 @@ fn parts(alloc: Global, given: &Given, answer: &mut Answer) -> Result<(), OutOfM
 fn add_last_parts(alloc: Global, mut waiting: Waiting, answer: &mut Answer) {
     'rest: while let Some(part) = waiting.take() {
         answer.word("last");
-        add_part(alloc, part, Shown::AsItIs, answer);
+        add_part(alloc, part, answer);
     }
     answer.word("end");
 }

@@ -1,34 +1,27 @@
-//! The calls of `opgp_ring` that take whole keyrings, and those of `opgp_merge`.
+//! The calls of `opgp_ring` and of `opgp_merge`.
 
 use crate::answer::Answer;
 use crate::end::End;
 use crate::frame::{add_placed, push_some};
 use crate::given::Given;
 use crate::octets::limits_of;
-use crate::parts::{add_part_copies, add_parts};
+use crate::{composer, signed};
 use opgp_frame::{Deframe, Packet, Placed, write_packet};
-use opgp_merge::{Choice, choose, choose_certificate, merge};
-use opgp_octets::{Fault, Limits, Malformed};
-use opgp_ring::{
-    BlockOf, Certificate, Keyring, check_bodies, check_bodies_by, compose, flatten, join,
-    normalise, nth,
-};
+use opgp_merge::{Choice, choose, merge};
+use opgp_octets::{Limits, Malformed};
+use opgp_ring::{BlockOf, Keyring, check_bodies, compose, flatten, join};
 use std::alloc::Global;
 
-/// Adds the answer to a call of these; false where there is none of the name.
+/// Adds the answer to a call of these crates; false where there is none of the name.
 pub(crate) fn answered(alloc: Global, name: &str, given: &Given, answer: &mut Answer) -> bool {
     match name {
         "compose" => composed(alloc, given, answer),
-        "ring" => ring(alloc, given, answer),
+        "composer" => composer::composed(alloc, given, answer),
+        "signed" => signed::composed(alloc, given, answer),
         "ring_copy" => ring_copy(alloc, given, answer),
-        "ring_parts" => ring_parts(alloc, given, answer),
-        "ring_part_copies" => ring_part_copies(alloc, given, answer),
-        "normalise" => normalised(alloc, given, answer),
         "join" => joined(alloc, given, answer),
         "merge" => merged(alloc, given, answer),
         "choose" => chosen(alloc, given, answer),
-        "choose_certificate" => chosen_certificate(alloc, given, answer),
-        "nth" => one(alloc, given, answer),
         "block_copy" => block_copy(alloc, given, answer),
         "check_bodies" => bodies_checked(alloc, given, answer),
         _ => return false,
@@ -136,7 +129,7 @@ pub(crate) fn add_packets(alloc: Global, packets: &[Packet], answer: &mut Answer
 }
 
 /// The block of octets, alone.
-pub(crate) fn one_block(alloc: Global, octets: &[u8], answer: &mut Answer) -> Option<Vec<BlockOf>> {
+fn one_block(alloc: Global, octets: &[u8], answer: &mut Answer) -> Option<Vec<BlockOf>> {
     let block = block_of(alloc, 0, "fits", octets, answer)?;
     let mut blocks = Vec::new(alloc);
     if blocks.push(block).is_err() {
@@ -160,15 +153,7 @@ pub(crate) fn ring_of(alloc: Global, octets: &[u8], answer: &mut Answer) -> Opti
     }
 }
 
-/// `ring OCTETS`: the keyring of octets.
-fn ring(alloc: Global, given: &Given, answer: &mut Answer) {
-    let Some(ring) = ring_of(alloc, given.octets(0), answer) else {
-        return;
-    };
-    add_ring(alloc, &ring, answer)
-}
-
-/// `ring_copy OCTETS`: a copy of it.
+/// `ring_copy OCTETS`: a copy of the keyring of octets.
 fn ring_copy(alloc: Global, given: &Given, answer: &mut Answer) {
     if let Some(copy) = copy_of(alloc, given.octets(0), answer) {
         add_ring(alloc, &copy, answer);
@@ -179,15 +164,6 @@ fn ring_copy(alloc: Global, given: &Given, answer: &mut Answer) {
 fn copy_of(alloc: Global, octets: &[u8], answer: &mut Answer) -> Option<Keyring> {
     let ring = ring_of(alloc, octets, answer)?;
     answer.made(ring.copy(alloc))
-}
-
-/// `normalise OCTETS`: the keyring in the current format, and that again.
-fn normalised(alloc: Global, given: &Given, answer: &mut Answer) {
-    if let Some(ring) = ring_of(alloc, given.octets(0), answer) {
-        let ring = normalise(ring);
-        add_ring(alloc, &ring, answer);
-        add_ring(alloc, &normalise(ring), answer);
-    }
 }
 
 /// `join OCTETS OCTETS`: two keyrings, joined.
@@ -234,76 +210,14 @@ fn choice_of(given: &Given) -> Choice {
     choice
 }
 
-/// `choose CHOICE.. OCTETS`: whether a choice is that of everything, and what is chosen of a keyring.
+/// `choose CHOICE.. OCTETS`: what is chosen of a keyring.
 fn chosen(alloc: Global, given: &Given, answer: &mut Answer) {
-    let choice = choice_of(given);
-    answer.truth(choice.is_everything());
     let Some(ring) = ring_of(alloc, given.octets(0), answer) else {
         return;
     };
-    if let Some(chosen) = answer.made(choose(ring, choice)) {
+    if let Some(chosen) = answer.made(choose(ring, choice_of(given))) {
         add_ring(alloc, &chosen, answer);
     }
-}
-
-/// `choose_certificate CHOICE.. OCTETS`: what is chosen of each certificate of a keyring, as a keyring.
-fn chosen_certificate(alloc: Global, given: &Given, answer: &mut Answer) {
-    let Some(ring) = ring_of(alloc, given.octets(0), answer) else {
-        return;
-    };
-    let (lead, certificates, _) = ring.into_parts();
-    drop(lead);
-    for certificate in certificates {
-        add_chosen(alloc, certificate, choice_of(given), answer);
-    }
-    answer.word("end");
-}
-
-/// Adds what is chosen of a certificate, as a keyring.
-fn add_chosen(alloc: Global, certificate: Certificate, choice: Choice, answer: &mut Answer) {
-    let Some(chosen) = answer.made(choose_certificate(alloc, certificate, choice)) else {
-        return;
-    };
-    if let Some(ring) = answer.made(Keyring::of(alloc, chosen)) {
-        add_ring(alloc, &ring, answer);
-    }
-}
-
-/// `nth NUMBER OCTETS`: a keyring with one of its certificates, or that there is none.
-fn one(alloc: Global, given: &Given, answer: &mut Answer) {
-    let number = given.long(0) as usize;
-    match nth_of(alloc, given.octets(0), number, answer) {
-        Some(ring) => add_ring(alloc, &ring, answer),
-        None => answer.word("none"),
-    }
-}
-
-/// The certificate of this number, of the keyring of octets, which itself is let go.
-fn nth_of(alloc: Global, octets: &[u8], number: usize, answer: &mut Answer) -> Option<Keyring> {
-    let ring = ring_of(alloc, octets, answer)?;
-    match nth(alloc, &ring, number) {
-        Ok(one) => one,
-        Err(_) => {
-            answer.refuse(End::Memory);
-            None
-        }
-    }
-}
-
-/// `ring_parts OCTETS`: the packets before the first certificate of a keyring, and its certificates.
-fn ring_parts(alloc: Global, given: &Given, answer: &mut Answer) {
-    let Some(ring) = ring_of(alloc, given.octets(0), answer) else {
-        return;
-    };
-    add_parts(&ring, answer);
-}
-
-/// `ring_part_copies OCTETS`: copies of its certificates, of their primary keys and components.
-fn ring_part_copies(alloc: Global, given: &Given, answer: &mut Answer) {
-    let Some(ring) = ring_of(alloc, given.octets(0), answer) else {
-        return;
-    };
-    add_part_copies(alloc, &ring, answer)
 }
 
 /// `block_copy [LABEL OCTETS]..`: copies of blocks.
@@ -312,42 +226,35 @@ fn block_copy(alloc: Global, given: &Given, answer: &mut Answer) {
         return;
     };
     for block in &blocks {
-        add_block_copy(alloc, block, answer);
+        if let Some(copy) = answer.made(block.copy(alloc)) {
+            add_block(alloc, &copy, answer);
+        }
     }
     answer.word("end");
 }
 
-/// Adds a copy of a block.
-fn add_block_copy(alloc: Global, block: &BlockOf, answer: &mut Answer) {
-    let Some(copy) = answer.made(block.copy(alloc)) else {
-        return;
-    };
-    add_block(alloc, &copy, answer)
+/// Adds blocks.
+pub(crate) fn add_blocks(alloc: Global, blocks: &[BlockOf], answer: &mut Answer) {
+    for block in blocks {
+        add_block(alloc, block, answer);
+    }
+    answer.word("end");
 }
 
-/// Adds a block: its number, whether its label fits, its packets and where they are.
-pub(crate) fn add_block(alloc: Global, block: &BlockOf, answer: &mut Answer) {
+/// Adds a block: its number, and its packets and where they are.
+fn add_block(alloc: Global, block: &BlockOf, answer: &mut Answer) {
     answer.named("block", block.block);
-    answer.truth(block.label_fits);
     for placed in &block.packets {
         add_placed(alloc, placed, answer);
     }
 }
 
-/// `check_bodies [LABEL OCTETS]..`: the first fault of the bodies of blocks, and that by each policy for
-/// malformed signatures.
+/// `check_bodies [LABEL OCTETS]..`: the first fault of the bodies of blocks, or that there is none.
 fn bodies_checked(alloc: Global, given: &Given, answer: &mut Answer) {
     let Some(blocks) = blocks_of(alloc, given, answer) else {
         return;
     };
-    add_fault(check_bodies(&blocks), answer);
-    add_fault(check_bodies_by(&blocks, Malformed::Refuse), answer);
-    add_fault(check_bodies_by(&blocks, Malformed::Keep), answer);
-}
-
-/// Adds a fault, or that there is none.
-fn add_fault(fault: Option<Fault>, answer: &mut Answer) {
-    match fault {
+    match check_bodies(&blocks) {
         Some(fault) => answer.fault(&fault),
         None => answer.word("whole"),
     }

@@ -1,39 +1,22 @@
-//! The calls of `opgp_ring` about signed literals.
+//! The call of `opgp_ring` about signed literals.
 
 use crate::answer::Answer;
 use crate::end::End;
 use crate::given::Given;
 use crate::packet::add_fault;
-use crate::ring::{add_packets, blocks_of, one_block};
-use opgp_octets::Malformed;
-use opgp_ring::{BlockOf, Signatures, SignedLiteral, compose_signed, compose_signed_by, end_fits};
+use crate::ring::{add_packets, blocks_of};
+use opgp_ring::{Signatures, SignedLiteral, compose_signed, end_fits};
 use std::alloc::Global;
 
-/// Adds the answer to a call of these; false where there is none of the name.
-pub(crate) fn answered(alloc: Global, name: &str, given: &Given, answer: &mut Answer) -> bool {
-    match name {
-        "signed" => composed(alloc, given, Malformed::Refuse, answer),
-        "signed_kept" => composed(alloc, given, Malformed::Keep, answer),
-        "end_fits" => ends(alloc, given, answer),
-        _ => return false,
-    }
-    true
-}
-
-/// `signed [LABEL OCTETS]..`: the signed literal of blocks, and a copy of it, or the fault; of
-/// `signed_kept` malformed signatures are kept.
-fn composed(alloc: Global, given: &Given, malformed: Malformed, answer: &mut Answer) {
+/// `signed [LABEL OCTETS]..`: the signed literal of blocks, and a copy of it, or the fault.
+pub(crate) fn composed(alloc: Global, given: &Given, answer: &mut Answer) {
     let Some(blocks) = blocks_of(alloc, given, answer) else {
         return;
     };
     if !end_fits(&blocks) {
         return answer.refuse(End::Bad("blocks that end"));
     }
-    let composed = match malformed {
-        Malformed::Refuse => compose_signed(alloc, blocks),
-        Malformed::Keep => compose_signed_by(alloc, blocks, malformed),
-    };
-    match composed {
+    match compose_signed(alloc, blocks) {
         Ok(Ok(literal)) => add_both(alloc, &literal, answer),
         Ok(Err(fault)) => answer.fault(&fault),
         Err(_) => answer.refuse(End::Memory),
@@ -69,23 +52,4 @@ fn add_signatures(mut signatures: Signatures<'_>, answer: &mut Answer) {
         }
     }
     answer.word("end");
-}
-
-/// `end_fits PLACE OCTETS`: whether a block ends at 2^64 - 1 at most, each of whose packets is in this
-/// place.
-fn ends(alloc: Global, given: &Given, answer: &mut Answer) {
-    let Some(mut blocks) = one_block(alloc, given.octets(0), answer) else {
-        return;
-    };
-    for block in &mut blocks {
-        move_to(block, given.number(0));
-    }
-    answer.truth(end_fits(&blocks));
-}
-
-/// Moves the packets of a block to this place.
-fn move_to(block: &mut BlockOf, pos: u64) {
-    for placed in &mut block.packets {
-        placed.pos = pos;
-    }
 }

@@ -1,5 +1,5 @@
 //! Signatures in a process whose memory runs out, the octets that they move, and how large they are. What the calls answer
-//! is tried by tests/calls.
+//! is tried by tests/crates/calls.py.
 
 use opgp_octets::ParseFault;
 use opgp_packet::{Key, KeyView, SigView, Signature};

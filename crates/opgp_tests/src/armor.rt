@@ -1,5 +1,5 @@
 //! A reader of armor in a process whose memory runs out, and what it uses again. What the calls answer is tried by
-//! tests/calls.
+//! tests/crates/calls.py.
 
 use opgp_armor::{ArmorEvent, Dearmor};
 use opgp_octets::{Fault, Layer, Limits, PushFault, Reason};

@@ -1,4 +1,4 @@
-//! How many allocations an output and a sink in memory make. What they put is tried by tests/calls.
+//! How many allocations an output and a sink in memory make. What they put is proved.
 
 ghost use Rattle.std.specs.Prelude.{◌≡◌, false};
 ghost use Rattle.opgp_stream.specs.Watch.{watched_failed};

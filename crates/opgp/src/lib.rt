@@ -68,8 +68,8 @@ pub mod packet {
 pub mod report {
     pub use opgp_report::{
         Finding, FingerprintedReport, FingerprintedReporting, FingerprintedRow, FingerprintedRows,
-        IssuerName, Job, KeyIndex, LeftOctets, Place, Report, Reporting, Row, Verdict, Verifier,
-        Visitor, check, index_keys, issuer_named, laws, question_at, signer, visit,
+        IssuerName, Job, KeyIndex, LeftOctets, Met, Place, Posed, Report, Reporting, Row, Verdict,
+        Verifier, Visitor, check, index_keys, issuer_named, laws, question_at, signer, visit,
     };
 }
 

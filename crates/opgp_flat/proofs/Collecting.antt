@@ -1,6 +1,5 @@
 -- What a table of what signatures hash becomes by one signature more.
 use Rattle.std.proofs.Common.{◌≡◌, ◌∙◌, ℕ, ◌+◌, ◌-◌, ◌<◌, Bool, true, false, List, [], ◌∷◌, ◌++◌, length, map, Result, Ok, Err, refl, sym, ap, append-nil, append_assoc, length-append, arith, zero, suc}
-use Rattle.std.proofs.Math.Dec.{leb-zero}
 use Rattle.std.specs.Prelude.{take, drop, nat_le, if◌then◌else◌}
 use Rattle.std.specs.List.{flat_map}
 use Rattle.opgp_report.specs.Asked.{Asked, asked_by, asked_of}
@@ -110,19 +109,6 @@ grown old new a s is first some fit first' left' count' room' rows' bytes' more 
 grown old new a s is first some fit first' left' count' room' rows' bytes' more (Err (Full rows bytes)) h =
     added old a s is first some fit new.skip new.left new.count new.room new.rows.items new.bytes.items first' left' count' room' rows' bytes' more rows.items bytes.items h
 grown old new a s is first some fit first' left' count' room' rows' bytes' more (Err Memory) h = tt
-
--- One that isn't hashed gets no row, and needs no room.
-pub passed : (old : HashedTable) (a : Asked) (s : Standing) (more : List Standing) (rows : List HashedRow) (bytes : List ℕ) → asked_by s ≡ a → octets_asked a ≡ [] → rows_asked (old.count - old.left) (length old.bytes.items) (a ∷ []) ≡ []
-    → old.skip ≡ 0 → 0 < old.left
-    → (rows ≡ old.rows.items ++ rows_asked (old.count - (old.left - 1)) (length old.bytes.items) (some_of old.skip (old.left - 1) old.room (map asked_by more)))
-    × (bytes ≡ old.bytes.items ++ flat_map octets_asked (some_of old.skip (old.left - 1) old.room (map asked_by more)))
-    → AreAdded old (s ∷ more) rows bytes
-passed old a s more rows bytes is empty none first some h =
-    let size : length (octets_asked a) ≡ 0 = ap (λ (o : List ℕ). length o) empty in
-    let fit : nat_le (length (octets_asked a)) old.room ≡ true = ap (λ (k : ℕ). nat_le k old.room) size ∙ leb-zero old.room in
-    let room' : old.room ≡ old.room - length (octets_asked a) = omega (arith, size) in
-    added old a s is first some fit old.skip (old.left - 1) old.count old.room old.rows.items old.bytes.items first refl refl room'
-    (sym (ap (λ (r : List HashedRow). old.rows.items ++ r) none ∙ append-nil old.rows.items)) (sym (ap (λ (o : List ℕ). old.bytes.items ++ o) empty ∙ append-nil old.bytes.items)) more rows bytes h
 
 -- what is added to an empty table, from the first signature of a keyring on
 pub from_empty : (old : HashedTable) (r : KeyringValue) (first count most : ℕ) (rows : List HashedRow) (bytes : List ℕ) → old.rows.items ≡ [] → old.bytes.items ≡ [] → old.count - old.left ≡ 0

@@ -19,7 +19,7 @@ use Rattle.opgp_hash.specs.declared.why.Why.TheVariants.{Opaque, Kind, Misplaced
 use Rattle.opgp_report.specs.declared.place.Place.{Place}
 use Rattle.opgp_report.specs.declared.verifier.Verdict.{Verdict}
 use Rattle.opgp_report.specs.declared.verifier.Verdict.TheVariants.{Good, Bad, Undecided}
-use Rattle.opgp_report.specs.Asked.{Asked, asked_by}
+use Rattle.opgp_report.specs.Asked.{Asked, PosedValue, posed_by}
 use Rattle.opgp_report.specs.First.{print_of}
 use Rattle.opgp_report.specs.Left.{left_in, left_verdict}
 use Rattle.opgp_report.specs.Report.{keys_in}
@@ -134,14 +134,14 @@ bad_number Bad = 1
 bad_number Undecided = 0
 
 -- the digest, and whether it differs from the left octets; or why it isn't hashed
-abbrev pub answer_to : SignatureValue → Asked → Answered
-answer_to v (Ok q) = record {
+abbrev pub answer_to : PosedValue → Answered
+answer_to (Ok x) = record {
   why = 0;
-  digest_size = digest_size (digest_of q);
-  is_bad = bad_number (left_verdict (left_in v) (digest_octets (digest_of q)));
-  digest = padded 64 (digest_octets (digest_of q));
+  digest_size = digest_size (digest_of x.1);
+  is_bad = bad_number (left_verdict (left_in x.0) (digest_octets (digest_of x.1)));
+  digest = padded 64 (digest_octets (digest_of x.1));
 }
-answer_to v (Err why) = record {
+answer_to (Err why) = record {
   why = why_number why;
   digest_size = 0;
   is_bad = 0;
@@ -209,12 +209,12 @@ module _ (prints : List Fingerprint) where
     reserved = 0;
   }
 
-  abbrev pub row_read : Place → ℕ → Result SignatureValue BodyFault → Asked → JobRow
-  row_read place at (Ok v) asked = signature_row place at v (answer_to v asked)
-  row_read place at (Err fault) asked = opaque_row place at
+  abbrev pub row_read : Place → ℕ → Result SignatureValue BodyFault → PosedValue → JobRow
+  row_read place at (Ok v) posed = signature_row place at v (answer_to posed)
+  row_read place at (Err fault) posed = opaque_row place at
 
   abbrev pub job_row : ℕ → Standing → JobRow
-  job_row at s = row_read s.place at (signature_at s.body) (asked_by s)
+  job_row at s = row_read s.place at (signature_at s.body) (posed_by s)
 
 -- what its algorithm made, and its issuer's name; nothing if it isn't a signature
 abbrev pub parts_read : Result SignatureValue BodyFault → List (List ℕ)

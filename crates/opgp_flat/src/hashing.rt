@@ -6,10 +6,9 @@ ghost use Rattle.opgp_flat.specs.HashedTable.{AddsHashed};
 
 use crate::hashed_row::HashedRow;
 use crate::hashed_table::{Halt, HashedTable};
-use opgp_hash::{CertificateHasher, Site, ask_at};
-use opgp_octets::{BodyFault, OutOfMemory};
-use opgp_packet::SigView;
-use opgp_report::{Place, Visitor, visit};
+use opgp_hash::CertificateHasher;
+use opgp_octets::OutOfMemory;
+use opgp_report::{Met, Posed, Visitor, visit};
 use opgp_ring::Keyring;
 use std::alloc::{AllocError, Global};
 
@@ -18,13 +17,7 @@ impl<'a> Visitor<'a> for HashedTable {
 
     ghost becomes = { AddsHashed };
 
-    fn meet(
-        &mut self,
-        hasher: &mut CertificateHasher<'a>,
-        site: Site,
-        _place: Place,
-        signature: &Result<SigView<'a>, BodyFault>,
-    ) -> Result<(), Halt> {
+    fn meet(&mut self, hasher: &mut CertificateHasher<'a>, met: &Met<'a>) -> Result<(), Halt> {
         if self.skip > 0 {
             self.skip -= 1;
             return Ok(());
@@ -34,10 +27,7 @@ impl<'a> Visitor<'a> for HashedTable {
         }
         let number = self.count - self.left;
         self.left -= 1;
-        let Ok(signature) = signature else {
-            return Ok(());
-        };
-        let Ok(question) = ask_at(site, *signature, hasher.subject()) else {
+        let Posed::Question(_, question) = met.asked(hasher) else {
             return Ok(());
         };
         match self.add(number, &question) {

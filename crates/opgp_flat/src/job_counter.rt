@@ -8,10 +8,9 @@ ghost use Rattle.opgp_flat.specs.Sizes.{CountsJobs, capped};
 
 use crate::job_table::{name_in, name_size, parts_of};
 use crate::table_sizes::TableSizes;
-use opgp_hash::{CertificateHasher, Site};
-use opgp_octets::BodyFault;
+use opgp_hash::CertificateHasher;
 use opgp_packet::SigView;
-use opgp_report::{Place, Visitor, visit};
+use opgp_report::{Met, Visitor, visit};
 use opgp_ring::Keyring;
 use std::convert::Infallible;
 
@@ -40,13 +39,11 @@ impl<'a> Visitor<'a> for JobCounter {
     fn meet(
         &mut self,
         _hasher: &mut CertificateHasher<'a>,
-        _site: Site,
-        _place: Place,
-        signature: &Result<SigView<'a>, BodyFault>,
+        met: &Met<'a>,
     ) -> Result<(), Infallible> {
-        match signature {
-            Ok(view) => self.sizes.add(1, said_octets_in(*view)),
-            Err(_) => self.sizes.add(1, 0),
+        match met.signature {
+            Some(view) => self.sizes.add(1, said_octets_in(view)),
+            None => self.sizes.add(1, 0),
         }
         Ok(())
     }

@@ -14,10 +14,9 @@ use crate::job_row::{Answered, JobRow};
 use crate::job_table::{answer_to, made_row, name_in, opaque_row, parts_of};
 use crate::putting::{put_item, put_octets};
 use crate::table_sizes::TableSizes;
-use opgp_hash::{CertificateHasher, Site, ask_at};
-use opgp_octets::BodyFault;
+use opgp_hash::CertificateHasher;
 use opgp_packet::SigView;
-use opgp_report::{IssuerName, KeyIndex, Place, Visitor};
+use opgp_report::{IssuerName, KeyIndex, Met, Place, Visitor};
 
 /// The octets of a fingerprint or a key ID.
 fn name_octets_of(name: &IssuerName) -> &[u8]
@@ -93,35 +92,29 @@ impl<'a> Visitor<'a> for JobFiller<'_, '_> {
 
     ghost becomes = { FillsJobs };
 
-    fn meet(
-        &mut self,
-        hasher: &mut CertificateHasher<'a>,
-        site: Site,
-        place: Place,
-        signature: &Result<SigView<'a>, BodyFault>,
-    ) -> Result<(), NoRoom> {
+    fn meet(&mut self, hasher: &mut CertificateHasher<'a>, met: &Met<'a>) -> Result<(), NoRoom> {
         let Some(left) = (self.bytes.len() as u64).checked_sub(self.here.bytes) else {
             return Err(NoRoom);
         };
         if self.here.rows >= self.rows.len() as u64 {
             return Err(NoRoom);
         }
-        match signature {
-            Ok(signature) => {
-                if said_octets_in(*signature) > left {
+        match met.signature {
+            Some(signature) => {
+                if said_octets_in(signature) > left {
                     return Err(NoRoom);
                 }
-                let asked = ask_at(site, *signature, hasher.subject());
-                let answer = answer_to(hasher, *signature, asked);
+                let posed = met.asked(hasher);
+                let answer = answer_to(hasher, posed);
                 self.here = put_job(
-                    self.names, self.rows, self.bytes, self.here, place, *signature, answer,
+                    self.names, self.rows, self.bytes, self.here, met.place, signature, answer,
                 );
             }
-            Err(_) => {
+            None => {
                 put_item(
                     self.rows,
                     self.here.rows as usize,
-                    opaque_row(place, self.here.bytes),
+                    opaque_row(met.place, self.here.bytes),
                 );
                 self.here.rows += 1;
             }

@@ -1,15 +1,11 @@
 //! The table of a keyring's jobs.
 
-ghost use Rattle.std.specs.Prelude.{◌≡◌, ◌≤◌, ◌++◌, Result, drop, length, map, OnOk, OnErr};
-ghost use Rattle.std.specs.Result.{ForOk};
-ghost use Rattle.opgp_octets.specs.Reading.{Reads};
+ghost use Rattle.std.specs.Prelude.{◌≡◌, ◌≤◌, ◌++◌, drop, length, map, IfOk, OnOk, OnErr};
 ghost use Rattle.opgp_packet.specs.SigView.{sig_view_value};
 ghost use Rattle.opgp_packet.specs.SubView.{sub_shown};
 ghost use Rattle.opgp_packet.specs.Subs.{subs_to_come};
 ghost use Rattle.opgp_hash.specs.CertificateHasher.{hasher_subject};
-ghost use Rattle.opgp_hash.specs.Question.{question_value};
-ghost use Rattle.opgp_hash.specs.QuestionValue.{QuestionValue};
-ghost use Rattle.opgp_hash.specs.declared.why.Why.{Why};
+ghost use Rattle.opgp_report.specs.Asked.{posed_value};
 ghost use Rattle.opgp_report.specs.Left.{left_in};
 ghost use Rattle.opgp_report.specs.IssuerName.{name_value};
 ghost use Rattle.opgp_report.specs.KeyIndex.{prints_shown};
@@ -24,12 +20,12 @@ use crate::job_row::{Answered, JobRow, digest_padded};
 use crate::key_row::NONE;
 use crate::parts::signature_parts;
 use crate::table_sizes::TableSizes;
-use opgp_hash::{CertificateHasher, Fingerprint, KeyId, Question, Why};
+use opgp_hash::{CertificateHasher, Fingerprint, KeyId, Why};
 use opgp_octets::{OutOfMemory, SubpacketKind};
 use opgp_packet::{SigView, SubView, Subs};
 use opgp_report::{
-    IssuerName, Job, KeyIndex, LeftOctets, Place, Verdict, Verifier, index_keys, issuer_named,
-    signer, visit,
+    IssuerName, Job, KeyIndex, LeftOctets, Place, Posed, Verdict, Verifier, index_keys,
+    issuer_named, signer, visit,
 };
 use opgp_ring::Keyring;
 use std::alloc::Global;
@@ -221,19 +217,14 @@ pub(crate) fn opaque_row(place: Place, at: u64) -> JobRow
 
 /// The digest of a signature's question, and whether it differs from the left octets; or why it
 /// isn't hashed.
-pub(crate) fn answer_to(
-    hasher: &mut CertificateHasher<'_>,
-    signature: SigView<'_>,
-    asked: Result<Question<'_>, Why>,
-) -> Answered
-    requires { ForOk asked (λ q. (question_value q).subject ≡ hasher_subject hasher.old) }
+pub(crate) fn answer_to(hasher: &mut CertificateHasher<'_>, posed: Posed<'_>) -> Answered
+    requires { IfOk (posed_value posed) (λ x. x.1.subject ≡ hasher_subject hasher.old) }
     ensures subject { hasher_subject hasher.new ≡ hasher_subject hasher.old }
-    ensures value { (read : Result QuestionValue Why) → Reads question_value asked.entry read
-        → result ≡ answer_to (sig_view_value signature.entry) read }
+    ensures value { result ≡ answer_to (posed_value posed.entry) }
 {
-    let question = match asked {
-        Ok(question) => question,
-        Err(why) => {
+    let (signature, question) = match posed {
+        Posed::Question(signature, question) => (signature, question),
+        Posed::Nothing(why) => {
             return Answered {
                 why: why_number(why),
                 is_bad: 0,

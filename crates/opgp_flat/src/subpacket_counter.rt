@@ -6,10 +6,9 @@ ghost use Rattle.opgp_flat.specs.Sizes.{CountsSubpackets, capped};
 ghost use Rattle.opgp_flat.specs.Subpackets.{area_octets, subpacket_bytes, subpacket_rows};
 
 use crate::table_sizes::TableSizes;
-use opgp_hash::{CertificateHasher, Site};
-use opgp_octets::BodyFault;
+use opgp_hash::CertificateHasher;
 use opgp_packet::{SigView, Subs};
-use opgp_report::{Place, Visitor, visit};
+use opgp_report::{Met, Visitor, visit};
 use opgp_ring::Keyring;
 use std::convert::Infallible;
 
@@ -45,20 +44,18 @@ impl<'a> Visitor<'a> for SubpacketCounter {
     fn meet(
         &mut self,
         _hasher: &mut CertificateHasher<'a>,
-        _site: Site,
-        _place: Place,
-        signature: &Result<SigView<'a>, BodyFault>,
+        met: &Met<'a>,
     ) -> Result<(), Infallible> {
-        match signature {
-            Ok(SigView::Four(view)) => {
+        match met.signature {
+            Some(SigView::Four(view)) => {
                 self.add_area(view.hashed());
                 self.add_area(view.unhashed());
             }
-            Ok(SigView::Six(view)) => {
+            Some(SigView::Six(view)) => {
                 self.add_area(view.hashed());
                 self.add_area(view.unhashed());
             }
-            Ok(SigView::Three(_) | SigView::Other(_)) | Err(_) => self.sizes.add(0, 0),
+            Some(SigView::Three(_) | SigView::Other(_)) | None => self.sizes.add(0, 0),
         }
         Ok(())
     }

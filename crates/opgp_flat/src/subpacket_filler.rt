@@ -11,10 +11,9 @@ use crate::subpacket_counter::SubpacketCounter;
 use crate::subpacket_row::SubpacketRow;
 use crate::subpacket_table::put_areas;
 use crate::table_sizes::TableSizes;
-use opgp_hash::{CertificateHasher, Site};
-use opgp_octets::BodyFault;
+use opgp_hash::CertificateHasher;
 use opgp_packet::{SigView, Subs};
-use opgp_report::{Place, Visitor, visit};
+use opgp_report::{Met, Visitor, visit};
 use opgp_ring::Keyring;
 
 /// How large the tables of two areas are.
@@ -56,17 +55,11 @@ impl<'a> Visitor<'a> for SubpacketFiller<'_> {
 
     ghost becomes = { FillsSubpackets };
 
-    fn meet(
-        &mut self,
-        _hasher: &mut CertificateHasher<'a>,
-        _site: Site,
-        place: Place,
-        signature: &Result<SigView<'a>, BodyFault>,
-    ) -> Result<(), NoRoom> {
-        let (hashed, unhashed) = match signature {
-            Ok(SigView::Four(view)) => (view.hashed(), view.unhashed()),
-            Ok(SigView::Six(view)) => (view.hashed(), view.unhashed()),
-            Ok(SigView::Three(_) | SigView::Other(_)) | Err(_) => return Ok(()),
+    fn meet(&mut self, _hasher: &mut CertificateHasher<'a>, met: &Met<'a>) -> Result<(), NoRoom> {
+        let (hashed, unhashed) = match met.signature {
+            Some(SigView::Four(view)) => (view.hashed(), view.unhashed()),
+            Some(SigView::Six(view)) => (view.hashed(), view.unhashed()),
+            Some(SigView::Three(_) | SigView::Other(_)) | None => return Ok(()),
         };
         let wanted = sizes_of(hashed, unhashed);
         if !has_room(
@@ -77,7 +70,9 @@ impl<'a> Visitor<'a> for SubpacketFiller<'_> {
         ) {
             return Err(NoRoom);
         }
-        self.here = put_areas(self.rows, self.bytes, self.here, place, hashed, unhashed);
+        self.here = put_areas(
+            self.rows, self.bytes, self.here, met.place, hashed, unhashed,
+        );
         Ok(())
     }
 }

@@ -9,7 +9,7 @@ use Rattle.opgp_hash.specs.declared.site.Site.TheVariants.{Hung, Embedded}
 use Rattle.opgp_hash.specs.SubjectValue.{SubjectValue, one}
 use Rattle.opgp_ring.specs.Keyring.{CertificateValue, ComponentValue, KeyringValue}
 use Rattle.opgp_report.specs.declared.place.Place.{Place}
-use Rattle.opgp_report.specs.Asked.{Asked, asked_by, asked_in, asked_of}
+use Rattle.opgp_report.specs.Asked.{Asked, asked_by, asked_of, posed_in, question_of}
 use Rattle.opgp_report.specs.Standing.{Standing, bodies_within, by_number, certificate_standing, component_standing, hang_standing, hangs_standing, hung_at, nested_standing, on_head, signature_standing}
 use Rattle.opgp_report.proofs.Numbered.{unnumbered}
 
@@ -31,7 +31,7 @@ certificate_asked c = hangs_asked (one c.primary.body) c.hangs ++ components_ask
 
 nested : (p q : Place) (subject : SubjectValue) (n m : ℕ) (bodies : List (List ℕ)) → map asked_by (by_number (nested_standing p subject) n bodies) ≡ map asked_by (by_number (nested_standing q subject) m bodies)
 nested p q subject n m [] = refl
-nested p q subject n m (b ∷ bs) = ap (λ (l : List Asked). asked_in Embedded subject (signature_at b) ∷ l) (nested p q subject (n + 1) (m + 1) bs)
+nested p q subject n m (b ∷ bs) = ap (λ (l : List Asked). question_of (posed_in Embedded subject (signature_at b)) ∷ l) (nested p q subject (n + 1) (m + 1) bs)
 
 chosen : (test : Bool) (xs ys : List Standing) → map asked_by xs ≡ map asked_by ys → map asked_by (if test then xs else []) ≡ map asked_by (if test then ys else [])
 chosen true xs ys e = e
@@ -40,7 +40,7 @@ chosen false xs ys e = refl
 hang : (certificate : ℕ) (component : Option ℕ) (subject : SubjectValue) (n : ℕ) (p : PacketValue) → map asked_by (hang_standing certificate component subject n p) ≡ hang_asked subject p
 hang certificate component subject n p =
     chosen (p.kind == 2) (signature_standing (hung_at certificate component n) subject p.body) (signature_standing (hung_at 0 None 0) subject p.body)
-    (ap (λ (l : List Asked). asked_in Hung subject (signature_at p.body) ∷ l) (nested (hung_at certificate component n) (hung_at 0 None 0) subject 0 0 (bodies_within subject (signature_at p.body))))
+    (ap (λ (l : List Asked). question_of (posed_in Hung subject (signature_at p.body)) ∷ l) (nested (hung_at certificate component n) (hung_at 0 None 0) subject 0 0 (bodies_within subject (signature_at p.body))))
 
 hangs : (certificate : ℕ) (component : Option ℕ) (subject : SubjectValue) (ps : List PacketValue) → map asked_by (hangs_standing certificate component subject ps) ≡ hangs_asked subject ps
 hangs certificate component subject ps = unnumbered (hang_standing certificate component subject) asked_by (hang_asked subject) (hang certificate component subject) 0 ps

@@ -1,12 +1,11 @@
 -- Rows with fingerprints, of what is kept of a keyring's certificates.
-use Rattle.std.proofs.Common.{◌≡◌, ◌∙◌, ◌≤◌, ℕ, suc, ◌+◌, Bool, true, false, List, [], ◌∷◌, ◌++◌, length, map, Option, Some, None, Result, Ok, Err, refl, sym, ap, arith, append_assoc, slice_get}
+use Rattle.std.proofs.Common.{◌≡◌, ◌∙◌, ◌≤◌, ℕ, suc, ◌+◌, Bool, true, false, List, [], ◌∷◌, ◌++◌, length, map, Option, Some, None, Ok, Err, refl, sym, ap, arith, append_assoc, slice_get}
 use Rattle.std.specs.Prelude.{◌==◌, if◌then◌else◌}
 use Rattle.std.specs.List.{flat_map}
 use Rattle.std.specs.Option.{option_map, option_and_then}
 use Rattle.std.proofs.lemmas.List.{map-append}
 use Rattle.std.proofs.lemmas.List.Concat.{flat_map-append}
 use Rattle.std.proofs.lemmas.Option.{slice_get-map}
-use Rattle.opgp_octets.specs.declared.fault.BodyFault.{BodyFault}
 use Rattle.opgp_frame.specs.Packet.{PacketValue}
 use Rattle.opgp_packet.specs.SignatureBody.{SignatureValue, signature_at}
 use Rattle.opgp_hash.specs.SubjectValue.{SubjectValue, one}
@@ -14,7 +13,7 @@ use Rattle.opgp_hash.specs.declared.fingerprints.Fingerprint.{Fingerprint}
 use Rattle.opgp_ring.specs.Keyring.{CertificateValue, KeyringValue}
 use Rattle.opgp_report.specs.declared.fingerprinting.FingerprintedReporting.{FingerprintedReporting}
 use Rattle.opgp_report.specs.declared.place.Place.{Place}
-use Rattle.opgp_report.specs.Asked.{Asked, asked_by}
+use Rattle.opgp_report.specs.Asked.{PosedValue, posed_by}
 use Rattle.opgp_report.specs.Fingerprinted.{FingerprintedValue, fingerprinted_report_of, fingerprinted_row, fingerprinted_rows, signer_print}
 use Rattle.opgp_report.specs.Fingerprinting.{ReportsPrints}
 use Rattle.opgp_report.specs.First.{print_of}
@@ -22,7 +21,7 @@ use Rattle.opgp_report.specs.FoundRows.{found_rows, found_then, names_behind, si
 use Rattle.opgp_report.specs.IssuerName.{name_value}
 use Rattle.opgp_report.specs.KeyIndex.{prints_shown}
 use Rattle.opgp_report.specs.Left.{says_left}
-use Rattle.opgp_report.specs.Report.{Says, finding_at, keys_in, report_of, row_of, signer_in}
+use Rattle.opgp_report.specs.Report.{Says, finding_of, keys_in, report_of, row_of, signer_in}
 use Rattle.opgp_report.specs.Row.{row_value}
 use Rattle.opgp_report.specs.RowMaker.{names_at, names_if, signed_rows}
 use Rattle.opgp_report.specs.RowValue.{RowValue}
@@ -70,13 +69,12 @@ module _ (keys : List (List ℕ)) (primaries : List Fingerprint) where
   signer_found : (v : SignatureValue) → print_named (map print_of keys) (issuer_of v) ≡ option_map print_of (signer_in keys v)
   signer_found v = at_place (named_in (map print_of keys) (issuer_of v))
 
-  taken : (place : Place) (read : Result SignatureValue BodyFault) (asked : Asked) (primary : Fingerprint) (names : List NameValue) (more : List NameValue → List FingerprintedValue)
-      → found_then (map print_of keys) (record { place = place; finding = finding_at says_left keys read asked }) (names_if read asked ++ names) (Some primary) more
-      ≡ record { row = record { place = place; finding = finding_at says_left keys read asked }; certificate = primary; signer = signer_print keys read asked } ∷ more names
-  taken place (Ok v) (Ok q) primary names more =
-      ap (λ (signer : Option Fingerprint). record { row = record { place = place; finding = finding_at says_left keys (Ok v) (Ok q) }; certificate = primary; signer = signer } ∷ more names) (signer_found v)
-  taken place (Ok v) (Err why) primary names more = refl
-  taken place (Err fault) asked primary names more = refl
+  taken : (place : Place) (posed : PosedValue) (primary : Fingerprint) (names : List NameValue) (more : List NameValue → List FingerprintedValue)
+      → found_then (map print_of keys) (record { place = place; finding = finding_of says_left keys posed }) (names_if posed ++ names) (Some primary) more
+      ≡ record { row = record { place = place; finding = finding_of says_left keys posed }; certificate = primary; signer = signer_print keys posed } ∷ more names
+  taken place (Ok (v, q)) primary names more =
+      ap (λ (signer : Option Fingerprint). record { row = record { place = place; finding = finding_of says_left keys (Ok (v, q)) }; certificate = primary; signer = signer } ∷ more names) (signer_found v)
+  taken place (Err why) primary names more = refl
 
   -- those in one certificate
   all_found : (n : ℕ) (primary : List ℕ) → slice_get primaries n ≡ Some (print_of primary) → (list : List Standing) → AllAt n list → (rows : List RowValue) (names : List NameValue)
@@ -89,7 +87,7 @@ module _ (keys : List (List ℕ)) (primaries : List Fingerprint) where
       let left : List NameValue = flat_map names_at list ++ names in
       ap (λ (l : List NameValue). found_rows (map print_of keys) primaries (row ∷ more) l) (append_assoc (names_at s) (flat_map names_at list) names)
       ∙ ap (λ (o : Option Fingerprint). found_then (map print_of keys) row (names_at s ++ left) o (found_rows (map print_of keys) primaries more)) (ap (λ (m : ℕ). slice_get primaries m) at.0 ∙ is)
-      ∙ taken s.place (signature_at s.body) (asked_by s) (print_of primary) left (found_rows (map print_of keys) primaries more)
+      ∙ taken s.place (posed_by s) (print_of primary) left (found_rows (map print_of keys) primaries more)
       ∙ ap (λ (l : List FingerprintedValue). fingerprinted_row keys says_left primary s ∷ l) (all_found n primary is list at.1 rows names)
 
   -- those in all certificates

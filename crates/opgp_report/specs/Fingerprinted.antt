@@ -1,11 +1,9 @@
 -- The report of a keyring with fingerprints (RFC 9580, 5.5.4).
-use Rattle.std.specs.Prelude.{ℕ, List, map, Option, None, Result, Ok, Err}
+use Rattle.std.specs.Prelude.{ℕ, List, map, Option, None, Ok, Err}
 use Rattle.std.specs.Option.{option_map}
-use Rattle.opgp_octets.specs.declared.fault.BodyFault.{BodyFault}
-use Rattle.opgp_packet.specs.SignatureBody.{SignatureValue, signature_at}
 use Rattle.opgp_hash.specs.declared.fingerprints.Fingerprint.{Fingerprint}
 use Rattle.opgp_ring.specs.Keyring.{CertificateValue, KeyringValue}
-use Rattle.opgp_report.specs.Asked.{Asked, asked_by}
+use Rattle.opgp_report.specs.Asked.{PosedValue, posed_by}
 use Rattle.opgp_report.specs.First.{print_of}
 use Rattle.opgp_report.specs.Report.{Says, keys_in, row_of, signer_in}
 use Rattle.opgp_report.specs.RowValue.{RowValue}
@@ -19,17 +17,16 @@ pub record FingerprintedValue : Type 0 where
 
 module _ (keys : List (List ℕ)) where
   -- the fingerprint of the first of these keys that a signature names as its issuer's, if it is hashed
-  abbrev pub signer_print : Result SignatureValue BodyFault → Asked → Option Fingerprint
-  signer_print (Ok v) (Ok q) = option_map print_of (signer_in keys v)
-  signer_print (Ok v) (Err why) = None
-  signer_print (Err fault) asked = None
+  abbrev pub signer_print : PosedValue → Option Fingerprint
+  signer_print (Ok x) = option_map print_of (signer_in keys x.0)
+  signer_print (Err why) = None
 
   -- of a signature in the certificate of this primary key
   abbrev pub fingerprinted_row : Says → List ℕ → Standing → FingerprintedValue
   fingerprinted_row says primary s = record {
     row = row_of says keys s;
     certificate = print_of primary;
-    signer = signer_print (signature_at s.body) (asked_by s);
+    signer = signer_print (posed_by s);
   }
 
   abbrev pub fingerprinted_rows : Says → ℕ → CertificateValue → List FingerprintedValue

@@ -1,19 +1,17 @@
 -- The report of a keyring: a row for each of its signatures (RFC 9580, 5.2.4).
-use Rattle.std.specs.Prelude.{ℕ, if◌then◌else◌, List, [], ◌∷◌, map, Option, Result, Ok, Err}
+use Rattle.std.specs.Prelude.{ℕ, if◌then◌else◌, List, [], ◌∷◌, map, Option, Ok, Err}
 use Rattle.std.specs.Prelude.{slice_get}
 use Rattle.std.specs.List.{flat_map}
 use Rattle.std.specs.Option.{option_map, option_and_then}
-use Rattle.opgp_octets.specs.declared.fault.BodyFault.{BodyFault}
 use Rattle.opgp_octets.specs.declared.packet_type.PacketType.TheVariants as packet
-use Rattle.opgp_packet.specs.SignatureBody.{SignatureValue, signature_at}
-use Rattle.opgp_hash.specs.declared.why.Why.TheVariants.{Opaque}
+use Rattle.opgp_packet.specs.SignatureBody.{SignatureValue}
 use Rattle.opgp_hash.specs.Digest.{digest_of}
 use Rattle.opgp_hash.specs.KeyId.{id_of}
 use Rattle.opgp_hash.specs.QuestionValue.{QuestionValue}
 use Rattle.opgp_frame.specs.Header.{is_type}
 use Rattle.opgp_ring.specs.Keyring.{CertificateValue, ComponentValue, KeyringValue}
 use Rattle.opgp_report.specs.declared.verifier.Verdict.{Verdict}
-use Rattle.opgp_report.specs.Asked.{Asked, asked_by}
+use Rattle.opgp_report.specs.Asked.{PosedValue, posed_by}
 use Rattle.opgp_report.specs.First.{print_of}
 use Rattle.opgp_report.specs.RowValue.{JobValue, FindingValue, RowValue, not_asked, asked_with}
 use Rattle.opgp_report.specs.Signer.{signer_of}
@@ -45,17 +43,12 @@ finding_by says signer v q =
     (says (record { signature = v; digest = digest_of q; signer = signer }))
 
 module _ (says : Says) (keys : List (List ℕ)) where
-  abbrev pub finding_of : SignatureValue → Asked → FindingValue
-  finding_of v (Err why) = not_asked why
-  finding_of v (Ok q) = finding_by says (signer_in keys v) v q
-
-  -- octets that aren't a signature aren't hashed
-  abbrev pub finding_at : Result SignatureValue BodyFault → Asked → FindingValue
-  finding_at (Ok v) asked = finding_of v asked
-  finding_at (Err fault) asked = not_asked Opaque
+  abbrev pub finding_of : PosedValue → FindingValue
+  finding_of (Err why) = not_asked why
+  finding_of (Ok x) = finding_by says (signer_in keys x.0) x.0 x.1
 
   abbrev pub row_of : Standing → RowValue
-  row_of s = record { place = s.place; finding = finding_at (signature_at s.body) (asked_by s) }
+  row_of s = record { place = s.place; finding = finding_of (posed_by s) }
 
 -- the report of a keyring with a verifier
 abbrev pub report_of : Says → KeyringValue → List RowValue

@@ -1,12 +1,10 @@
 -- Rows that are made while no key is known, and the names of the issuers that they lack.
 use Rattle.std.specs.Prelude.{◌≡◌, ⊤, List, [], ◌∷◌, ◌++◌, map, Result, Ok, Err}
 use Rattle.std.specs.List.{flat_map}
-use Rattle.opgp_octets.specs.declared.fault.BodyFault.{BodyFault}
-use Rattle.opgp_packet.specs.SignatureBody.{SignatureValue, signature_at}
 use Rattle.opgp_hash.specs.declared.fingerprints.Fingerprint.{Fingerprint}
 use Rattle.opgp_report.specs.declared.place.Place.{Place}
 use Rattle.opgp_report.specs.declared.row_maker.RowMaker.{RowMaker}
-use Rattle.opgp_report.specs.Asked.{Asked, asked_by}
+use Rattle.opgp_report.specs.Asked.{PosedValue, posed_by}
 use Rattle.opgp_report.specs.IssuerName.{name_value}
 use Rattle.opgp_report.specs.Left.{says_left}
 use Rattle.opgp_report.specs.Report.{row_of}
@@ -17,13 +15,12 @@ use Rattle.opgp_report.specs.Standing.{Standing}
 
 -- ---- what is kept of a signature
 -- the name of its issuer, if it is hashed
-abbrev pub names_if : Result SignatureValue BodyFault → Asked → List NameValue
-names_if (Ok v) (Ok q) = issuer_of v ∷ []
-names_if (Ok v) (Err why) = []
-names_if (Err fault) asked = []
+abbrev pub names_if : PosedValue → List NameValue
+names_if (Ok x) = issuer_of x.0 ∷ []
+names_if (Err why) = []
 
 abbrev pub names_at : Standing → List NameValue
-names_at s = names_if (signature_at s.body) (asked_by s)
+names_at s = names_if (posed_by s)
 
 -- its row in the report of a keyring without keys, where it has no signer
 abbrev pub unsigned_row : Standing → RowValue

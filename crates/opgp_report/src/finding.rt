@@ -7,11 +7,9 @@ ghost use Rattle.opgp_hash.specs.Question.{question_value};
 ghost use Rattle.opgp_report.specs.Asked.{Finds, asked_of, question_in};
 ghost use Rattle.opgp_report.specs.Standing.{certificate_standing};
 
-use crate::place::Place;
+use crate::met::{Met, Posed};
 use crate::walk::{Visitor, visit, visit_certificate};
-use opgp_hash::{CertificateHasher, Question, Site, Why, ask_at};
-use opgp_octets::BodyFault;
-use opgp_packet::SigView;
+use opgp_hash::{CertificateHasher, Question};
 use opgp_ring::{Certificate, Keyring};
 
 /// Looks for the signature of a given number.
@@ -21,24 +19,22 @@ struct Finder {
 }
 
 impl<'a> Visitor<'a> for Finder {
-    type Stop = Result<Question<'a>, Why>;
+    type Stop = Option<Question<'a>>;
 
     ghost becomes = { Finds };
 
     fn meet(
         &mut self,
         hasher: &mut CertificateHasher<'a>,
-        site: Site,
-        place: Place,
-        signature: &Result<SigView<'a>, BodyFault>,
-    ) -> Result<(), Result<Question<'a>, Why>> {
+        met: &Met<'a>,
+    ) -> Result<(), Option<Question<'a>>> {
         if self.left > 0 {
             self.left -= 1;
             return Ok(());
         }
-        match signature {
-            Ok(signature) => Err(ask_at(site, *signature, hasher.subject())),
-            Err(_) => Err(Err(Why::Opaque)),
+        match met.asked(hasher) {
+            Posed::Question(_, question) => Err(Some(question)),
+            Posed::Nothing(_) => Err(None),
         }
     }
 }
@@ -50,7 +46,7 @@ pub fn question_at(keyring: &Keyring, row: usize) -> Option<Question<'_>>
         ≡ question_in (slice_get (asked_of keyring.now) row) }
 {
     match visit(&mut Finder { left: row }, keyring) {
-        Err(asked) => asked.ok(),
+        Err(question) => question,
         Ok(()) => None,
     }
 }

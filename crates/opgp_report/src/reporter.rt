@@ -1,27 +1,23 @@
 //! The rows for the signatures of a keyring.
 
-ghost use Rattle.std.specs.Prelude.{◌≡◌, ◌++◌, [], List, Ok, Result, map};
+ghost use Rattle.std.specs.Prelude.{◌≡◌, ◌++◌, [], map};
 ghost use Rattle.std.specs.Option.{option_map};
-ghost use Rattle.std.specs.Result.{ForOk};
 ghost use Rattle.opgp_hash.specs.CertificateHasher.{hasher_subject};
 ghost use Rattle.opgp_hash.specs.Question.{question_value};
-ghost use Rattle.opgp_hash.specs.QuestionValue.{QuestionValue};
-ghost use Rattle.opgp_hash.specs.declared.why.Why.{Why};
-ghost use Rattle.opgp_octets.specs.Reading.{Reads};
 ghost use Rattle.opgp_packet.specs.Parsed.{body_octets};
 ghost use Rattle.opgp_packet.specs.SigView.{sig_view_value};
 ghost use Rattle.opgp_report.specs.Reporter.{AddsRows, reporter_keys};
-ghost use Rattle.opgp_report.specs.Report.{finding_by, finding_of};
+ghost use Rattle.opgp_report.specs.Report.{finding_by};
 ghost use Rattle.opgp_report.specs.Row.{finding_value, row_value};
 ghost use Rattle.opgp_report.specs.Signers.{signers_keys};
 
-use crate::place::Place;
+use crate::met::{Met, Posed};
 use crate::row::{Finding, Row};
 use crate::signers::{Signer, Signers};
 use crate::verifier::{Job, Verifier};
 use crate::walk::Visitor;
-use opgp_hash::{CertificateHasher, Question, Site, Why, ask_at};
-use opgp_octets::{BodyFault, OutOfMemory};
+use opgp_hash::{CertificateHasher, Question};
+use opgp_octets::OutOfMemory;
 use opgp_packet::SigView;
 use std::alloc::Global;
 
@@ -44,27 +40,6 @@ impl<'a, V: Verifier> Reporter<'a, V> {
             verifier,
             rows: Vec::new(alloc),
         }
-    }
-
-    /// What is found of a signature over the hasher's current subject.
-    fn finding(
-        &self,
-        hasher: &mut CertificateHasher<'_>,
-        signature: SigView<'_>,
-        asked: Result<Question<'_>, Why>,
-    ) -> Finding
-        requires { ForOk asked (λ q. (question_value q).subject ≡ hasher_subject hasher.old) }
-        ensures subject { hasher_subject hasher.new ≡ hasher_subject hasher.old }
-        ensures value { (read : Result QuestionValue Why) → Reads question_value asked.entry read
-            → finding_value result ≡ finding_of (V.says self.now.verifier.now)
-            (reporter_keys self.now) (sig_view_value signature.entry) read }
-    {
-        let question = match asked {
-            Ok(question) => question,
-            Err(why) => return Finding::NotAsked(why),
-        };
-        let signer = self.signers.find(signature);
-        found(hasher, signature, &question, signer, self.verifier)
     }
 }
 
@@ -106,18 +81,19 @@ impl<'a, V: Verifier> Visitor<'a> for Reporter<'a, V> {
     fn meet(
         &mut self,
         hasher: &mut CertificateHasher<'a>,
-        site: Site,
-        place: Place,
-        signature: &Result<SigView<'a>, BodyFault>,
+        met: &Met<'a>,
     ) -> Result<(), OutOfMemory> {
-        let finding = match signature {
-            Ok(signature) => {
-                let asked = ask_at(site, *signature, hasher.subject());
-                self.finding(hasher, *signature, asked)
+        let place = met.place;
+        match met.asked(hasher) {
+            Posed::Question(signature, question) => {
+                let signer = self.signers.find(signature);
+                let finding = found(hasher, signature, &question, signer, self.verifier);
+                Ok(self.rows.push(Row { place, finding })?)
             }
-            Err(_) => Finding::NotAsked(Why::Opaque),
-        };
-        self.rows.push(Row { place, finding })?;
-        Ok(())
+            Posed::Nothing(why) => {
+                let finding = Finding::NotAsked(why);
+                Ok(self.rows.push(Row { place, finding })?)
+            }
+        }
     }
 }

@@ -1,32 +1,22 @@
 //! The rows of signatures while not all keys are known.
 
-ghost use Rattle.std.specs.Prelude.{◌≡◌, [], ◌∷◌, ◌++◌, ℕ, List, map, IfOk, OnOk, Result};
-ghost use Rattle.std.specs.Result.{ForOk};
-ghost use Rattle.opgp_hash.specs.CertificateHasher.{hasher_subject};
-ghost use Rattle.opgp_hash.specs.Question.{question_value};
-ghost use Rattle.opgp_hash.specs.QuestionValue.{QuestionValue};
-ghost use Rattle.opgp_hash.specs.declared.why.Why.{Why};
-ghost use Rattle.opgp_octets.specs.Reading.{Reads};
-ghost use Rattle.opgp_packet.specs.SigView.{sig_view_value};
+ghost use Rattle.std.specs.Prelude.{◌≡◌, [], ◌∷◌, List, map};
 ghost use Rattle.opgp_report.specs.IssuerName.{name_value};
 ghost use Rattle.opgp_report.specs.KeyIndex.{prints_shown};
-ghost use Rattle.opgp_report.specs.Left.{says_left};
-ghost use Rattle.opgp_report.specs.Report.{finding_of};
-ghost use Rattle.opgp_report.specs.Row.{finding_value, row_value};
-ghost use Rattle.opgp_report.specs.RowMaker.{AddsUnsigned, Keeps, names_if, signed_rows};
+ghost use Rattle.opgp_report.specs.Row.{row_value};
+ghost use Rattle.opgp_report.specs.RowMaker.{AddsUnsigned, Keeps, signed_rows};
 ghost use Rattle.opgp_report.specs.RowValue.{RowValue};
 
 use crate::issuer_name::IssuerName;
 use crate::key_index::KeyIndex;
 use crate::left_octets::LeftOctets;
-use crate::place::Place;
+use crate::met::{Met, Posed};
 use crate::reporter::found;
 use crate::row::{Finding, Row};
 use crate::signing::issuer_named;
 use crate::walk::Visitor;
-use opgp_hash::{CertificateHasher, Question, Site, Why, ask_at};
-use opgp_octets::{BodyFault, OutOfMemory};
-use opgp_packet::SigView;
+use opgp_hash::CertificateHasher;
+use opgp_octets::OutOfMemory;
 use std::alloc::Global;
 
 /// Adds a row without a signer for each signature, and for each that is hashed the name of its
@@ -46,33 +36,6 @@ impl RowMaker {
             rows: Vec::new(alloc),
             issuers: Vec::new(alloc),
         }
-    }
-
-    /// What is found of a signature over the hasher's current subject. Keeps the issuer's name if the
-    /// signature is hashed. Fails only when out of memory.
-    fn finding(
-        &mut self,
-        hasher: &mut CertificateHasher<'_>,
-        signature: SigView<'_>,
-        asked: Result<Question<'_>, Why>,
-    ) -> Result<Finding, OutOfMemory>
-        requires { ForOk asked (λ q. (question_value q).subject ≡ hasher_subject hasher.old) }
-        ensures subject { hasher_subject hasher.new ≡ hasher_subject hasher.old }
-        ensures rows { self.new.rows ≡ self.old.rows }
-        ensures names { OnOk result ((read : Result QuestionValue Why)
-            → Reads question_value asked.entry read
-            → map name_value self.new.issuers.items ≡ map name_value self.old.issuers.items
-            ++ names_if (Ok (sig_view_value signature.entry)) read) }
-        ensures value { IfOk result (λ f. (read : Result QuestionValue Why)
-            → Reads question_value asked.entry read
-            → finding_value f ≡ finding_of says_left [] (sig_view_value signature.entry) read) }
-    {
-        let question = match asked {
-            Ok(question) => question,
-            Err(why) => return Ok(Finding::NotAsked(why)),
-        };
-        self.issuers.push(issuer_named(signature))?;
-        Ok(found(hasher, signature, &question, None, &LeftOctets))
     }
 
     /// The rows, with the key IDs of the keys that are named, where the index has them. Allocates
@@ -137,18 +100,19 @@ impl<'a> Visitor<'a> for RowMaker {
     fn meet(
         &mut self,
         hasher: &mut CertificateHasher<'a>,
-        site: Site,
-        place: Place,
-        signature: &Result<SigView<'a>, BodyFault>,
+        met: &Met<'a>,
     ) -> Result<(), OutOfMemory> {
-        let finding = match signature {
-            Ok(signature) => {
-                let asked = ask_at(site, *signature, hasher.subject());
-                self.finding(hasher, *signature, asked)?
+        let place = met.place;
+        match met.asked(hasher) {
+            Posed::Question(signature, question) => {
+                self.issuers.push(issuer_named(signature))?;
+                let finding = found(hasher, signature, &question, None, &LeftOctets);
+                Ok(self.rows.push(Row { place, finding })?)
             }
-            Err(_) => Finding::NotAsked(Why::Opaque),
-        };
-        self.rows.push(Row { place, finding })?;
-        Ok(())
+            Posed::Nothing(why) => {
+                let finding = Finding::NotAsked(why);
+                Ok(self.rows.push(Row { place, finding })?)
+            }
+        }
     }
 }

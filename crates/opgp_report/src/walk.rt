@@ -3,7 +3,6 @@
 ghost use Rattle.std.specs.Prelude.{◌≡◌, ◌∷◌, ◌++◌, [], ◌+◌, ◌<◌, ◌≤◌, ◌^◌, length, List, ℕ};
 ghost use Rattle.std.specs.Prelude.{Ok, Result, IfOk, Some, true};
 ghost use Rattle.std.specs.List.{flat_map};
-ghost use Rattle.opgp_octets.specs.Reading.{Reads};
 ghost use Rattle.opgp_packet.specs.Parsed.{body_octets};
 ghost use Rattle.opgp_packet.specs.SignatureBody.{signature_at};
 ghost use Rattle.opgp_packet.specs.SigView.{sig_view_value};
@@ -13,15 +12,17 @@ ghost use Rattle.opgp_hash.specs.Subject.{subject_value};
 ghost use Rattle.opgp_hash.specs.SubjectValue.{first_key, is_within};
 ghost use Rattle.opgp_ring.specs.Grouped.{component_of, components_left, hangs_left};
 ghost use Rattle.opgp_ring.specs.Keyring.{component_packets};
+ghost use Rattle.opgp_report.specs.Asked.{IsMet};
 ghost use Rattle.opgp_report.specs.Standing.{Standing, bodies_within, by_number};
 ghost use Rattle.opgp_report.specs.Standing.{certificate_standing, component_standing};
 ghost use Rattle.opgp_report.specs.Standing.{hangs_standing, held_bodies};
 ghost use Rattle.opgp_report.specs.Standing.{nested_standing, on_head, standing_in, stands};
 ghost use Rattle.opgp_report.specs.Visitor.{Shown};
 
+use crate::met::{Met, read};
 use crate::place::Place;
 use opgp_hash::{CertificateHasher, Site, Subject};
-use opgp_octets::{BodyFault, SignatureType, SubpacketKind};
+use opgp_octets::{SignatureType, SubpacketKind};
 use opgp_packet::{KeyView, SigView, Subs};
 use opgp_ring::{Certificate, Component, Components, Content, Hangs, Head, Keyring};
 
@@ -33,17 +34,12 @@ pub trait Visitor<'a> {
     // What a list of signatures makes of it: its state after them, or what stops it.
     ghost becomes: { Self → List Standing → Result Self Self.Stop → Type 0 };
 
-    /// Visits a signature over the hasher's subject, or octets that aren't one, with the reason.
-    fn meet(
-        &mut self,
-        hasher: &mut CertificateHasher<'a>,
-        site: Site,
-        place: Place,
-        signature: &Result<SigView<'a>, BodyFault>,
-    ) -> Result<(), Self::Stop>
+    /// Visits a signature over the hasher's subject, or octets that aren't one.
+    fn meet(&mut self, hasher: &mut CertificateHasher<'a>, met: &Met<'a>) -> Result<(), Self::Stop>
         ensures subject { hasher_subject hasher.new ≡ hasher_subject hasher.old }
-        ensures shown { (body : List ℕ) → Reads sig_view_value signature.now (signature_at body)
-            → Shown becomes self.old (stands site place (hasher_subject hasher.old) body ∷ []) result
+        ensures shown { (body : List ℕ) → IsMet met.now.signature (signature_at body)
+            → Shown becomes self.old
+            (stands met.now.site met.now.place (hasher_subject hasher.old) body ∷ []) result
             self.new };
 }
 
@@ -68,12 +64,16 @@ fn visit_area<'a, V: Visitor<'a>>(
     let mut number = first;
     'subpackets: while let Some(subpacket) = subpackets.next() {
         if subpacket.kind() == SubpacketKind::EmbeddedSignature.number() {
-            let nested = Place {
+            let place = Place {
                 nested: Some(number),
                 ..place
             };
-            let signature = SigView::parse_body(subpacket.octets());
-            visitor.meet(hasher, Site::Embedded, nested, &signature)?;
+            let met = Met {
+                site: Site::Embedded,
+                place,
+                signature: read(subpacket.octets()),
+            };
+            visitor.meet(hasher, &met)?;
             number += 1;
         }
     }
@@ -145,22 +145,25 @@ fn visit_hangs<'a, V: Visitor<'a>>(
     opgp_packet::signature_laws::signatures_are_read();
     let mut number = 0usize;
     'hangs: while let Some(hang) = hangs.next() {
-        let place = Place {
-            certificate,
-            component,
-            hang: number,
-            nested: None,
+        let mut met = Met {
+            site: Site::Hung,
+            place: Place {
+                certificate,
+                component,
+                hang: number,
+                nested: None,
+            },
+            signature: None,
         };
         match hang.content() {
             Content::Signature(signature) => {
                 // Called for its contract: the body is that of this signature.
                 let _body = signature.body();
-                visitor.meet(hasher, Site::Hung, place, &Ok(signature))?;
-                visit_embedded(visitor, hasher, place, signature)?;
+                met.signature = Some(signature);
+                visitor.meet(hasher, &met)?;
+                visit_embedded(visitor, hasher, met.place, signature)?;
             }
-            Content::Malformed(body) => {
-                visitor.meet(hasher, Site::Hung, place, &SigView::parse_body(body))?;
-            }
+            Content::Malformed(_) => visitor.meet(hasher, &met)?,
             _ => {}
         }
         number += 1;

@@ -5,12 +5,7 @@ ghost use Rattle.opgp_engine.specs.Draft.{DraftHas};
 ghost use Rattle.opgp_hash.specs.CertificateHasher.{hasher_subject};
 ghost use Rattle.opgp_hash.specs.Hashed.{hashed};
 ghost use Rattle.opgp_hash.specs.Question.{question_value};
-ghost use Rattle.opgp_hash.specs.Subject.{subject_value};
-ghost use Rattle.opgp_hash.specs.SubjectValue.{is_within};
-ghost use Rattle.opgp_octets.specs.Reading.{Reads};
-ghost use Rattle.opgp_packet.specs.SignatureBody.{signature_at};
-ghost use Rattle.opgp_packet.specs.SigView.{sig_view_value};
-ghost use Rattle.opgp_report.specs.Asked.{Asked, asked_in, asked_of};
+ghost use Rattle.opgp_report.specs.Asked.{Asked, asked_of};
 ghost use Rattle.opgp_report.specs.Standing.{Standing, stands};
 ghost use Rattle.opgp_report.specs.Visitor.{Shown};
 ghost use Rattle.opgp_ring.specs.Composed.{PartValue};
@@ -21,10 +16,9 @@ ghost use Rattle.opgp_stack.specs.OnePart.{asked_among, certificates_in};
 ghost use Rattle.opgp_stream.specs.Output.{Extends, sink_of};
 
 use opgp_engine::{Draft, Spool, Text};
-use opgp_hash::{CertificateHasher, Question, Site, Subject, Why, ask_at, write_octets};
-use opgp_octets::{BodyFault, OutOfMemory};
-use opgp_packet::SigView;
-use opgp_report::{Place, Visitor, visit};
+use opgp_hash::{CertificateHasher, Question, write_octets};
+use opgp_octets::OutOfMemory;
+use opgp_report::{Met, Posed, Visitor, visit};
 use opgp_ring::{Keeper, Keyring, Ready};
 use opgp_stream::{Output, Sink, Word};
 use std::alloc::{AllocError, Global};
@@ -58,23 +52,6 @@ fn add_row_line<W: Sink>(output: &mut Output<'_, W>, number: u64, size: u64) -> 
         Word::Decimal(size),
         Word::Text(b"\n"),
     ])
-}
-
-/// What the signature at this site hashes over a subject; octets that aren't one hash nothing.
-fn asked_at<'a>(
-    site: Site,
-    subject: Subject<'a>,
-    signature: &Result<SigView<'a>, BodyFault>,
-) -> Result<Question<'a>, Why>
-    requires { is_within (subject_value subject) ≡ true }
-    ensures { (body : List ℕ) → Reads sig_view_value signature.now (signature_at body)
-        → Reads question_value result
-        (asked_in site (subject_value subject.entry) (signature_at body)) }
-{
-    match signature {
-        Ok(signature) => ask_at(site, *signature, subject),
-        Err(_) => Err(Why::Opaque),
-    }
 }
 
 /// What is written of the signatures of the certificates that came so far, and how many rows of the
@@ -126,28 +103,6 @@ impl<S: Spool + Drop> AllOctets<S> {
         })
     }
 
-    /// Adds the next row, and nothing to what is written if it isn't hashed. Fails only when out of
-    /// memory.
-    fn add_row(&mut self, row: Result<Question<'_>, Why>) -> Result<(), OutOfMemory>
-        ensures { OnOk result ((asked : List Asked) → (read : Asked)
-            → Reads question_value row.entry read
-            → HasRows (DraftHas S.serves S.tells S.holds S.has_failed) self.old.rows self.old.draft asked
-            → HasRows (DraftHas S.serves S.tells S.holds S.has_failed) self.new.rows self.new.draft
-            (asked ++ read ∷ [])) }
-    {
-        match row {
-            Ok(question) => {
-                self.add_octets(&question)?;
-                self.count_row()?;
-                Ok(())
-            }
-            Err(_) => {
-                self.count_row()?;
-                Ok(())
-            }
-        }
-    }
-
     /// Counts a row. No input has so many that it fails: the limit of its octets is lower.
     fn count_row(&mut self) -> Result<(), OutOfMemory>
         ensures draft { self.new.draft ≡ self.old.draft }
@@ -183,13 +138,19 @@ impl<'a, S: Spool + Drop> Visitor<'a> for AllOctets<S> {
     fn meet(
         &mut self,
         hasher: &mut CertificateHasher<'a>,
-        site: Site,
-        place: Place,
-        signature: &Result<SigView<'a>, BodyFault>,
+        met: &Met<'a>,
     ) -> Result<(), OutOfMemory> {
-        let row = asked_at(site, hasher.subject(), signature);
-        self.add_row(row)?;
-        Ok(())
+        match met.asked(hasher) {
+            Posed::Question(_, question) => {
+                self.add_octets(&question)?;
+                self.count_row()?;
+                Ok(())
+            }
+            Posed::Nothing(_) => {
+                self.count_row()?;
+                Ok(())
+            }
+        }
     }
 }
 

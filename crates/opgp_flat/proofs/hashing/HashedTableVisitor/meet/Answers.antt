@@ -1,52 +1,31 @@
-use Rattle.std.proofs.Common.{rules, ◌≡◌, ◌<◌, ◌∙◌, length, Err, Ok, refl}
+use Rattle.std.proofs.Common.{rules, ◌≡◌, ◌<◌, ◌-◌, ◌∙◌, append-nil, arith, length, Err, Ok, refl, sym}
 use Rattle.std.proofs.lemmas.Bool.{le-leb, lt-leb}
+use Rattle.std.proofs.Math.Dec.{leb-zero}
 use Rattle.opgp_hash.specs.CertificateHasher.{hasher_subject}
 use Rattle.opgp_hash.specs.Hashed.{hashed}
 use Rattle.opgp_hash.specs.Question.{question_value}
-use Rattle.opgp_hash.specs.declared.why.Why.TheVariants.{Opaque}
 use Rattle.opgp_report.specs.Asked.{asked_by}
 use Rattle.opgp_report.specs.Standing.{Standing, stands}
-use Rattle.opgp_flat.specs.declared.hashed_table.Halt.TheVariants.{Full, Memory}
-use Rattle.opgp_flat.proofs.Collecting.{grown, passed, stopped}
+use Rattle.opgp_flat.specs.declared.hashed_table.HashedTable.{HashedTable}
+use Rattle.opgp_flat.proofs.Collecting.{grown, stopped}
 use Rattle.opgp_flat.proofs.hashing.HashedTableVisitor.meet.Goals as goal
 
--- octets that aren't a signature hash nothing
+-- one that isn't hashed gets no row, and needs no room
 pub returns-in_default-clause-shown : goal.returns-in_default-clause-shown
-returns-in_default-clause-shown c body reads more (Ok u) =
-    let s : Standing = stands c.args.site c.args._place (hasher_subject c.args.hasher.now) body in
-    let is : asked_by s ≡ Err Opaque = search rules in
-    let first : c.args.self.now.skip ≡ 0 = search rules in
-    let some : 0 < c.args.self.now.left = search rules in
-    λ h. passed c.args.self.now (Err Opaque) s more u.rows.items u.bytes.items is refl refl first some h
-returns-in_default-clause-shown c body reads more (Err (Full rows bytes)) =
-    let s : Standing = stands c.args.site c.args._place (hasher_subject c.args.hasher.now) body in
-    let is : asked_by s ≡ Err Opaque = search rules in
-    let first : c.args.self.now.skip ≡ 0 = search rules in
-    let some : 0 < c.args.self.now.left = search rules in
-    λ h. passed c.args.self.now (Err Opaque) s more rows.items bytes.items is refl refl first some h
-returns-in_default-clause-shown c body reads more (Err Memory) = λ h. tt
-
--- nor does a signature for which there is a reason
-pub returns-in_default-ask_at-clause-shown : goal.returns-in_default-ask_at-clause-shown
-returns-in_default-ask_at-clause-shown c body reads more (Ok u) =
-    let s : Standing = stands c.args.site c.args._place (hasher_subject c.args.hasher.now) body in
-    let is : asked_by s ≡ Err c.in_default-ask_at.field-0 = search rules in
-    let first : c.args.self.now.skip ≡ 0 = search rules in
-    let some : 0 < c.args.self.now.left = search rules in
-    λ h. passed c.args.self.now (Err c.in_default-ask_at.field-0) s more u.rows.items u.bytes.items is refl refl first some h
-returns-in_default-ask_at-clause-shown c body reads more (Err (Full rows bytes)) =
-    let s : Standing = stands c.args.site c.args._place (hasher_subject c.args.hasher.now) body in
-    let is : asked_by s ≡ Err c.in_default-ask_at.field-0 = search rules in
-    let first : c.args.self.now.skip ≡ 0 = search rules in
-    let some : 0 < c.args.self.now.left = search rules in
-    λ h. passed c.args.self.now (Err c.in_default-ask_at.field-0) s more rows.items bytes.items is refl refl first some h
-returns-in_default-ask_at-clause-shown c body reads more (Err Memory) = λ h. tt
+returns-in_default-clause-shown c body reads more end =
+    let old : HashedTable = c.args.self.now in
+    let s : Standing = stands c.args.met.now.site c.args.met.now.place (hasher_subject c.args.hasher.now) body in
+    let is : asked_by s ≡ Err c.in_default.field-0 = search rules in
+    let first : old.skip ≡ 0 = search rules in
+    let some : 0 < old.left = search rules in
+    let new : HashedTable = record { skip = old.skip; left = old.left - 1; count = old.count; room = old.room; rows = old.rows; bytes = old.bytes; alloc = old.alloc; few = omega (arith, old.few) } in
+    grown old new (Err c.in_default.field-0) s is first some (leb-zero old.room) first refl refl (omega arith) (sym (append-nil old.rows.items)) (sym (append-nil old.bytes.items)) more end
 
 -- any other one gets a row
 pub returns-in-Ok-true-clause-shown : goal.returns-in-Ok-true-clause-shown
 returns-in-Ok-true-clause-shown c body reads more end =
-    let s : Standing = stands c.args.site c.args._place (hasher_subject c.args.hasher.now) body in
-    let q = question_value c.in-Ok-ask_at.question in
+    let s : Standing = stands c.args.met.now.site c.args.met.now.place (hasher_subject c.args.hasher.now) body in
+    let q = question_value c.in-Question.question in
     let is : asked_by s ≡ Ok q = search rules in
     let first : c.args.self.now.skip ≡ 0 = search rules in
     let some : 0 < c.args.self.now.left = search rules in
@@ -58,8 +37,8 @@ returns-in-Ok-true-clause-shown c body reads more end =
 -- or there is no room for it
 pub returns-in-Ok-false-clause-shown : goal.returns-in-Ok-false-clause-shown
 returns-in-Ok-false-clause-shown c body reads more =
-    let s : Standing = stands c.args.site c.args._place (hasher_subject c.args.hasher.now) body in
-    let q = question_value c.in-Ok-ask_at.question in
+    let s : Standing = stands c.args.met.now.site c.args.met.now.place (hasher_subject c.args.hasher.now) body in
+    let q = question_value c.in-Question.question in
     let is : asked_by s ≡ Ok q = search rules in
     let first : c.args.self.now.skip ≡ 0 = search rules in
     let some : 0 < c.args.self.now.left = search rules in

@@ -21,24 +21,24 @@ returns-else-said_octets_in-left-clause-shown c body reads more end f =
       bytes = set_vals c.put_job-self.new.bytes c.args.self.now.bytes;
       here = c.put_job-self.result;
     } in
-    let s : Standing = stands c.args.site c.args.place (hasher_subject c.args.hasher.now) body in
-    let row : JobRow = signature_row (prints_shown c.args.self.now.names.now) c.args.place c.args.self.now.here.bytes (sig_view_value c.in-Ok.signature) c.answer_to-answer.result in
-    let octets : List ℕ = flat_map (λ (o : List ℕ). o) (said_parts (sig_view_value c.in-Ok.signature)) in
+    let s : Standing = stands c.args.met.now.site c.args.met.now.place (hasher_subject c.args.hasher.now) body in
+    let row : JobRow = signature_row (prints_shown c.args.self.now.names.now) c.args.met.now.place c.args.self.now.here.bytes (sig_view_value c.in-Some-signature.signature) c.answer_to-answer.result in
+    let octets : List ℕ = flat_map (λ (o : List ℕ). o) (said_parts (sig_view_value c.in-Some-signature.signature)) in
     let e : row ≡ job_row (prints_shown c.args.self.now.names.now) c.args.self.now.here.bytes s = search rules in
     let o : octets ≡ job_octets s = search rules in
     job_step c.args.self.now new s more row octets e o c.put_job-self.ensures (search rules) (search rules) refl refl refl end f
 
 -- the row of octets that aren't one
-pub returns-in-Err-clause-shown : goal.returns-in-Err-clause-shown
-returns-in-Err-clause-shown c body reads more end f =
+pub returns-in-None-clause-shown : goal.returns-in-None-clause-shown
+returns-in-None-clause-shown c body reads more end f =
     let new : JobFiller = record {
       names = c.args.self.now.names;
       rows = set_vals c.put_item.new.table c.args.self.now.rows;
       bytes = c.args.self.now.bytes;
       here = record { rows = c.args.self.now.here.rows + 1; bytes = c.args.self.now.here.bytes };
     } in
-    let s : Standing = stands c.args.site c.args.place (hasher_subject c.args.hasher.now) body in
-    let e : opaque_row c.args.place c.args.self.now.here.bytes ≡ job_row (prints_shown c.args.self.now.names.now) c.args.self.now.here.bytes s = search rules in
+    let s : Standing = stands c.args.met.now.site c.args.met.now.place (hasher_subject c.args.hasher.now) body in
+    let e : opaque_row c.args.met.now.place c.args.self.now.here.bytes ≡ job_row (prints_shown c.args.self.now.names.now) c.args.self.now.here.bytes s = search rules in
     let octets : List ℕ = [] in
     let o : octets ≡ job_octets s = search rules in
     let within : c.args.self.now.here.bytes ≤ length c.args.self.now.bytes.now = search rules in

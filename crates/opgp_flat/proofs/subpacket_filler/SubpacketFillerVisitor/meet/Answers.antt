@@ -5,7 +5,7 @@ use Rattle.opgp_report.specs.Standing.{stands}
 use Rattle.opgp_flat.specs.declared.subpacket_filler.SubpacketFiller.{SubpacketFiller}
 use Rattle.opgp_flat.proofs.FilledSubpackets.{sub_step}
 use Rattle.opgp_flat.proofs.subpacket_filler.SubpacketFillerVisitor.meet.Goals as goal
-use Rattle.opgp_flat.proofs.subpacket_filler.SubpacketFillerVisitor.meet.Goals.{in-Ok-Four, in-Ok-Six}
+use Rattle.opgp_flat.proofs.subpacket_filler.SubpacketFillerVisitor.meet.Goals.{in-Some-Four, in-Some-Six}
 
 -- the rows of a signature
 pub returns-clause-shown : goal.returns-clause-shown
@@ -15,7 +15,7 @@ returns-clause-shown c body reads more end f =
       bytes = set_vals c.put_areas-self.new.bytes c.args.self.now.bytes;
       here = c.put_areas-self.result;
     } in
-    elim c.match-signature-2.branch [
-      | in-Ok-Four w ↦ sub_step c.args.self.now new (stands c.args._site c.args.place (hasher_subject c.args._hasher.now) body) more _ _ (search rules) (search rules) (search rules) c.put_areas-self.ensures (search rules) (search rules) refl refl end f
-      | in-Ok-Six w ↦ sub_step c.args.self.now new (stands c.args._site c.args.place (hasher_subject c.args._hasher.now) body) more _ _ (search rules) (search rules) (search rules) c.put_areas-self.ensures (search rules) (search rules) refl refl end f
+    elim c.match-met-2.branch [
+      | in-Some-Four w ↦ sub_step c.args.self.now new (stands c.args.met.now.site c.args.met.now.place (hasher_subject c.args._hasher.now) body) more _ _ (search rules) (search rules) (search rules) c.put_areas-self.ensures (search rules) (search rules) refl refl end f
+      | in-Some-Six w ↦ sub_step c.args.self.now new (stands c.args.met.now.site c.args.met.now.place (hasher_subject c.args._hasher.now) body) more _ _ (search rules) (search rules) (search rules) c.put_areas-self.ensures (search rules) (search rules) refl refl end f
     ]

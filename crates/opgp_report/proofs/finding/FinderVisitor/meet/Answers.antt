@@ -1,14 +1,8 @@
-use Rattle.std.proofs.Common.{rules, ◌≡◌, ℕ, ◌∷◌, map, refl, Some, sym, subst, slice_get}
-use Rattle.opgp_hash.specs.CertificateHasher.{hasher_subject}
-use Rattle.opgp_hash.specs.Question.{question_value}
-use Rattle.opgp_octets.specs.Reading.{Reads}
-use Rattle.opgp_report.specs.Asked.{Asked, asked_by}
-use Rattle.opgp_report.specs.Standing.{stands}
+use Rattle.std.proofs.Common.{rules, ◌≡◌, arith, refl}
+use Rattle.opgp_packet.specs.SignatureBody.{signature_at}
 use Rattle.opgp_report.proofs.finding.FinderVisitor.meet.Goals as goal
 
-pub returns-in-Ok-clause-shown : goal.returns-in-Ok-clause-shown
-returns-in-Ok-clause-shown c body reads more =
-    let asked : Asked = asked_by (stands c.args.site c.args.place (hasher_subject c.args.hasher.now) body) in
-    let read : Reads question_value c.ask_at.result asked = search rules in
+pub returns-in-Question-clause-shown : goal.returns-in-Question-clause-shown
+returns-in-Question-clause-shown c body met more =
     let first : c.args.self.now.left ≡ 0 = search rules in
-    (asked, read, subst (λ (n : ℕ). slice_get (asked ∷ map asked_by more) n ≡ Some asked) (sym first) refl)
+    rw (first, c.in-Question.ensures.exact (signature_at body) met) (omega arith, refl)

@@ -13,6 +13,7 @@ pub mod ReaderState
 pub mod Reframed
 pub mod Spelling
 pub mod Unfinished
+pub mod Spot
 pub mod View
 pub mod Whole
 pub use Rattle.opgp_octets.specs.Limits

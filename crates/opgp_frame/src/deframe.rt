@@ -1,7 +1,7 @@
 //! A reader of packets that octets are pushed into, in pieces of any size.
 
-ghost use Rattle.std.specs.Prelude.{◌≡◌, ◌<◌, ◌≤◌, ◌+◌, ◌^◌, ◌++◌, ◌∷◌, ◌↔◌, ℕ, List, [], true};
-ghost use Rattle.std.specs.Prelude.{false, length, take, is_some, option_to_list, Some, None, IfOk, IfSome, IsSome};
+ghost use Rattle.std.specs.Prelude.{◌≡◌, ◌<◌, ◌≤◌, ◌+◌, ◌-◌, ◌^◌, ◌++◌, ◌∷◌, ◌↔◌, ℕ, List, [], true};
+ghost use Rattle.std.specs.Prelude.{false, length, take, drop, is_some, option_to_list, Some, None, IfOk, IfSome, IsSome};
 ghost use Rattle.std.specs.Prelude.{OnOk, OnErr, MatchResult, Ok, Err};
 ghost use Rattle.std.specs.Prelude.{vec_capacity, vec_len, max, min};
 ghost use Rattle.std.specs.Option.{IsSomeAnd};
@@ -17,6 +17,7 @@ use crate::length::{Length, length_fault, read_length};
 use crate::lent::Lent;
 use crate::packet::Placed;
 use crate::parts::{lend_whole, placed};
+use crate::spot::Spot;
 use crate::whole::{Whole, whole_in};
 use opgp_octets::{Fault, Layer, Limits, OutOfMemory, PushFault, Reason};
 use std::alloc::Global;
@@ -78,6 +79,7 @@ impl Deframe {
     ghost use Rattle.opgp_frame.specs.Length.{LengthFits, is_partial};
     ghost use Rattle.opgp_frame.specs.ReaderState.{IsInLength};
     ghost use Rattle.opgp_frame.specs.Unfinished.{EndsLength, IsInPiece, IsWhole};
+    ghost use Rattle.opgp_frame.specs.Spot.{LiesIn};
     ghost use Rattle.opgp_frame.specs.View.{lent_packet};
     ghost use Rattle.opgp_frame.specs.Whole.{BeginsWith, BeginInOnePiece};
     ghost use Rattle.opgp_frame.specs.declared.packet.Placed.{Placed};
@@ -274,6 +276,35 @@ impl Deframe {
         self.step_whole(whole, piece)
     }
 
+    /// Takes a packet as `lend` does, and says where it lies in the piece, with the number of its octets.
+    ///
+    /// Allocates nothing.
+    #[inline(always)]
+    pub fn find(&mut self, piece: &[u8]) -> Option<(usize, Spot)>
+        requires free { is_ready self.old ≡ false }
+        requires room { count_of self.old + length piece.now < 2 ^ 63 }
+        ensures fed { IfSome result (λ r. (p : Placed) × LiesIn r.1 piece.now p
+            × KeepsFed self.old self.new (take r.0 piece.now) (p ∷ [])) }
+        ensures moves { IfSome result (λ r. (0 < r.0) × (r.0 ≤ length piece.now)) }
+        ensures count { IfSome result (λ r. count_of self.new ≡ count_of self.old + r.0) }
+        // Where there is such a packet, it is found.
+        ensures some { is_between self.old ≡ true → BeginInOnePiece (limits_of self.old) piece.now
+            → IsSome result }
+        ensures none { result ≡ None → self.new ≡ self.old }
+        ensures free { is_ready self.new ≡ false }
+        ensures sound { is_spent self.new ≡ is_spent self.old }
+        ensures faulty { fault_of self.new ≡ fault_of self.old }
+        ensures limits { limits_of self.new ≡ limits_of self.old }
+        ensures held { held_of self.new ≡ held_of self.old }
+    {
+        let State::Between = self.state else {
+            return None;
+        };
+        let whole = whole_in(self.limits, piece)?;
+        let (n, lent) = self.step_whole(whole, piece)?;
+        Some((n, lent.spot(whole.from, whole.until)))
+    }
+
     /// Takes octets of the piece up to the one that makes a packet ready, or all of them.
     fn advance(&mut self, piece: &[u8]) -> Result<usize, OutOfMemory>
         requires free { is_ready self.old ≡ false }
@@ -379,6 +410,9 @@ impl Deframe {
             length (lent_packet r.1).packet.body ≤ body_limit (limits_of self.new)) }
         ensures whole { IfSome result (λ r. exponents_of (lent_packet r.1).packet.form ≡ []) }
         ensures some { IsSome result }
+        // The body is where it was said to be.
+        ensures lies { IfSome result (λ r. (r.0 ≡ whole.until)
+            × ((lent_packet r.1).packet.body ≡ take (whole.until - whole.from) (drop whole.from piece.now))) }
         ensures free { is_ready self.new ≡ false }
         ensures between { self.new.state ≡ State.Between }
         ensures exponents { self.new.exponents ≡ self.old.exponents }

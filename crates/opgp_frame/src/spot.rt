@@ -1,0 +1,41 @@
+//! Where a packet lies that was lent.
+
+ghost use Rattle.std.specs.Prelude.{◌≡◌, ℕ, List};
+ghost use Rattle.std.specs.Option.{IsSomeAnd};
+ghost use Rattle.opgp_frame.specs.declared.packet.Placed.{Placed};
+
+use crate::form::Form;
+use crate::view::{PacketView, PlacedView};
+
+/// Where a packet of one piece lies in octets (RFC 9580, 4.2), and its place in the input: what is kept
+/// of a packet that was lent, so that it can be lent again.
+#[derive(Drop)]
+pub struct Spot {
+    pub(crate) form: Form,
+    pub(crate) kind: u8,
+    pub(crate) from: usize,
+    pub(crate) until: usize,
+    pub(crate) block: u64,
+    pub(crate) pos: u64,
+}
+
+impl Spot {
+    ghost use Rattle.opgp_frame.specs.View.{viewed};
+    ghost use Rattle.opgp_frame.specs.Spot.{LiesIn};
+
+    /// The packet, if it lies there in these octets. Allocates nothing.
+    #[inline(always)]
+    pub fn lend<'a>(&'a self, octets: &'a [u8]) -> Option<PlacedView<'a>>
+        ensures { (p : Placed) → LiesIn self.now octets.now p → IsSomeAnd result (λ v. viewed v ≡ p) }
+    {
+        if self.from > self.until || self.until > octets.len() {
+            return None;
+        }
+        let packet = PacketView::new(&self.form, self.kind, &octets[self.from..self.until])?;
+        Some(PlacedView {
+            packet,
+            block: self.block,
+            pos: self.pos,
+        })
+    }
+}

@@ -14,6 +14,7 @@ pub use Rattle.opgp_frame.specs.PiecesValue
 pub use Rattle.opgp_frame.specs.ReaderState
 pub use Rattle.opgp_frame.specs.Reframed
 pub use Rattle.opgp_frame.specs.Spelling
+pub use Rattle.opgp_frame.specs.Spot
 pub use Rattle.opgp_frame.specs.Unfinished
 pub use Rattle.opgp_frame.specs.View
 pub use Rattle.opgp_frame.specs.Whole

@@ -14,10 +14,11 @@ pub mod armor {
 /// Keyrings read from a reader and written to a writer.
 pub mod engine {
     pub use opgp_engine::{
-        Answer, Draft, DraftError, EngineError, Mode, NoSpool, Out, PacketBlocks, PacketKeeper,
-        PacketReader, PacketsText, PartReader, Pipeline, ReadError, Receiver, Sink, SoundPackets,
-        Source, Spool, Text, Waiting, WaitingPackets, Watched, laws, read_keyring, read_packets,
-        read_signed, read_with, write, write_certificate, write_certificates, write_keyring,
+        Accepts, Answer, Draft, DraftError, EngineError, Mode, NoSpool, Out, PacketBlocks,
+        PacketKeeper, PacketReader, PacketsText, PartReader, Parts, Pipeline, ReadError, Receiver,
+        Sink, SoundPackets, Source, Spool, Text, Waiting, WaitingPackets, Watched, laws,
+        read_keyring, read_packets, read_signed, read_with, write, write_certificate,
+        write_certificates, write_keyring,
     };
 }
 
@@ -25,7 +26,7 @@ pub mod engine {
 pub mod frame {
     pub use opgp_frame::{
         Deframe, Form, HeaderOctets, LastForm, Lent, Packet, PacketView, Pieces, Placed,
-        PlacedView, Spelling, laws, reframe, spelled_len_of, write_packet, write_parts,
+        PlacedView, Spelling, Spot, laws, reframe, spelled_len_of, write_packet, write_parts,
     };
 }
 

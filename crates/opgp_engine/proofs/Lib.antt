@@ -20,3 +20,9 @@ pub mod Held
 pub mod PartEnds
 pub mod PacketEnds
 pub mod SoundSoFar
+mod Blocking
+pub mod Concluding
+pub mod Stepping
+mod ItemsPassing
+pub mod Parting
+mod TextLines

@@ -24,3 +24,9 @@ pub mod PacketReader
 pub mod SoundPackets
 pub mod Used
 pub mod Going
+pub mod Accepts
+pub mod Blocks
+pub mod Found
+pub mod Items
+pub mod Parts
+pub mod Text

@@ -2,14 +2,18 @@
 //! or the one fault; and keyrings into a sink.
 #![tactic(auto)]
 
+mod accepts;
 mod answer;
+mod blocks;
 mod draft;
 mod draft_error;
 mod engine_error;
 mod feeding;
+mod found;
 mod framer;
 mod handed_packets;
 mod handing_out;
+mod items;
 mod keyrings;
 pub mod laws;
 mod mode;
@@ -17,6 +21,7 @@ mod out;
 mod packet_reader;
 mod packets;
 mod part_reader;
+mod parts;
 mod pipeline;
 mod read_error;
 mod reading;
@@ -29,12 +34,14 @@ mod skipped;
 mod sound_packets;
 mod spool;
 mod spooled;
+mod text;
 mod unarmoring;
 mod via;
 mod waiting;
 mod writing;
 mod writing_keyring;
 
+pub use accepts::Accepts;
 pub use answer::Answer;
 pub use draft::Draft;
 pub use draft_error::DraftError;
@@ -46,6 +53,7 @@ pub use out::Out;
 pub use packet_reader::PacketReader;
 pub use packets::PacketBlocks;
 pub use part_reader::PartReader;
+pub use parts::Parts;
 pub use pipeline::Pipeline;
 pub use read_error::ReadError;
 pub use reading::read_with;

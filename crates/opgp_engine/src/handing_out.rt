@@ -9,7 +9,6 @@ ghost use Rattle.opgp_ring.specs.State.{ready_parts};
 ghost use Rattle.opgp_engine.specs.Keyrings.{key_label};
 ghost use Rattle.opgp_engine.specs.Waiting.{IsHandedOutSome, parts_in};
 
-use crate::accepts::Accepts;
 use crate::keyrings::holds_keys;
 use crate::receiver::Receiver;
 use crate::waiting::Waiting;
@@ -106,10 +105,6 @@ impl<P: Past> Receiver for Handing<P> {
 
     fn wants(label: Option<Label>) -> bool {
         holds_keys(label)
-    }
-
-    fn accepts() -> Accepts {
-        Accepts::Keys
     }
 
     fn begin_block(&mut self, block: u64, fits: bool) -> Result<(), OutOfMemory> {

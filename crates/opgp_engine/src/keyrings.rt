@@ -5,7 +5,6 @@ ghost use Rattle.opgp_octets.specs.declared.limits.Limits.{Limits};
 ghost use Rattle.opgp_ring.specs.Gathering.{Gathers};
 ghost use Rattle.opgp_engine.specs.Keyrings.{KeepsAll, key_label};
 
-use crate::accepts::Accepts;
 use crate::receiver::Receiver;
 use opgp_armor::Label;
 use opgp_frame::{Placed, PlacedView};
@@ -33,10 +32,6 @@ impl<K: Keeper + Drop> Receiver for Gathering<K> {
 
     fn wants(label: Option<Label>) -> bool {
         holds_keys(label)
-    }
-
-    fn accepts() -> Accepts {
-        Accepts::Keys
     }
 
     fn begin_block(&mut self, block: u64, fits: bool) -> Result<(), OutOfMemory> {

@@ -41,7 +41,6 @@ mod waiting;
 mod writing;
 mod writing_keyring;
 
-pub use accepts::Accepts;
 pub use answer::Answer;
 pub use draft::Draft;
 pub use draft_error::DraftError;

@@ -9,7 +9,6 @@ ghost use Rattle.opgp_engine.specs.Packets.{ArePackets, any_label, block_values}
 ghost use Rattle.opgp_engine.specs.Reading.{shown};
 ghost use Rattle.opgp_engine.specs.Receiver.{from_label};
 
-use crate::accepts::Accepts;
 use crate::receiver::Receiver;
 use opgp_armor::Label;
 use opgp_frame::{Placed, PlacedView};
@@ -52,10 +51,6 @@ impl Receiver for PacketBlocks {
 
     fn wants(_label: Option<Label>) -> bool {
         true
-    }
-
-    fn accepts() -> Accepts {
-        Accepts::Any
     }
 
     fn begin_block(&mut self, block: u64, fits: bool) -> Result<(), OutOfMemory> {

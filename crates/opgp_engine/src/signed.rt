@@ -8,7 +8,6 @@ ghost use Rattle.opgp_ring.specs.SignedLiteral.{signed_packets};
 ghost use Rattle.opgp_engine.specs.Reading.{shown};
 ghost use Rattle.opgp_engine.specs.Signed.{AreSigned, message_label};
 
-use crate::accepts::Accepts;
 use crate::receiver::Receiver;
 use opgp_armor::Label;
 use opgp_frame::{Placed, PlacedView};
@@ -29,10 +28,6 @@ impl Receiver for SignedGathering {
             None | Some(Label::Message) => true,
             Some(Label::PublicKeyBlock | Label::PrivateKeyBlock | Label::Signature) => false,
         }
-    }
-
-    fn accepts() -> Accepts {
-        Accepts::Messages
     }
 
     fn begin_block(&mut self, block: u64, fits: bool) -> Result<(), OutOfMemory> {

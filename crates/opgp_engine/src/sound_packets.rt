@@ -9,7 +9,6 @@ ghost use Rattle.opgp_ring.specs.Composition.{placed_in};
 ghost use Rattle.opgp_engine.specs.Packets.{any_label};
 ghost use Rattle.opgp_engine.specs.SoundPackets.{AreSoFar, AreSound};
 
-use crate::accepts::Accepts;
 use crate::receiver::Receiver;
 use opgp_armor::Label;
 use opgp_frame::{Placed, PlacedView};
@@ -79,10 +78,6 @@ impl<K: PacketKeeper + Drop> Receiver for SoundPackets<K> {
 
     fn wants(_label: Option<Label>) -> bool {
         true
-    }
-
-    fn accepts() -> Accepts {
-        Accepts::Any
     }
 
     fn begin_block(&mut self, block: u64, fits: bool) -> Result<(), OutOfMemory> {

@@ -10,7 +10,7 @@ ghost use Rattle.opgp_octets.specs.declared.fault.Fault.{Fault};
 ghost use Rattle.opgp_octets.specs.declared.fault.Layer.TheVariants as layer;
 ghost use Rattle.opgp_octets.specs.declared.fault.Reason.TheVariants as reason;
 ghost use Rattle.opgp_octets.specs.Limits.{body_limit, pieces_limit};
-ghost use Rattle.opgp_frame.specs.ReaderState.{state_fits, state_fault, held_in};
+ghost use Rattle.opgp_frame.specs.ReaderState.{state_fits, state_fault, held_in, held_in_ready};
 
 use crate::header::{header_fault, kind_in};
 use crate::length::{Length, length_fault, read_length};
@@ -134,7 +134,8 @@ impl Deframe {
         ensures faulty { fault_of self.new ≡ fault_of self.old }
         ensures count { count_of self.new ≡ count_of self.old }
         ensures limits { limits_of self.new ≡ limits_of self.old }
-        ensures held { held_of self.new ≤ held_of self.old }
+        // What is handed out isn't held any more.
+        ensures held { held_in_ready result + held_of self.new ≡ held_of self.old }
     {
         self.ready.take()
     }
@@ -273,7 +274,7 @@ impl Deframe {
             return None;
         };
         let whole = whole_in(self.limits, piece)?;
-        self.step_whole(whole, piece)
+        Some(self.step_whole(whole, piece))
     }
 
     /// Takes a packet as `lend` does, and says where it lies in the piece, with the number of its octets.
@@ -301,7 +302,7 @@ impl Deframe {
             return None;
         };
         let whole = whole_in(self.limits, piece)?;
-        let (n, lent) = self.step_whole(whole, piece)?;
+        let (n, lent) = self.step_whole(whole, piece);
         Some((n, lent.spot(whole.from, whole.until)))
     }
 
@@ -397,22 +398,19 @@ impl Deframe {
 
     /// Takes the whole packet that begins the piece.
     #[inline(always)]
-    fn step_whole<'a>(&mut self, whole: Whole, piece: &'a [u8]) -> Option<(usize, Lent<'a>)>
+    fn step_whole<'a>(&mut self, whole: Whole, piece: &'a [u8]) -> (usize, Lent<'a>)
         requires between { self.old.state ≡ State.Between }
         requires whole { BeginsWith self.old.limits whole piece.now }
         requires free { is_ready self.old ≡ false }
         requires room { count_of self.old + length piece.now < 2 ^ 63 }
-        ensures fed { IfSome result (λ r.
-            KeepsFed self.old self.new (take r.0 piece.now) (lent_packet r.1 ∷ [])) }
-        ensures moves { IfSome result (λ r. (0 < r.0) × (r.0 ≤ length piece.now)) }
-        ensures count { IfSome result (λ r. count_of self.new ≡ count_of self.old + r.0) }
-        ensures short { IfSome result (λ r.
-            length (lent_packet r.1).packet.body ≤ body_limit (limits_of self.new)) }
-        ensures whole { IfSome result (λ r. exponents_of (lent_packet r.1).packet.form ≡ []) }
-        ensures some { IsSome result }
+        ensures fed { KeepsFed self.old self.new (take result.0 piece.now) (lent_packet result.1 ∷ []) }
+        ensures moves { (0 < result.0) × (result.0 ≤ length piece.now) }
+        ensures count { count_of self.new ≡ count_of self.old + result.0 }
+        ensures short { length (lent_packet result.1).packet.body ≤ body_limit (limits_of self.new) }
+        ensures whole { exponents_of (lent_packet result.1).packet.form ≡ [] }
         // The body is where it was said to be.
-        ensures lies { IfSome result (λ r. (r.0 ≡ whole.until)
-            × ((lent_packet r.1).packet.body ≡ take (whole.until - whole.from) (drop whole.from piece.now))) }
+        ensures lies { (result.0 ≡ whole.until) × ((lent_packet result.1).packet.body
+            ≡ take (whole.until - whole.from) (drop whole.from piece.now)) }
         ensures free { is_ready self.new ≡ false }
         ensures between { self.new.state ≡ State.Between }
         ensures exponents { self.new.exponents ≡ self.old.exponents }
@@ -433,10 +431,10 @@ impl Deframe {
             &piece[from..until],
             self.block,
             self.start,
-        )?;
+        );
         self.given += until as u64;
         self.start = self.given;
-        Some((until, lent))
+        (until, lent)
     }
 
     /// Takes a copy of the whole packet that begins the piece.
@@ -453,14 +451,10 @@ impl Deframe {
         ensures free { OnErr result (is_ready self.new ≡ false) }
         ensures limits { limits_of self.new ≡ limits_of self.old }
     {
-        match self.step_whole(whole, piece) {
-            Some((n, lent)) => {
-                let placed = lent.view().copy(self.alloc)?;
-                self.ready = Some(placed);
-                Ok(n)
-            }
-            None => unreachable!(),
-        }
+        let (n, lent) = self.step_whole(whole, piece);
+        let placed = lent.view().copy(self.alloc)?;
+        self.ready = Some(placed);
+        Ok(n)
     }
 
     /// Takes the octet that begins a packet.

@@ -14,7 +14,7 @@ use crate::form::Form;
 use crate::header::kind_in;
 use crate::length::Length;
 use crate::lent::Lent;
-use crate::packet::{Packet, Placed, is_packet};
+use crate::packet::{Packet, Placed};
 use crate::pieces::{LastForm, Pieces};
 use opgp_octets::PacketLen;
 use std::alloc::Global;
@@ -74,26 +74,26 @@ pub(crate) fn lend_whole<'a>(
     body: &'a [u8],
     block: u64,
     pos: u64,
-) -> Option<Lent<'a>>
-    ensures whole { (limits : Limits) (from until : ℕ) (rest : List ℕ)
-        → IsInPiece limits header last from until [] body.now rest
-        → length body.now ≡ until → is_partial last ≡ false
-        → IsSomeAnd result
-        (λ v. (v.block ≡ block) × (v.pos ≡ pos) × IsWhole limits rest (lent_packet v).packet) }
-    ensures body { IfSome result (λ v. v.body.now ≡ body.now) }
-    ensures pieces { IfSome result (λ v. exponents_of v.form ≡ []) }
+) -> Lent<'a>
+    requires whole { (limits : Limits) × (rest : List ℕ)
+        × IsInPiece limits header last 0 (length body.now) [] body.now rest }
+    requires last { is_partial last ≡ false }
+    ensures whole { (limits : Limits) (rest : List ℕ)
+        → IsInPiece limits header last 0 (length body.now) [] body.now rest
+        → IsWhole limits rest (lent_packet result).packet }
+    ensures body { result.body.now ≡ body.now }
+    ensures pieces { exponents_of result.form ≡ [] }
+    ensures block { result.block ≡ block }
+    ensures pos { result.pos ≡ pos }
 {
-    let form = form_of(Vec::new(alloc), last)?;
-    let kind = kind_in(header);
-    if is_packet(&form, kind, body) {
-        Some(Lent {
+    match form_of(Vec::new(alloc), last) {
+        Some(form) => Lent {
             form,
-            kind,
+            kind: kind_in(header),
             body,
             block,
             pos,
-        })
-    } else {
-        None
+        },
+        None => unreachable!(),
     }
 }

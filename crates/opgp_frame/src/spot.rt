@@ -1,7 +1,6 @@
 //! Where a packet lies that was lent.
 
 ghost use Rattle.std.specs.Prelude.{◌≡◌, ℕ, List};
-ghost use Rattle.std.specs.Option.{IsSomeAnd};
 ghost use Rattle.opgp_frame.specs.declared.packet.Placed.{Placed};
 
 use crate::form::Form;
@@ -23,19 +22,21 @@ impl Spot {
     ghost use Rattle.opgp_frame.specs.View.{viewed};
     ghost use Rattle.opgp_frame.specs.Spot.{LiesIn};
 
-    /// The packet, if it lies there in these octets. Allocates nothing.
+    /// The packet. The condition is that it lies there in these octets. Allocates nothing.
     #[inline(always)]
-    pub fn lend<'a>(&'a self, octets: &'a [u8]) -> Option<PlacedView<'a>>
-        ensures { (p : Placed) → LiesIn self.now octets.now p → IsSomeAnd result (λ v. viewed v ≡ p) }
+    pub fn lend<'a>(&'a self, octets: &'a [u8]) -> PlacedView<'a>
+        requires { (p : Placed) × LiesIn self.now octets.now p }
+        ensures { (p : Placed) → LiesIn self.now octets.now p → viewed result ≡ p }
     {
-        if self.from > self.until || self.until > octets.len() {
-            return None;
-        }
-        let packet = PacketView::new(&self.form, self.kind, &octets[self.from..self.until])?;
-        Some(PlacedView {
+        let packet = PacketView {
+            form: &self.form,
+            kind: self.kind,
+            body: &octets[self.from..self.until],
+        };
+        PlacedView {
             packet,
             block: self.block,
             pos: self.pos,
-        })
+        }
     }
 }

@@ -4,11 +4,7 @@ pub use Rattle.opgp_engine.specs.Accepts
 pub use Rattle.opgp_engine.specs.Blocks
 pub use Rattle.opgp_engine.specs.Draft
 pub use Rattle.opgp_engine.specs.Errors
-pub use Rattle.opgp_engine.specs.Exchanged
 pub use Rattle.opgp_engine.specs.Found
-pub use Rattle.opgp_engine.specs.Framed
-pub use Rattle.opgp_engine.specs.Going
-pub use Rattle.opgp_engine.specs.HandingOut
 pub use Rattle.opgp_engine.specs.Items
 pub use Rattle.opgp_engine.specs.Keyrings
 pub use Rattle.opgp_engine.specs.Layers
@@ -16,7 +12,6 @@ pub use Rattle.opgp_engine.specs.PacketReader
 pub use Rattle.opgp_engine.specs.Packets
 pub use Rattle.opgp_engine.specs.PartReader
 pub use Rattle.opgp_engine.specs.Parts
-pub use Rattle.opgp_engine.specs.Pipeline
 pub use Rattle.opgp_engine.specs.Pulled
 pub use Rattle.opgp_engine.specs.Reading
 pub use Rattle.opgp_engine.specs.Receiver
@@ -24,7 +19,6 @@ pub use Rattle.opgp_engine.specs.Signed
 pub use Rattle.opgp_engine.specs.SoundPackets
 pub use Rattle.opgp_engine.specs.Spool
 pub use Rattle.opgp_engine.specs.Text
-pub use Rattle.opgp_engine.specs.Through
 pub use Rattle.opgp_engine.specs.Used
 pub use Rattle.opgp_engine.specs.Via
 pub use Rattle.opgp_engine.specs.Waiting

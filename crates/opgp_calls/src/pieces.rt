@@ -54,7 +54,7 @@ impl Reader for PartReader {
     ghost given = { octets_given };
 
     fn feed_piece(&mut self, octets: &[u8]) -> Result<(), OutOfMemory> {
-        self.feed(octets)?;
+        self.push(octets)?;
         Ok(())
     }
 
@@ -73,7 +73,7 @@ impl Reader for PacketReader {
     ghost given = { octets_of_packets };
 
     fn feed_piece(&mut self, octets: &[u8]) -> Result<(), OutOfMemory> {
-        self.feed(octets)?;
+        self.push(octets)?;
         Ok(())
     }
 
@@ -124,7 +124,7 @@ fn parts(alloc: Global, given: &Given, answer: &mut Answer) -> Result<(), OutOfM
     let (octets, size) = (given.octets(0), given.long(5));
     feed_all(alloc, limits, octets, size, &mut reader, answer)?;
     answer.named("taken", reader.taken());
-    match reader.end()? {
+    match reader.finish()? {
         Ok(waiting) => add_last_parts(alloc, waiting, answer),
         Err(fault) => answer.fault(&fault),
     }
@@ -147,7 +147,7 @@ fn packets(alloc: Global, given: &Given, answer: &mut Answer) -> Result<(), OutO
     let (octets, size) = (given.octets(0), given.long(5));
     feed_all(alloc, limits, octets, size, &mut reader, answer)?;
     answer.named("taken", reader.taken());
-    match reader.end()? {
+    match reader.finish()? {
         Ok(waiting) => add_last_packets(alloc, waiting, answer),
         Err(fault) => answer.fault(&fault),
     }

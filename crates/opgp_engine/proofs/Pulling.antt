@@ -6,8 +6,9 @@ use Rattle.opgp_octets.specs.declared.limits.Limits.{Limits}
 use Rattle.opgp_octets.specs.Limits.{input_limit}
 use Rattle.opgp_octets.specs.Octets.{IsOctets}
 use Rattle.opgp_engine.specs.declared.mode.Mode.{Mode}
-use Rattle.opgp_engine.specs.declared.pipeline.Pipeline.{Pipeline}
-use Rattle.opgp_engine.specs.Pipeline.{Fed, count_of}
+use Rattle.opgp_engine.specs.declared.accepts.Accepts.{Accepts}
+use Rattle.opgp_engine.specs.declared.items.Items.{Items}
+use Rattle.opgp_engine.specs.Items.{Fed, IsDone, count_of}
 use Rattle.opgp_engine.specs.Pulled.{Answers, OfAll, Pulls, ReadsAs}
 use Rattle.opgp_engine.specs.declared.read_error.ReadError.{ReadError}
 use Rattle.opgp_engine.specs.declared.read_error.ReadError.TheVariants as read
@@ -25,12 +26,15 @@ octets_append [] b ha hb i = hb i
 octets_append (x ∷ a) b ha hb zero = ha 0
 octets_append (x ∷ a) b ha hb (suc i) = octets_append a b (λ j. ha (suc j)) hb i
 
--- some octets were read, and pushed into the pipeline
-pub record Progress {T : Type 0} (fed_top : Limits → T → List Item → Type 0) (wanted : Wanted) (before now : Option (List ℕ)) (mode : Mode) (limits : Limits) (p : Pipeline T) (count : ℕ) : Type 0 where
+-- some octets were read, and their labels and packets were passed to the top
+pub record Progress {T : Type 0} (fed_top : Limits → T → List Item → Type 0) (accepts : Accepts) (before now : Option (List ℕ)) (mode : Mode) (limits : Limits) (p : Items) (top : T) (count : ℕ) : Type 0 where
   pub octets : List ℕ
+  pub list : List Item
   pub each : IsOctets octets
   pub taken : Consumes before now octets
-  pub fed : Fed fed_top wanted mode limits p octets
+  pub fed : Fed accepts mode limits p octets list
+  pub top_fed : fed_top limits top list
+  pub done : IsDone p
   pub size : length octets ≡ count
   pub counted : count_of p ≡ count
 
@@ -62,23 +66,23 @@ none_taken : (left : Option (List ℕ)) → Consumes left left []
 none_taken None = tt
 none_taken (Some octets) = refl
 
-module _ {T : Type 0} (fed_top : Limits → T → List Item → Type 0) (wanted : Wanted) (mode : Mode) (limits : Limits) where
-  pub progress_none : (left : Option (List ℕ)) (p : Pipeline T) → Fed fed_top wanted mode limits p [] → count_of p ≡ 0 → Progress fed_top wanted left left mode limits p 0
-  progress_none left p fed counted = record { octets = []; each = λ i. omega arith; taken = none_taken left; fed = fed; size = refl; counted = counted }
+module _ {T : Type 0} (fed_top : Limits → T → List Item → Type 0) (accepts : Accepts) (mode : Mode) (limits : Limits) where
+  pub progress_none : (left : Option (List ℕ)) (p : Items) (top : T) → Fed accepts mode limits p [] [] → fed_top limits top [] → IsDone p → count_of p ≡ 0 → Progress fed_top accepts left left mode limits p top 0
+  progress_none left p top fed top_fed done counted = record { octets = []; list = []; each = λ i. omega arith; taken = none_taken left; fed = fed; top_fed = top_fed; done = done; size = refl; counted = counted }
 
   -- the source gave no octet more
-  pub pulled_all : (before now after : Option (List ℕ)) (p : Pipeline T) (count limit n : ℕ) (part : List ℕ) (r : Progress fed_top wanted before now mode limits p count) → Consumes now after (take n part) → n ≡ 0 → IsAtEnd after
+  pub pulled_all : (before now after : Option (List ℕ)) (p : Items) (top : T) (count limit n : ℕ) (part : List ℕ) (r : Progress fed_top accepts before now mode limits p top count) → Consumes now after (take n part) → n ≡ 0 → IsAtEnd after
       → count ≤ limit → limit ≡ input_limit limits → Pulls before after (input_limit limits) r.octets
-  pulled_all before now after p count limit n part r more none end within is = record {
+  pulled_all before now after p top count limit n part r more none end within is = record {
     each = r.each;
     taken = rw append-nil at (Consumes-trans before now after r.octets [] r.taken (subst (λ (m : ℕ). Consumes now after (take m part)) none more));
     all = inl (omega (arith, r.size), end);
   }
 
   -- it gave more than may be
-  pub pulled_many : (before now : Option (List ℕ)) (p : Pipeline T) (count limit : ℕ) (r : Progress fed_top wanted before now mode limits p count) → count ≤ limit + 1 → limit < count → limit ≡ input_limit limits
+  pub pulled_many : (before now : Option (List ℕ)) (p : Items) (top : T) (count limit : ℕ) (r : Progress fed_top accepts before now mode limits p top count) → count ≤ limit + 1 → limit < count → limit ≡ input_limit limits
       → Pulls before now (input_limit limits) r.octets
-  pulled_many before now p count limit r within past is = record { each = r.each; taken = r.taken; all = inr (omega (arith, r.size)) }
+  pulled_many before now p top count limit r within past is = record { each = r.each; taken = r.taken; all = inr (omega (arith, r.size)) }
 
 -- ---- what reading gives
 pub of_all : {R : Type 0} (left : R → Option (List ℕ)) (failed : R → Bool) (old new : R) (limits : Limits) (P Q : List ℕ → Type 0) → ((octets : List ℕ) → P octets → Q octets) → OfAll left failed old new limits P → OfAll left failed old new limits Q

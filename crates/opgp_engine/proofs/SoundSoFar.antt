@@ -7,6 +7,8 @@ use Rattle.opgp_frame.specs.declared.packet.Placed.{Placed}
 use Rattle.opgp_ring.specs.Bodies.{IsFirstBodyFault, IsPlacedFault, IsSound}
 use Rattle.opgp_ring.specs.Composition.{Item, of_label, of_packet, placed_in}
 use Rattle.opgp_ring.proofs.Feeding.{placed_in-append}
+use Rattle.opgp_engine.specs.declared.found.Opening.{Opening}
+use Rattle.opgp_engine.specs.Found.{opened}
 use Rattle.opgp_engine.specs.SoundPackets.{AreSoFar}
 
 module _ (policy : Malformed) where
@@ -63,3 +65,8 @@ module _ (policy : Malformed) where
   pub so_far_one : {A : Type 0} (kept : A → List Placed → Type 0) (fault : Option Fault) (packets : List Placed) → AreSoFar policy (λ ps. (a : A) × kept a ps) fault packets → (a : A) × AreSoFar policy (kept a) fault packets
   so_far_one kept None packets h = (h.1.0, (h.0, h.1.1))
   so_far_one kept (Some fault) packets h = (h.1.0, (h.0, h.1.1))
+
+  -- so of a block that begins, where one does
+  pub so_far_opened : (kept : List Placed → Type 0) (fault : Option Fault) (given : List Item) (o : Option Opening) → AreSoFar policy kept fault (placed_in given) → AreSoFar policy kept fault (placed_in (given ++ opened o))
+  so_far_opened kept fault given None h = subst (λ (l : List Item). AreSoFar policy kept fault (placed_in l)) (sym (append-nil given)) h
+  so_far_opened kept fault given (Some o) h = so_far_label kept fault given o.number o.fits h

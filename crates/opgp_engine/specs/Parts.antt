@@ -19,7 +19,7 @@ use Rattle.opgp_engine.specs.Items.{Fed}
 use Rattle.opgp_engine.specs.Items.{IsDone as IsThrough, count_of as items_count, left_of as items_left}
 use Rattle.opgp_engine.specs.Keyrings.{ComposesTo, key_label}
 use Rattle.opgp_engine.specs.Reading.{AnswerOf, Outcome}
-pub use Rattle.opgp_engine.specs.Used.{UseOf, given, having, taking}
+pub use Rattle.opgp_engine.specs.Used.{UseOf, given, taking}
 
 -- how a reader of parts was used
 abbrev pub Use : Type 0

@@ -1,5 +1,5 @@
 -- How a reader was used whose parts are handed out while its octets come.
-use Rattle.std.specs.Prelude.{ℕ, ◌^◌, ◌-◌, min, List, ◌++◌, length}
+use Rattle.std.specs.Prelude.{ℕ, ◌^◌, ◌-◌, min, Bool, true, false, List, ◌++◌, length}
 use Rattle.opgp_octets.specs.declared.limits.Limits.{Limits}
 use Rattle.opgp_engine.specs.declared.mode.Mode.{Mode}
 
@@ -15,10 +15,6 @@ pub record UseOf (P : Type 0) : Type 0 where
 abbrev pub given : {P : Type 0} → UseOf P → List ℕ → UseOf P
 given u octets = record u { input = u.input ++ octets }
 
--- these parts in place of those that were taken
-abbrev pub having : {P : Type 0} → UseOf P → List P → UseOf P
-having u parts = record u { taken = parts }
-
 -- these parts more
 abbrev pub taking : {P : Type 0} → UseOf P → List P → UseOf P
 taking u parts = record u { taken = u.taken ++ parts }
@@ -26,3 +22,8 @@ taking u parts = record u { taken = u.taken ++ parts }
 -- how many parts these are, as it is shown
 abbrev pub shown_count : {P : Type 0} → List P → ℕ
 shown_count parts = min (length parts) (2 ^ 64 - 1)
+
+-- one, where there is one
+abbrev pub one_if : Bool → ℕ
+one_if true = 1
+one_if false = 0

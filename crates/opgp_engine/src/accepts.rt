@@ -8,7 +8,7 @@ use opgp_armor::Label;
 /// Which labels the armored blocks of an input may have (RFC 9580, 6.2). A binary block has none, and is
 /// always accepted.
 #[derive(Clone, Copy)]
-pub(crate) enum Accepts {
+pub enum Accepts {
     /// `PUBLIC KEY BLOCK`.
     Keys,
     /// `MESSAGE`.

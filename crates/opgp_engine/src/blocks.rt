@@ -95,6 +95,7 @@ impl Blocks {
 
     /// Adds octets to the open block, up to the end of what they complete or all of them, and returns how
     /// many. Fails only when out of memory.
+    #[inline(always)]
     pub(crate) fn next(&mut self, octets: &[u8]) -> Result<usize, OutOfMemory>
         requires some { 0 < length octets.now }
         requires room { open_count self.old + length octets.now < 2 ^ 63 }
@@ -120,6 +121,7 @@ impl Blocks {
     }
 
     /// Finds the label of the open block, unless it was found already or there is a fault.
+    #[inline(always)]
     fn tell(&mut self)
         requires { self.old.opening ≡ None }
         ensures framed { (accepts : Accepts) (limits : Limits) (done : List TextBlock)
@@ -143,6 +145,7 @@ impl Blocks {
     }
 
     /// Adds octets to the open block, whose label was found.
+    #[inline(always)]
     fn find(&mut self, octets: &[u8]) -> Result<usize, OutOfMemory>
         requires some { 0 < length octets.now }
         requires room { open_count self.old + length octets.now < 2 ^ 63 }
@@ -273,13 +276,15 @@ impl Blocks {
     }
 
     /// The packet that the last call found in these octets.
+    #[inline(always)]
     pub(crate) fn packet<'a>(&'a self, octets: &'a [u8]) -> Option<PlacedView<'a>>
+        requires { (packets : List Placed) × IsFound self.now.found octets.now packets }
         ensures { (packets : List Placed) → IsFound self.now.found octets.now packets
             → viewed_in result ≡ packets }
     {
         match &self.found {
             Found::Nothing => None,
-            Found::Lent(spot) => spot.lend(octets),
+            Found::Lent(spot) => Some(spot.lend(octets)),
             Found::Whole(packet) => Some(PlacedView::of(packet)),
         }
     }

@@ -153,7 +153,10 @@ impl Items {
     }
 
     /// The packet that the last step has found in this piece.
+    #[inline(always)]
     pub(crate) fn packet<'a>(&'a self, piece: &'a [u8]) -> Option<PlacedView<'a>>
+        requires { (packets : List Placed)
+            × IsFound self.now.framer.found (octets_of self.now.front piece.now) packets }
         ensures { (packets : List Placed)
             → IsFound self.now.framer.found (octets_of self.now.front piece.now) packets
             → viewed_in result ≡ packets }

@@ -5,21 +5,11 @@ ghost use Rattle.opgp_octets.specs.declared.limits.Limits.{Limits};
 ghost use Rattle.opgp_ring.specs.Gathering.{Gathers};
 ghost use Rattle.opgp_engine.specs.Keyrings.{KeepsAll, key_label};
 
+use crate::accepts::Accepts;
 use crate::receiver::Receiver;
-use opgp_armor::Label;
 use opgp_frame::{Placed, PlacedView};
 use opgp_octets::{Fault, OutOfMemory};
 use opgp_ring::{Gathering, Keeper};
-
-/// Whether a block with this label holds public keys; a binary block has none.
-pub(crate) fn holds_keys(label: Option<Label>) -> bool
-    ensures { result ≡ key_label label }
-{
-    match label {
-        None | Some(Label::PublicKeyBlock) => true,
-        Some(Label::Message | Label::PrivateKeyBlock | Label::Signature) => false,
-    }
-}
 
 impl<K: Keeper + Drop> Receiver for Gathering<K> {
     type Value = K;
@@ -30,8 +20,8 @@ impl<K: Keeper + Drop> Receiver for Gathering<K> {
 
     ghost says = { KeepsAll K.kept };
 
-    fn wants(label: Option<Label>) -> bool {
-        holds_keys(label)
+    fn accepts() -> Accepts {
+        Accepts::Keys
     }
 
     fn begin_block(&mut self, block: u64, fits: bool) -> Result<(), OutOfMemory> {

@@ -9,8 +9,8 @@ ghost use Rattle.opgp_engine.specs.Packets.{ArePackets, any_label, block_values}
 ghost use Rattle.opgp_engine.specs.Reading.{shown};
 ghost use Rattle.opgp_engine.specs.Receiver.{from_label};
 
+use crate::accepts::Accepts;
 use crate::receiver::Receiver;
-use opgp_armor::Label;
 use opgp_frame::{Placed, PlacedView};
 use opgp_octets::{Fault, Malformed, OutOfMemory};
 use opgp_ring::{BlockOf, check_bodies_by};
@@ -49,8 +49,8 @@ impl Receiver for PacketBlocks {
 
     ghost says = { λ limits items r. ArePackets limits items (shown block_values r) };
 
-    fn wants(_label: Option<Label>) -> bool {
-        true
+    fn accepts() -> Accepts {
+        Accepts::Any
     }
 
     fn begin_block(&mut self, block: u64, fits: bool) -> Result<(), OutOfMemory> {

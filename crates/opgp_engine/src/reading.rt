@@ -1,20 +1,30 @@
 //! Reads what a top makes of the packets of a source.
 
-ghost use Rattle.std.specs.Prelude.{◌≡◌, ◌≤◌, ◌<◌, ℕ, List, [], true, false, length, take};
+ghost use Rattle.std.specs.Prelude.{◌≡◌, ◌≤◌, ◌<◌, ◌+◌, ◌^◌, ◌++◌, ℕ, List, [], true, false, length, map, take};
 ghost use Rattle.std.specs.Prelude.{IfOk, OnOk, OnErr};
 ghost use Rattle.std.specs.Io.KnownBytes.{Consumes, IsAtEnd};
 ghost use Rattle.opgp_octets.specs.declared.limits.Limits.{Limits};
 ghost use Rattle.opgp_octets.specs.Octets.{IsOctets};
-ghost use Rattle.opgp_engine.specs.Pipeline.{Fed, count_of};
+ghost use Rattle.opgp_ring.specs.Composition.{Item, of_packet};
+ghost use Rattle.opgp_engine.specs.Accepts.{wanted_by};
+ghost use Rattle.opgp_engine.specs.Found.{opened};
+ghost use Rattle.opgp_engine.specs.Blocks.{viewed_in};
+ghost use Rattle.opgp_engine.specs.Items.{Fed, IsDone, count_of};
+ghost use Rattle.opgp_engine.specs.Receiver.{AreRead, KeepsFed};
+ghost use Rattle.opgp_engine.specs.declared.accepts.Accepts.{Accepts};
 ghost use Rattle.opgp_engine.specs.Pulled.{Answers, ReadsAs};
 ghost use Rattle.opgp_engine.specs.Reading.{AnswerOf};
 ghost use Rattle.opgp_engine.specs.declared.mode.Mode.{Mode};
 
+use crate::accepts::Accepts;
+use crate::found::Opening;
+use crate::items::Items;
 use crate::mode::Mode;
-use crate::pipeline::Pipeline;
 use crate::read_error::ReadError;
 use crate::receiver::Receiver;
-use opgp_octets::Limits;
+use opgp_armor::laws::a_block_has_no_more_octets_than_the_text;
+use opgp_frame::PlacedView;
+use opgp_octets::{Fault, Limits, OutOfMemory};
 use opgp_stream::Source;
 use std::alloc::{AllocError, Global};
 use std::io;
@@ -43,37 +53,107 @@ fn pull_some<R: Source>(reader: &mut R, buf: &mut [u8], most: u64) -> io::Result
     reader.pull(&mut buf[..want])
 }
 
-/// The result at the end of the octets.
-fn conclude<T: Receiver + Drop>(pipeline: Pipeline<T>) -> Result<T::Value, ReadError>
-    requires { (mode : Mode) × (limits : Limits) × (input : List ℕ)
-        × Fed T.fed T.wanted mode limits pipeline input }
-    ensures { (mode : Mode) (limits : Limits) (input : List ℕ)
-        → Fed T.fed T.wanted mode limits pipeline input
-        → Answers (AnswerOf T.wanted (T.says limits) mode limits input) result }
+/// Tells the top of the block that begins, where one does.
+fn open_block<T: Receiver>(opening: Option<Opening>, top: &mut T) -> Result<(), OutOfMemory>
+    ensures { OnOk result (KeepsFed T.fed top.old top.new (opened opening)) }
 {
-    match pipeline.finish() {
-        Ok(Ok(value)) => Ok(value),
+    match opening {
+        Some(opening) => {
+            top.begin_block(opening.number, opening.fits)?;
+            Ok(())
+        }
+        None => Ok(()),
+    }
+}
+
+/// Passes the packet that was found to the top, where one was.
+fn pass_packet<T: Receiver>(packet: Option<PlacedView<'_>>, top: &mut T) -> Result<(), OutOfMemory>
+    ensures { OnOk result (KeepsFed T.fed top.old top.new (map of_packet (viewed_in packet.entry))) }
+{
+    match packet {
+        Some(packet) => {
+            top.push_view(packet)?;
+            Ok(())
+        }
+        None => Ok(()),
+    }
+}
+
+/// Passes all labels and packets that a piece completes to the top.
+fn feed<T: Receiver>(items: &mut Items, piece: &[u8], top: &mut T) -> Result<(), OutOfMemory>
+    requires fed { (accepts : Accepts) × (mode : Mode) × (limits : Limits) × (input : List ℕ)
+        × (list : List Item) × Fed accepts mode limits items.old input list }
+    requires room { count_of items.old + length piece.now < 2 ^ 63 }
+    ensures fed { OnOk result ((found : List Item) × KeepsFed T.fed top.old top.new found
+        × ((accepts : Accepts) (mode : Mode) (limits : Limits) (input : List ℕ) (list : List Item)
+        → Fed accepts mode limits items.old input list
+        → Fed accepts mode limits items.new (input ++ piece.now) (list ++ found))) }
+    ensures count { OnOk result (count_of items.new ≡ count_of items.old + length piece.now) }
+    ensures done { OnOk result (IsDone items.new) }
+{
+    let mut at = 0;
+    'steps: while let Some(n) = items.step(&piece[at..])? {
+        open_block(items.opening(), top)?;
+        pass_packet(items.packet(&piece[at..]), top)?;
+        at += n;
+    }
+    Ok(())
+}
+
+/// The top's result, behind the last block.
+fn end_top<T: Receiver + Drop>(
+    opening: Option<Opening>,
+    mut top: T,
+) -> Result<Result<T::Value, Fault>, OutOfMemory>
+    requires { (limits : Limits) × (items : List Item) × T.fed limits top items }
+    ensures { IfOk result (λ r. (limits : Limits) (items : List Item) → T.fed limits top items
+        → AreRead (items ++ opened opening) → T.says limits (items ++ opened opening) r) }
+{
+    open_block(opening, &mut top)?;
+    let value = top.finish()?;
+    Ok(value)
+}
+
+/// The result at the end of the octets.
+fn conclude<T: Receiver + Drop>(items: Items, top: T) -> Result<T::Value, ReadError>
+    requires fed { (accepts : Accepts) × (mode : Mode) × (limits : Limits) × (input : List ℕ)
+        × (list : List Item) × Fed accepts mode limits items input list × T.fed limits top list }
+    requires done { IsDone items }
+    ensures { (accepts : Accepts) (mode : Mode) (limits : Limits) (input : List ℕ) (list : List Item)
+        → Fed accepts mode limits items input list → T.fed limits top list
+        → Answers (AnswerOf (wanted_by accepts) (T.says limits) mode limits input) result }
+{
+    a_block_has_no_more_octets_than_the_text();
+    match items.finish() {
+        Ok(Ok(opening)) => match end_top(opening, top) {
+            Ok(Ok(value)) => Ok(value),
+            Ok(Err(fault)) => Err(ReadError::Refused(fault)),
+            Err(_) => Err(ReadError::Memory),
+        },
         Ok(Err(fault)) => Err(ReadError::Refused(fault)),
         Err(_) => Err(ReadError::Memory),
     }
 }
 
-/// Pulls all that a source gives through the buffer into a pipeline that was given nothing, and
-/// returns what the pipeline makes of it.
+/// Pulls all that a source gives through the buffer, passes its labels and packets to the top, and
+/// returns what the top makes of them.
 fn pull_all<R: Source, T: Receiver + Drop>(
+    alloc: Global,
     reader: &mut R,
     buf: &mut [u8],
     mode: Mode,
     limits: Limits,
-    mut pipeline: Pipeline<T>,
+    accepts: Accepts,
+    mut top: T,
 ) -> Result<T::Value, ReadError>
     requires sound { R.has_failed reader.old ≡ false }
     requires room { 0 < length buf.old }
-    requires fed { Fed T.fed T.wanted mode limits pipeline [] }
-    requires count { count_of pipeline ≡ 0 }
+    requires accepts { wanted_by accepts ≡ T.wanted }
+    requires empty { T.fed limits top [] }
     ensures { ReadsAs R.left R.has_failed reader.old reader.new limits
         (AnswerOf T.wanted (T.says limits) mode limits) result }
 {
+    let mut items = Items::new(alloc, mode, limits, accepts);
     let mut count = 0u64;
     let limit = limits.input();
     'pulls: while count <= limit {
@@ -82,15 +162,15 @@ fn pull_all<R: Source, T: Receiver + Drop>(
             Err(_) => return Err(ReadError::Read),
         };
         if n == 0 {
-            return conclude(pipeline);
+            return conclude(items, top);
         }
         count += n as u64;
-        match pipeline.push(&buf[..n]) {
-            Ok(()) => reader.note(pipeline.packets(), pipeline.skipped()),
+        match feed(&mut items, &buf[..n], &mut top) {
+            Ok(()) => reader.note(items.packets(), items.skipped()),
             Err(_) => return Err(ReadError::Memory),
         }
     }
-    conclude(pipeline)
+    conclude(items, top)
 }
 
 /// What the top makes of the packets of all that a source gives; else the one fault, that of the
@@ -113,8 +193,8 @@ pub fn read_with<R: Source, T: Receiver + Drop>(
         Ok(buf) => buf,
         Err(_) => return Err(ReadError::Memory),
     };
-    let pipeline = Pipeline::new(alloc, mode, *limits, top);
-    pull_all(reader, buf.as_mut_slice(), mode, *limits, pipeline)
+    let buf = buf.as_mut_slice();
+    pull_all(alloc, reader, buf, mode, *limits, T::accepts(), top)
 }
 
 /// A buffer for a piece.

@@ -5,10 +5,11 @@ ghost use Rattle.opgp_octets.specs.declared.limits.Limits.{Limits};
 ghost use Rattle.opgp_armor.specs.declared.label.Label.{Label};
 ghost use Rattle.opgp_frame.specs.View.{viewed};
 ghost use Rattle.opgp_ring.specs.Composition.{Item, of_label, of_packet};
+ghost use Rattle.opgp_engine.specs.Accepts.{wanted_by};
 ghost use Rattle.opgp_engine.specs.Reading.{Outcome};
 ghost use Rattle.opgp_engine.specs.Receiver.{AreRead, KeepsFed};
 
-use opgp_armor::Label;
+use crate::accepts::Accepts;
 use opgp_frame::{Placed, PlacedView};
 use opgp_octets::{Fault, OutOfMemory};
 
@@ -26,9 +27,9 @@ pub trait Receiver {
     // The value for labels and packets, within limits.
     ghost says: { Limits → List Item → Outcome Self.Value → Type 0 };
 
-    /// Whether a block with this label is accepted; a binary block has none.
-    fn wants(label: Option<Label>) -> bool
-        ensures { result ≡ wanted label };
+    /// Which labels are accepted.
+    fn accepts() -> Accepts
+        ensures { wanted_by result ≡ wanted };
 
     /// A block of this number begins, with a label that is accepted or not. Fails only when out of
     /// memory.

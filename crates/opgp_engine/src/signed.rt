@@ -8,8 +8,8 @@ ghost use Rattle.opgp_ring.specs.SignedLiteral.{signed_packets};
 ghost use Rattle.opgp_engine.specs.Reading.{shown};
 ghost use Rattle.opgp_engine.specs.Signed.{AreSigned, message_label};
 
+use crate::accepts::Accepts;
 use crate::receiver::Receiver;
-use opgp_armor::Label;
 use opgp_frame::{Placed, PlacedView};
 use opgp_octets::{Fault, OutOfMemory};
 use opgp_ring::{SignedGathering, SignedLiteral};
@@ -23,11 +23,8 @@ impl Receiver for SignedGathering {
 
     ghost says = { λ limits items r. AreSigned limits items (shown signed_packets r) };
 
-    fn wants(label: Option<Label>) -> bool {
-        match label {
-            None | Some(Label::Message) => true,
-            Some(Label::PublicKeyBlock | Label::PrivateKeyBlock | Label::Signature) => false,
-        }
+    fn accepts() -> Accepts {
+        Accepts::Messages
     }
 
     fn begin_block(&mut self, block: u64, fits: bool) -> Result<(), OutOfMemory> {

@@ -9,8 +9,8 @@ ghost use Rattle.opgp_ring.specs.Composition.{placed_in};
 ghost use Rattle.opgp_engine.specs.Packets.{any_label};
 ghost use Rattle.opgp_engine.specs.SoundPackets.{AreSoFar, AreSound};
 
+use crate::accepts::Accepts;
 use crate::receiver::Receiver;
-use opgp_armor::Label;
 use opgp_frame::{Placed, PlacedView};
 use opgp_octets::{Fault, Malformed, OutOfMemory};
 use opgp_ring::{packet_fault, view_fault};
@@ -76,8 +76,8 @@ impl<K: PacketKeeper + Drop> Receiver for SoundPackets<K> {
 
     ghost says = { λ limits items answer. AreSound (malformed_of limits) K.kept (placed_in items) answer };
 
-    fn wants(_label: Option<Label>) -> bool {
-        true
+    fn accepts() -> Accepts {
+        Accepts::Any
     }
 
     fn begin_block(&mut self, block: u64, fits: bool) -> Result<(), OutOfMemory> {

@@ -1,6 +1,7 @@
 //! Parts of a keyring that wait to be taken.
 
-ghost use Rattle.std.specs.Prelude.{◌≡◌, ◌++◌, ◌∷◌, [], None, OnOk};
+ghost use Rattle.std.specs.Prelude.{◌≡◌, ◌+◌, ◌-◌, ◌^◌, ◌++◌, ◌∷◌, [], min, None, OnOk};
+ghost use Rattle.opgp_engine.specs.Used.{one_if};
 ghost use Rattle.opgp_ring.specs.State.{part_of, ready_parts};
 ghost use Rattle.opgp_engine.specs.Waiting.{parts_in};
 
@@ -39,5 +40,16 @@ impl Waiting {
         ensures none { result ≡ None → parts_in self.old ≡ [] }
     {
         self.parts.pop_front()
+    }
+}
+
+/// How many were taken, with one more if there was one: at most 2^64 - 1.
+pub(crate) fn counted(taken: u64, is_some: bool) -> u64
+    ensures { result ≡ min (taken + one_if is_some) (2 ^ 64 - 1) }
+{
+    if is_some {
+        taken.saturating_add(1)
+    } else {
+        taken
     }
 }

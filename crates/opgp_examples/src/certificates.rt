@@ -23,7 +23,7 @@ pub(crate) fn certificates<R: BufRead + Drop>(
     let limits = Limits::usual();
     let mut reader = PartReader::new(rt.alloc(), Mode::Armor, limits);
     read_parts(rt, limits, &mut source, &mut reader)?;
-    let mut waiting = reader.end()??;
+    let mut waiting = reader.finish()??;
     'rest: while let Some(part) = waiting.take() {
         show(rt, part)?;
     }
@@ -51,7 +51,7 @@ fn read_parts<R: BufRead + Drop>(
         if count == 0 {
             break;
         }
-        reader.feed(piece)?;
+        reader.push(piece)?;
         source.consume(count);
         given += count as u64;
         show_waiting(rt, reader)?;

@@ -22,7 +22,7 @@ pub(crate) fn packets<R: BufRead + Drop>(
     let limits = Limits::usual();
     let mut reader = PacketReader::new(rt.alloc(), Mode::Auto, limits);
     read_packets(rt, limits, &mut source, &mut reader)?;
-    let mut waiting = reader.end()??;
+    let mut waiting = reader.finish()??;
     'rest: while let Some(placed) = waiting.take() {
         show(rt, &placed)?;
     }
@@ -50,7 +50,7 @@ fn read_packets<R: BufRead + Drop>(
         if count == 0 {
             break;
         }
-        reader.feed(piece)?;
+        reader.push(piece)?;
         source.consume(count);
         given += count as u64;
         show_waiting(rt, reader)?;

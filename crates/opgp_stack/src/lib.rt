@@ -31,7 +31,7 @@ mod writing_shown;
 pub use key_name::KeyName;
 pub use opgp_engine::{
     Answer, Draft, DraftError, EngineError, Mode, NoSpool, Out, PacketBlocks, PacketsText,
-    Pipeline, ReadError, Receiver, Sink, Source, Spool, Text, Watched, read_keyring, read_packets,
+    ReadError, Receiver, Sink, Source, Spool, Text, Watched, read_keyring, read_packets,
     read_signed, read_with, write, write_certificate, write_certificates, write_keyring,
 };
 pub use opgp_merge::Choice;

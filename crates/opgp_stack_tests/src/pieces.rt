@@ -33,10 +33,10 @@ const TWO: &[u8] = b"-----BEGIN PGP PUBLIC KEY BLOCK-----\n\n\
 fn nothing_comes_behind_a_framing_fault(rt: HostRuntime) -> Result<(), Fail> {
     let alloc = rt.alloc();
     let mut parts = PartReader::new(alloc, Mode::Auto, Limits::usual());
-    parts.feed(CUT_FIRST)?;
+    parts.push(CUT_FIRST)?;
     assert!(rt; parts.take().is_none());
     let mut packets = PacketReader::new(alloc, Mode::Auto, Limits::usual());
-    packets.feed(CUT_FIRST)?;
+    packets.push(CUT_FIRST)?;
     assert!(rt; packets.take().is_some());
     assert!(rt; packets.take().is_some());
     assert!(rt; packets.take().is_none());

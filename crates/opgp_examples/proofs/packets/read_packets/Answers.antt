@@ -6,7 +6,7 @@ use Rattle.opgp_examples.proofs.packets.read_packets.Goals as goal
 pub pieces-preserved : goal.pieces-preserved
 pieces-preserved g c =
     let i = c.pieces.invariant in
-    let fed = c.in_ok-feed.ensures in
+    let fed = c.in_ok-push.ensures in
     let shown = c.in_ok-show_waiting.ensures in (
       omega (arith, shown.count, fed.count, i.0),
       grind (arith, common_steps),

@@ -1,12 +1,16 @@
-use Rattle.std.proofs.Common.{List, refl, subst}
-use Rattle.opgp_frame.specs.declared.packet.Placed.{Placed}
-use Rattle.opgp_engine.specs.PacketReader.{Ends, having}
+use Rattle.opgp_engine.specs.declared.accepts.Accepts.TheVariants.{Any}
+use Rattle.opgp_engine.proofs.Readers.{ends_below, ends_faulty, ends_sound}
 use Rattle.opgp_engine.proofs.packet_reader.PacketReader.finish.Goals as goal
 
-pub finish_on-requires : goal.finish_on-requires
-finish_on-requires g c = (g.so_far, (refl, c.requires))
+pub returns-in-None : goal.returns-in-None
+returns-in-None c u used =
+    let answer = c.in_ok-ended.ensures Any u.mode u.limits u.input used.items used.fed in
+    ends_sound u c.args.self.malformed c.args.self.waiting used.items _ used.policy c.a_block_has_no_more_octets_than_the_text.ensures (rw c.in-None.is at used.so_far) (rw c.in-Ok.is at answer)
 
-pub returns : goal.returns
-returns g c =
-    let k = c.in_ok-answer.ensures g.so_far refl c.requires in
-    subst (λ (ts : List Placed). Ends (having g.so_far ts) c.in_ok-answer.answer) k.1.0 k.1.1
+pub returns-in-Some : goal.returns-in-Some
+returns-in-Some c u used =
+    let answer = c.in_ok-ended.ensures Any u.mode u.limits u.input used.items used.fed in
+    ends_faulty u c.args.self.malformed c.args.self.waiting used.items c.in-Some.fault _ used.policy c.a_block_has_no_more_octets_than_the_text.ensures (rw c.in-Some.is at used.so_far) (rw c.in-Ok.is at answer)
+
+pub returns-in-Err : goal.returns-in-Err
+returns-in-Err c u used = ends_below u used.items c.in-Err.fault (rw c.in-Err.is at (c.in_ok-ended.ensures Any u.mode u.limits u.input used.items used.fed))

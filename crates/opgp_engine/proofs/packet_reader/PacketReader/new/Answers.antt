@@ -1,16 +1,26 @@
-use Rattle.std.proofs.Common.{[], List, refl, subst}
-use Rattle.opgp_frame.specs.declared.packet.Placed.{Placed}
-use Rattle.opgp_engine.specs.PacketReader.{IsUsed}
-use Rattle.opgp_engine.proofs.Held.{packets_held_within}
+use Rattle.std.proofs.Common.{[], refl, sym}
+use Rattle.std.proofs.lemmas.List.Elements.{All-nil}
+use Rattle.opgp_ring.specs.Bodies.{IsSound}
+use Rattle.opgp_engine.proofs.Readers.{packets_held}
 use Rattle.opgp_engine.proofs.packet_reader.PacketReader.new.Goals as goal
 
-pub new_on-requires : goal.new_on-requires
-new_on-requires c = refl
-
 pub returns-clause-used : goal.returns-clause-used
-returns-clause-used c =
-    let k = c.new_on.ensures.used in
-    subst (λ (ts : List Placed). IsUsed (record { mode = c.args.mode; limits = c.args.limits; input = []; taken = ts }) (record { alloc = c.args.alloc; malformed = c.malformed.result; pipeline = c.new_on.result })) k.1.0 k.1.1
+returns-clause-used c = record {
+  items = [];
+  fed = c.new.ensures.fed;
+  policy = c.malformed.ensures;
+  so_far = (All-nil (IsSound _), sym c.new-2.ensures);
+  counted = refl;
+  done = c.new.ensures.done;
+}
 
 pub returns-clause-held : goal.returns-clause-held
-returns-clause-held c = packets_held_within (record { mode = c.args.mode; limits = c.args.limits; input = []; taken = [] }) (record { alloc = c.args.alloc; malformed = c.malformed.result; pipeline = c.new_on.result }) (returns-clause-used c)
+returns-clause-held c = packets_held (record { mode = c.args.mode; limits = c.args.limits; input = []; taken = [] }) c.new.result [] c.new.ensures.fed
+
+pub returns-clause-going : goal.returns-clause-going
+returns-clause-going c = record {
+  so_far = record { mode = c.args.mode; limits = c.args.limits; input = []; taken = [] };
+  limits_kept = refl;
+  used = returns-clause-used c;
+  held = returns-clause-held c;
+}

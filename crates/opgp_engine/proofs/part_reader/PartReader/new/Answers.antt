@@ -1,16 +1,17 @@
-use Rattle.std.proofs.Common.{[], List, refl, subst}
+use Rattle.std.proofs.Common.{[], List, refl, sym, subst}
 use Rattle.opgp_ring.specs.Composed.{PartValue}
-use Rattle.opgp_engine.specs.PartReader.{IsUsed}
-use Rattle.opgp_engine.proofs.Held.{held_within}
+use Rattle.opgp_engine.specs.Parts.{IsUsed}
+use Rattle.opgp_engine.proofs.Readers.{Using}
 use Rattle.opgp_engine.proofs.part_reader.PartReader.new.Goals as goal
 
-pub new_on-requires : goal.new_on-requires
-new_on-requires c = refl
-
-pub returns-clause-used : goal.returns-clause-used
-returns-clause-used c =
-    let k = c.new_on.ensures.used in
-    subst (λ (ts : List PartValue). IsUsed (record { mode = c.args.mode; limits = c.args.limits; input = []; taken = ts }) (record { alloc = c.args.alloc; limits = c.args.limits; pipeline = c.new_on.result })) k.1.0 k.1.1
-
-pub returns-clause-held : goal.returns-clause-held
-returns-clause-held c = held_within (record { mode = c.args.mode; limits = c.args.limits; input = []; taken = [] }) (record { alloc = c.args.alloc; limits = c.args.limits; pipeline = c.new_on.result }) (returns-clause-used c)
+pub returns-clause-going : goal.returns-clause-going
+returns-clause-going c = record {
+  so_far = Using c.args.mode c.args.limits [] [];
+  limits_kept = refl;
+  used = record {
+    used = subst (λ (t : List PartValue). IsUsed (Using c.args.mode c.args.limits [] t) c.new.result) (sym c.new-2.ensures) c.new.ensures.used;
+    counted = refl;
+    done = c.new.ensures.done;
+  };
+  held = c.new.ensures.held;
+}

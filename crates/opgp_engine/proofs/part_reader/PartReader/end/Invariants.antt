@@ -1,8 +1,0 @@
-use Rattle.std.proofs.Common.{◌≡◌}
-use Rattle.opgp_engine.specs.Exchanged.{top_of}
-use Rattle.opgp_engine.specs.Waiting.{shown_count}
-use Rattle.opgp_engine.proofs.part_reader.PartReader.end.Given as goal
-
--- as many were taken as are counted
-abbrev pub ghosts-finish_on : goal.ghosts-finish_on
-ghosts-finish_on a = record { known = λ taken. shown_count taken ≡ (top_of a.pipeline).taken }

@@ -110,9 +110,9 @@ impl Blocks {
         ensures count { IfOk result (λ n. open_count self.new ≤ open_count self.old + n) }
         ensures number { IfOk result (λ n. number_of self.new ≡ number_of self.old) }
     {
-        self.found = Found::Nothing;
         self.opening = None;
         if self.fault.is_some() {
+            self.found = Found::Nothing;
             return Ok(octets.len());
         }
         self.tell();
@@ -151,7 +151,6 @@ impl Blocks {
         requires room { open_count self.old + length octets.now < 2 ^ 63 }
         requires begun { has_begun self.old ≡ true }
         requires fault { self.old.fault ≡ None }
-        requires found { is_nothing self.old.found ≡ true }
         ensures framed { IfOk result (λ n. (packets : List Placed)
             × IsFound self.new.found octets.now packets
             × ((accepts : Accepts) (limits : Limits) (done : List TextBlock) (label : Option Label)
@@ -181,7 +180,6 @@ impl Blocks {
         requires room { open_count self.old + length octets.now < 2 ^ 63 }
         requires begun { has_begun self.old ≡ true }
         requires fault { self.old.fault ≡ None }
-        requires found { is_nothing self.old.found ≡ true }
         ensures framed { IfOk result (λ n. (packets : List Placed)
             × IsFound self.new.found octets.now packets
             × ((accepts : Accepts) (limits : Limits) (done : List TextBlock) (label : Option Label)
@@ -199,9 +197,12 @@ impl Blocks {
             Ok(n) => n,
             Err(_) => return Err(AllocError),
         };
-        if let Some(packet) = self.deframe.take() {
-            self.found = Found::Whole(packet);
-            self.packets = self.packets.saturating_add(1);
+        match self.deframe.take() {
+            Some(packet) => {
+                self.found = Found::Whole(packet);
+                self.packets = self.packets.saturating_add(1);
+            }
+            None => self.found = Found::Nothing,
         }
         Ok(n)
     }

@@ -97,6 +97,7 @@ impl Length {
 }
 
 #[tactic(auto, unfolding(crate::specs::Length::length_at))]
+#[inline(always)]
 fn length_of(header: u8, o: &[u8]) -> Option<(Length, usize)>
     ensures { result ≡ length_at header o.now }
 {
@@ -123,6 +124,7 @@ fn length_of(header: u8, o: &[u8]) -> Option<(Length, usize)>
 
 /// The length header that begins the octets, in a packet with this first octet, and how many octets
 /// it takes; None if some of its octets are missing.
+#[inline(always)]
 pub(crate) fn read_length(header: u8, o: &[u8]) -> Option<(Length, usize)>
     ensures found { IfSome result (λ x. LengthBegins header o.now x.0 x.1) }
     ensures exact { result ≡ length_at header o.now }

@@ -30,11 +30,12 @@ pub(crate) fn whole_in(limits: Limits, octets: &[u8]) -> Option<Whole>
         return None;
     }
     let (last, size) = read_length(*header, behind)?;
-    if last.is_partial() || last.amount() > limits.body() {
+    let amount = last.amount();
+    if last.is_partial() || amount > limits.body() {
         return None;
     }
     let from = 1 + size;
-    let amount = last.amount() as usize;
+    let amount = amount as usize;
     if amount > octets.len() - from {
         return None;
     }

@@ -20,7 +20,7 @@ use Rattle.opgp_engine.specs.declared.text.Text.{Text}
 use Rattle.opgp_engine.specs.Blocks.{Ends, Framed, has_begun, number_of, part_of}
 use Rattle.opgp_engine.specs.Items.{Decides, Moves, Passed, work_in}
 use Rattle.opgp_engine.specs.Reading.{TextBlock, is_binary}
-use Rattle.opgp_engine.specs.Text.{IsEnd, Through, work_behind, work_of}
+use Rattle.opgp_engine.specs.Text.{IsEnd, Through, is_known, waiting_in, work_behind, work_of}
 
 text_told : (mode : Mode) (input : List ℕ) (first : ℕ) → mode ≡ Auto → input ≡ [] → first < 128 → Decides mode (input ++ first ∷ []) false
 text_told mode input first auto none small more = rw (auto, none) (lt-leb 128 first small)
@@ -112,3 +112,29 @@ lessens was old new rest (Some n) same (inr less) within = omega (arith, same, l
 pub take_first : (piece : List ℕ) → 1 ≤ length piece → take 1 piece ≡ get_or piece 0 0 ∷ []
 take_first [] some = absurd (omega (arith, some))
 take_first (x ∷ piece) some = refl
+
+-- ---- a framer that has framed the same
+abbrev pub FramesSo : Accepts → Limits → Blocks → Blocks → Type 0
+FramesSo accepts limits f g = (done : List TextBlock) (label : Option Label) (octets : List ℕ) (items : List Item) → Framed accepts limits f done label octets items → Framed accepts limits g done label octets items
+
+known_same : (f g : Blocks) (waiting : List ℕ) → has_begun g ≡ has_begun f → is_known g waiting ≡ is_known f waiting
+known_same f g [] e = e
+known_same f g (o ∷ os) e = refl
+
+pub passed_same : (accepts : Accepts) (mode : Mode) (limits : Limits) (front : Front) (f g : Blocks) (seen input : List ℕ) (items : List Item) → FramesSo accepts limits f g → has_begun g ≡ has_begun f → Passed accepts mode limits front f seen input items → Passed accepts mode limits front g seen input items
+passed_same accepts mode limits Undecided f g seen input items so begun x = (x.0, x.1, x.2, begun ∙ x.3, so [] None input items x.4)
+passed_same accepts mode limits Binary f g seen input items so begun x = (x.0, so [] None input items x.1)
+passed_same accepts mode limits (Armored t) f g seen input items so begun x = (
+  x.0,
+  x.1,
+  record {
+    before = x.2.before;
+    fed = x.2.fed;
+    framed = (x.2.framed.0, x.2.framed.1, so _ _ _ _ x.2.framed.2);
+    inside = λ e. x.2.inside (sym (known_same f g (waiting_in t) begun) ∙ e);
+    quiet = x.2.quiet;
+    going = x.2.going;
+    rule = x.2.rule;
+    few = x.2.few;
+  },
+)

@@ -21,12 +21,12 @@ pub rest_length : (piece : List ℕ) (at : ℕ) → length (take (length piece -
 rest_length piece at = ap length (take_rest piece at) ∙ length-drop at piece
 
 -- a label and a packet are passed on
-pub keeps_found : {T : Type 0} (fed : Limits → T → List Item → Type 0) (a b c d : T) (before found : List Item) (told opening : Option Opening) (viewed packets : List Placed) → told ≡ opening → viewed ≡ packets
-    → found ≡ opened opening ++ map of_packet packets → KeepsFed fed a b before → KeepsFed fed b c (opened told) → KeepsFed fed c d (map of_packet viewed) → KeepsFed fed a d (before ++ found)
-keeps_found fed a b c d before found told opening viewed packets e f g h i j limits given x =
-    let last : fed limits d (((given ++ before) ++ opened told) ++ map of_packet viewed) = j limits _ (i limits _ (h limits given x)) in
-    let whole : ((given ++ before) ++ opened told) ++ map of_packet viewed ≡ given ++ (before ++ found) =
-    append_assoc (given ++ before) (opened told) (map of_packet viewed) ∙ ap (λ (l : List Item). (given ++ before) ++ l) (ap (λ (o : Option Opening). opened o ++ map of_packet viewed) e ∙ ap (λ (l : List Placed). opened opening ++ map of_packet l) f ∙ sym g)
+pub keeps_found : {T : Type 0} (fed : Limits → T → List Item → Type 0) (a b c d : T) (before found : List Item) (told opening : Option Opening) (packets : List Placed) → told ≡ opening
+    → found ≡ opened opening ++ map of_packet packets → KeepsFed fed a b before → KeepsFed fed b c (opened told) → KeepsFed fed c d (map of_packet packets) → KeepsFed fed a d (before ++ found)
+keeps_found fed a b c d before found told opening packets e g h i j limits given x =
+    let last : fed limits d (((given ++ before) ++ opened told) ++ map of_packet packets) = j limits _ (i limits _ (h limits given x)) in
+    let whole : ((given ++ before) ++ opened told) ++ map of_packet packets ≡ given ++ (before ++ found) =
+    append_assoc (given ++ before) (opened told) (map of_packet packets) ∙ ap (λ (l : List Item). (given ++ before) ++ l) (ap (λ (o : Option Opening). opened o ++ map of_packet packets) e ∙ sym g)
     ∙ append_assoc given before found in
     subst (fed limits d) whole last
 

@@ -290,6 +290,27 @@ impl Blocks {
         }
     }
 
+    /// Takes the packet that the last call found, if its octets came in several pieces.
+    #[inline(always)]
+    pub(crate) fn take(&mut self) -> Option<Placed>
+        ensures some { IfSome result (λ p. (octets : List ℕ) (packets : List Placed)
+            → IsFound self.old.found octets packets → packets ≡ p ∷ []) }
+        ensures none { result ≡ None → self.new ≡ self.old }
+        ensures framed { (accepts : Accepts) (limits : Limits) (done : List TextBlock)
+            (label : Option Label) (octets : List ℕ) (items : List Item)
+            → Framed accepts limits self.old done label octets items
+            → Framed accepts limits self.new done label octets items }
+        ensures begun { has_begun self.new ≡ has_begun self.old }
+    {
+        let Found::Whole(_) = self.found else {
+            return None;
+        };
+        match mem::replace(&mut self.found, Found::Nothing) {
+            Found::Whole(packet) => Some(packet),
+            Found::Lent(_) | Found::Nothing => unreachable!(),
+        }
+    }
+
     /// How many packets were found, at most 2^64 - 1.
     pub(crate) fn packets(&self) -> u64
         ensures { result ≡ packet_count self.now }

@@ -1,6 +1,6 @@
 //! The labels and packets of an input, one after the other.
 
-ghost use Rattle.std.specs.Prelude.{◌≡◌, ◌<◌, ◌≤◌, ◌+◌, ◌-◌, ◌^◌, ◌++◌, [], ℕ, List, length, take, false};
+ghost use Rattle.std.specs.Prelude.{◌≡◌, ◌<◌, ◌≤◌, ◌+◌, ◌-◌, ◌^◌, ◌++◌, ◌∷◌, [], ℕ, List, length, take, false};
 ghost use Rattle.std.specs.Prelude.{IfOk, IfSome, None, Option};
 ghost use Rattle.opgp_octets.specs.declared.limits.Limits.{Limits};
 ghost use Rattle.opgp_frame.specs.declared.packet.Placed.{Placed};
@@ -24,7 +24,7 @@ use crate::found::Opening;
 use crate::mode::Mode;
 use crate::text::Text;
 use opgp_armor::Label;
-use opgp_frame::PlacedView;
+use opgp_frame::{Placed, PlacedView};
 use opgp_octets::{Fault, Layer, Limits, OutOfMemory, Reason};
 use std::alloc::Global;
 
@@ -150,6 +150,22 @@ impl Items {
         ensures { result ≡ self.now.framer.opening }
     {
         self.framer.opening()
+    }
+
+    /// Takes the packet that the last step has found, if its octets came in several pieces. None: it may be
+    /// lent.
+    #[inline(always)]
+    pub(crate) fn take(&mut self) -> Option<Placed>
+        ensures some { IfSome result (λ p. (octets : List ℕ) (packets : List Placed)
+            → IsFound self.old.framer.found octets packets → packets ≡ p ∷ []) }
+        ensures none { result ≡ None → self.new ≡ self.old }
+        ensures fed { (accepts : Accepts) (mode : Mode) (limits : Limits) (input : List ℕ)
+            (items : List Item) → Fed accepts mode limits self.old input items
+            → Fed accepts mode limits self.new input items }
+        ensures front { self.new.front ≡ self.old.front }
+        ensures given { self.new.given ≡ self.old.given }
+    {
+        self.framer.take()
     }
 
     /// The packet that the last step has found in this piece.

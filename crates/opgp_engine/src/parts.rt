@@ -30,10 +30,11 @@ use std::alloc::{AllocError, Global};
 /// }
 /// ```
 ///
-/// Behind each piece its readers hold at most `line + body + pieces + cert + 32` octets of its limits;
-/// beside that there is memory that is used again, at most some three times `line`, 8 KiB of lines that are
-/// framed together, and that of one part. An armored block must be a `PUBLIC KEY BLOCK`. Whether the input
-/// is a keyring is known only at its end: a fault may follow the parts that were handed out.
+/// Behind each call its readers hold at most `line + body + pieces + cert + 32` octets of its limits. That
+/// leaves out the packet found last, where its octets came in several pieces; the octets of lines that are
+/// framed together, some 8 KiB; and memory that is used again, that of a line and of a part. An armored
+/// block must be a `PUBLIC KEY BLOCK`. Whether the input is a keyring is known only at its end: a fault may
+/// follow the parts that were handed out.
 #[derive(Drop)]
 pub struct Parts {
     items: Items,

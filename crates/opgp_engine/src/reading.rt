@@ -7,9 +7,10 @@ ghost use Rattle.opgp_octets.specs.declared.limits.Limits.{Limits};
 ghost use Rattle.opgp_octets.specs.Octets.{IsOctets};
 ghost use Rattle.opgp_ring.specs.Composition.{Item, of_packet};
 ghost use Rattle.opgp_engine.specs.Accepts.{wanted_by};
-ghost use Rattle.opgp_engine.specs.Found.{opened};
+ghost use Rattle.opgp_frame.specs.declared.packet.Placed.{Placed};
+ghost use Rattle.opgp_engine.specs.Found.{IsFound, opened};
 ghost use Rattle.opgp_engine.specs.Blocks.{viewed_in};
-ghost use Rattle.opgp_engine.specs.Items.{Fed, IsDone, count_of};
+ghost use Rattle.opgp_engine.specs.Items.{Fed, IsDone, count_of, octets_of};
 ghost use Rattle.opgp_engine.specs.Receiver.{AreRead, KeepsFed};
 ghost use Rattle.opgp_engine.specs.declared.accepts.Accepts.{Accepts};
 ghost use Rattle.opgp_engine.specs.Pulled.{Answers, ReadsAs};
@@ -66,8 +67,28 @@ fn open_block<T: Receiver>(opening: Option<Opening>, top: &mut T) -> Result<(), 
     }
 }
 
-/// Passes the packet that was found to the top, where one was.
-fn pass_packet<T: Receiver>(packet: Option<PlacedView<'_>>, top: &mut T) -> Result<(), OutOfMemory>
+/// Passes the packet that was found in a piece to the top, where one was.
+fn pass_packet<T: Receiver>(items: &mut Items, piece: &[u8], top: &mut T) -> Result<(), OutOfMemory>
+    requires { (packets : List Placed)
+        × IsFound items.old.framer.found (octets_of items.old.front piece.now) packets }
+    ensures top { OnOk result ((packets : List Placed)
+        → IsFound items.old.framer.found (octets_of items.old.front piece.now) packets
+        → KeepsFed T.fed top.old top.new (map of_packet packets)) }
+    ensures fed { (accepts : Accepts) (mode : Mode) (limits : Limits) (input : List ℕ)
+        (list : List Item) → Fed accepts mode limits items.old input list
+        → Fed accepts mode limits items.new input list }
+    ensures front { items.new.front ≡ items.old.front }
+    ensures given { items.new.given ≡ items.old.given }
+{
+    if let Some(packet) = items.take() {
+        top.push(packet)?;
+        return Ok(());
+    }
+    pass_lent(items.packet(piece), top)
+}
+
+/// Passes a packet that is lent to the top, where there is one.
+fn pass_lent<T: Receiver>(packet: Option<PlacedView<'_>>, top: &mut T) -> Result<(), OutOfMemory>
     ensures { OnOk result (KeepsFed T.fed top.old top.new (map of_packet (viewed_in packet.entry))) }
 {
     match packet {
@@ -94,7 +115,7 @@ fn feed<T: Receiver>(items: &mut Items, piece: &[u8], top: &mut T) -> Result<(),
     let mut at = 0;
     'steps: while let Some(n) = items.step(&piece[at..])? {
         open_block(items.opening(), top)?;
-        pass_packet(items.packet(&piece[at..]), top)?;
+        pass_packet(items, &piece[at..], top)?;
         at += n;
     }
     Ok(())

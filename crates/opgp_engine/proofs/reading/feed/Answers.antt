@@ -22,8 +22,8 @@ steps-preserved g c =
       within = fits piece at n c.steps.invariant.within within;
       fed = (
         f.0 ++ r.0,
-        keeps_found g.T.Receiver.fed c.args.top.now c.steps.top c.open_block.new.top c.pass_packet.new.top f.0 r.0 _ c.step.new.self.framer.opening _ r.1.0 c.opening.ensures (c.packet.ensures r.1.0 r.1.1) r.1.2 f.1 c.in_ok-open_block.ensures c.in_ok-pass_packet.ensures,
-        steps_more c.args.items.now c.steps.items c.step.new.self piece at n f.0 r.0 f.2 r.2,
+        keeps_found g.T.Receiver.fed c.args.top.now c.steps.top c.open_block.new.top c.pass_packet.new.top f.0 r.0 _ c.step.new.self.framer.opening r.1.0 c.opening.ensures r.1.2 f.1 c.in_ok-open_block.ensures (c.in_ok-pass_packet.ensures.top r.1.0 r.1.1),
+        steps_more c.args.items.now c.steps.items c.pass_packet.new.items piece at n f.0 r.0 f.2 (λ accepts mode limits input list x. c.in_ok-pass_packet.ensures.fed accepts mode limits _ _ (r.2 accepts mode limits input list x)),
       );
       count = omega (arith, count, size, c.steps.invariant.count);
     }

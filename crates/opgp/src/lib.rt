@@ -14,8 +14,8 @@ pub mod armor {
 /// Keyrings read from a reader and written to a writer.
 pub mod engine {
     pub use opgp_engine::{
-        Accepts, Answer, Draft, DraftError, EngineError, Mode, NoSpool, Out, PacketBlocks, PacketKeeper,
-        PacketReader, PacketsText, PartReader, Parts, ReadError, Receiver, Sink,
+        Accepts, Answer, Draft, DraftError, EngineError, Mode, NoSpool, Out, PacketBlocks,
+        PacketKeeper, PacketReader, PacketsText, PartReader, Parts, ReadError, Receiver, Sink,
         SoundPackets, Source, Spool, Text, Waiting, WaitingPackets, Watched, laws, read_keyring,
         read_packets, read_signed, read_with, write, write_certificate, write_certificates,
         write_keyring,

@@ -123,6 +123,7 @@ impl Items {
     /// that fewer than 2^63 octets are given in all.
     ///
     /// Fails only when out of memory; nothing is known of the reader then.
+    #[inline(always)]
     pub(crate) fn step(&mut self, piece: &[u8]) -> Result<Option<usize>, OutOfMemory>
         requires fed { (accepts : Accepts) × (mode : Mode) × (limits : Limits) × (input : List ℕ)
             × (items : List Item) × Fed accepts mode limits self.old input items }

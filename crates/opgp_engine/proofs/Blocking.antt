@@ -106,10 +106,9 @@ no_packet Nothing octets packets e h = h
 no_packet (Lent spot) octets packets e h = cc
 no_packet (Whole p) octets packets e h = cc
 
-neither : (a b : Bool) → a || not b ≡ false → (a ≡ false) × (b ≡ true)
-neither true b e = cc
-neither false true e = (refl, refl)
-neither false false e = cc
+neither : (a b : Bool) → not b || a ≡ false → (a ≡ false) × (b ≡ true)
+neither a true e = (e, refl)
+neither a false e = cc
 
 pub finds_nothing : (f : Blocks) (octets : List ℕ) (items : List Item) → finds f ≡ false → Finds f octets items → items ≡ []
 finds_nothing f octets items e h =

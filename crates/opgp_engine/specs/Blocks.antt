@@ -37,7 +37,7 @@ packet_count f = f.packets
 -- ---- what the last call has found
 -- whether that is anything
 abbrev pub finds : Blocks → Bool
-finds f = is_some f.opening || not (is_nothing f.found)
+finds f = not (is_nothing f.found) || is_some f.opening
 
 -- these are the label and the packet, where the packet lies in these octets
 abbrev pub Finds : Blocks → List ℕ → List Item → Type 0

@@ -90,7 +90,7 @@ impl Blocks {
     pub(crate) fn finds(&self) -> bool
         ensures { result ≡ finds self.now }
     {
-        self.opening.is_some() || !matches!(self.found, Found::Nothing)
+        !matches!(self.found, Found::Nothing) || self.opening.is_some()
     }
 
     /// Adds octets to the open block, up to the end of what they complete or all of them, and returns how
@@ -166,7 +166,7 @@ impl Blocks {
     {
         if let Some((n, spot)) = self.deframe.find(octets) {
             self.found = Found::Lent(spot);
-            self.packets = self.packets.saturating_add(1);
+            self.packets = self.packets.wrapping_add(1);
             return Ok(n);
         }
         let n = self.push(octets)?;
@@ -200,7 +200,7 @@ impl Blocks {
         match self.deframe.take() {
             Some(packet) => {
                 self.found = Found::Whole(packet);
-                self.packets = self.packets.saturating_add(1);
+                self.packets = self.packets.wrapping_add(1);
             }
             None => self.found = Found::Nothing,
         }

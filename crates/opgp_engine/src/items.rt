@@ -104,10 +104,10 @@ impl Items {
         ensures given { self.new.given ≡ self.old.given }
         ensures work { work_in self.new.front ≡ work_in self.old.front }
     {
-        let [first, ..] = piece else {
+        let Front::Undecided = self.front else {
             return;
         };
-        let Front::Undecided = self.front else {
+        let [first, ..] = piece else {
             return;
         };
         if *first >= 128 {
@@ -123,7 +123,6 @@ impl Items {
     /// that fewer than 2^63 octets are given in all.
     ///
     /// Fails only when out of memory; nothing is known of the reader then.
-    #[inline(always)]
     pub(crate) fn step(&mut self, piece: &[u8]) -> Result<Option<usize>, OutOfMemory>
         requires fed { (accepts : Accepts) × (mode : Mode) × (limits : Limits) × (input : List ℕ)
             × (items : List Item) × Fed accepts mode limits self.old input items }

@@ -36,46 +36,46 @@ INPUTS = {
 # The growths of each command over each input. More are a failure: an answer would have come to cost more memory.
 GROWTHS = """
 command                                                       key  certificate  blocks  literal
-show                                                          156          158     159      154
-list                                                          158          162     165      158
-list --values                                                 162          166     169      162
-check                                                         160          166     170      156
-check --fingerprints                                          166          172     176      161
-octets --row 0                                                171          177     180      170
-octets --row 1                                                171          177     180      170
-octets --all                                                  167          173     177      166
-octets --row 0 --of literal                                   180          183     184      180
-octets --row 9 --of literal                                   180          183     184      179
-write                                                         166          170     173      166
-write --out binary                                            172          176     179      172
-write --own-signatures --no-attributes                        178          184     189      176
-write --user-id 0 --own-signatures --out binary               191          197     202      189
-normalise                                                     158          162     165      158
-normalise --out binary                                        164          168     171      164
-split                                                         158          162     165      158
-split --out binary                                            164          168     171      164
-split --nth 0                                                 167          171     174      166
-split --nth 1 --out binary                                    175          179     182      174
-split --nth 9                                                 167          171     174      166
-split --key 8CFDE12197965A9A                                  168          173     175      168
-split --key CB186C4F0609A697 --out binary                     177          180     183      176
-split --key 0000000000000000                                  169          173     176      168
-join                                                          162          166     169      162
-join --out binary                                             168          172     175      168
-join --merge                                                  171          181     189      164
-join --merge --out binary                                     179          189     197      172
-list --progress                                               166          170     173      166
-list --malformed keep                                         165          169     172      165
-list --spool DIR                                              170          174     177      170
-write --out binary --spool DIR                                186          190     193      186
-write --no-attributes --spool DIR                             187          193     198      185
-split --spool DIR                                             170          174     177      170
-octets --all --spool DIR                                      181          187     191      180
-check --spool DIR                                             173          179     183      169
-list --mode armor                                             164          168     171      165
+show                                                          157          160     160      154
+list                                                          159          164     166      158
+list --values                                                 163          168     170      162
+check                                                         161          168     171      156
+check --fingerprints                                          167          174     177      161
+octets --row 0                                                172          179     181      170
+octets --row 1                                                172          179     181      170
+octets --all                                                  168          175     178      166
+octets --row 0 --of literal                                   182          188     189      180
+octets --row 9 --of literal                                   182          188     189      179
+write                                                         167          172     174      166
+write --out binary                                            173          178     180      172
+write --own-signatures --no-attributes                        179          186     190      176
+write --user-id 0 --own-signatures --out binary               192          199     203      189
+normalise                                                     159          164     166      158
+normalise --out binary                                        165          170     172      164
+split                                                         159          164     166      158
+split --out binary                                            165          170     172      164
+split --nth 0                                                 168          173     175      166
+split --nth 1 --out binary                                    176          181     183      174
+split --nth 9                                                 168          173     175      166
+split --key 8CFDE12197965A9A                                  169          175     176      168
+split --key CB186C4F0609A697 --out binary                     178          182     184      176
+split --key 0000000000000000                                  170          175     177      168
+join                                                          163          168     170      162
+join --out binary                                             169          174     176      168
+join --merge                                                  172          183     190      164
+join --merge --out binary                                     180          191     198      172
+list --progress                                               167          172     174      166
+list --malformed keep                                         166          171     173      165
+list --spool DIR                                              171          176     178      170
+write --out binary --spool DIR                                187          192     194      186
+write --no-attributes --spool DIR                             188          195     199      185
+split --spool DIR                                             171          176     178      170
+octets --all --spool DIR                                      182          189     192      180
+check --spool DIR                                             174          181     184      169
+list --mode armor                                             165          170     172      165
 list --mode binary                                            164          164     164      164
-show --line 128 --body 512 --cert 512 --pieces 1              184          186     187      182
-show --values                                                 160          162     163      158
+show --line 128 --body 512 --cert 512 --pieces 1              185          188     188      182
+show --values                                                 161          164     164      158
 --help                                                        142          142     142      142
 help list                                                     270          270     270      270
 list --help                                                   271          271     271      271

@@ -39,9 +39,9 @@ fn refused_growth(rt: HostRuntime) {
     assert!(rt; held[written..].iter().all(|octet| *octet == b'.'));
 }
 
-// The list of blocks grows from 4 to 8 and 16; each block takes a growth, the octets of all their lines one, and a reader one more.
+// The list of blocks grows from 4 to 8 and 16; each block takes a growth, the octets of their lines two, and a reader one more.
 #[test]
-fn nine_blocks_in_14_growths(rt: HostRuntime) {
+fn nine_blocks_in_15_growths(rt: HostRuntime) {
     let mut reader = in_pieces(NINE_BLOCKS, 1000, 0);
     let read = read_packets(rt.alloc(), &mut reader, Mode::Armor, &Limits::usual());
     let (count, refused) = match read {

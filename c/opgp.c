@@ -102,6 +102,10 @@ _Static_assert(sizeof(opgp_reader) == 2 * sizeof(void *), "opgp_reader");
 IS_AT(opgp_reader, is_open, 0);
 IS_AT(opgp_reader, at, sizeof(void *));
 
+_Static_assert(sizeof(opgp_document) == 2 * sizeof(void *), "opgp_document");
+IS_AT(opgp_document, is_open, 0);
+IS_AT(opgp_document, at, sizeof(void *));
+
 /* A batch of hashed octets has at most a part of the keyring's octets, or so many; and a row for so many of them. */
 enum { BATCH = 1 << 20, PARTS = 4, OF_ROW = 64 };
 
@@ -672,6 +676,59 @@ uint32_t opgp_write(const opgp_keyring *keyring, bool armor, uint8_t **text, siz
     return leave(it, give(status, room, wanted, text, size));
 }
 
+/* ---- Signatures over a document */
+
+/* Makes the table, with the signers of a handle. */
+static uint32_t fill_signatures(opgp_document *document, opgp_ring *ring, opgp_job **rows, uint8_t **bytes, opgp_sizes *sizes)
+{
+    uint32_t status = opgp_document_jobs(document, ring, NULL, 0, NULL, 0, sizes);
+    if (status != OPGP_ROOM) { /* there is at least one signature */
+        return status;
+    }
+    *rows = room_for(sizes->rows, sizeof **rows);
+    *bytes = room_for(sizes->bytes, 1);
+    if (!*rows || !*bytes) {
+        return OPGP_MEMORY;
+    }
+    return opgp_document_jobs(document, ring, *rows, (size_t)sizes->rows, *bytes, (size_t)sizes->bytes, sizes);
+}
+
+/* The same with no signers: those of a keyring that has nothing. */
+static uint32_t fill_alone(opgp_document *document, opgp_job **rows, uint8_t **bytes, opgp_sizes *sizes)
+{
+    opgp_limits usual;
+    opgp_fault unwanted;
+    opgp_ring none = {false, NULL};
+    const uint8_t nothing = 0;
+    opgp_usual_limits(&usual);
+    uint32_t status = opgp_ring_open(&nothing, 0, &usual, &none, &unwanted);
+    status = status == OPGP_DONE ? fill_signatures(document, &none, rows, bytes, sizes) : status;
+    opgp_ring_close(none);
+    return status;
+}
+
+uint32_t opgp_signatures(opgp_document *document, const opgp_keyring *keyring, opgp_job **rows, size_t *count, uint8_t **bytes)
+{
+    opgp_sizes sizes = {0, 0};
+    uint32_t status;
+    *rows = NULL;
+    *bytes = NULL;
+    if (keyring) {
+        opgp_keyring *it = enter(keyring);
+        status = leave(it, fill_signatures(document, &it->ring, rows, bytes, &sizes));
+    } else {
+        status = fill_alone(document, rows, bytes, &sizes);
+    }
+    if (status != OPGP_DONE) {
+        free(*rows);
+        free(*bytes);
+        *rows = NULL;
+        *bytes = NULL;
+    }
+    *count = *rows ? (size_t)sizes.rows : 0;
+    return status;
+}
+
 /* ---- Verifying */
 
 /* What the verifier answers about the signature in a row by this key. */
@@ -729,6 +786,8 @@ const char *opgp_status_text(uint32_t status)
         [OPGP_CLOSED] = "the handle holds nothing",
         [OPGP_NO_ROW] = "no such row",
         [OPGP_ENDED] = "the input has ended",
+        [OPGP_MANY] = "too many signatures",
+        [OPGP_GOING] = "the document hasn't ended",
     };
     return status < sizeof texts / sizeof *texts ? texts[status] : "unknown";
 }

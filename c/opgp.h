@@ -10,8 +10,8 @@
  *
  * - Calls on different handles and keyrings may be made at once.
  * - All calls on one opgp_keyring may be made at once, except opgp_close: it has a lock.
- * - A handle (opgp_ring, opgp_reader) is for one call at a time: each call takes out what it holds, and puts it back. A handle
- *   may pass from one thread to another.
+ * - A handle (opgp_ring, opgp_reader, opgp_document) is for one call at a time: each call takes out what it holds, and puts it
+ *   back. A handle may pass from one thread to another.
  * - No call may be made from a signal handler, or in the forked child of a process with threads.
  *
  * Sizes and places are in octets, and count from 0. The caller must keep these conditions:
@@ -54,8 +54,13 @@ enum {
     OPGP_LIMITS = 4,  /* a limit is out of its range, or there is no such policy or mode */
     OPGP_CLOSED = 5,  /* the handle holds nothing, or another call is using it */
     OPGP_NO_ROW = 6,  /* no such row, or its signature isn't hashed; no such certificate, name or fault; no part is complete */
-    OPGP_ENDED = 7    /* the input of the reader has ended; or the reporter ended opgp_check */
+    OPGP_ENDED = 7,   /* the input of the reader, or the document, has ended; or the reporter ended opgp_check */
+    OPGP_MANY = 8,    /* there are more signatures than one document is hashed for: OPGP_MOST_SIGNATURES */
+    OPGP_GOING = 9    /* the document hasn't ended */
 };
+
+/* The most signatures that one document is hashed for. */
+#define OPGP_MOST_SIGNATURES 64
 
 /* In place of a number: there is none. */
 #define OPGP_NONE 0xFFFFFFFFFFFFFFFFU
@@ -181,7 +186,8 @@ enum {
     OPGP_WHY_KIND = 2,      /* its type isn't one of certificates */
     OPGP_WHY_MISPLACED = 3, /* its type doesn't belong where it is */
     OPGP_WHY_VERSION = 4,   /* its version isn't that of a key that it would hash */
-    OPGP_WHY_HASH = 5       /* its hash algorithm isn't supported, or not in its version */
+    OPGP_WHY_HASH = 5,      /* its hash algorithm isn't supported, or not in its version */
+    OPGP_WHY_LINE_ENDS = 6  /* over a document alone: it is over text, and a carriage return there isn't followed by a line feed */
 };
 
 /* ---- Forms of a subpacket's data: which numbers it has, and which fields of octets. The numbers of the forms never change. */
@@ -342,6 +348,12 @@ typedef struct opgp_reader {
     void *at;
 } opgp_reader;
 
+/* A handle of signatures, and of the document that they are over. Begin with all zeros; only the proved calls may change it. */
+typedef struct opgp_document {
+    bool is_open;
+    void *at;
+} opgp_document;
+
 /* ---- Proved calls. Also proved of each: it returns, and has no undefined behaviour, if the caller keeps the conditions. They
  * allocate by rattle_alloc of heap.c, which is malloc. */
 
@@ -426,7 +438,7 @@ OPGP_API void opgp_ring_clear(opgp_ring *ring);
  *
  * Proved:
  *
- * - OPGP_DONE: each table begins with these rows or octets of the keyring, which crates/opgp_flat/specs defines, and is
+ * - OPGP_DONE: each table begins with these rows or octets of the keyring, which crates/opgp_tables/specs defines, and is
  *   otherwise as it was.
  * - OPGP_ROOM: one of them has less room than *sizes says, and *sizes is how much they are.
  * - OPGP_CLOSED is returned if and only if the handle holds nothing.
@@ -539,6 +551,63 @@ OPGP_API uint32_t opgp_reader_end(opgp_reader *reader, opgp_fault *fault);
 OPGP_API void opgp_reader_close(opgp_reader reader);
 OPGP_API void opgp_reader_clear(opgp_reader *reader);
 
+/* Hash a document, which comes in pieces of any size, for the signatures over it (5.2.1.1, 5.2.1.2, 5.2.4), in one pass and in
+ * bounded memory. The signatures are read first: detached ones (10.4), armored or binary.
+ *
+ *     opgp_document document = {0};
+ *     opgp_document_open(signatures, size, OPGP_MODE_AUTO, &limits, &document, &fault);
+ *     while there is a piece: opgp_document_push(&document, piece, size);
+ *     opgp_document_end(&document);
+ *     opgp_document_jobs(&document, &ring, rows, row_room, bytes, byte_room, &sizes);
+ *     opgp_document_close(document);
+ *
+ * - open: reads the signatures in in[0 .. n) by a mode, as opgp_ring_open_mode does a keyring, and begins a document of which
+ *   nothing was given. What the handle held before is freed. `in` isn't needed after the call. OPGP_DONE; OPGP_REFUSED with
+ *   *fault; OPGP_LIMITS; OPGP_MANY: there are more signatures than OPGP_MOST_SIGNATURES; OPGP_MEMORY. With any but OPGP_DONE the
+ *   handle is unchanged. With any but OPGP_REFUSED *fault is unchanged.
+ * - push: takes the next piece of the document, piece[0 .. n). OPGP_DONE; OPGP_ENDED: the document has ended; OPGP_CLOSED.
+ * - end: ends the document. OPGP_DONE; OPGP_ENDED: it had ended; OPGP_CLOSED.
+ * - jobs: fills the caller's tables, as opgp_ring_jobs does, with a row for each signature, in order. A row belongs to no
+ *   certificate: certificate, component and nested are OPGP_NONE, and hang is the signature's number, from 0. signer is the row of
+ *   its issuer's key among the keys of the ring, which may be a keyring without certificates. OPGP_DONE, OPGP_ROOM, OPGP_MEMORY;
+ *   OPGP_GOING: the document hasn't ended; OPGP_CLOSED: of one of the handles. With any but the first two *sizes means nothing.
+ * - subpackets: the same of the signatures' subpackets, as opgp_ring_subpackets, before the document's end too. OPGP_DONE,
+ *   OPGP_ROOM, OPGP_MEMORY, OPGP_CLOSED. With the last two *sizes means nothing.
+ * - octets: writes what the signature in a row hashes beside the document to octets[0 .. room), for who hashes elsewhere: if behind
+ *   is 0 what comes in front of it, which is the salt in version 6 and nothing in version 4; else what comes behind it. *size is
+ *   how much that is. OPGP_DONE, OPGP_ROOM; OPGP_NO_ROW: there is no such row, or its signature is malformed, or of another version
+ *   than 4 and 6; OPGP_MEMORY, OPGP_CLOSED. With the last three *size means nothing.
+ * - close, clear: free what the handle holds, as opgp_ring_close and opgp_ring_clear do.
+ *
+ * A push and an end allocate nothing, and so can't run out of memory.
+ *
+ * Proved, however the document is cut:
+ *
+ * - OPGP_DONE of open: the handle holds the signatures that the octets encode. OPGP_REFUSED: they encode none, and *fault is the
+ *   one fault of the lowest layer that refuses them. OPGP_MANY is returned only if there are more than OPGP_MOST_SIGNATURES, and
+ *   OPGP_DONE only if there aren't.
+ * - OPGP_DONE of push: the document is what it was, and behind that the piece.
+ * - OPGP_DONE of jobs: each table begins with these rows or octets, which crates/opgp_tables/specs defines, and is otherwise as it
+ *   was. Each digest is that of what its signature hashes over all that was pushed. A `why` is the first reason why there is none.
+ * - OPGP_DONE of octets: the table begins with the octets that the standard says, and is otherwise as it was.
+ * - OPGP_ENDED is returned if and only if the document had ended. OPGP_GOING is returned only if it hasn't, and then always if both
+ *   handles hold something.
+ * - OPGP_CLOSED is returned if and only if a handle holds nothing.
+ * - With any status but OPGP_DONE tables are unchanged.
+ * - Of jobs, subpackets and octets: the handles hold what they held. */
+OPGP_API uint32_t opgp_document_open(const uint8_t *in, size_t n, uint32_t mode, const opgp_limits *limits, opgp_document *document,
+                                     opgp_fault *fault);
+OPGP_API uint32_t opgp_document_push(opgp_document *document, const uint8_t *piece, size_t n);
+OPGP_API uint32_t opgp_document_end(opgp_document *document);
+OPGP_API uint32_t opgp_document_jobs(opgp_document *document, opgp_ring *ring, opgp_job *rows, size_t row_room, uint8_t *bytes,
+                                     size_t byte_room, opgp_sizes *sizes);
+OPGP_API uint32_t opgp_document_subpackets(opgp_document *document, opgp_subpacket *rows, size_t row_room, uint8_t *bytes,
+                                           size_t byte_room, opgp_sizes *sizes);
+OPGP_API uint32_t opgp_document_octets(opgp_document *document, uint64_t row, uint32_t behind, uint8_t *octets, size_t room,
+                                       uint64_t *size);
+OPGP_API void opgp_document_close(opgp_document document);
+OPGP_API void opgp_document_clear(opgp_document *document);
+
 /* ---- On top. Not proved. */
 
 /* A keyring with its tables. The first call for a table makes it. */
@@ -637,6 +706,14 @@ OPGP_API opgp_span opgp_subpacket_field(const opgp_keyring *keyring, const opgp_
  * OPGP_DONE, OPGP_MEMORY; of a row also OPGP_NO_ROW. With any but OPGP_DONE the octets are NULL, and *size is 0. */
 OPGP_API uint32_t opgp_octets(const opgp_keyring *keyring, uint64_t row, uint8_t **octets, size_t *size);
 OPGP_API uint32_t opgp_write(const opgp_keyring *keyring, bool armor, uint8_t **text, size_t *size);
+
+/* The table that opgp_document_jobs fills, of signatures over a document that has ended: (*rows)[0 .. *count), and the octets that
+ * they point into, in memory that the caller frees by free(). The signers are rows of opgp_keys of the keyring; with NULL as
+ * keyring there are none.
+ *
+ * OPGP_DONE, OPGP_GOING, OPGP_MEMORY, OPGP_CLOSED. With any but OPGP_DONE both are NULL, and *count is 0. */
+OPGP_API uint32_t opgp_signatures(opgp_document *document, const opgp_keyring *keyring, opgp_job **rows, size_t *count,
+                                  uint8_t **bytes);
 
 /* The keyrings that opgp_ring_normalise, opgp_ring_merge, opgp_ring_certificate and opgp_ring_join make. other may be keyring.
  * Give *made to opgp_close.

@@ -1,5 +1,5 @@
-/* opgp for C++17: keyrings and readers that close themselves, and exceptions in place of statuses. opgp.h documents each call. For
- * calls that aren't wrapped here, `get()` returns the keyring. */
+/* opgp for C++17: keyrings, readers and documents that close themselves, and exceptions in place of statuses. opgp.h documents
+ * each call. For calls that aren't wrapped here, `get()` returns the keyring. */
 #ifndef OPGP_HPP
 #define OPGP_HPP
 
@@ -32,7 +32,8 @@ private:
 };
 
 /* Throws an exception for a status: std::bad_alloc out of memory, std::out_of_range if there is no such row or certificate,
- * std::invalid_argument for a limit or a mode, std::logic_error for a handle that is closed or has ended. */
+ * std::invalid_argument for a limit or a mode, std::length_error for more signatures than a document is hashed for,
+ * std::logic_error for a handle that is closed or has ended, or a document that hasn't. */
 inline void check(uint32_t status)
 {
     switch (status) {
@@ -40,6 +41,7 @@ inline void check(uint32_t status)
     case OPGP_MEMORY: throw std::bad_alloc();
     case OPGP_NO_ROW: throw std::out_of_range(opgp_status_text(status));
     case OPGP_LIMITS: throw std::invalid_argument(opgp_status_text(status));
+    case OPGP_MANY: throw std::length_error(opgp_status_text(status));
     default: throw std::logic_error(opgp_status_text(status));
     }
 }
@@ -189,6 +191,102 @@ public:
 
 private:
     opgp_reader handle = {};
+};
+
+/* Signatures over a document, and what each hashes over it. */
+class Signatures {
+public:
+    Signatures(opgp_job *given, std::size_t count, uint8_t *octets)
+        : first(given, &std::free), bytes(octets, &std::free), rows(count)
+    {
+    }
+    const opgp_job *begin() const { return first.get(); }
+    const opgp_job *end() const { return first.get() + rows; }
+    std::size_t size() const { return rows; }
+    const opgp_job &operator[](std::size_t number) const { return first.get()[number]; }
+
+    /* A field of what a signature's algorithm made, 0 or 1. */
+    std::string_view field(const opgp_job &job, unsigned number) const
+    {
+        return text(job.at + (number == 1 ? job.sizes[0] : 0), number < 2 ? job.sizes[number] : 0);
+    }
+
+    /* The fingerprint or the key ID of its issuer. */
+    std::string_view issuer(const opgp_job &job) const { return text(job.at + job.sizes[0] + job.sizes[1], job.issuer_size); }
+
+private:
+    std::string_view text(uint64_t at, uint64_t size) const
+    {
+        return std::string_view(reinterpret_cast<const char *>(bytes.get()) + at, static_cast<std::size_t>(size));
+    }
+
+    std::unique_ptr<opgp_job, decltype(&std::free)> first;
+    std::unique_ptr<uint8_t, decltype(&std::free)> bytes;
+    std::size_t rows;
+};
+
+/* Hashes a document, which comes in pieces, for the signatures over it. */
+class Document {
+public:
+    /* Reads the signatures in these octets. Throws Fault if they are refused. */
+    explicit Document(std::string_view signatures, const opgp_limits *limits = nullptr, uint32_t mode = OPGP_MODE_AUTO)
+    {
+        opgp_limits usual;
+        opgp_fault fault = {};
+        opgp_usual_limits(&usual);
+        uint32_t status = opgp_document_open(reinterpret_cast<const uint8_t *>(signatures.data()), signatures.size(), mode,
+                                             limits ? limits : &usual, &handle, &fault);
+        if (status == OPGP_REFUSED) {
+            throw Fault(fault);
+        }
+        check(status);
+    }
+
+    Document(const Document &) = delete;
+    Document &operator=(const Document &) = delete;
+    Document(Document &&other) noexcept : handle(std::exchange(other.handle, opgp_document{})) {}
+
+    Document &operator=(Document &&other) noexcept
+    {
+        std::swap(handle, other.handle);
+        return *this;
+    }
+
+    ~Document() { opgp_document_clear(&handle); }
+
+    void push(std::string_view piece)
+    {
+        check(opgp_document_push(&handle, reinterpret_cast<const uint8_t *>(piece.data()), piece.size()));
+    }
+
+    void end() { check(opgp_document_end(&handle)); }
+
+    /* The signatures, once the document has ended; their signers are rows of the keyring's keys. */
+    Signatures signatures(const Keyring *keyring = nullptr)
+    {
+        opgp_job *rows = nullptr;
+        uint8_t *bytes = nullptr;
+        std::size_t count = 0;
+        check(opgp_signatures(&handle, keyring ? keyring->get() : nullptr, &rows, &count, &bytes));
+        return Signatures(rows, count, bytes);
+    }
+
+    /* What the signature of a row hashes in front of the document, or behind it. */
+    std::string octets(uint64_t row, bool behind)
+    {
+        uint64_t size = 0;
+        uint32_t status = opgp_document_octets(&handle, row, behind, nullptr, 0, &size);
+        if (status == OPGP_ROOM) {
+            std::string found(static_cast<std::size_t>(size), '\0');
+            check(opgp_document_octets(&handle, row, behind, reinterpret_cast<uint8_t *>(&found[0]), found.size(), &size));
+            return found;
+        }
+        check(status);
+        return std::string();
+    }
+
+private:
+    opgp_document handle = {};
 };
 
 } // namespace opgp

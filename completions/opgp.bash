@@ -9,7 +9,7 @@ _opgp() {
         before=${COMP_WORDS[COMP_CWORD - 2]}
     fi
     if [ "$COMP_CWORD" = 1 ]; then
-        words="show list check octets write normalise split join help --help"
+        words="show list check octets write normalise split join signatures digest canonical help --help"
     else
         case $before in
             --mode) words="auto armor binary" ;;
@@ -17,8 +17,12 @@ _opgp() {
             --malformed) words="refuse keep" ;;
             --out) words="armor binary" ;;
             --of) words="ring literal" ;;
-            --row | --nth | --key | --user-id | --line | --body | --cert | --input | --pieces)
+            --row | --nth | --key | --user-id | --octets | --line | --body | --cert | --input | --pieces)
                 compopt +o default # a number or a key, and no file
+                return
+                ;;
+            --signatures)
+                compopt -o default
                 return
                 ;;
             --spool)
@@ -34,7 +38,9 @@ _opgp() {
                     normalise) words="--out $limits" ;;
                     split) words="--out --nth --key $limits" ;;
                     join) words="--out --merge $limits" ;;
-                    help) words="show list check octets write normalise split join help" ;;
+                    signatures | canonical) words=$limits ;;
+                    digest) words="--signatures --octets --salt $limits" ;;
+                    help) words="show list check octets write normalise split join signatures digest canonical help" ;;
                     *) return ;;
                 esac
                 ;;

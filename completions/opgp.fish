@@ -1,5 +1,5 @@
 # Completion of opgp for fish.
-set -l commands show list check octets write normalise split join help
+set -l commands show list check octets write normalise split join signatures digest canonical help
 complete -c opgp -f
 complete -c opgp -n "not __fish_seen_subcommand_from $commands" -a show -d "List every packet and every subpacket"
 complete -c opgp -n "not __fish_seen_subcommand_from $commands" -a list -d "List the packets of a keyring"
@@ -9,6 +9,9 @@ complete -c opgp -n "not __fish_seen_subcommand_from $commands" -a write -d "Wri
 complete -c opgp -n "not __fish_seen_subcommand_from $commands" -a normalise -d "Write a keyring in the current format"
 complete -c opgp -n "not __fish_seen_subcommand_from $commands" -a split -d "Write each certificate by itself, or some of them"
 complete -c opgp -n "not __fish_seen_subcommand_from $commands" -a join -d "Write all blocks of the input as one keyring"
+complete -c opgp -n "not __fish_seen_subcommand_from $commands" -a signatures -d "List detached signatures"
+complete -c opgp -n "not __fish_seen_subcommand_from $commands" -a digest -d "List the digests that signatures have of a document"
+complete -c opgp -n "not __fish_seen_subcommand_from $commands" -a canonical -d "Write the canonical text of a document"
 complete -c opgp -n "not __fish_seen_subcommand_from $commands" -a help -d "Prints the help of the program or of a command"
 complete -c opgp -n "__fish_seen_subcommand_from help" -a "$commands"
 complete -c opgp -l help -s h -d "Prints the help"
@@ -36,3 +39,6 @@ complete -c opgp -n "__fish_seen_subcommand_from write" -l user-id -x -d "The nu
 complete -c opgp -n "__fish_seen_subcommand_from split" -l nth -x -d "The number of the certificate"
 complete -c opgp -n "__fish_seen_subcommand_from split" -l key -x -d "The fingerprint or key ID of a key"
 complete -c opgp -n "__fish_seen_subcommand_from join" -l merge -d "Merge certificates of the same primary key"
+complete -c opgp -n "__fish_seen_subcommand_from digest" -l signatures -r -F -d "The file of the detached signatures"
+complete -c opgp -n "__fish_seen_subcommand_from digest" -l octets -x -d "Write what the signature of this number hashes behind the document"
+complete -c opgp -n "__fish_seen_subcommand_from digest" -l salt -d "With --octets, write what it hashes in front of it"

@@ -11,6 +11,9 @@ _opgp() {
         'normalise:write a keyring in the current format'
         'split:write each certificate by itself, or some of them'
         'join:write all blocks of the input as one keyring'
+        'signatures:list detached signatures'
+        'digest:list the digests that signatures have of a document'
+        'canonical:write the canonical text of a document'
         'help:prints the help of the program or of a command'
     )
     limits=(
@@ -41,6 +44,8 @@ _opgp() {
         normalise) shift words; ((CURRENT--)); _arguments $limits $out ;;
         split) shift words; ((CURRENT--)); _arguments $limits $out '--nth=[the number of the certificate]:number:' '--key=[the fingerprint or key ID of a key]:key:' ;;
         join) shift words; ((CURRENT--)); _arguments $limits $out '--merge[merge certificates of the same primary key]' ;;
+        signatures | canonical) shift words; ((CURRENT--)); _arguments $limits ;;
+        digest) shift words; ((CURRENT--)); _arguments $limits '--signatures=[the file of the detached signatures]:file:_files' '--octets=[write what the signature of this number hashes behind the document]:number:' '--salt[with --octets, write what it hashes in front of it]' ;;
         help) _describe command commands ;;
     esac
 }

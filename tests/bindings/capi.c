@@ -4,6 +4,10 @@
  *     told      prints the tables, or the fault
  *     named     prints each name of a number
  *     normalise, merge, join, nth=N   write the packets of the keyring that is made; joined with itself
+ *     document=PIECE,SIGNATURES,KEYRING   prints what is told of signatures over a document that comes in pieces of so many octets
+ *               (0: in one): standard input has so many octets of signatures, and of a keyring, and then the document
+ *     documents           signatures over a document: each status, each room that is too small
+ *     documents_wanting   the same, with each allocation failed in turn
  *     rooms     each room that is too small; each status
  *     memory    each allocation failed in turn
  *     pieces    the input in pieces of several sizes
@@ -253,6 +257,117 @@ static int told(const opgp_limits *limits)
     print_tables(keyring);
     opgp_close(keyring);
     return 0;
+}
+
+/* ---- Signatures over a document */
+
+/* Prints the octets that a call gives. */
+static uint8_t *side(opgp_document *document, uint64_t row, uint32_t behind, uint64_t *n, uint32_t *status)
+{
+    *status = opgp_document_octets(document, row, behind, NULL, 0, n);
+    uint8_t *octets = malloc(*n + 1);
+    if (*status == OPGP_ROOM) {
+        *status = opgp_document_octets(document, row, behind, octets, (size_t)*n, n);
+    }
+    return octets;
+}
+
+static void print_side(opgp_document *document, uint64_t row, uint32_t behind)
+{
+    uint64_t n = 0;
+    uint32_t status;
+    uint8_t *octets = side(document, row, behind, &n, &status);
+    if (status == OPGP_DONE) {
+        print_span((opgp_span){octets, (size_t)n});
+    } else {
+        printf(" status %" PRIu32, status);
+    }
+    free(octets);
+}
+
+/* The rows of the signatures, what they point into, and what each hashes beside the document; and the rows of their subpackets. */
+static bool print_document(opgp_document *document, const opgp_keyring *keyring)
+{
+    opgp_job *jobs = NULL;
+    uint8_t *made = NULL;
+    size_t count = 0;
+    if (opgp_signatures(document, keyring, &jobs, &count, &made) != OPGP_DONE) {
+        return false;
+    }
+    for (size_t row = 0; row < count; row++) {
+        const opgp_job *job = &jobs[row];
+        printf("job %zu", row);
+        print_number(job->certificate);
+        print_number(job->component);
+        print_number(job->hang);
+        print_number(job->nested);
+        print_number(job->signer);
+        print_number(job->is_dated ? job->created : OPGP_NONE);
+        print_span((opgp_span){made + job->at + job->sizes[0] + job->sizes[1], job->issuer_size});
+        printf(" why %u v%u type %02X alg %u hash %u left ", job->why, job->version, job->kind, job->algorithm, job->hash);
+        print_digits(job->left, 2);
+        printf(" bad %u digest", job->is_bad);
+        print_span((opgp_span){job->digest, job->digest_size});
+        print_span((opgp_span){made + job->at, (size_t)job->sizes[0]});
+        print_span((opgp_span){made + job->at + job->sizes[0], (size_t)job->sizes[1]});
+        printf(" front");
+        print_side(document, row, 0);
+        printf(" behind");
+        print_side(document, row, 1);
+        printf(" zeros %d\n", is_zero(job->digest + job->digest_size, sizeof job->digest - job->digest_size) && !job->reserved);
+    }
+    opgp_sizes sizes = {0, 0};
+    opgp_document_subpackets(document, NULL, 0, NULL, 0, &sizes);
+    opgp_subpacket *subpackets = malloc((size_t)sizes.rows * sizeof *subpackets + 1);
+    uint8_t *data = malloc((size_t)sizes.bytes + 1);
+    bool is_done = opgp_document_subpackets(document, subpackets, (size_t)sizes.rows, data, (size_t)sizes.bytes, &sizes) == OPGP_DONE;
+    for (size_t i = 0; is_done && i < sizes.rows; i++) {
+        const opgp_subpacket *it = &subpackets[i];
+        printf("sub");
+        print_number(it->certificate);
+        print_number(it->component);
+        print_number(it->hang);
+        print_number(it->nested);
+        printf(" hashed %u kind %u critical %u", it->is_hashed, it->kind, it->is_critical);
+        print_span((opgp_span){data + it->at, (size_t)it->size});
+        putchar('\n');
+    }
+    free(jobs);
+    free(made);
+    free(subpackets);
+    free(data);
+    return is_done;
+}
+
+static int documented(const char *numbers, const opgp_limits *limits)
+{
+    size_t piece = 0, signatures = 0, keys = 0;
+    opgp_document document = {false, NULL};
+    opgp_keyring *keyring = NULL;
+    opgp_fault fault;
+    char text[OPGP_FAULT_ROOM];
+    if (sscanf(numbers, "%zu,%zu,%zu", &piece, &signatures, &keys) != 3 || signatures + keys > size) {
+        return 2;
+    }
+    uint32_t status = opgp_document_open(in, signatures, OPGP_MODE_AUTO, limits, &document, &fault);
+    if (status != OPGP_DONE) {
+        fprintf(stderr, "%s\n", status == OPGP_REFUSED ? opgp_fault_text(&fault, text) : opgp_status_text(status));
+        return 1;
+    }
+    if (keys > 0 && opgp_open(in + signatures, keys, limits, &keyring, NULL) != OPGP_DONE) {
+        return 3;
+    }
+    for (size_t at = signatures + keys; at < size;) {
+        size_t n = piece == 0 || size - at < piece ? size - at : piece;
+        if (opgp_document_push(&document, in + at, n) != OPGP_DONE) {
+            return 3;
+        }
+        at += n;
+    }
+    bool is_done = opgp_document_end(&document) == OPGP_DONE && print_document(&document, keyring);
+    opgp_document_close(document);
+    opgp_close(keyring);
+    return is_done ? 0 : 3;
 }
 
 /* Prints each number that a table has a name for, with the name. */
@@ -564,6 +679,101 @@ static void modes(const opgp_limits *limits)
     holds(held == 0, "what cleared handles held is let go");
 }
 
+/* A signature of version 4 by hand: of this type, with nothing in its areas. */
+#define FOUR(KIND) 0xC2, 14, 4, (KIND), 22, 8, 0, 0, 0, 0, 0xAB, 0xCD, 0, 0, 0, 0
+
+/* Each status of the calls on documents; each room that is too small. */
+static void documents(void)
+{
+    static const uint8_t two[] = {FOUR(0), FOUR(1)};
+    static const uint8_t key[] = {0xC6, 1, 4};
+    opgp_limits limits;
+    opgp_document document = {false, NULL};
+    opgp_ring ring = {false, NULL};
+    opgp_fault fault;
+    opgp_sizes sizes;
+    opgp_job job;
+    opgp_subpacket subpacket;
+    uint64_t n = 0;
+    uint8_t byte = 0;
+    opgp_usual_limits(&limits);
+    memset(&fault, 0xA5, sizeof fault);
+    holds(opgp_document_push(&document, in, 1) == OPGP_CLOSED && opgp_document_end(&document) == OPGP_CLOSED
+              && opgp_document_jobs(&document, &ring, &job, 1, &byte, 1, &sizes) == OPGP_CLOSED
+              && opgp_document_subpackets(&document, &subpacket, 1, &byte, 1, &sizes) == OPGP_CLOSED
+              && opgp_document_octets(&document, 0, 0, &byte, 1, &n) == OPGP_CLOSED,
+          "a closed document");
+    limits.line = 1;
+    holds(opgp_document_open(two, sizeof two, OPGP_MODE_AUTO, &limits, &document, &fault) == OPGP_LIMITS && !document.is_open
+              && is_blank(&fault, 0, sizeof fault),
+          "signatures within no limits");
+    opgp_usual_limits(&limits);
+    for (uint32_t mode = 3; mode != 0; mode = mode == 3 ? 256 : mode << 8) {
+        holds(opgp_document_open(two, sizeof two, mode, &limits, &document, &fault) == OPGP_LIMITS && !document.is_open, "signatures by no mode");
+    }
+    holds(opgp_document_open(key, sizeof key, OPGP_MODE_AUTO, &limits, &document, &fault) == OPGP_REFUSED && !document.is_open,
+          "a key as signatures");
+    holds(opgp_document_open(in, 0, OPGP_MODE_AUTO, &limits, &document, &fault) == OPGP_REFUSED && fault.layer == 4 && !document.is_open,
+          "no signatures");
+    holds(opgp_document_open(two, sizeof two, OPGP_MODE_ARMOR, &limits, &document, &fault) == OPGP_REFUSED && fault.layer == 1,
+          "packets as armor");
+    for (unsigned count = 63; count <= 66; count++) {
+        static uint8_t many[66 * sizeof two / 2];
+        for (unsigned k = 0; k < count; k++) {
+            memcpy(many + k * sizeof two / 2, two, sizeof two / 2);
+        }
+        memset(&fault, 0xA5, sizeof fault);
+        opgp_document before = document;
+        uint32_t status = opgp_document_open(many, count * sizeof two / 2, OPGP_MODE_BINARY, &limits, &document, &fault);
+        holds(is_blank(&fault, 0, sizeof fault) && (count <= OPGP_MOST_SIGNATURES ? status == OPGP_DONE && document.is_open
+                  : status == OPGP_MANY && document.is_open == before.is_open && document.at == before.at),
+              "many signatures");
+    }
+    holds(opgp_document_open(two, sizeof two, OPGP_MODE_AUTO, &limits, &document, &fault) == OPGP_DONE && document.is_open, "signatures");
+    holds(opgp_document_jobs(&document, &ring, &job, 1, &byte, 1, &sizes) == OPGP_CLOSED && document.is_open, "jobs beside a closed handle");
+    holds(opgp_ring_open(in, 0, &limits, &ring, &fault) == OPGP_DONE, "a keyring of nothing");
+    holds(opgp_document_jobs(&document, &ring, &job, 1, &byte, 1, &sizes) == OPGP_GOING && document.is_open && ring.is_open,
+          "jobs before the end");
+    holds(opgp_document_push(&document, (const uint8_t *)"a\n", 2) == OPGP_DONE && opgp_document_push(&document, in, 0) == OPGP_DONE
+              && opgp_document_jobs(&document, &ring, NULL, 0, NULL, 0, &sizes) == OPGP_GOING,
+          "pieces of a document");
+    holds(opgp_document_end(&document) == OPGP_DONE && opgp_document_end(&document) == OPGP_ENDED
+              && opgp_document_push(&document, in, 1) == OPGP_ENDED && opgp_document_push(&document, in, 0) == OPGP_ENDED,
+          "a document that has ended");
+    opgp_sizes wanted = {0, 0};
+    holds(opgp_document_jobs(&document, &ring, NULL, 0, NULL, 0, &wanted) == OPGP_ROOM && wanted.rows == 2, "jobs without room");
+    for (size_t r = 0; r <= wanted.rows + 1; r++) {
+        for (size_t b = 0; b <= wanted.bytes + 1; b++) {
+            opgp_job *rows = block_of(r * sizeof *rows);
+            uint8_t *bytes = block_of(b);
+            bool fits = r >= wanted.rows && b >= wanted.bytes;
+            uint32_t status = opgp_document_jobs(&document, &ring, rows, r, bytes, b, &sizes);
+            size_t filled = fits ? (size_t)wanted.rows * sizeof *rows : 0, put = fits ? (size_t)wanted.bytes : 0;
+            holds(status == (fits ? OPGP_DONE : OPGP_ROOM) && sizes.rows == wanted.rows && sizes.bytes == wanted.bytes
+                      && is_blank(rows, filled, r * sizeof *rows) && is_blank(bytes, put, b),
+                  "jobs with some room");
+            free(rows);
+            free(bytes);
+        }
+    }
+    holds(opgp_document_subpackets(&document, NULL, 0, NULL, 0, &sizes) == OPGP_DONE && sizes.rows == 0 && sizes.bytes == 0,
+          "subpackets where there are none");
+    TRY_OCTETS(opgp_document_octets(&document, 1, 1, octets, b, &again), "octets behind a document");
+    TRY_OCTETS(opgp_document_octets(&document, 0, 0, octets, b, &again), "octets in front of a document");
+    for (uint32_t way = 2; way != 0; way *= 2) {
+        holds(opgp_document_octets(&document, 0, way, &byte, 0, &n) == OPGP_ROOM && n == 12, "octets behind it by another number than 1");
+    }
+    holds(opgp_document_octets(&document, 2, 1, &byte, 1, &n) == OPGP_NO_ROW
+              && opgp_document_octets(&document, UINT64_MAX, 1, &byte, 1, &n) == OPGP_NO_ROW,
+          "octets of no row");
+    opgp_document_clear(&document);
+    holds(!document.is_open && opgp_document_push(&document, in, 1) == OPGP_CLOSED, "a document that is cleared");
+    opgp_document_clear(&document);
+    opgp_document_close(document);
+    opgp_ring_close(ring);
+    holds(held == 0, "what documents held is let go");
+}
+
 /* Which limit is out of its range. */
 static void wrong_limits(void)
 {
@@ -837,7 +1047,8 @@ static void on_top(void)
           "names of what there is and isn't");
     static const char *const statuses[] = {"done", "the input is refused", "too little room", "out of memory",
                                            "a limit is out of its range", "the handle holds nothing", "no such row",
-                                           "the input has ended", "unknown"};
+                                           "the input has ended", "too many signatures", "the document hasn't ended",
+                                           "unknown"};
     for (uint32_t status = 0; status < sizeof statuses / sizeof *statuses; status++) {
         holds(strcmp(opgp_status_text(status), statuses[status]) == 0, "the text of a status");
     }
@@ -994,6 +1205,41 @@ static void wants_memory(bool (*run)(void))
     }
     fails_at = 0;
     holds(is_well, "with enough memory it goes well");
+}
+
+/* The calls on documents, until one runs out of memory; a push and an end can't. */
+static bool document_everything(void)
+{
+    static const uint8_t two[] = {FOUR(0), FOUR(1)};
+    opgp_limits limits;
+    opgp_document document = {false, NULL};
+    opgp_fault fault;
+    opgp_job *jobs = NULL;
+    uint8_t *made = NULL, octets[16];
+    uint64_t n = 0;
+    size_t count = 0;
+    opgp_usual_limits(&limits);
+    bool is_done = opgp_document_open(two, sizeof two, OPGP_MODE_AUTO, &limits, &document, &fault) == OPGP_DONE;
+    if (is_done) {
+        unsigned long before = calls;
+        holds(opgp_document_push(&document, (const uint8_t *)"a\nb\r\n", 6) == OPGP_DONE && opgp_document_end(&document) == OPGP_DONE
+                  && calls == before,
+              "a document allocates nothing");
+        is_done = opgp_signatures(&document, NULL, &jobs, &count, &made) == OPGP_DONE;
+        holds(is_done == (count == 2) && is_done == (jobs && made), "the signatures, or none");
+        is_done = is_done && opgp_document_octets(&document, 0, 1, octets, sizeof octets, &n) == OPGP_DONE;
+    } else {
+        holds(!document.is_open, "no document is begun");
+    }
+    free(jobs);
+    free(made);
+    opgp_document_close(document);
+    return is_done;
+}
+
+static void documents_wanting(void)
+{
+    wants_memory(document_everything);
 }
 
 static void memory(void)
@@ -1391,7 +1637,7 @@ int main(int argc, char **argv)
         const char *word;
         void (*run)(void);
     } runs[] = {{"rooms", rooms}, {"on_top", on_top}, {"memory", memory}, {"pieces", pieces}, {"wanting", wanting},
-                {"holding", holding}, {"threads", threads}};
+                {"holding", holding}, {"threads", threads}, {"documents", documents}, {"documents_wanting", documents_wanting}};
     opgp_limits limits;
     const struct {
         const char *word;
@@ -1399,7 +1645,7 @@ int main(int argc, char **argv)
     } options[] = {{"--line=", &limits.line}, {"--body=", &limits.body}, {"--cert=", &limits.cert}, {"--input=", &limits.input},
                    {"--pieces=", &limits.pieces}, {"--policies=", &limits.policies}};
     bool is_told = false;
-    const char *making = NULL;
+    const char *making = NULL, *document = NULL;
     opgp_usual_limits(&limits);
     size = fread(in, 1, sizeof in, stdin);
     for (int i = 1; i < argc; i++) {
@@ -1411,6 +1657,10 @@ int main(int argc, char **argv)
         if (strcmp(argv[i], "normalise") == 0 || strcmp(argv[i], "merge") == 0 || strcmp(argv[i], "join") == 0
             || strncmp(argv[i], "nth=", 4) == 0) {
             making = argv[i];
+            is_known = true;
+        }
+        if (strncmp(argv[i], "document=", 9) == 0) {
+            document = argv[i] + 9;
             is_known = true;
         }
         for (size_t k = 0; k < sizeof options / sizeof *options; k++) {
@@ -1433,6 +1683,9 @@ int main(int argc, char **argv)
     }
     if (making) {
         return made(making);
+    }
+    if (document) {
+        return documented(document, &limits);
     }
     if (is_told) {
         return told(&limits);

@@ -34,6 +34,35 @@ CPP = """#include <opgp.hpp>
 #include <cstdio>
 #include <iostream>
 #include <iterator>
+// Two signatures over a document, of types 00 and 01, each with nothing in its areas.
+static bool documents(const opgp::Keyring &keyring)
+{
+    std::string one("\\xC2\\x0E\\x04\\x00\\x16\\x08\\x00\\x00\\x00\\x00\\xAB\\xCD\\x00\\x00\\x00\\x00", 16), two(one);
+    two[3] = 1;
+    try {
+        opgp::Document none("");
+        return false;
+    } catch (const opgp::Fault &) {
+    }
+    opgp::Document begun(one + two);
+    begun.push("a\\n");
+    opgp::Document document(std::move(begun));
+    document.push("");
+    try {
+        document.signatures();
+        return false;
+    } catch (const std::logic_error &) {
+    }
+    document.end();
+    const opgp::Signatures alone = document.signatures(), found = document.signatures(&keyring);
+    bool is_well = alone.size() == 2 && found.size() == 2 && document.octets(1, false).empty();
+    for (const opgp_job &job : found) {
+        is_well = is_well && job.why == OPGP_WHY_HASHED && job.kind == job.hang && found.field(job, 0).empty() && found.issuer(job).empty();
+        is_well = is_well && document.octets(job.hang, true).size() == 12;
+    }
+    return is_well;
+}
+
 int main()
 {
     std::string octets((std::istreambuf_iterator<char>(std::cin)), {});
@@ -62,7 +91,7 @@ int main()
             parts += part->write().size();
         }
         bool is_twice = keyring.joined(keyring).write() == keyring.write() + keyring.write();
-        std::printf("%zu %zu %d\\n", hashed, parts, is_twice);
+        std::printf("%zu %zu %d %d\\n", hashed, parts, is_twice, documents(keyring));
     } catch (const opgp::Fault &fault) {
         std::cerr << fault.what() << std::endl;
         return 1;
@@ -226,7 +255,7 @@ def in_cpp(room):
         hashed = opens(PROGRAM, "octets", "--all", source=source).stdout
         sizes = sum(len(opens(PROGRAM, "octets", "--row", str(it), source=source).stdout) for it in range(len(whole))) if hashed else 0
         packets = opens(PROGRAM, "write", "--out", "binary", source=source).stdout
-        wanted = [it.split()[6] for it in listed if it[:3] in ("pub", "sub")] + [f"{sizes} {len(packets)} 1"]
+        wanted = [it.split()[6] for it in listed if it[:3] in ("pub", "sub")] + [f"{sizes} {len(packets)} 1 1"]
         ended = opens(f"{room}/ring", source=source)
         verdict(f"{name_of(source)} in C++", (ended.returncode, lines_of(ended.stdout)) == (0, wanted), (ended, wanted))
     refused = run(f"{room}/ring", input=b"text")
@@ -542,6 +571,119 @@ def manuals(room, program):
             verdict(f"{page} by man", shown.returncode == 0 and not [it for it in shown.stderr.splitlines() if b"can't break line" not in it], shown.stderr)
     else:
         left_out("man")
+
+
+# ---- Signatures over a document
+
+
+def packet(body):
+    """A signature's packet in the current format (4.2.1)."""
+    size = len(body)
+    return b"\xc2" + (bytes([size]) if size < 192 else bytes([192 + (size - 192 >> 8), size - 192 & 255])) + body
+
+
+def subpackets(*pairs):
+    return b"".join(bytes([len(data) + 1, kind]) + data for kind, data in pairs)
+
+
+class Over:
+    """A signature over a document: its packet, and what is wanted of its row (5.2.3, 5.2.4)."""
+
+    def __init__(self, version, kind, number_of_hash, salt=b"", hashed=(), unhashed=(), is_bad=True):
+        width = 2 if version == 4 else 4
+        self.version, self.kind, self.hash, self.salt, self.is_bad = version, kind, number_of_hash, salt, is_bad
+        self.subpackets = [(1, *it) for it in hashed] + [(0, *it) for it in unhashed]
+        area = subpackets(*hashed)
+        front = bytes([version, kind, 22, number_of_hash]) + len(area).to_bytes(width, "big") + area
+        self.behind = front + bytes([version, 255]) + len(front).to_bytes(4, "big")
+        other = subpackets(*unhashed)
+        self.body = front + len(other).to_bytes(width, "big") + other
+        self.created = next((int.from_bytes(data, "big") for kind, data in hashed if kind == 2), None)
+        self.issuer = next((data[1:] for kind, data in hashed if kind == 33), b"")
+
+    def octets(self, document):
+        """Its packet, with the left octets of its digest, or their complement."""
+        self.left = bytes(it ^ (255 * self.is_bad) for it in (self.digest(document) or b"\1\2")[:2])
+        salt = bytes([len(self.salt)]) + self.salt if self.version == 6 else b""
+        return packet(self.body + self.left + salt + b"\0\x09\1\1" + b"\0\1\1")
+
+    def why(self, document):
+        if self.kind not in (0, 1):
+            return 2
+        if self.hash not in HASHES:
+            return 5
+        return 6 if self.kind == 1 and re.search(rb"\r(?!\n)", document) else 0
+
+    def digest(self, document):
+        if self.why(document):
+            return None
+        shown = re.sub(rb"\r?\n", b"\r\n", document) if self.kind == 1 else document
+        return hashlib.new(HASHES[self.hash], self.salt + shown + self.behind).digest()
+
+    def lines(self, row, document, prints):
+        digest = self.digest(document) or b""
+        signer = prints.index(digits(self.issuer)) if digits(self.issuer) in prints else None
+        front = f"front {digits(self.salt)} behind {digits(self.behind)} zeros 1"
+        return [f"job {row} - - {row} - {dash(signer)} {dash(self.created)} {digits(self.issuer)} why {self.why(document)} v{self.version} type"
+                f" {self.kind:02X} alg 22 hash {self.hash} left {digits(self.left)} bad {int(self.is_bad and digest != b'')} digest"
+                f" {digits(digest)} 0101 01 {front}"]
+
+    def sub_lines(self, row):
+        return [f"sub - - {row} - hashed {is_hashed} kind {kind & 127} critical {kind >> 7} {digits(data)}"
+                for is_hashed, kind, data in self.subpackets]
+
+
+def signatures_over(prints):
+    """Signatures of each kind: types 00, 01 and others, each hash algorithm, with and without subpackets, of both versions."""
+    made_at, known = (2, b"\x60\0\0\1"), (33, b"\4" + bytes.fromhex(prints[-1]))
+    for kind in (0, 1):
+        for number in (*HASHES, 1, 3, 12):
+            yield Over(4, kind, number, hashed=(made_at, known), unhashed=((16, bytes(8)), (20 | 128, bytes(8))), is_bad=kind == 0)
+        yield Over(4, kind, 8)
+        yield Over(4, kind, 8, hashed=((33, b"\4" + b"p" * 20), made_at), is_bad=False)
+        for number, size in ((8, 16), (9, 24), (10, 32), (11, 16)):
+            yield Over(6, kind, number, salt=bytes(range(size)), hashed=(made_at,), is_bad=number == 8)
+    for kind in (2, 0x10, 0x13, 0x18, 0x1F, 0x20, 0x50, 0xFF):
+        yield Over(4, kind, 8, hashed=(made_at,))
+
+
+def documents(program):
+    """Signatures over documents, which come in pieces of any size: their rows, and the digests of what they hash."""
+    keys = opens(PROGRAM, "write", "--out", "binary", source=SMALL[0]).stdout
+    prints = [it.split()[6] for it in lines_of(opens(PROGRAM, "list", source=SMALL[0]).stdout) if it[:3] in ("pub", "sub")]
+    texts = [b"", b"a", b"\n", b"\r\n", b"a\nb", b"a\r\nb\nc\r\n", b"\0\n\0\r\n\0", b"\n\n\r\n\n", b"\r", b"a\rb\n", b"a\r", b"\r\r\n", b"\r\n\r"]
+    texts += [bytes(range(256)), b"line\n" * 100, (b"x" * 63 + b"\r\n") * 7 + b"end", b"y" * 1000]
+    for text in texts:
+        made_here = [*signatures_over(prints)]
+        packets = b"".join(it.octets(text) for it in made_here)
+        wanted = [line for row, it in enumerate(made_here) for line in it.lines(row, text, prints)]
+        wanted += [line for row, it in enumerate(made_here) for line in it.sub_lines(row)]
+        for piece in range(71):
+            ended = run(program, f"document={piece},{len(packets)},{len(keys)}", input=packets + keys + text)
+            verdict(f"signatures over {text[:20]} in pieces of {piece}", (ended.returncode, lines_of(ended.stdout)) == (0, wanted),
+                    (ended.stderr, [*zip(lines_of(ended.stdout), wanted)][:1]))
+        block = model.armor(packets, b"SIGNATURE")
+        ended = run(program, f"document=0,{len(block)},0", input=block + text)
+        wanted = [line for row, it in enumerate(made_here) for line in it.lines(row, text, [])]
+        wanted += [line for row, it in enumerate(made_here) for line in it.sub_lines(row)]
+        verdict(f"armored signatures over {text[:20]}, without keys", (ended.returncode, lines_of(ended.stdout)) == (0, wanted), ended.stderr)
+    old = packet(b"\3\5\0\1\2\3\4" + b"IDENTITY" + b"\x11\x08\xab\xcd\0\1\1\0\1\1")
+    ended = run(program, f"document=1,{len(old)},0", input=old + b"text")
+    said = "job 0 - - 0 - - 16909060 4944454E54495459 why 1 v3 type 00 alg 17 hash 8 left ABCD bad 0 digest - 01 01 front status 6 behind status 6 zeros 1"
+    verdict("a signature of version 3", (ended.returncode, lines_of(ended.stdout)) == (0, [said]), ended)
+    short = packet(b"\4")
+    ended = run(program, "--policies=2", f"document=1,{len(short)},0", input=short + b"text")
+    said = "job 0 - - 0 - - - - why 1 v0 type 00 alg 0 hash 0 left 0000 bad 0 digest - - - front status 6 behind status 6 zeros 1"
+    verdict("a malformed signature", (ended.returncode, lines_of(ended.stdout)) == (0, [said]), ended)
+    one = Over(4, 0, 8).octets(b"")
+    for many, status in ((64, 0), (65, 1)):
+        ended = run(program, f"document=1,{many * len(one)},0", input=one * many)
+        said = ended.stdout.count(b"job") == 64 if status == 0 else ended.stderr == b"too many signatures\n"
+        verdict(f"{many} signatures", ended.returncode == status and said, ended)
+    for octets, line in ((keys, b"composition: NotASignature"), (b"", b"composition: NotASignature"), (short, b"body: ")):
+        ended = run(program, f"document=1,{len(octets)},0", input=octets)
+        verdict(f"{octets[:4]} as signatures", ended.returncode == 1 and ended.stderr.startswith(line), ended)
+    counted("calls on documents", run(program, "documents", "documents_wanting", stdin=subprocess.DEVNULL))
 
 
 def names(program):
@@ -1162,6 +1304,7 @@ def main():
             made(program)
             faults(program)
             names(program)
+            documents(program)
             verified(room)
             uninstalled(room)
     print(f"{passed} passed, {failed} failed")

@@ -538,7 +538,7 @@ def errors(opgp):
     it = raised(opgp.Fault, lambda: opgp._raise_if_refused(1, fault))
     told = (it.layer, it.reason, it.number, it.block, it.pos, it.inner)
     verdict("a fault", told == ("composition", "NotASignedLiteral", 53, 1, 22, 333) and str(it) == "composition: NotASignedLiteral block 1 at 22 inner 333", told)
-    it = raised(opgp.Fault, lambda: opgp._raise_if_refused(1, opgp._Fault(layer=5, reason=255)))
+    it = raised(opgp.Fault, lambda: opgp._raise_if_refused(1, opgp._Fault(layer=6, reason=255)))
     verdict("a fault without names", (it.layer, it.reason, it.number) == ("unknown", "unknown", 255), it)
 
 

@@ -551,8 +551,8 @@ def names():
         tables = [re.findall(r"^\| (\d+) \| ([^|]+?) \|", part, re.M) for part in it.read().split("\n## ")[1:]]
     with open(f"{docs}/FAULTS.md", encoding="utf-8") as it:
         reasons = sorted(re.findall(r"^### (\d+) `(\w+)`$", it.read(), re.M), key=lambda it: int(it[0]))
-    tables += [[*enumerate(("input", "armor", "framing", "body", "composition"))], reasons]
-    tables += [[*enumerate(("opaque", "kind", "misplaced", "version", "hash"), 1)]]
+    tables += [[*enumerate(("input", "armor", "framing", "body", "composition", "text"))], reasons]
+    tables += [[*enumerate(("opaque", "kind", "misplaced", "version", "hash", "line-ends"), 1)]]
     return [(table, int(number), name) for table, rows in enumerate(tables) for number, name in rows]
 
 

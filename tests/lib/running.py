@@ -9,7 +9,7 @@ import sys
 
 HERE = os.path.dirname(os.path.dirname(os.path.dirname(os.path.realpath(__file__))))
 SECONDS = 30  # for one run
-COMMANDS = ("list", "show", "check", "octets", "write", "normalise", "split", "join")
+COMMANDS = ("list", "show", "check", "octets", "write", "normalise", "split", "join", "signatures", "digest", "canonical")
 
 Ended = collections.namedtuple("Ended", "status out err told")
 

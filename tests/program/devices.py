@@ -36,54 +36,58 @@ INPUTS = {
 # The growths of each command over each input. More are a failure: an answer would have come to cost more memory.
 GROWTHS = """
 command                                                       key  certificate  blocks  literal
-show                                                          157          160     160      154
-list                                                          159          164     166      158
-list --values                                                 163          168     170      162
-check                                                         161          168     171      156
-check --fingerprints                                          167          174     177      161
-octets --row 0                                                172          179     181      170
-octets --row 1                                                172          179     181      170
-octets --all                                                  168          175     178      166
-octets --row 0 --of literal                                   182          188     189      180
-octets --row 9 --of literal                                   182          188     189      179
-write                                                         167          172     174      166
-write --out binary                                            173          178     180      172
-write --own-signatures --no-attributes                        179          186     190      176
-write --user-id 0 --own-signatures --out binary               192          199     203      189
-normalise                                                     159          164     166      158
-normalise --out binary                                        165          170     172      164
-split                                                         159          164     166      158
-split --out binary                                            165          170     172      164
-split --nth 0                                                 168          173     175      166
-split --nth 1 --out binary                                    176          181     183      174
-split --nth 9                                                 168          173     175      166
-split --key 8CFDE12197965A9A                                  169          175     176      168
-split --key CB186C4F0609A697 --out binary                     178          182     184      176
-split --key 0000000000000000                                  170          175     177      168
-join                                                          163          168     170      162
-join --out binary                                             169          174     176      168
-join --merge                                                  172          183     190      164
-join --merge --out binary                                     180          191     198      172
-list --progress                                               167          172     174      166
-list --malformed keep                                         166          171     173      165
-list --spool DIR                                              171          176     178      170
-write --out binary --spool DIR                                187          192     194      186
-write --no-attributes --spool DIR                             188          195     199      185
-split --spool DIR                                             171          176     178      170
-octets --all --spool DIR                                      182          189     192      180
-check --spool DIR                                             174          181     184      169
-list --mode armor                                             165          170     172      165
-list --mode binary                                            164          164     164      164
-show --line 128 --body 512 --cert 512 --pieces 1              185          188     188      182
-show --values                                                 161          164     164      158
---help                                                        142          142     142      142
-help list                                                     270          270     270      270
-list --help                                                   271          271     271      271
-lists                                                         168          168     168      168
-octets                                                        156          156     156      156
-octets --all --row 0                                          172          172     172      172
-list --body 511                                               120          120     120      120
-list list                                                     113          113     113      113
+show                                                          187          190     190      184
+list                                                          189          194     196      186
+list --values                                                 193          198     200      190
+check                                                         191          198     201      184
+check --fingerprints                                          197          204     207      189
+octets --row 0                                                202          209     211      198
+octets --row 1                                                202          209     211      198
+octets --all                                                  198          205     208      194
+octets --row 0 --of literal                                   210          216     217      210
+octets --row 9 --of literal                                   210          216     217      209
+write                                                         197          202     204      194
+write --out binary                                            203          208     210      200
+write --own-signatures --no-attributes                        209          216     220      204
+write --user-id 0 --own-signatures --out binary               222          229     233      217
+normalise                                                     189          194     196      186
+normalise --out binary                                        195          200     202      192
+split                                                         189          194     196      186
+split --out binary                                            195          200     202      192
+split --nth 0                                                 198          203     205      194
+split --nth 1 --out binary                                    206          211     213      202
+split --nth 9                                                 198          203     205      194
+split --key 8CFDE12197965A9A                                  199          205     206      196
+split --key CB186C4F0609A697 --out binary                     208          212     214      204
+split --key 0000000000000000                                  200          205     207      196
+join                                                          193          198     200      190
+join --out binary                                             199          204     206      196
+join --merge                                                  202          213     220      192
+join --merge --out binary                                     210          221     228      200
+list --progress                                               197          202     204      194
+list --malformed keep                                         196          201     203      193
+list --spool DIR                                              201          206     208      198
+write --out binary --spool DIR                                217          222     224      214
+write --no-attributes --spool DIR                             218          225     229      213
+split --spool DIR                                             201          206     208      198
+octets --all --spool DIR                                      212          219     222      208
+check --spool DIR                                             204          211     214      197
+list --mode armor                                             195          200     202      193
+list --mode binary                                            192          192     192      192
+show --line 128 --body 512 --cert 512 --pieces 1              215          218     218      212
+show --values                                                 191          194     194      188
+signatures                                                    184          190     191      183
+signatures --malformed keep                                   191          197     198      190
+canonical                                                     181          181     181      182
+canonical --spool DIR                                         193          193     193      194
+--help                                                        178          178     178      178
+help list                                                     300          300     300      300
+list --help                                                   301          301     301      301
+lists                                                         219          219     219      219
+octets                                                        186          186     186      186
+octets --all --row 0                                          202          202     202      202
+list --body 511                                               150          150     150      150
+list list                                                     143          143     143      143
 """
 # How many refused growths of a run over an input change nothing: that for the vector of the words, which is made again, and that for
 # the first octets, which serve what is told alone.

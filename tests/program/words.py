@@ -21,9 +21,10 @@ FIRST = importlib.util.module_from_spec(importlib.util.spec_from_loader("first",
 LOADER.exec_module(FIRST)
 ROOM = tempfile.TemporaryDirectory()
 KEY = f"{HERE}/examples/rfc9580-a1.asc"
-COMMANDS = ["show", "list", "check", "octets", "write", "normalise", "split", "join"]
+COMMANDS = ["show", "list", "check", "octets", "write", "normalise", "split", "join", "signatures", "digest", "canonical"]
 ARMOR, BINARY = b"-----BEGIN PGP PUBLIC KEY BLOCK-----\n\nxjME", b"\xc6\x33\x04"
 NO_ROW, NO_CERTIFICATE = "opgp: no such row", "opgp: no such certificate"
+SIGNATURE = f"--signatures {HERE}/examples/rfc9580-a2.asc"
 NO_LITERAL = "composition: BlockLabel block 0 at 0 inner 0"
 # What --progress shows: within the limit 10 one octet more is read, else all of the key.
 READ = {True: "\ropgp: 11 octets, 0 packets\n", False: "\ropgp: 147 octets, 1 packets\n"}
@@ -92,6 +93,22 @@ ACCEPTED = {
     "octets --quiet --of literal --row 1": NO_LITERAL,
     "split --nth=7 --quiet": NO_CERTIFICATE,
     "list --progress --quiet --input 10": "input: InputTooLong block 0 at 10 inner 0",
+    "signatures": NO_LITERAL,
+    "signatures --outside refuse --malformed keep --quiet": NO_LITERAL,
+    "signatures --mode binary": "framing: NotAPacket block 0 at 0 inner 0",
+    "canonical": b"-----BEGIN PGP PUBLIC KEY BLOCK-----\r\n\r\nxjME",
+    "canonical --spool " + ROOM.name: b"-----BEGIN PGP PUBLIC KEY BLOCK-----\r\n\r\nxjME",
+    "canonical --input 10": "input: InputTooLong block 0 at 10 inner 0",
+    f"digest {SIGNATURE}": b"signature 0 : asked type 00 hash 8 signer 8CFDE12197965A9A digest ",
+    f"digest {SIGNATURE} --malformed=keep --mode armor": b"signature 0 : asked type 00 hash 8 ",
+    f"digest {SIGNATURE} --mode binary": "framing: NotAPacket block 0 at 0 inner 0",
+    f"digest {SIGNATURE} --input 10": "input: InputTooLong block 0 at 10 inner 0",
+    f"digest {SIGNATURE} --octets 0": b"\x04\x00\x16\x08",
+    f"digest --octets=+00 {SIGNATURE}": b"\x04\x00\x16\x08",
+    f"digest {SIGNATURE} --salt --octets 0": b"",
+    f"digest {SIGNATURE} --octets 1": NO_ROW,
+    f"digest --signatures {HERE}/examples/rfc9580-a1.asc": NO_LITERAL,
+    f"digest --signatures {HERE}/examples/rfc9580-a1.asc --octets 0": NO_LITERAL,
 }
 for command, begins in USUAL.items():
     ACCEPTED[command] = ACCEPTED[f"{command} --progress"] = ACCEPTED[f"{command} --quiet"] = begins
@@ -157,6 +174,10 @@ REFUSED = [
     ("octets --row 1 --of certificate", "certificate"), ("octets --row 1 --row 1", "--row"),
     ("octets --row 1 --out armor", "--out"), ("write --out text", "text"), ("write --nth 1", "--nth"),
     ("normalise --merge", "--merge"), ("split --merge", "--merge"), ("split --nth 1 --nth 2", "--nth"), ("join --nth 1", "--nth"),
+    ("digest", "--signatures <FILE>"), ("digest --octets 0", "--signatures <FILE>"), ("digest --signatures", "--signatures"), ("digest --signatures=", "--signatures"),
+    (f"digest {SIGNATURE} --salt", "'--salt' wants '--octets <N>'"), (f"digest {SIGNATURE} {SIGNATURE}", "--signatures"), (f"digest {SIGNATURE} --octets x", "x"),
+    (f"digest {SIGNATURE} --octets", "--octets"), (f"digest {SIGNATURE} --salt=1 --octets 0", "--salt"), (f"list {SIGNATURE}", "--signatures"), (f"signatures {SIGNATURE}", "--signatures"),
+    ("canonical --salt", "--salt"), ("canonical --out armor", "--out"), ("signatures --values", "--values"), ("digests", "unrecognized subcommand 'digests'"),
     ("join --merge --merge", "--merge"), ("join --merge=true", "--merge"), ("--version", "--version"),
     ("list --quiet --quiet", "--quiet"), ("list --quiet=true", "--quiet"), ("--quiet list", "--quiet"), ("list -q", "-q"),
     ("list --progress --progress", "--progress"), ("list --progress=true", "--progress"), ("--progress list", "--progress"),
@@ -186,6 +207,8 @@ TEXTS = {
     "octets": "error: the following required arguments were not provided:\n  <--row <N>|--all>\n\nFor more information, try '--help'.\n",
     "octets --all --row 0": "error: the argument '--row <N>' cannot be used with '--all'\n\nFor more information, try '--help'.\n",
     "octets --of literal --all": "error: the argument '--of literal' cannot be used with '--all'\n\nFor more information, try '--help'.\n",
+    "digest": "error: the following required arguments were not provided:\n  --signatures <FILE>\n\nFor more information, try '--help'.\n",
+    f"digest --salt {SIGNATURE}": "error: the argument '--salt' wants '--octets <N>'\n\nFor more information, try '--help'.\n",
     "split --key 97965A9A": "error: invalid value '97965A9A' for '--key <KEY>': a fingerprint has 40 or 64 hexadecimal digits, a key ID 16"
                             "\n\nFor more information, try '--help'.\n",
     "split --key 97965A9A --nth 0": "error: the argument '--nth <N>' cannot be used with '--key <KEY>'\n\n"

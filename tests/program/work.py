@@ -231,6 +231,8 @@ KINDS = (
     ("user IDs of a large key, signed with a time", 1_000, dated_names_of_a_large_key, "signed"),
     ("fillers with bodies", 2_000, lambda n: b"".join(b"\xe8\x64" + n.to_bytes(4, "big") + bytes(96) for n in range(n)), "of fillers"),
     ("lines outside of blocks", 40_000, lambda n: b"a line\n" * n + BEGIN + base64.b64encode(KEY) + b"\n" + END, "parts"),
+    ("detached signatures", 4_000, lambda n: (b"\xc2\x0e" + SIGNATURE) * n, "detached"),
+    ("lines of a document", 40_000, lambda n: b"a line\n" * n, "a document"),
 )
 CHOSEN = "write --own-signatures --no-attributes --user-id LAST --out binary"
 OWN = "write --own-signatures --out binary"
@@ -260,6 +262,10 @@ COMMANDS = (
     "octets --of literal --row 0",
     "list --malformed keep",
     "check --malformed keep",
+    "signatures",
+    "canonical",
+    "canonical --spool ROOM",
+    "digest --signatures DETACHED",
 )
 # What else is tried, by the name of the parts.
 ALSO = {"user IDs": ("normalise --out binary", "split", "split --key FIRST", "join --out binary", "write"), "octets of a user ID": ("split",),
@@ -325,6 +331,8 @@ IN_C = {
 }
 # The programs of the table that aren't the program itself.
 OTHERS = ("opgp_examples", "opgp_calls", "library")
+# Commands that read no keyring.
+OF_DOCUMENTS = ("signatures", "canonical", "digest")
 # What is tried where the things are no certificates.
 SOME = ("show", "show --values", "list", "list --values", "check", "check --fingerprints", "octets --row LAST", "write --out binary")
 SOME += (CHOSEN, OWN, "join --merge --out binary")
@@ -341,9 +349,10 @@ def is_tried(kind, command):
     own |= {"of an area": ("check", "octets --all", OWN, "show --values"), "bindings": ("check --fingerprints", "octets --all", OWN)}
     own |= {"malformed": ("list --malformed keep", "check --malformed keep"), "of a literal": ("octets --of literal --row 0",)}
     own |= {"of a text": ("show",), "refused": ("show", "check"), "cut off": ("show", "list"), "many cut off": (), "of fillers": (KEEP, "join --out binary")}
+    own |= {"detached": ("signatures",), "a document": ("canonical", "canonical --spool ROOM", "digest --signatures DETACHED")}
     if command in ALSO.get(name, ()):
         return True
-    if things in own or "literal --row" in command or "--malformed" in command:
+    if things in own or "literal --row" in command or "--malformed" in command or command.split()[0] in OF_DOCUMENTS:
         return command in own.get(things, ())
     if "long" in name:
         return command == "check"
@@ -358,7 +367,8 @@ class Case:
     """A command over inputs of a kind."""
 
     def __init__(self, runner, shim, room, words, octets, is_counted=True):
-        self.runner, self.shim, self.words, self.octets = runner, shim, words.replace("ROOM", room).split(), octets
+        words = words.replace("ROOM", room).replace("DETACHED", f"{HERE}/examples/rfc9580-a2.asc")
+        self.runner, self.shim, self.words, self.octets = runner, shim, words.split(), octets
         self.instructions = self.counted(room) if is_counted else 0
         ended = runner.run(self.words, octets, {"LD_PRELOAD": shim})
         self.status, self.text = ended.status, len(ended.out)

@@ -1,5 +1,6 @@
 pub mod Armor
-pub mod Engine
+pub mod Codec
+pub mod Document
 pub mod Frame
 pub mod Hash
 pub mod Merge
@@ -8,4 +9,4 @@ pub mod Packet
 pub mod Report
 pub mod Ring
 pub mod Stack
-pub mod Stream
+pub mod Io

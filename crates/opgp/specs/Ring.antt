@@ -5,8 +5,11 @@ pub use Rattle.opgp_ring.specs.Bodies
 pub use Rattle.opgp_ring.specs.Composed
 pub use Rattle.opgp_ring.specs.Composition
 pub use Rattle.opgp_ring.specs.Content
+pub use Rattle.opgp_ring.specs.Detached
+pub use Rattle.opgp_ring.specs.DetachedGathering
+pub use Rattle.opgp_ring.specs.DetachedSignatures
+pub use Rattle.opgp_ring.specs.DetachedState
 pub use Rattle.opgp_ring.specs.Fed
-pub use Rattle.opgp_ring.specs.Gathering
 pub use Rattle.opgp_ring.specs.Grouped
 pub use Rattle.opgp_ring.specs.Header
 pub use Rattle.opgp_ring.specs.Keyring

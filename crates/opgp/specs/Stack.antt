@@ -1,5 +1,7 @@
 -- The definitions of `opgp_stack`, and its types as they are declared.
 pub use Rattle.opgp_stack.specs.declared
+pub use Rattle.opgp_stack.specs.Canonical
+pub use Rattle.opgp_stack.specs.Documents
 pub use Rattle.opgp_stack.specs.Faults
 pub use Rattle.opgp_stack.specs.Hashing
 pub use Rattle.opgp_stack.specs.KeyName

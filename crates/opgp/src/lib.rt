@@ -1,8 +1,8 @@
 //! OpenPGP certificates and keyrings (RFC 9580), read, shown, checked and rewritten: all crates
 //! under one name.
 //!
-//! [`engine::read_keyring`] reads a keyring, [`ring`] has its certificates and their parts,
-//! [`report::check`] what can be said of each signature, and [`engine::write_keyring`] writes it.
+//! [`codec::read_keyring`] reads a keyring, [`ring`] has its certificates and their parts,
+//! [`report::check`] what can be said of each signature, and [`codec::write_keyring`] writes it.
 //! Each `laws` has facts about the definitions, for proofs.
 #![tactic(auto)]
 
@@ -12,21 +12,28 @@ pub mod armor {
 }
 
 /// Keyrings read from a reader and written to a writer.
-pub mod engine {
-    pub use opgp_engine::{
-        Accepts, Answer, Draft, DraftError, EngineError, Mode, NoSpool, Out, PacketBlocks,
-        PacketKeeper, PacketReader, PacketsText, PartReader, Parts, ReadError, Receiver, Sink,
-        SoundPackets, Source, Spool, Text, Waiting, WaitingPackets, Watched, laws, read_keyring,
-        read_packets, read_signed, read_with, write, write_certificate, write_certificates,
-        write_keyring,
+pub mod codec {
+    pub use opgp_codec::{
+        Answer, Draft, DraftError, EngineError, IncomingOctets, IncomingPackets, IncomingParts,
+        Mode, NoSpool, Out, PacketReader, PacketsText, PartReader, Parts, ReadError, Sink, Source,
+        Spool, Text, Waiting, WaitingPackets, Watched, laws, read_keyring, read_packets,
+        read_signatures, read_signed, write, write_certificate, write_certificates, write_keyring,
+    };
+}
+
+/// Documents that signatures are made over, hashed in pieces (RFC 9580, 5.2.1, 5.2.4).
+pub mod document {
+    pub use opgp_document::{
+        CanonicalText, DocumentAnswers, DocumentHasher, DocumentWhy, MOST_SIGNATURES, OpenFault,
+        OwnOctets, SignatureHasher, SignedDocument, StrayReturn, laws,
     };
 }
 
 /// Packets and their framing (RFC 9580, 4).
 pub mod frame {
     pub use opgp_frame::{
-        Deframe, Form, HeaderOctets, LastForm, Lent, Packet, PacketView, Pieces, Placed,
-        PlacedView, Spelling, Spot, laws, reframe, spelled_len_of, write_packet, write_parts,
+        Deframe, Form, HeaderOctets, LastForm, Packet, PacketView, Pieces, Placed, PlacedView,
+        Spelling, Spot, laws, reframe, spelled_len_of, write_packet, write_parts,
     };
 }
 
@@ -46,10 +53,11 @@ pub mod merge {
 /// Limits, faults, lengths, and registered numbers with their names (RFC 9580, 3, 9).
 pub mod octets {
     pub use opgp_octets::{
-        BodyFault, Fault, HashAlgorithm, KeyAlgorithm, Layer, Limits, Malformed, Mpi, MpiFault,
-        MpiView, OutOfMemory, Outside, PacketLen, PacketType, ParseFault, PushFault, Range, Reason,
-        SignatureType, SubLen, SubpacketKind, fault_line, laws, read_len, read_sub_len, shortest,
-        u16_at, u32_at, write_digits, write_hexadecimal, write_len, write_sub_len,
+        BodyFault, FAULT_LINE, Fault, HashAlgorithm, KeyAlgorithm, Layer, Limits, Malformed, Mpi,
+        MpiFault, MpiView, OutOfMemory, Outside, PacketLen, PacketType, ParseFault, PushFault,
+        Range, Reason, SignatureType, SubLen, SubpacketKind, fault_line, laws, read_len,
+        read_sub_len, short_line, shortest, u16_at, u32_at, write_digits, write_hexadecimal,
+        write_len, write_sub_len,
     };
 }
 
@@ -57,11 +65,12 @@ pub mod octets {
 pub mod packet {
     pub use opgp_packet::{
         AreaLength, AreaPlaces, AreasSignature, AreasView, Attribute, AttributeSub, AttributeView,
-        Body, Cursor, FourSignature, FourView, Key, KeyId8, KeyView, Literal, LiteralView,
+        Body, Cursor, Flag, FourSignature, FourView, Key, KeyId8, KeyView, Literal, LiteralView,
         Material, MaterialView, MpiSpan, Octets, OtherSignature, OtherView, Parsed, SigView,
         Signature, SignatureMaterial, SignatureMaterialView, SixSignature, SixView, Span,
         SubFields, SubMeaning, SubView, Subpacket, Subs, ThreePlaces, ThreeSignature, ThreeView,
-        UserId, Walk, fault_in_area, field_laws, key_laws, signature_laws,
+        UserId, Walk, fault_in_area, features, field_laws, key_flags, key_laws,
+        key_server_preferences, signature_laws,
     };
 }
 
@@ -74,27 +83,27 @@ pub mod report {
     };
 }
 
-/// Keyrings, certificates and signed literals (RFC 9580, 10).
+/// Keyrings, certificates, signed literals and detached signatures (RFC 9580, 10).
 pub mod ring {
     pub use opgp_ring::{
-        BlockOf, Certificate, Component, Components, Composer, Content, Gathering, Hangs, Head,
-        Keeper, Keyring, Lead, Member, Members, Packets, Ready, Signatures, SignedGathering,
-        SignedLiteral, body_fault, check_bodies, check_bodies_by, compose, compose_signed,
-        compose_signed_by, end_fits, flatten, join, laws, normalise, nth, packet_fault, view_fault,
+        BlockOf, Certificate, Component, Components, Composer, Content, DetachedGathering,
+        DetachedPackets, DetachedSignatures, Hangs, Head, Keyring, Lead, Member, Members, Packets,
+        Ready, Signatures, SignedGathering, SignedLiteral, body_fault, check_bodies,
+        check_bodies_by, compose, compose_signed, compose_signed_by, end_fits, flatten, join, laws,
+        normalise, nth, packet_fault, view_fault,
     };
 }
 
 /// What the program does: its lines, its tasks, and a run of one.
 pub mod stack {
     pub use opgp_stack::{
-        Action, KeyName, RunFault, Task, Top, laws, run, run_last, run_spooled,
-        write_fingerprinted_report, write_listing, write_report, write_shown,
+        Action, Around, KeyName, RunFault, Task, Top, laws, run, run_around, run_canonical,
+        run_digests, run_last, run_signatures, run_spooled, write_fingerprinted_report,
+        write_listing, write_report, write_shown,
     };
 }
 
 /// Lines, octets and armor through one buffer into a writer.
-pub mod stream {
-    pub use opgp_stream::{
-        Armoring, Buffer, Held, Output, Sink, Source, Watched, Word, laws, put_all,
-    };
+pub mod io {
+    pub use opgp_io::{Armoring, Buffer, Held, Output, Sink, Source, Watched, Word, laws, put_all};
 }

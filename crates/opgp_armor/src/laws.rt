@@ -43,8 +43,8 @@ pub fn some_answer()
         ⊎ ((f : Fault) × IsArmorFault rule text f) }
 {}
 
-/// A text that is armored under some policy is armored, with the same blocks, where lines outside are
-/// passed over.
+/// A text that is armored under some policy is armored, with the same blocks, where lines outside
+/// are passed over.
 #[tactic(auto, using(crate::proofs::Wholes::passed_over))]
 pub fn refusing_lines_outside_changes_no_blocks()
     ensures { (rule : LineRule) (text : List ℕ) (blocks : List Block) → Armored rule text blocks

@@ -73,7 +73,8 @@ fn keep_outside(buffer: &mut Vec<u8>, limit: usize, part: &[u8]) -> Result<(), O
         → buffer.old.items
         ≡ kept (record { most = limit; outside = policy.Skip }) sections.Outside tail
         → buffer.new.items
-        ≡ kept (record { most = limit; outside = policy.Skip }) sections.Outside (tail ++ part.now)) }
+        ≡ kept (record { most = limit; outside = policy.Skip }) sections.Outside
+        (tail ++ part.now)) }
     ensures short { length buffer.old.items ≤ limit + 1 → length buffer.new.items ≤ limit + 1 }
     ensures grown { length buffer.new.items ≤ length buffer.old.items + length part.now }
 {
@@ -253,8 +254,8 @@ impl Dearmor {
         self.ready.take()
     }
 
-    /// Takes back the vector of an event that was used up, so that octets of a later line are put in
-    /// its memory; what it holds doesn't matter, and nothing that the reader says changes.
+    /// Takes back the vector of an event that was used up, so that octets of a later line are put
+    /// in its memory; what it holds doesn't matter, and nothing that the reader says changes.
     ///
     /// One vector is kept, and none whose capacity is more than twice the octets that a line may
     /// have. Allocates nothing.

@@ -4,18 +4,22 @@ use Rattle.std.specs.Prelude.{true, false, Err, Option, Some, None}
 use Rattle.opgp_octets.specs.declared.fault.Fault.{Fault}
 use Rattle.opgp_octets.specs.declared.limits.Limits.{Limits}
 use Rattle.opgp_ring.specs.Keyring.{KeyringValue}
-use Rattle.opgp_engine.specs.Keyrings.{ComposesTo, key_label}
-use Rattle.opgp_engine.specs.Reading.{AnswerOf, Outcome}
-use Rattle.opgp_engine.specs.declared.mode.Mode.{Mode}
-use Rattle.opgp_engine.specs.declared.mode.Mode.TheVariants.{Auto, Armor, Binary}
-use Rattle.opgp_engine.specs.declared.out.Out.{Out}
-use Rattle.opgp_engine.specs.declared.out.Out.TheVariants as written
-use Rattle.opgp_flat.specs.declared.fault_row.FaultRow.{FaultRow}
-use Rattle.opgp_flat.specs.declared.given_limits.GivenLimits.{GivenLimits}
-use Rattle.opgp_flat.specs.FaultRow.{fault_row}
-use Rattle.opgp_flat.specs.GivenLimits.{AreThese}
-use Rattle.opgp_flat.specs.Names.{name_in}
-use Rattle.opgp_flat.specs.declared.names.NumberTable.{NumberTable}
+use Rattle.opgp_ring.specs.Normal.{normal_of}
+use Rattle.opgp_codec.specs.Keyrings.{ComposesTo, key_label}
+use Rattle.opgp_codec.specs.Reading.{AnswerOf, Outcome}
+use Rattle.opgp_codec.specs.declared.mode.Mode.{Mode}
+use Rattle.opgp_codec.specs.declared.mode.Mode.TheVariants.{Auto, Armor, Binary}
+use Rattle.opgp_codec.specs.declared.out.Out.{Out}
+use Rattle.opgp_codec.specs.declared.out.Out.TheVariants as written
+use Rattle.opgp_merge.specs.Merged.{merged_of}
+use Rattle.opgp_tables.specs.declared.fault_row.FaultRow.{FaultRow}
+use Rattle.opgp_tables.specs.declared.given_limits.GivenLimits.{GivenLimits}
+use Rattle.opgp_tables.specs.FaultRow.{fault_row}
+use Rattle.opgp_tables.specs.GivenLimits.{AreThese}
+use Rattle.opgp_tables.specs.Names.{name_in}
+use Rattle.opgp_tables.specs.declared.names.NumberTable.{NumberTable}
+use Rattle.opgp_c.specs.declared.making.Making.{Making}
+use Rattle.opgp_c.specs.declared.making.Making.TheVariants.{Normal, Merged}
 use Rattle.opgp_c.specs.declared.ring.Ring.{Ring}
 use Rattle.opgp_c.specs.declared.sizes.Sizes.{Sizes}
 
@@ -75,6 +79,11 @@ pub record PutsTables {A : Type 0} (rows_of : KeyringValue → List A)
   pub closed : (status ≡ 5) ↔ (ring.is_open ≡ false)
   pub holds : HoldsTheSame ring ring'
   pub one_of : (status ≡ 0) ⊎ ((status ≡ 2) ⊎ ((status ≡ 3) ⊎ (status ≡ 5)))
+
+-- the keyring in the current format, or merged
+abbrev pub made_by : Making → KeyringValue → KeyringValue
+made_by Normal = normal_of
+made_by Merged = merged_of
 
 -- A call keeps what is made of the keyring that a handle holds in another handle (0), which else is
 -- as it was: memory ran out (3), or the handle holds nothing (5).

@@ -4,13 +4,13 @@ use Rattle.opgp_octets.specs.declared.fault.Fault.{Fault}
 use Rattle.opgp_octets.specs.declared.limits.Limits.{Limits}
 use Rattle.opgp_ring.specs.Composed.{PartValue, parts_of}
 use Rattle.opgp_ring.specs.Parts.{AreParts}
-use Rattle.opgp_engine.specs.declared.mode.Mode.TheVariants.{Auto}
-use Rattle.opgp_engine.specs.PartReader.{Ends, IsUsed, Use, waits}
-use Rattle.opgp_engine.specs.Waiting.{parts_in}
+use Rattle.opgp_codec.specs.declared.mode.Mode.TheVariants.{Auto}
+use Rattle.opgp_codec.specs.PartReader.{Ends, IsUsed, Use, waits}
+use Rattle.opgp_codec.specs.Waiting.{parts_in}
 use Rattle.opgp_c.specs.declared.reader.Reader.{Reader}
-use Rattle.opgp_c.specs.declared.reading_slot.Reading.{Reading}
+use Rattle.opgp_c.specs.declared.slot.Reading.{Reading}
 use Rattle.opgp_c.specs.declared.ring.Ring.{Ring}
-use Rattle.opgp_c.specs.declared.reading_slot.Reading.TheVariants.{Going, Ended, Refused, Lost}
+use Rattle.opgp_c.specs.declared.slot.Reading.TheVariants.{Going, Ended, Refused, Lost}
 
 -- a reading that was begun within these limits, armored or binary, and was given nothing yet
 abbrev pub begun : Limits → Use

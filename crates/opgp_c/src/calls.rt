@@ -2,17 +2,17 @@
 
 ghost use Rattle.std.specs.Prelude.{◌≡◌, ◌≢◌, ◌↔◌, ◌⊎◌, ◌<◌, length, IfOk, IfErr, Ok, Err};
 ghost use Rattle.opgp_ring.specs.Keyring.{flat};
-ghost use Rattle.opgp_engine.specs.Writing.{packets_text};
-ghost use Rattle.opgp_flat.specs.GivenLimits.{MayBeGiven};
+ghost use Rattle.opgp_codec.specs.Writing.{packets_text};
+ghost use Rattle.opgp_tables.specs.GivenLimits.{MayBeGiven};
 ghost use Rattle.opgp_c.specs.Calls.{AnswersBy, AreSized, IsFilled, IsShort, RefusesBy, mode_by};
 ghost use Rattle.opgp_c.specs.Calls.{out_of};
 
 use crate::sizes::Sizes;
 use crate::status::{DONE, LIMITS, MEMORY, REFUSED, ROOM};
 use crate::text::keyring_text;
-use opgp_engine::{Answer, Mode, Out, Watched, read_keyring};
-use opgp_flat::{FaultRow, GivenLimits, fill};
+use opgp_codec::{Answer, Mode, Out, Watched, read_keyring};
 use opgp_ring::Keyring;
+use opgp_tables::{FaultRow, GivenLimits, fill};
 use std::alloc::Global;
 
 /// The keyring of an input that is read by a mode; or the status that says why there is none.

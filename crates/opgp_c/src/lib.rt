@@ -8,12 +8,12 @@
 ghost use Rattle.std.specs.Prelude.{◌≡◌, ◌≢◌, ◌↔◌, ◌⊎◌, ◌<◌, ◌+◌, ◌^◌, ◌++◌, ◌∷◌, [], length};
 ghost use Rattle.std.specs.Prelude.{true, false, ℕ, List, Some, None, Ok};
 ghost use Rattle.std.specs.List.{slice_get};
-ghost use Rattle.opgp_engine.specs.Writing.{packets_text};
-ghost use Rattle.opgp_flat.specs.GivenLimits.{AreThese, MayBeGiven, usual_limits};
-ghost use Rattle.opgp_flat.specs.Jobs.{job_bytes, job_rows};
-ghost use Rattle.opgp_flat.specs.Keys.{key_bytes, key_rows};
-ghost use Rattle.opgp_flat.specs.Packets.{packet_bytes, packet_rows};
-ghost use Rattle.opgp_flat.specs.Subpackets.{subpacket_bytes, subpacket_rows};
+ghost use Rattle.opgp_codec.specs.Writing.{packets_text};
+ghost use Rattle.opgp_tables.specs.GivenLimits.{AreThese, MayBeGiven, usual_limits};
+ghost use Rattle.opgp_tables.specs.Jobs.{job_bytes, job_rows};
+ghost use Rattle.opgp_tables.specs.Keys.{key_bytes, key_rows};
+ghost use Rattle.opgp_tables.specs.Packets.{packet_bytes, packet_rows};
+ghost use Rattle.opgp_tables.specs.Subpackets.{subpacket_bytes, subpacket_rows};
 ghost use Rattle.opgp_hash.specs.Hashed.{hashed};
 ghost use Rattle.opgp_hash.specs.QuestionValue.{QuestionValue};
 ghost use Rattle.opgp_report.specs.Asked.{asked_of, question_in};
@@ -23,27 +23,30 @@ ghost use Rattle.opgp_ring.specs.Keyring.{flat};
 ghost use Rattle.opgp_ring.specs.Normal.{normal_of};
 ghost use Rattle.opgp_c.specs.Calls.{Answers, AnswersBy, HoldsTheSame, IsFilled, KeepsMade};
 ghost use Rattle.opgp_c.specs.Calls.{PutsTables, Refuses, RefusesBy, mode_by, name_by, out_of};
-ghost use Rattle.opgp_c.specs.declared.reading_slot.Reading.TheVariants.{Lost};
-ghost use Rattle.opgp_engine.specs.declared.mode.Mode.{Mode};
-ghost use Rattle.opgp_flat.specs.HashedRows.{hashed_bytes, hashed_rows};
+ghost use Rattle.opgp_c.specs.declared.slot.Reading.TheVariants.{Lost};
+ghost use Rattle.opgp_codec.specs.declared.mode.Mode.{Mode};
+ghost use Rattle.opgp_tables.specs.HashedRows.{hashed_bytes, hashed_rows};
 ghost use Rattle.opgp_c.specs.Readings.{HasEnded, Holds, HoldsPart, IsEnded, IsGoing, IsRefused};
 ghost use Rattle.opgp_c.specs.Readings.{StaysWhat, begun, waiting_in};
-ghost use Rattle.opgp_engine.specs.PartReader.{Use, given, taking};
-ghost use Rattle.opgp_flat.specs.FaultLine.{fault_of};
-ghost use Rattle.opgp_flat.specs.FaultRow.{fault_row};
-ghost use Rattle.opgp_flat.specs.Names.{table_of};
+ghost use Rattle.opgp_codec.specs.PartReader.{Use, given, taking};
+ghost use Rattle.opgp_tables.specs.FaultRow.{fault_of};
+ghost use Rattle.opgp_tables.specs.FaultRow.{fault_row};
+ghost use Rattle.opgp_tables.specs.Names.{table_of};
 ghost use Rattle.opgp_octets.specs.Fault.{fault_text};
 ghost use Rattle.opgp_octets.specs.declared.fault.Fault.{Fault};
 ghost use Rattle.opgp_octets.specs.declared.limits.Limits.{Limits};
 ghost use Rattle.opgp_ring.specs.Composed.{PartValue};
 
 mod calls;
+mod document;
+pub mod documents;
 mod making;
 mod parts;
 mod reader;
 mod reading;
-mod reading_slot;
 mod ring;
+mod signed;
+mod signed_tables;
 mod sizes;
 mod slot;
 mod status;
@@ -51,19 +54,19 @@ mod tables;
 mod text;
 
 use crate::calls::{mode_by, put_octets, put_text, read_ring};
-use crate::making::{Merged, Normal, joined, keep, keep_found, keep_made};
+use crate::making::{Making, joined, keep, keep_found, keep_made};
 use crate::reader::Reader;
 use crate::reading::{begin, end_input, push_piece, take_part};
 use crate::ring::Ring;
 use crate::sizes::Sizes;
 use crate::status::{CLOSED, DONE, LIMITS, MEMORY, NO_ROW};
 use crate::tables::{Window, put_hashed, put_row_octets, put_table};
-use opgp_engine::Mode;
-use opgp_flat::{
+use opgp_codec::Mode;
+use opgp_ring::nth;
+use opgp_tables::{
     FaultRow, GivenLimits, HashedRow, JobRow, KeyRow, NumberTable, PacketRow, SubpacketRow,
     short_line,
 };
-use opgp_ring::nth;
 use std::alloc::Global;
 use std::mem;
 
@@ -164,7 +167,8 @@ pub extern "C" fn opgp_ring_open(
     keep(alloc, ring, keyring)
 }
 
-/// Reads the keyring of an input by a mode: 0 as [`opgp_ring_open`], 1 as armored text, 2 as packets.
+/// Reads the keyring of an input by a mode: 0 as [`opgp_ring_open`], 1 as armored text, 2 as
+/// packets.
 ///
 /// The statuses are those of [`opgp_ring_open`]; that of a limit is also that of any other number.
 #[unsafe(no_mangle)]
@@ -223,8 +227,8 @@ pub extern "C" fn opgp_ring_packets(
     bytes: &mut [u8],
     sizes: &mut Sizes,
 ) -> u32
-    ensures { PutsTables packet_rows packet_bytes ring.old ring.new rows.old rows.new bytes.old bytes.new
-        sizes.new result }
+    ensures { PutsTables packet_rows packet_bytes ring.old ring.new rows.old rows.new bytes.old
+        bytes.new sizes.new result }
 {
     put_table(alloc, ring, rows, bytes, sizes)
 }
@@ -264,8 +268,8 @@ pub extern "C" fn opgp_ring_jobs(
     put_table(alloc, ring, rows, bytes, sizes)
 }
 
-/// Fills the tables with the subpackets of a keyring's signatures, those of each in the order of the
-/// table of jobs, and of its hashed area first; and their data.
+/// Fills the tables with the subpackets of a keyring's signatures, those of each in the order of
+/// the table of jobs, and of its hashed area first; and their data.
 ///
 /// The statuses are those of [`opgp_ring_packets`].
 #[unsafe(no_mangle)]
@@ -276,8 +280,8 @@ pub extern "C" fn opgp_ring_subpackets(
     bytes: &mut [u8],
     sizes: &mut Sizes,
 ) -> u32
-    ensures { PutsTables subpacket_rows subpacket_bytes ring.old ring.new rows.old rows.new bytes.old bytes.new
-        sizes.new result }
+    ensures { PutsTables subpacket_rows subpacket_bytes ring.old ring.new rows.old rows.new
+        bytes.old bytes.new sizes.new result }
 {
     put_table(alloc, ring, rows, bytes, sizes)
 }
@@ -317,9 +321,9 @@ pub extern "C" fn opgp_ring_octets(
     status
 }
 
-/// Fills the tables with what the signatures of some rows of the table of jobs hash (RFC 9580, 5.2.4):
-/// of at most so many rows, from the first one on, as many as hash no more than `most` octets together;
-/// a row for each signature that is hashed, and the octets.
+/// Fills the tables with what the signatures of some rows of the table of jobs hash (RFC 9580,
+/// 5.2.4): of at most so many rows, from the first one on, as many as hash no more than `most`
+/// octets together; a row for each signature that is hashed, and the octets.
 ///
 /// The statuses are those of [`opgp_ring_packets`].
 #[unsafe(no_mangle)]
@@ -333,8 +337,8 @@ pub extern "C" fn opgp_ring_hashed(
     bytes: &mut [u8],
     sizes: &mut Sizes,
 ) -> u32
-    ensures { PutsTables (hashed_rows first count most) (hashed_bytes first count most) ring.old ring.new
-        rows.old rows.new bytes.old bytes.new sizes.new result }
+    ensures { PutsTables (hashed_rows first count most) (hashed_bytes first count most) ring.old
+        ring.new rows.old rows.new bytes.old bytes.new sizes.new result }
 {
     let window = Window { first, count, most };
     put_hashed(alloc, ring, window, rows, bytes, sizes)
@@ -380,7 +384,7 @@ pub extern "C" fn opgp_ring_write(
 pub extern "C" fn opgp_ring_normalise(alloc: Global, ring: &mut Ring, into: &mut Ring) -> u32
     ensures { KeepsMade normal_of ring.old ring.new into.old into.new result }
 {
-    keep_made::<Normal>(alloc, ring, into)
+    keep_made(alloc, Making::Normal, ring, into)
 }
 
 /// Keeps a keyring merged: certificates of the same primary key become one, and equal packets of a
@@ -391,7 +395,7 @@ pub extern "C" fn opgp_ring_normalise(alloc: Global, ring: &mut Ring, into: &mut
 pub extern "C" fn opgp_ring_merge(alloc: Global, ring: &mut Ring, into: &mut Ring) -> u32
     ensures { KeepsMade merged_of ring.old ring.new into.old into.new result }
 {
-    keep_made::<Merged>(alloc, ring, into)
+    keep_made(alloc, Making::Merged, ring, into)
 }
 
 /// Keeps the certificate of this number, counted from 0, as a keyring.
@@ -458,11 +462,11 @@ pub extern "C" fn opgp_ring_join(
     }
 }
 
-/// Begins to read a keyring, armored or binary, that comes in pieces; what the handle held before is
-/// let go.
+/// Begins to read a keyring, armored or binary, that comes in pieces; what the handle held before
+/// is let go.
 ///
-/// The status says whether it is done; else the handle is unchanged: a limit is out of its range, or
-/// out of memory.
+/// The status says whether it is done; else the handle is unchanged: a limit is out of its range,
+/// or out of memory.
 #[unsafe(no_mangle)]
 pub extern "C" fn opgp_reader_open(alloc: Global, limits: &GivenLimits, reader: &mut Reader) -> u32
     ensures done { result ≡ 0 → (l : Limits) × AreThese l limits.now × (reader.new.is_open ≡ true)
@@ -484,11 +488,11 @@ pub extern "C" fn opgp_reader_open(alloc: Global, limits: &GivenLimits, reader: 
     }
 }
 
-/// Takes the next piece of the input. The conditions are that the handle was used so, and that fewer
-/// than 2^63 octets are given in all.
+/// Takes the next piece of the input. The conditions are that the handle was used so, and that
+/// fewer than 2^63 octets are given in all.
 ///
-/// The status says whether it is done; else the piece isn't taken: the input had ended, which changes
-/// nothing, or memory ran out, which loses the reading, or the handle holds nothing.
+/// The status says whether it is done; else the piece isn't taken: the input had ended, which
+/// changes nothing, or memory ran out, which loses the reading, or the handle holds nothing.
 #[unsafe(no_mangle)]
 pub extern "C" fn opgp_reader_push(alloc: Global, reader: &mut Reader, piece: &[u8]) -> u32
     ghost so_far: { Use }

@@ -1,10 +1,8 @@
 //! Keyrings made of one that a handle holds, and kept in another handle.
 
 ghost use Rattle.std.specs.Prelude.{◌≡◌, ◌≢◌, ◌⊎◌, ◌++◌, true, Some, None, Ok, IfOk};
-ghost use Rattle.opgp_merge.specs.Merged.{merged_of};
-ghost use Rattle.opgp_ring.specs.Keyring.{KeyringValue, flat};
-ghost use Rattle.opgp_ring.specs.Normal.{normal_of};
-ghost use Rattle.opgp_c.specs.Calls.{KeepsMade};
+ghost use Rattle.opgp_ring.specs.Keyring.{flat};
+ghost use Rattle.opgp_c.specs.Calls.{KeepsMade, made_by};
 
 use crate::ring::Ring;
 use crate::slot::Held;
@@ -31,45 +29,34 @@ pub(crate) fn keep(alloc: Global, into: &mut Ring, keyring: Keyring) -> u32
 }
 
 /// What is made of a keyring.
-pub(crate) trait Making {
-    ghost made: { KeyringValue → KeyringValue };
-
-    /// Makes it. Fails only when out of memory.
-    fn make(alloc: Global, keyring: &Keyring) -> Result<Keyring, OutOfMemory>
-        ensures { IfOk result (λ r. r ≡ made keyring.now) };
+#[derive(Clone, Copy)]
+pub(crate) enum Making {
+    /// The same packets, each in the current format with its shortest length (RFC 9580, 4.2.1).
+    Normal,
+    /// Certificates of the same primary key as one, and equal packets of a place once.
+    Merged,
 }
 
-/// The keyring in the current format.
-pub(crate) struct Normal;
-
-impl Making for Normal {
-    ghost made = { normal_of };
-
-    fn make(alloc: Global, keyring: &Keyring) -> Result<Keyring, OutOfMemory> {
-        Ok(normalise(keyring.copy(alloc)?))
-    }
-}
-
-/// The keyring merged.
-pub(crate) struct Merged;
-
-impl Making for Merged {
-    ghost made = { merged_of };
-
-    fn make(alloc: Global, keyring: &Keyring) -> Result<Keyring, OutOfMemory> {
-        merge(keyring.copy(alloc)?)
+/// Makes it of a copy. Fails only when out of memory.
+fn make(alloc: Global, making: Making, keyring: &Keyring) -> Result<Keyring, OutOfMemory>
+    ensures { IfOk result (λ r. r ≡ made_by making keyring.now) }
+{
+    let copy = keyring.copy(alloc)?;
+    match making {
+        Making::Normal => Ok(normalise(copy)),
+        Making::Merged => merge(copy),
     }
 }
 
 /// Keeps in another handle what is made of the keyring that a handle holds, which it holds again
 /// before that: so nothing is lost where a caller gives one handle for both.
-pub(crate) fn keep_made<M: Making>(alloc: Global, ring: &mut Ring, into: &mut Ring) -> u32
-    ensures { KeepsMade M.made ring.old ring.new into.old into.new result }
+pub(crate) fn keep_made(alloc: Global, making: Making, ring: &mut Ring, into: &mut Ring) -> u32
+    ensures { KeepsMade (made_by making) ring.old ring.new into.old into.new result }
 {
     let Some(held) = ring.take(alloc) else {
         return CLOSED;
     };
-    let made = M::make(alloc, &held.keyring);
+    let made = make(alloc, making, &held.keyring);
     ring.give(held);
     match made {
         Ok(made) => keep(alloc, into, made),

@@ -3,7 +3,7 @@
 ghost use Rattle.std.specs.Prelude.{◌≡◌, ◌↔◌, true, false, None, IfOk, IfSome, IsSome};
 
 use crate::parts::Parts;
-use crate::reading_slot::{Reading, ReadingSlot};
+use crate::slot::{Reading, ReadingSlot};
 use std::alloc::{AllocError, Global};
 use std::mem;
 
@@ -46,8 +46,8 @@ impl Reader {
         }
     }
 
-    /// Takes out what it holds, and is closed meanwhile, so that another call that uses it finds nothing;
-    /// None if it holds nothing.
+    /// Takes out what it holds, and is closed meanwhile, so that another call that uses it finds
+    /// nothing; None if it holds nothing.
     pub(crate) fn take(&mut self, alloc: Global) -> Option<Box<Reading>>
         ensures taken { IfSome result
             (λ b. (self.old.is_open ≡ true) × (b.value ≡ self.old.slot.held)) }

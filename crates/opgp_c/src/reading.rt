@@ -6,20 +6,20 @@ ghost use Rattle.opgp_octets.specs.declared.fault.Fault.{Fault};
 ghost use Rattle.opgp_octets.specs.declared.limits.Limits.{Limits};
 ghost use Rattle.opgp_ring.specs.Composed.{PartValue};
 ghost use Rattle.opgp_ring.specs.State.{part_of, ready_parts};
-ghost use Rattle.opgp_engine.specs.PartReader.{Use, given, taking};
-ghost use Rattle.opgp_flat.specs.FaultRow.{fault_row};
+ghost use Rattle.opgp_codec.specs.PartReader.{Use, given, taking};
+ghost use Rattle.opgp_tables.specs.FaultRow.{fault_row};
 ghost use Rattle.opgp_c.specs.Readings.{HasEnded, HoldsPart, IsEnded, IsGoing, IsOver, IsReading};
 ghost use Rattle.opgp_c.specs.Readings.{IsRefused, StaysWhat, begun, waiting_in};
-ghost use Rattle.opgp_c.specs.declared.reading_slot.Reading.TheVariants.{Lost};
+ghost use Rattle.opgp_c.specs.declared.slot.Reading.TheVariants.{Lost};
 
 use crate::making::keep;
-use crate::reading_slot::Reading;
 use crate::ring::Ring;
+use crate::slot::Reading;
 use crate::status::{DONE, ENDED, MEMORY, NO_ROW, REFUSED};
-use opgp_engine::{Mode, PartReader};
-use opgp_flat::FaultRow;
+use opgp_codec::{Mode, PartReader};
 use opgp_octets::Limits;
-use opgp_ring::{Keeper, Keyring, Ready};
+use opgp_ring::{Keyring, Ready};
+use opgp_tables::FaultRow;
 use std::alloc::Global;
 use std::mem;
 

@@ -46,8 +46,8 @@ impl Ring {
         }
     }
 
-    /// Takes out what it holds, and is closed meanwhile, so that another call that uses it finds nothing;
-    /// None if it holds nothing.
+    /// Takes out what it holds, and is closed meanwhile, so that another call that uses it finds
+    /// nothing; None if it holds nothing.
     pub(crate) fn take(&mut self, alloc: Global) -> Option<Box<Held>>
         ensures taken { IfSome result
             (λ b. (self.old.is_open ≡ true) × (b.value ≡ self.old.slot.held)) }

@@ -16,3 +16,7 @@ pub(crate) const CLOSED: u32 = 5;
 pub(crate) const NO_ROW: u32 = 6;
 /// The input has ended.
 pub(crate) const ENDED: u32 = 7;
+/// There are more signatures than one document is hashed for.
+pub(crate) const MANY: u32 = 8;
+/// The document hasn't ended.
+pub(crate) const GOING: u32 = 9;

@@ -1,13 +1,14 @@
 //! The tables of a keyring, put into those of a caller.
 
-ghost use Rattle.std.specs.Prelude.{◌≡◌, ◌≢◌, ◌⊎◌, ◌<◌, ◌≤◌, ℕ, List, length, OnErr, OnOk, Some, None};
+ghost use Rattle.std.specs.Prelude.{◌≡◌, ◌≢◌, ◌⊎◌, ◌<◌, ◌≤◌, ℕ, List, length};
+ghost use Rattle.std.specs.Prelude.{OnErr, OnOk, Some, None};
 ghost use Rattle.std.specs.List.{slice_get};
-ghost use Rattle.opgp_flat.specs.HashedRows.{hashed_bytes, hashed_rows};
-ghost use Rattle.opgp_flat.specs.Jobs.{job_bytes, job_rows};
-ghost use Rattle.opgp_flat.specs.Keys.{key_bytes, key_rows};
-ghost use Rattle.opgp_flat.specs.Packets.{packet_bytes, packet_rows};
-ghost use Rattle.opgp_flat.specs.Sizes.{capped};
-ghost use Rattle.opgp_flat.specs.Subpackets.{subpacket_bytes, subpacket_rows};
+ghost use Rattle.opgp_tables.specs.HashedRows.{hashed_bytes, hashed_rows};
+ghost use Rattle.opgp_tables.specs.Jobs.{job_bytes, job_rows};
+ghost use Rattle.opgp_tables.specs.Keys.{key_bytes, key_rows};
+ghost use Rattle.opgp_tables.specs.Packets.{packet_bytes, packet_rows};
+ghost use Rattle.opgp_tables.specs.Sizes.{capped};
+ghost use Rattle.opgp_tables.specs.Subpackets.{subpacket_bytes, subpacket_rows};
 ghost use Rattle.opgp_hash.specs.Hashed.{hashed};
 ghost use Rattle.opgp_hash.specs.QuestionValue.{QuestionValue};
 ghost use Rattle.opgp_report.specs.Asked.{asked_of, question_in};
@@ -18,13 +19,13 @@ use crate::calls::{put_both, put_octets};
 use crate::ring::Ring;
 use crate::sizes::Sizes;
 use crate::status::{CLOSED, DONE, MEMORY, NO_ROW, ROOM};
-use opgp_flat::{
+use opgp_octets::OutOfMemory;
+use opgp_ring::Keyring;
+use opgp_tables::{
     HashedRow, JobRow, KeyRow, PacketRow, SubpacketRow, TableSizes, fill, fill_jobs, fill_packets,
     fill_subpackets, hashed_rows, job_sizes, key_sizes, keys, packet_sizes, row_octets,
     subpacket_sizes,
 };
-use opgp_octets::OutOfMemory;
-use opgp_ring::Keyring;
 use std::alloc::Global;
 
 /// The rows of a table of a keyring.
@@ -39,8 +40,8 @@ pub(crate) trait Row: Copy + Sized {
         ensures rows { result.rows ≡ capped (length (rows keyring.now)) }
         ensures bytes { result.bytes ≡ capped (length (bytes keyring.now)) };
 
-    /// Fills the front of two tables with both, if these have the room. Where the making is in memory of
-    /// its own, the sizes say how much that is at first. Fails only when out of memory.
+    /// Fills the front of two tables with both, if these have the room. Where the making is in
+    /// memory of its own, the sizes say how much that is at first. Fails only when out of memory.
     fn fill(
         alloc: Global,
         keyring: &Keyring,
@@ -169,8 +170,8 @@ pub(crate) fn put_table<T: Row>(
     status
 }
 
-/// Puts a table of a keyring: where there is too little room, none is made, and where its sizes are beyond
-/// numbers of 64 bits, there is no memory for it.
+/// Puts a table of a keyring: where there is too little room, none is made, and where its sizes are
+/// beyond numbers of 64 bits, there is no memory for it.
 fn put_rows<T: Row>(
     alloc: Global,
     keyring: &Keyring,

@@ -2,9 +2,9 @@
 
 ghost use Rattle.std.specs.Prelude.{◌≡◌, IfOk};
 ghost use Rattle.opgp_ring.specs.Keyring.{flat};
-ghost use Rattle.opgp_engine.specs.Writing.{packets_text};
+ghost use Rattle.opgp_codec.specs.Writing.{packets_text};
 
-use opgp_engine::{EngineError, Out, Watched, write_keyring};
+use opgp_codec::{EngineError, Out, Watched, write_keyring};
 use opgp_ring::Keyring;
 use std::alloc::Global;
 

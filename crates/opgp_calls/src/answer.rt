@@ -5,8 +5,9 @@ use opgp_octets::{Fault, write_hexadecimal};
 use std::alloc::Global;
 use std::fmt::Display;
 
-/// The words of an answer, each with a space before it but for the first. Where memory is refused to
-/// it, or to what is to be shown, it is no answer any more, and the calls that add to it needn't ask.
+/// The words of an answer, each with a space before it but for the first. Where memory is refused
+/// to it, or to what is to be shown, it is no answer any more, and the calls that add to it needn't
+/// ask.
 #[derive(Drop)]
 pub(crate) struct Answer {
     text: String,

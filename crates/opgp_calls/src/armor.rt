@@ -24,7 +24,8 @@ pub(crate) fn answered(alloc: Global, name: &str, given: &Given, answer: &mut An
     true
 }
 
-/// `dearmor [POLICY].. LIMITS.. TEXT`: the blocks of a text, or its fault. `block_copies`: copies of them.
+/// `dearmor [POLICY].. LIMITS.. TEXT`: the blocks of a text, or its fault. `block_copies`: copies
+/// of them.
 fn dearmored(alloc: Global, given: &Given, copies: bool, answer: &mut Answer) {
     match dearmor(alloc, given.octets(0), &limits_of(given)) {
         Ok(Ok(blocks)) if copies => add_block_copies(alloc, blocks.as_slice(), answer),
@@ -218,8 +219,8 @@ fn label_of(given: &Given) -> Label {
     }
 }
 
-/// `armor LABEL OCTETS - [KEY VALUE]..`: a block as a text, which is written into just the room that
-/// it takes.
+/// `armor LABEL OCTETS - [KEY VALUE]..`: a block as a text, which is written into just the room
+/// that it takes.
 fn armored(alloc: Global, given: &Given, answer: &mut Answer) {
     let label = label_of(given);
     if let Some(headers) = headers_of(alloc, given.all_octets(), answer) {

@@ -9,8 +9,8 @@ use opgp_frame::{Placed, write_parts};
 use opgp_ring::{Composer, Packets, Ready};
 use std::alloc::Global;
 
-/// `composer LIMITS.. [LABEL OCTETS]..`: blocks whose packets are pushed one by one: each part, behind
-/// how many packets it was ready, and how the packets end.
+/// `composer LIMITS.. [LABEL OCTETS]..`: blocks whose packets are pushed one by one: each part,
+/// behind how many packets it was ready, and how the packets end.
 pub(crate) fn composed(alloc: Global, given: &Given, answer: &mut Answer) {
     let Some(blocks) = blocks_of(alloc, given, answer) else {
         return;

@@ -1,6 +1,6 @@
 //! Why a line has no answer.
 
-use opgp_engine::EngineError;
+use opgp_codec::EngineError;
 use opgp_octets::{OutOfMemory, PushFault};
 
 /// Why a line has no answer.

@@ -9,8 +9,8 @@ use crate::octets::limits_of;
 use opgp_frame::{Deframe, Placed, write_packet};
 use std::alloc::Global;
 
-/// `deframe LIMITS.. BLOCK SIZE OCTETS..`: the packets of octets that are pushed so many at a time, and
-/// how they end.
+/// `deframe LIMITS.. BLOCK SIZE OCTETS..`: the packets of octets that are pushed so many at a time,
+/// and how they end.
 pub(crate) fn deframe(alloc: Global, given: &Given, answer: &mut Answer) {
     let mut reader = Deframe::new(alloc, given.number(5), limits_of(given));
     push_all(

@@ -144,8 +144,8 @@ impl<'a> Given<'a> {
     }
 }
 
-/// The octets of parts that `+` joins, each of them digits in hexadecimal, of which `*` and a number
-/// makes copies.
+/// The octets of parts that `+` joins, each of them digits in hexadecimal, of which `*` and a
+/// number makes copies.
 fn octets_of(alloc: Global, parts: &str) -> Result<Vec<u8>, End> {
     let mut octets = Vec::new(alloc);
     for part in parts.split('+') {

@@ -18,8 +18,8 @@ pub(crate) fn are_writable(headers: &[(Vec<u8>, Vec<u8>)]) -> bool
     true
 }
 
-/// Whether a header can be written: its key isn't empty and has neither a colon nor a line feed; its
-/// value has no line feed and doesn't end in a space, a tab or a carriage return.
+/// Whether a header can be written: its key isn't empty and has neither a colon nor a line feed;
+/// its value has no line feed and doesn't end in a space, a tab or a carriage return.
 fn is_writable(key: &[u8], value: &[u8]) -> bool
     ensures { result ≡ true → IsWritable (key.now, value.now) }
 {

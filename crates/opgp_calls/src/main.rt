@@ -1,12 +1,12 @@
-//! Public calls of the crates that no other test makes: a line of standard input names a call and what it
-//! is given, and a line is written with its answer.
+//! Public calls of the crates that no other test makes: a line of standard input names a call and
+//! what it is given, and a line is written with its answer.
 #![tactic(auto)]
 
 mod answer;
 mod armor;
+mod codec;
 mod composer;
 mod end;
-mod engine;
 mod frame;
 mod given;
 mod headers;
@@ -83,7 +83,7 @@ fn called(alloc: Global, name: &str, given: &Given, answer: &mut Answer) -> bool
         || armor::answered(alloc, name, given, answer)
         || packet::answered(alloc, name, given, answer)
         || ring::answered(alloc, name, given, answer)
-        || engine::answered(alloc, name, given, answer)
+        || codec::answered(alloc, name, given, answer)
         || reading::answered(alloc, name, given, answer)
         || pieces::answered(alloc, name, given, answer)
         || report::answered(alloc, name, given, answer)

@@ -20,7 +20,8 @@ pub(crate) fn answered(alloc: Global, name: &str, given: &Given, answer: &mut An
     true
 }
 
-/// `write_lens OCTETS`: a packet's length of five octets, and a subpacket's of two, each behind octets.
+/// `write_lens OCTETS`: a packet's length of five octets, and a subpacket's of two, each behind
+/// octets.
 fn written_lens(alloc: Global, before: &[u8], answer: &mut Answer) {
     let Some(mut out) = answer.made(Vec::from_slice(alloc, before)) else {
         return;

@@ -1,4 +1,5 @@
-//! The calls of `opgp_packet`: the values of bodies, and what algorithms have in keys and signatures.
+//! The calls of `opgp_packet`: the values of bodies, and what algorithms have in keys and
+//! signatures.
 
 ghost use Rattle.opgp_octets.specs.Octets.{IsBodySized};
 
@@ -45,8 +46,8 @@ fn add_refusal(refused: ParseFault, answer: &mut Answer) {
     }
 }
 
-/// `key BODY OCTETS`, and the same of `attribute` and `literal`: the body of a value that is parsed, or
-/// its fault; then of copies of the value and of its view, and written behind octets.
+/// `key BODY OCTETS`, and the same of `attribute` and `literal`: the body of a value that is
+/// parsed, or its fault; then of copies of the value and of its view, and written behind octets.
 fn add_parsed<F: Body + Drop>(
     alloc: Global,
     parsed: Result<Parsed<Vec<u8>, F>, ParseFault>,

@@ -1,9 +1,9 @@
-//! The calls of `opgp_engine` that read in pieces, and hand out what is complete.
+//! The calls of `opgp_codec` that read in pieces, and hand out what is complete.
 
 ghost use Rattle.std.specs.Prelude.{◌≡◌, ◌<◌, ◌+◌, ◌^◌, ℕ, length, OnOk};
-ghost use Rattle.opgp_engine.specs.PacketReader.{IsReading as IsReadingPackets};
-ghost use Rattle.opgp_engine.specs.PacketReader.{octets_given as octets_of_packets};
-ghost use Rattle.opgp_engine.specs.PartReader.{IsReading, octets_given};
+ghost use Rattle.opgp_codec.specs.PacketReader.{IsReading as IsReadingPackets};
+ghost use Rattle.opgp_codec.specs.PacketReader.{octets_given as octets_of_packets};
+ghost use Rattle.opgp_codec.specs.PartReader.{IsReading, octets_given};
 ghost use Rattle.opgp_octets.specs.declared.limits.Limits.{Limits};
 
 use crate::answer::Answer;
@@ -12,7 +12,7 @@ use crate::frame::add_placed;
 use crate::given::Given;
 use crate::octets::limits_of;
 use crate::reading::mode_of;
-use opgp_engine::{PacketReader, PartReader, Waiting, WaitingPackets};
+use opgp_codec::{PacketReader, PartReader, Waiting, WaitingPackets};
 use opgp_octets::{Limits, OutOfMemory};
 use std::alloc::Global;
 
@@ -86,8 +86,8 @@ impl Reader for PacketReader {
     }
 }
 
-/// Pushes octets so many at a time, up to the limit of the input and what a piece has more, and takes
-/// what waits behind each piece.
+/// Pushes octets so many at a time, up to the limit of the input and what a piece has more, and
+/// takes what waits behind each piece.
 fn feed_all<R: Reader>(
     alloc: Global,
     limits: Limits,
@@ -116,8 +116,9 @@ fn feed_all<R: Reader>(
     Ok(())
 }
 
-/// `part_reader MODE POLICY.. LIMITS.. SIZE OCTETS`: octets that are pushed so many at a time: each part,
-/// behind how many octets it came and as which, how many were taken, those at the end, and how it ends.
+/// `part_reader MODE POLICY.. LIMITS.. SIZE OCTETS`: octets that are pushed so many at a time: each
+/// part, behind how many octets it came and as which, how many were taken, those at the end, and
+/// how it ends.
 fn parts(alloc: Global, given: &Given, answer: &mut Answer) -> Result<(), OutOfMemory> {
     let limits = limits_of(given);
     let mut reader = PartReader::new(alloc, mode_of(given), limits);

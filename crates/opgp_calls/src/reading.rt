@@ -1,4 +1,4 @@
-//! The calls of `opgp_engine` that read all that a source gives.
+//! The calls of `opgp_codec` that read all that a source gives.
 
 use crate::answer::Answer;
 use crate::end::End;
@@ -6,7 +6,7 @@ use crate::given::Given;
 use crate::octets::limits_of;
 use crate::ring::{add_blocks, add_ring};
 use crate::signed::add_both;
-use opgp_engine::{
+use opgp_codec::{
     Answer as Said, Mode, ReadError, Watched, read_keyring, read_packets, read_signed,
 };
 use std::alloc::Global;

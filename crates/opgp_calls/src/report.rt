@@ -38,8 +38,8 @@ fn add_number(number: Option<usize>, answer: &mut Answer) {
     }
 }
 
-/// `first_by_key_id OCTETS OCTETS`: the number of a keyring's first key with a key ID, by an index of the
-/// keyring and by one that is made of its certificates.
+/// `first_by_key_id OCTETS OCTETS`: the number of a keyring's first key with a key ID, by an index
+/// of the keyring and by one that is made of its certificates.
 fn key_of_id(alloc: Global, given: &Given, answer: &mut Answer) {
     let Some(ring) = ring_of(alloc, given.octets(0), answer) else {
         return;
@@ -64,8 +64,8 @@ fn index_of(alloc: Global, certificates: &[Certificate]) -> Result<KeyIndex, Out
     Ok(index)
 }
 
-/// `question_at ROW OCTETS OCTETS`: what a row of a keyring hashes, written behind other octets; or that
-/// there is nothing.
+/// `question_at ROW OCTETS OCTETS`: what a row of a keyring hashes, written behind other octets; or
+/// that there is nothing.
 fn question(alloc: Global, given: &Given, answer: &mut Answer) {
     let row = given.long(0) as usize;
     let before = given.octets(1);

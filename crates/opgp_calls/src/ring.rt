@@ -193,8 +193,8 @@ fn merged(alloc: Global, given: &Given, answer: &mut Answer) {
     }
 }
 
-/// `own` and `bare` say which signatures and whether attributes are left out, a number which user ID
-/// stays.
+/// `own` and `bare` say which signatures and whether attributes are left out, a number which user
+/// ID stays.
 fn choice_of(given: &Given) -> Choice {
     let mut choice = Choice::everything();
     for name in given.names() {

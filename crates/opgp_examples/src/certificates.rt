@@ -1,11 +1,11 @@
 //! The certificates of an armored text, each as soon as it is complete.
 
 ghost use Rattle.std.specs.Prelude.{◌≡◌, [], OnOk};
-ghost use Rattle.opgp.specs.Engine.PartReader.{IsReading, octets_given, waits};
+ghost use Rattle.opgp.specs.Codec.PartReader.{IsReading, octets_given, waits};
 ghost use Rattle.opgp.specs.Octets.declared.limits.Limits.{Limits};
 
 use anyhow::Result;
-use opgp::engine::{Mode, PartReader};
+use opgp::codec::{Mode, PartReader};
 use opgp::hash::fingerprint_of_view;
 use opgp::octets::Limits;
 use opgp::ring::{Certificate, Head, Ready};
@@ -14,8 +14,8 @@ use std::io::BufRead;
 /// The greatest number of octets that are pushed at a time.
 const PIECE: usize = 65_536;
 
-/// The certificates of an armored text of keys: a line for each as soon as it is complete, and in the
-/// end the fault of the lowest layer, if there is one.
+/// The certificates of an armored text of keys: a line for each as soon as it is complete, and in
+/// the end the fault of the lowest layer, if there is one.
 pub(crate) fn certificates<R: BufRead + Drop>(
     rt: &(impl Print + AllocGlobal),
     mut source: R,

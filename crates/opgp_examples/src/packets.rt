@@ -1,11 +1,11 @@
 //! The packets of an input, each as soon as it is complete.
 
 ghost use Rattle.std.specs.Prelude.{◌≡◌, [], OnOk};
-ghost use Rattle.opgp.specs.Engine.PacketReader.{IsReading, octets_given, waits};
+ghost use Rattle.opgp.specs.Codec.PacketReader.{IsReading, octets_given, waits};
 ghost use Rattle.opgp.specs.Octets.declared.limits.Limits.{Limits};
 
 use anyhow::Result;
-use opgp::engine::{Mode, PacketReader};
+use opgp::codec::{Mode, PacketReader};
 use opgp::frame::Placed;
 use opgp::octets::{Limits, PacketType};
 use std::io::BufRead;
@@ -13,8 +13,8 @@ use std::io::BufRead;
 /// The greatest number of octets that are pushed at a time.
 const PIECE: usize = 65_536;
 
-/// The packets of an input, armored or binary, whether or not they are a keyring: a line for each as
-/// soon as it is complete, and in the end the fault of the lowest layer, if there is one.
+/// The packets of an input, armored or binary, whether or not they are a keyring: a line for each
+/// as soon as it is complete, and in the end the fault of the lowest layer, if there is one.
 pub(crate) fn packets<R: BufRead + Drop>(
     rt: &(impl Print + AllocGlobal),
     mut source: R,
@@ -29,9 +29,9 @@ pub(crate) fn packets<R: BufRead + Drop>(
     Ok(())
 }
 
-/// Reads a source to its end, or until it is too long, and shows the packets that each piece completes.
-/// However many octets come, the reader holds a packet at most, and none waits when the next piece is
-/// read.
+/// Reads a source to its end, or until it is too long, and shows the packets that each piece
+/// completes. However many octets come, the reader holds a packet at most, and none waits when the
+/// next piece is read.
 fn read_packets<R: BufRead + Drop>(
     rt: &(impl Print + AllocGlobal),
     limits: Limits,

@@ -1,7 +1,7 @@
 //! A keyring in the current format.
 
 use anyhow::Result;
-use opgp::engine::{Answer, Mode, Out, Watched, read_keyring, write_keyring};
+use opgp::codec::{Answer, Mode, Out, Watched, read_keyring, write_keyring};
 use opgp::octets::Limits;
 use opgp::ring::normalise;
 use std::io::{Read, Write};

@@ -3,7 +3,7 @@
 ghost use Rattle.opgp_examples.specs.Table.{says_listed};
 
 use anyhow::Result;
-use opgp::engine::{Answer, Mode, Watched, read_keyring};
+use opgp::codec::{Answer, Mode, Watched, read_keyring};
 use opgp::octets::Limits;
 use opgp::report::{Finding, Job, Place, Row, Verdict, Verifier, check};
 use std::alloc::Global;

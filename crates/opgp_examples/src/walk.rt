@@ -68,7 +68,8 @@ fn walk_key(rt: &(impl Print + AllocGlobal), key: &Key) -> Result<()> {
     Ok(())
 }
 
-/// A signature: its type, algorithms and hashed subpackets; of an unsupported one, only that it is one.
+/// A signature: its type, algorithms and hashed subpackets; of an unsupported one, only that it is
+/// one.
 fn walk_signature(rt: &(impl Print + AllocGlobal), view: SigView<'_>) -> Result<()> {
     let (Some(kind), Some(algorithm), Some(hash)) = (view.kind(), view.algorithm(), view.hash())
     else {

@@ -4,15 +4,20 @@ use Rattle.std.proofs.Math.Seq.{take-add}
 use Rattle.std.proofs.lemmas.List.{length-drop}
 use Rattle.opgp_octets.specs.declared.limits.Limits.{Limits}
 use Rattle.opgp_octets.specs.Limits.{body_limit}
+use Rattle.opgp_octets.specs.Octets.{IsOctets}
+use Rattle.opgp_octets.proofs.Bytes.{IsOctets-drop, IsOctets-take}
+use Rattle.opgp_frame.specs.declared.form.Form.{Form}
 use Rattle.opgp_frame.specs.declared.length.Length.{Length}
 use Rattle.opgp_frame.specs.Form.{exponents_of, header_octet, last_length}
+use Rattle.opgp_frame.specs.FormOf.{form_with}
 use Rattle.opgp_frame.specs.Header.{kind_in}
 use Rattle.opgp_frame.specs.Length.{LengthBegins, length_amount, length_at, length_octets, is_partial}
-use Rattle.opgp_frame.specs.Packet.{cut_body}
+use Rattle.opgp_frame.specs.Packet.{PacketValue, cut_body}
 use Rattle.opgp_frame.specs.PiecesValue.{pieces_sum}
 use Rattle.opgp_frame.specs.PacketFault.{header_fault}
 use Rattle.opgp_frame.specs.Unfinished.{IsInPiece}
-use Rattle.opgp_frame.specs.Whole.{BeginsWith, BeginInOnePiece}
+use Rattle.opgp_frame.specs.Whole.{LiesWhole, BeginInOnePiece}
+use Rattle.opgp_frame.proofs.Made.{form_fits, packet_whole}
 use Rattle.opgp_frame.proofs.Packets.{IsLast, form_last, no_pieces, last_good}
 use Rattle.opgp_frame.proofs.Headers.{header_octet-read}
 use Rattle.opgp_frame.proofs.Lengths.{length_begins, reads_there}
@@ -33,20 +38,35 @@ whole_piece limits header o l count octet read begins last small room =
       most = omega (arith, size);
     }
 
-pub whole_begins : (limits : Limits) (o : List ℕ) (l : Length) (count amount : ℕ) → 0 < length o → slice_index_or o 0 0 < 256 → header_fault (slice_index_or o 0 0) ≡ None → LengthBegins (slice_index_or o 0 0) (drop 1 o) l count
-    → is_partial l ≡ false → amount ≡ length_amount l → amount ≤ body_limit limits → amount ≤ length o - (1 + count) → BeginsWith limits (record { header = slice_index_or o 0 0; last = l; from = 1 + count; until = 1 + count + amount }) o
-whole_begins limits [] l count amount some octet read begins last same small room = absurd (omega arith)
-whole_begins limits (h ∷ o) l count amount some octet read begins last same small room =
+pub whole_lies : (limits : Limits) (o : List ℕ) (l : Length) (count amount : ℕ) (form : Form) (block pos : ℕ) → 0 < length o → IsOctets o → header_fault (slice_index_or o 0 0) ≡ None → LengthBegins (slice_index_or o 0 0) (drop 1 o) l count
+    → is_partial l ≡ false → amount ≡ length_amount l → amount ≤ body_limit limits → amount ≤ length o - (1 + count) → form_with [] l ≡ Some form
+    → LiesWhole limits (record { form = form; kind = kind_in (slice_index_or o 0 0); from = 1 + count; until = 1 + count + amount; block = block; pos = pos }) o
+whole_lies limits [] l count amount form block pos some octets read begins last same small room found = absurd (omega arith)
+whole_lies limits (h ∷ o) l count amount form block pos some octets read begins last same small room found =
     let fits : count + amount ≤ length o = omega (arith, room, begins.within) in
-    let is = whole_piece limits h o l count octet read begins last (omega (arith, small, same)) (omega (arith, fits, same)) in
-    let way : ℕ → ℕ → Type 0 = λ n m. IsInPiece limits h l 0 n [] (take n (drop count o)) (h ∷ take (count + m) o) in
-    let whole : way amount amount = subst (λ (n : ℕ). way n n) (sym same) is in
-    let between : ℕ → ℕ → Type 0 = λ from until. BeginsWith limits (record { header = h; last = l; from = from; until = until }) (h ∷ o) in
+    let is = whole_piece limits h o l count (octets 0) read begins last (omega (arith, small, same)) (omega (arith, fits, same)) in
+    let at : IsInPiece limits h l 0 amount [] (take amount (drop count o)) (h ∷ take (count + amount) o) = subst (λ (n : ℕ). IsInPiece limits h l 0 n [] (take n (drop count o)) (h ∷ take (count + n) o)) (sym same) is in
+    let body : List ℕ = take amount (drop count o) in
+    let full : length body ≡ amount = length-take-le amount (drop count o) (omega (arith, fits, length-drop count o)) in
+    let fitting = form_fits limits h [] l form at.begun at.under last found in
+    let whole = packet_whole limits h l 0 amount [] body (h ∷ take (count + amount) o) form at full (IsOctets-take amount (drop count o) (IsOctets-drop (suc count) (h ∷ o) octets)) fitting in
+    let packet : PacketValue = record { form = form; kind = kind_in h; body = body } in
+    let between : ℕ → ℕ → Type 0 = λ from until. LiesWhole limits (record { form = form; kind = kind_in h; from = from; until = until; block = block; pos = pos }) (h ∷ o) in
     let here : between (suc count) (suc (count + amount)) = record {
-      order = omega arith;
-      within = omega (arith, fits);
-      last = last;
-      whole = subst (λ (n : ℕ). way n amount) (omega arith) whole;
+      placed = record { packet = packet; block = block; pos = pos };
+      lies = record {
+        form = refl;
+        kind = refl;
+        order = omega arith;
+        within = omega (arith, fits);
+        body = ap (λ (n : ℕ). take n (drop count o)) (omega arith);
+        block = refl;
+        pos = refl;
+        packet = whole.allowed.packet;
+      };
+      some = omega arith;
+      pieces = fitting.exponents;
+      whole = whole;
     } in
     subst (λ (from : ℕ). between from (1 + count + amount)) (omega arith) (subst (between (suc count)) (omega arith) here)
 

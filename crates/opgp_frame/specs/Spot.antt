@@ -1,4 +1,4 @@
--- Where a packet lies that was lent (RFC 9580, 4.2).
+-- Where a packet lies that was found (RFC 9580, 4.2).
 use Rattle.std.specs.Prelude.{◌≡◌, ℕ, ◌-◌, ◌≤◌, List, length, take, drop}
 use Rattle.opgp_frame.specs.declared.packet.Placed.{Placed}
 use Rattle.opgp_frame.specs.declared.spot.Spot.{Spot}

@@ -1,6 +1,5 @@
 -- A packet, borrowed, and its place.
 use Rattle.opgp_frame.specs.declared.packet.Placed.{Placed}
-use Rattle.opgp_frame.specs.declared.lent.Lent.{Lent}
 use Rattle.opgp_frame.specs.declared.view.PacketView.{PacketView}
 use Rattle.opgp_frame.specs.declared.view.PlacedView.{PlacedView}
 use Rattle.opgp_frame.specs.Packet.{PacketValue}
@@ -12,11 +11,3 @@ viewed_packet v = record { form = v.form.now; kind = v.kind; body = v.body.now }
 -- the packet in its place
 abbrev pub viewed : PlacedView → Placed
 viewed v = record { packet = viewed_packet v.packet; block = v.block; pos = v.pos }
-
--- the packet that is lent, in its place
-abbrev pub lent_packet : Lent → Placed
-lent_packet v = record {
-  packet = record { form = v.form; kind = v.kind; body = v.body.now };
-  block = v.block;
-  pos = v.pos;
-}

@@ -1,20 +1,21 @@
 -- A packet of one piece, all of whose octets are there (RFC 9580, 4.2).
-use Rattle.std.specs.Prelude.{◌≡◌, ℕ, ◌-◌, ◌≤◌, false, List, [], ◌++◌, length, take, drop}
+use Rattle.std.specs.Prelude.{◌≡◌, ℕ, ◌<◌, ◌≤◌, List, [], ◌++◌, length, take}
 use Rattle.opgp_octets.specs.declared.limits.Limits.{Limits}
 use Rattle.opgp_octets.specs.Limits.{body_limit}
-use Rattle.opgp_frame.specs.declared.whole.Whole.{Whole}
+use Rattle.opgp_frame.specs.declared.packet.Placed.{Placed}
+use Rattle.opgp_frame.specs.declared.spot.Spot.{Spot}
 use Rattle.opgp_frame.specs.Form.{exponents_of}
-use Rattle.opgp_frame.specs.Length.{is_partial}
 use Rattle.opgp_frame.specs.Packet.{PacketValue, IsPacket, spelling}
-use Rattle.opgp_frame.specs.Unfinished.{IsInPiece}
+use Rattle.opgp_frame.specs.Spot.{LiesIn}
+use Rattle.opgp_frame.specs.Unfinished.{IsWhole}
 
--- The octets begin with a header and with the whole body that its length announces.
-pub record BeginsWith (limits : Limits) (w : Whole) (o : List ℕ) : Type 0 where
-  pub order : w.from ≤ w.until
-  pub within : w.until ≤ length o
-  pub last : is_partial w.last ≡ false
-  pub whole : IsInPiece limits w.header w.last 0 (w.until - w.from) []
-      (take (w.until - w.from) (drop w.from o)) (take w.until o)
+-- The octets begin with all of an allowed packet of one piece, and this is where it lies in them.
+pub record LiesWhole (limits : Limits) (s : Spot) (o : List ℕ) : Type 0 where
+  pub placed : Placed
+  pub lies : LiesIn s o placed
+  pub some : 0 < s.until
+  pub pieces : exponents_of placed.packet.form ≡ []
+  pub whole : IsWhole limits (take s.until o) placed.packet
 
 -- The octets begin with all of a packet of one piece, whose body is within the limit.
 pub record BeginInOnePiece (limits : Limits) (o : List ℕ) : Type 0 where

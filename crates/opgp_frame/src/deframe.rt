@@ -1,8 +1,8 @@
 //! A reader of packets that octets are pushed into, in pieces of any size.
 
-ghost use Rattle.std.specs.Prelude.{◌≡◌, ◌<◌, ◌≤◌, ◌+◌, ◌-◌, ◌^◌, ◌++◌, ◌∷◌, ◌↔◌, ℕ, List, [], true};
-ghost use Rattle.std.specs.Prelude.{false, length, take, drop, is_some, option_to_list, Some, None, IfOk, IfSome, IsSome};
-ghost use Rattle.std.specs.Prelude.{OnOk, OnErr, MatchResult, Ok, Err};
+ghost use Rattle.std.specs.Prelude.{◌≡◌, ◌<◌, ◌≤◌, ◌+◌, ◌^◌, ◌++◌, ◌∷◌, ◌↔◌, ℕ, List, [], true};
+ghost use Rattle.std.specs.Prelude.{false, length, take, is_some, option_to_list, Some, None, IfOk};
+ghost use Rattle.std.specs.Prelude.{IfSome, IsSome, OnOk, OnErr, MatchResult, Ok, Err};
 ghost use Rattle.std.specs.Prelude.{vec_capacity, vec_len, max, min};
 ghost use Rattle.std.specs.Option.{IsSomeAnd};
 ghost use Rattle.opgp_octets.specs.declared.limits.Limits.{Limits};
@@ -14,11 +14,10 @@ ghost use Rattle.opgp_frame.specs.ReaderState.{state_fits, state_fault, held_in,
 
 use crate::header::{header_fault, kind_in};
 use crate::length::{Length, length_fault, read_length};
-use crate::lent::Lent;
 use crate::packet::Placed;
-use crate::parts::{lend_whole, placed};
+use crate::parts::placed;
 use crate::spot::Spot;
-use crate::whole::{Whole, whole_in};
+use crate::whole::whole_in;
 use opgp_octets::{Fault, Layer, Limits, OutOfMemory, PushFault, Reason};
 use std::alloc::Global;
 use std::mem;
@@ -80,8 +79,7 @@ impl Deframe {
     ghost use Rattle.opgp_frame.specs.ReaderState.{IsInLength};
     ghost use Rattle.opgp_frame.specs.Unfinished.{EndsLength, IsInPiece, IsWhole};
     ghost use Rattle.opgp_frame.specs.Spot.{LiesIn};
-    ghost use Rattle.opgp_frame.specs.View.{lent_packet};
-    ghost use Rattle.opgp_frame.specs.Whole.{BeginsWith, BeginInOnePiece};
+    ghost use Rattle.opgp_frame.specs.Whole.{BeginInOnePiece};
     ghost use Rattle.opgp_frame.specs.declared.packet.Placed.{Placed};
 
     /// A reader of a block's packets that was given nothing yet.
@@ -240,44 +238,10 @@ impl Deframe {
         }
     }
 
-    /// Takes a packet of one piece, all of whose octets begin the piece, where the reader is between
-    /// packets: lends it, with the number of its octets, and copies nothing. Where there is none, takes
-    /// nothing and returns None; `push` reads on then. The conditions are those of `push`.
-    ///
-    /// Allocates nothing.
-    pub fn lend<'a>(&mut self, piece: &'a [u8]) -> Option<(usize, Lent<'a>)>
-        requires free { is_ready self.old ≡ false }
-        requires room { count_of self.old + length piece.now < 2 ^ 63 }
-        ensures fed { IfSome result (λ r.
-            KeepsFed self.old self.new (take r.0 piece.now) (lent_packet r.1 ∷ [])) }
-        ensures moves { IfSome result (λ r. (0 < r.0) × (r.0 ≤ length piece.now)) }
-        ensures count { IfSome result (λ r. count_of self.new ≡ count_of self.old + r.0) }
-        // The packet is in one piece, whose body is within the limit.
-        ensures whole { IfSome result (λ r. exponents_of (lent_packet r.1).packet.form ≡ []) }
-        ensures short { IfSome result (λ r.
-            length (lent_packet r.1).packet.body ≤ body_limit (limits_of self.new)) }
-        // Where there is such a packet, it is lent.
-        ensures some { is_between self.old ≡ true → BeginInOnePiece (limits_of self.old) piece.now
-            → IsSome result }
-        ensures between { IsSome result → is_between self.new ≡ true }
-        ensures none { result ≡ None → self.new ≡ self.old }
-        ensures free { is_ready self.new ≡ false }
-        ensures sound { is_spent self.new ≡ is_spent self.old }
-        ensures faulty { fault_of self.new ≡ fault_of self.old }
-        // After a fault, and when out of memory, nothing is lent.
-        ensures quiet { IsSome (fault_of self.old) → result ≡ None }
-        ensures spent { is_spent self.old ≡ true → result ≡ None }
-        ensures limits { limits_of self.new ≡ limits_of self.old }
-        ensures held { held_of self.new ≡ held_of self.old }
-    {
-        let State::Between = self.state else {
-            return None;
-        };
-        let whole = whole_in(self.limits, piece)?;
-        Some(self.step_whole(whole, piece))
-    }
-
-    /// Takes a packet as `lend` does, and says where it lies in the piece, with the number of its octets.
+    /// Takes a packet of one piece, all of whose octets begin the piece, where the reader is
+    /// between packets: says where it lies there, with the number of its octets, and copies
+    /// nothing. Where there is none, takes nothing and returns None; `push` reads on then. The
+    /// conditions are those of `push`.
     ///
     /// Allocates nothing.
     #[inline(always)]
@@ -288,22 +252,32 @@ impl Deframe {
             × KeepsFed self.old self.new (take r.0 piece.now) (p ∷ [])) }
         ensures moves { IfSome result (λ r. (0 < r.0) × (r.0 ≤ length piece.now)) }
         ensures count { IfSome result (λ r. count_of self.new ≡ count_of self.old + r.0) }
+        // The packet is in one piece, whose body is within the limit.
+        ensures whole { IfSome result (λ r. (p : Placed) → LiesIn r.1 piece.now p
+            → exponents_of p.packet.form ≡ []) }
+        ensures short { IfSome result (λ r. (p : Placed) → LiesIn r.1 piece.now p
+            → length p.packet.body ≤ body_limit (limits_of self.new)) }
         // Where there is such a packet, it is found.
         ensures some { is_between self.old ≡ true → BeginInOnePiece (limits_of self.old) piece.now
             → IsSome result }
+        ensures between { IsSome result → is_between self.new ≡ true }
         ensures none { result ≡ None → self.new ≡ self.old }
         ensures free { is_ready self.new ≡ false }
         ensures sound { is_spent self.new ≡ is_spent self.old }
         ensures faulty { fault_of self.new ≡ fault_of self.old }
+        // After a fault, and when out of memory, nothing is found.
+        ensures quiet { IsSome (fault_of self.old) → result ≡ None }
+        ensures spent { is_spent self.old ≡ true → result ≡ None }
         ensures limits { limits_of self.new ≡ limits_of self.old }
         ensures held { held_of self.new ≡ held_of self.old }
     {
         let State::Between = self.state else {
             return None;
         };
-        let whole = whole_in(self.limits, piece)?;
-        let (n, lent) = self.step_whole(whole, piece);
-        Some((n, lent.spot(whole.from, whole.until)))
+        let spot = whole_in(self.alloc, self.limits, piece, self.block, self.start)?;
+        self.given += spot.until as u64;
+        self.start = self.given;
+        Some((spot.until, spot))
     }
 
     /// Takes octets of the piece up to the one that makes a packet ready, or all of them.
@@ -314,10 +288,10 @@ impl Deframe {
         ensures { Takes self.old self.new piece.now result }
     {
         // The usual case: the piece has the whole packet.
-        if let State::Between = self.state {
-            if let Some(whole) = whole_in(self.limits, piece) {
-                return self.copy_whole(whole, piece);
-            }
+        if let Some((n, spot)) = self.find(piece) {
+            let placed = spot.lend(piece).copy(self.alloc)?;
+            self.ready = Some(placed);
+            return Ok(n);
         }
         self.steps(piece)
     }
@@ -394,67 +368,6 @@ impl Deframe {
         self.exponents = Vec::new(self.alloc);
         self.body = Vec::new(self.alloc);
         self.state = state;
-    }
-
-    /// Takes the whole packet that begins the piece.
-    #[inline(always)]
-    fn step_whole<'a>(&mut self, whole: Whole, piece: &'a [u8]) -> (usize, Lent<'a>)
-        requires between { self.old.state ≡ State.Between }
-        requires whole { BeginsWith self.old.limits whole piece.now }
-        requires free { is_ready self.old ≡ false }
-        requires room { count_of self.old + length piece.now < 2 ^ 63 }
-        ensures fed { KeepsFed self.old self.new (take result.0 piece.now) (lent_packet result.1 ∷ []) }
-        ensures moves { (0 < result.0) × (result.0 ≤ length piece.now) }
-        ensures count { count_of self.new ≡ count_of self.old + result.0 }
-        ensures short { length (lent_packet result.1).packet.body ≤ body_limit (limits_of self.new) }
-        ensures whole { exponents_of (lent_packet result.1).packet.form ≡ [] }
-        // The body is where it was said to be.
-        ensures lies { (result.0 ≡ whole.until) × ((lent_packet result.1).packet.body
-            ≡ take (whole.until - whole.from) (drop whole.from piece.now)) }
-        ensures free { is_ready self.new ≡ false }
-        ensures between { self.new.state ≡ State.Between }
-        ensures exponents { self.new.exponents ≡ self.old.exponents }
-        ensures body { self.new.body ≡ self.old.body }
-        ensures ready { self.new.ready ≡ self.old.ready }
-        ensures limits { limits_of self.new ≡ limits_of self.old }
-    {
-        let Whole {
-            header,
-            last,
-            from,
-            until,
-        } = whole;
-        let lent = lend_whole(
-            self.alloc,
-            header,
-            last,
-            &piece[from..until],
-            self.block,
-            self.start,
-        );
-        self.given += until as u64;
-        self.start = self.given;
-        (until, lent)
-    }
-
-    /// Takes a copy of the whole packet that begins the piece.
-    fn copy_whole(&mut self, whole: Whole, piece: &[u8]) -> Result<usize, OutOfMemory>
-        requires between { self.old.state ≡ State.Between }
-        requires whole { BeginsWith self.old.limits whole piece.now }
-        requires free { is_ready self.old ≡ false }
-        requires room { count_of self.old + length piece.now < 2 ^ 63 }
-        ensures fed { IfOk result (λ n. KeepsFed self.old self.new (take n piece.now) []) }
-        ensures moves { IfOk result (λ n. (0 < n) × (n ≤ length piece.now)) }
-        ensures ready { OnOk result (is_ready self.new ≡ true) }
-        ensures count { IfOk result (λ n. count_of self.new ≡ count_of self.old + n) }
-        ensures sound { is_spent self.new ≡ false }
-        ensures free { OnErr result (is_ready self.new ≡ false) }
-        ensures limits { limits_of self.new ≡ limits_of self.old }
-    {
-        let (n, lent) = self.step_whole(whole, piece);
-        let placed = lent.view().copy(self.alloc)?;
-        self.ready = Some(placed);
-        Ok(n)
     }
 
     /// Takes the octet that begins a packet.
@@ -632,10 +545,10 @@ impl Deframe {
 
 /// Makes room in a body for octets of a piece: `there` of them have come, of `want` in all.
 ///
-/// Where they don't fit, a last piece gets no more room than it needs, and at most 4,096 octets, or as
-/// much again as the body has, before they have come: so a body that comes in small parts is copied a
-/// few times, and not with each of them. A partial piece gets none here: the vector grows as it is
-/// appended to.
+/// Where they don't fit, a last piece gets no more room than it needs, and at most 4,096 octets, or
+/// as much again as the body has, before they have come: so a body that comes in small parts is
+/// copied a few times, and not with each of them. A partial piece gets none here: the vector grows
+/// as it is appended to.
 fn make_room(
     body: &mut Vec<u8>,
     partial: bool,

@@ -34,7 +34,8 @@ pub fn spelled_without_places()
 /// length: octets bound how many packets they are, and so the memory that these take.
 pub fn two_octets_beside_each_body()
     ensures { (packets : List PacketValue)
-        → 2 * length packets + sum_by (λ p. length p.body) packets ≤ length (packets_octets packets) }
+        → 2 * length packets + sum_by (λ p. length p.body) packets
+        ≤ length (packets_octets packets) }
 {}
 
 /// What was taken from a reader and what is ready is the longest list of allowed packets that the

@@ -7,7 +7,6 @@ mod form;
 mod header;
 pub mod laws;
 mod length;
-mod lent;
 mod packet;
 mod parts;
 mod pieces;
@@ -19,7 +18,6 @@ mod writing;
 
 pub use deframe::Deframe;
 pub use form::Form;
-pub use lent::Lent;
 pub use packet::{Packet, Placed};
 pub use pieces::{LastForm, Pieces};
 pub use spelling::{HeaderOctets, Spelling};

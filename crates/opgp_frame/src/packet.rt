@@ -47,8 +47,8 @@ impl Packet {
     /// This packet, or None unless all of these hold:
     ///
     /// - the type is read: below 64, and none of 0, 8, 15, 16, 19, 20 and 22 to 39;
-    /// - packets of the type may have the form: types up to 15 the legacy format, 9, 11 and 18 partial
-    ///   lengths;
+    /// - packets of the type may have the form: types up to 15 the legacy format, 9, 11 and 18
+    ///   partial lengths;
     /// - the form can encode the body's length, which is at most 4,294,967,295.
     ///
     /// Allocates nothing.

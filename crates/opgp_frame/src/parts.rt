@@ -1,6 +1,6 @@
 //! A packet from its parts as they were read.
 
-ghost use Rattle.std.specs.Prelude.{◌≡◌, ◌<◌, ◌≤◌, ℕ, List, [], false, length, IfSome};
+ghost use Rattle.std.specs.Prelude.{◌≡◌, ◌<◌, ◌≤◌, ℕ, List, false, length, IfSome};
 ghost use Rattle.std.specs.Option.{IsSomeAnd};
 ghost use Rattle.opgp_octets.specs.declared.limits.Limits.{Limits};
 ghost use Rattle.opgp_frame.specs.Form.{exponents_of};
@@ -8,16 +8,13 @@ ghost use Rattle.opgp_frame.specs.FormOf.{form_with};
 ghost use Rattle.opgp_frame.specs.Length.{is_partial};
 ghost use Rattle.opgp_frame.specs.PiecesValue.{ArePieces};
 ghost use Rattle.opgp_frame.specs.Unfinished.{IsInPiece, IsWhole};
-ghost use Rattle.opgp_frame.specs.View.{lent_packet};
 
 use crate::form::Form;
 use crate::header::kind_in;
 use crate::length::Length;
-use crate::lent::Lent;
 use crate::packet::{Packet, Placed};
 use crate::pieces::{LastForm, Pieces};
 use opgp_octets::PacketLen;
-use std::alloc::Global;
 
 /// The packet with this first octet, these pieces, this last length and this body, in its place.
 #[inline(always)]
@@ -44,7 +41,7 @@ pub(crate) fn placed(
 
 /// The form of a packet with these pieces and this last length.
 #[inline(always)]
-fn form_of(exponents: Vec<u8>, last: Length) -> Option<Form>
+pub(crate) fn form_of(exponents: Vec<u8>, last: Length) -> Option<Form>
     ensures kept { IfSome result (λ f. length (exponents_of f) ≤ length exponents.items) }
     ensures exact { (0 < length exponents.items → ArePieces exponents.items)
         → result ≡ form_with exponents.items last }
@@ -63,37 +60,4 @@ fn form_of(exponents: Vec<u8>, last: Length) -> Option<Form>
     }
     let pieces = Pieces::new(exponents, last)?;
     Some(Form::Partial(pieces))
-}
-
-/// The packet with this first octet, this length and this body, in one piece, in its place.
-#[inline(always)]
-pub(crate) fn lend_whole<'a>(
-    alloc: Global,
-    header: u8,
-    last: Length,
-    body: &'a [u8],
-    block: u64,
-    pos: u64,
-) -> Lent<'a>
-    requires whole { (limits : Limits) × (rest : List ℕ)
-        × IsInPiece limits header last 0 (length body.now) [] body.now rest }
-    requires last { is_partial last ≡ false }
-    ensures whole { (limits : Limits) (rest : List ℕ)
-        → IsInPiece limits header last 0 (length body.now) [] body.now rest
-        → IsWhole limits rest (lent_packet result).packet }
-    ensures body { result.body.now ≡ body.now }
-    ensures pieces { exponents_of result.form ≡ [] }
-    ensures block { result.block ≡ block }
-    ensures pos { result.pos ≡ pos }
-{
-    match form_of(Vec::new(alloc), last) {
-        Some(form) => Lent {
-            form,
-            kind: kind_in(header),
-            body,
-            block,
-            pos,
-        },
-        None => unreachable!(),
-    }
 }

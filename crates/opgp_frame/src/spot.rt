@@ -1,4 +1,4 @@
-//! Where a packet lies that was lent.
+//! Where a packet lies that was found.
 
 ghost use Rattle.std.specs.Prelude.{◌≡◌, ℕ, List};
 ghost use Rattle.opgp_frame.specs.declared.packet.Placed.{Placed};
@@ -6,8 +6,8 @@ ghost use Rattle.opgp_frame.specs.declared.packet.Placed.{Placed};
 use crate::form::Form;
 use crate::view::{PacketView, PlacedView};
 
-/// Where a packet of one piece lies in octets (RFC 9580, 4.2), and its place in the input: what is kept
-/// of a packet that was lent, so that it can be lent again.
+/// Where a packet of one piece lies in octets (RFC 9580, 4.2), and its place in the input: what is
+/// kept of a packet that was found, so that it can be lent.
 #[derive(Drop)]
 pub struct Spot {
     pub(crate) form: Form,

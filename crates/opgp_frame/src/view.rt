@@ -17,7 +17,9 @@ pub struct PacketView<'a> {
     pub(crate) form: &'a Form,
     pub(crate) kind: u8,
     pub(crate) body: &'a [u8],
-    ghost packet: { IsPacket (record { form = form.now; kind = kind; body = body.now }) } by { IsPacket-prop (record { form = form.now; kind = kind; body = body.now }) },
+    ghost packet: { IsPacket
+        (record { form = form.now; kind = kind; body = body.now }) } by { IsPacket-prop
+            (record { form = form.now; kind = kind; body = body.now }) },
 }
 
 /// A packet, borrowed, and its place in the input.

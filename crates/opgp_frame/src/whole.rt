@@ -1,26 +1,27 @@
 //! Packets in one piece, of which all octets are there.
 
-ghost use Rattle.std.specs.Prelude.{IfSome, IsSome};
-ghost use Rattle.opgp_frame.specs.Whole.{BeginsWith, BeginInOnePiece};
+ghost use Rattle.std.specs.Prelude.{◌≡◌, IfSome, IsSome};
+ghost use Rattle.opgp_frame.specs.Whole.{LiesWhole, BeginInOnePiece};
 
-use crate::header::header_fault;
-use crate::length::{Length, read_length};
+use crate::header::{header_fault, kind_in};
+use crate::length::read_length;
+use crate::parts::form_of;
+use crate::spot::Spot;
 use opgp_octets::Limits;
+use std::alloc::Global;
 
-/// A packet of one piece at the front of a slice: its first octet, its length, and where its body
-/// begins and ends.
-#[derive(Clone, Copy)]
-pub(crate) struct Whole {
-    pub(crate) header: u8,
-    pub(crate) last: Length,
-    pub(crate) from: usize,
-    pub(crate) until: usize,
-}
-
-/// The allowed packet of one piece that the octets begin with, if all of it is there.
+/// Where the allowed packet of one piece lies that the octets begin with, if all of it is there;
+/// its place in the input is this one. Allocates nothing.
 #[inline(always)]
-pub(crate) fn whole_in(limits: Limits, octets: &[u8]) -> Option<Whole>
-    ensures whole { IfSome result (λ whole. BeginsWith limits whole octets.now) }
+pub(crate) fn whole_in(
+    alloc: Global,
+    limits: Limits,
+    octets: &[u8],
+    block: u64,
+    pos: u64,
+) -> Option<Spot>
+    ensures whole { IfSome result (λ spot. LiesWhole limits spot octets.now) }
+    ensures place { IfSome result (λ spot. (spot.block ≡ block) × (spot.pos ≡ pos)) }
     ensures some { BeginInOnePiece limits octets.now → IsSome result }
 {
     let [header, behind @ ..] = octets else {
@@ -39,10 +40,13 @@ pub(crate) fn whole_in(limits: Limits, octets: &[u8]) -> Option<Whole>
     if amount > octets.len() - from {
         return None;
     }
-    Some(Whole {
-        header: *header,
-        last,
+    let form = form_of(Vec::new(alloc), last)?;
+    Some(Spot {
+        form,
+        kind: kind_in(*header),
         from,
         until: from + amount,
+        block,
+        pos,
     })
 }

@@ -1,6 +1,7 @@
 //! Choosing parts of certificates.
 
-ghost use Rattle.std.specs.Prelude.{◌≡◌, ◌+◌, ◌<◌, ◌^◌, ◌++◌, ◌∷◌, [], All, length, map, IfOk, OnOk, if◌then◌else◌};
+ghost use Rattle.std.specs.Prelude.{◌≡◌, ◌+◌, ◌<◌, ◌^◌, ◌++◌, ◌∷◌, [], All, length, map, IfOk};
+ghost use Rattle.std.specs.Prelude.{OnOk, if◌then◌else◌};
 ghost use Rattle.std.specs.List.{flat_map};
 ghost use Rattle.opgp_ring.specs.Grouped.{component_of, components_left};
 ghost use Rattle.opgp_ring.specs.Keyring.{IsCertificate, IsComponent, certificate_packets};
@@ -15,8 +16,8 @@ use opgp_octets::{OutOfMemory, PacketType};
 use opgp_ring::{Certificate, Component, Components, Keyring};
 use std::alloc::Global;
 
-/// The keyring of whose certificates the chosen parts stay, in their order and as they are framed. A
-/// certificate stays even if only its primary key does, and what precedes the first one as it is.
+/// The keyring of whose certificates the chosen parts stay, in their order and as they are framed.
+/// A certificate stays even if only its primary key does, and what precedes the first one as it is.
 ///
 /// What stays of a certificate is copied, and then the certificate is freed. Fails only when out of
 /// memory.

@@ -1,5 +1,5 @@
-//! Keyrings merged: certificates of one primary key become one (RFC 9580, 10.1); and certificates of
-//! which only chosen parts stay.
+//! Keyrings merged: certificates of one primary key become one (RFC 9580, 10.1); and certificates
+//! of which only chosen parts stay.
 #![tactic(auto)]
 
 mod choice;

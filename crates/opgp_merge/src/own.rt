@@ -78,8 +78,8 @@ fn names_key(signature: SigView<'_>, print: Fingerprint) -> bool
     is_name_of(named_by(signature), print)
 }
 
-/// The name that a signature gives its issuer: in version 3 its field of a key ID (RFC 9580, 5.2.2),
-/// in versions 4 and 6 as a report reads it.
+/// The name that a signature gives its issuer: in version 3 its field of a key ID (RFC 9580,
+/// 5.2.2), in versions 4 and 6 as a report reads it.
 fn named_by(signature: SigView<'_>) -> IssuerName
     ensures { name_value result ≡ named_of (sig_view_value signature.entry) }
 {

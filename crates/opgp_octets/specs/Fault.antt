@@ -1,20 +1,30 @@
 -- Faults and their texts: the layer in lower case, the reason's name, and the places in decimal.
-use Rattle.std.specs.Prelude.{ℕ, List, ◌++◌, codes}
+use Rattle.std.specs.Prelude.{ℕ, List, ◌++◌, codes, Option}
 use Rattle.std.specs.Fmt.{decimal}
 use Rattle.opgp_octets.specs.declared.fault.Layer.{Layer}
 use Rattle.opgp_octets.specs.declared.fault.Layer.TheVariants as layer
 use Rattle.opgp_octets.specs.declared.fault.Reason.{Reason}
 use Rattle.opgp_octets.specs.declared.fault.Reason.TheVariants as reason
+use Rattle.opgp_octets.specs.declared.fault.TheConstants.Layer as layers
+use Rattle.opgp_octets.specs.declared.fault.TheConstants.Reason as reasons
 use Rattle.opgp_octets.specs.declared.fault.Fault.{Fault}
 use Rattle.opgp_octets.specs.declared.fault.BodyFault.{BodyFault}
+use Rattle.opgp_octets.specs.Rows.{with_number}
 
--- the name of a layer
+-- the number and the name of a layer
+abbrev pub layer_row : Layer → ℕ × List ℕ
+layer_row layer.Input = (0, codes "input")
+layer_row layer.Armor = (1, codes "armor")
+layer_row layer.Framing = (2, codes "framing")
+layer_row layer.Body = (3, codes "body")
+layer_row layer.Composition = (4, codes "composition")
+layer_row layer.Text = (5, codes "text")
+
+abbrev pub layer_number : Layer → ℕ
+layer_number l = (layer_row l).0
+
 unfoldable pub layer_name : Layer → List ℕ
-layer_name layer.Input = codes "input"
-layer_name layer.Armor = codes "armor"
-layer_name layer.Framing = codes "framing"
-layer_name layer.Body = codes "body"
-layer_name layer.Composition = codes "composition"
+layer_name l = (layer_row l).1
 
 -- the number and the name of a reason
 abbrev pub reason_row : Reason → ℕ × List ℕ
@@ -52,17 +62,27 @@ reason_row reason.SubEmpty = (36, codes "SubEmpty")
 reason_row reason.SubShort = (37, codes "SubShort")
 reason_row reason.AreaShort = (40, codes "AreaShort")
 reason_row reason.SaltSize = (41, codes "SaltSize")
+reason_row reason.StrayReturn = (43, codes "StrayReturn")
 reason_row reason.NoPrimary = (50, codes "NoPrimary")
 reason_row reason.NotInKeyring = (51, codes "NotInKeyring")
 reason_row reason.CertTooLong = (52, codes "CertTooLong")
 reason_row reason.NotASignedLiteral = (53, codes "NotASignedLiteral")
 reason_row reason.BlockLabel = (54, codes "BlockLabel")
+reason_row reason.NotASignature = (55, codes "NotASignature")
 
 abbrev pub reason_number : Reason → ℕ
 reason_number r = (reason_row r).0
 
 unfoldable pub reason_name : Reason → List ℕ
 reason_name r = (reason_row r).1
+
+-- The layer, and the reason, that a number stands for: of all that the program has. That each of them is
+-- among those is a law of numbers_of_faults.
+unfoldable pub layer_of : ℕ → Option Layer
+layer_of n = with_number layer_number n layers.ALL
+
+unfoldable pub reason_of : ℕ → Option Reason
+reason_of n = with_number reason_number n reasons.ALL
 
 -- the line of a fault, without its end
 abbrev pub fault_text : Fault → List ℕ

@@ -1,21 +1,25 @@
 //! What is wrong with an input, and where.
 
 ghost use Rattle.std.specs.Prelude.{◌≡◌};
-ghost use Rattle.opgp_octets.specs.Fault.{layer_name, reason_name, reason_number};
+ghost use Rattle.opgp_octets.specs.Fault.{layer_name, layer_number, layer_of};
+ghost use Rattle.opgp_octets.specs.Fault.{reason_name, reason_number, reason_of};
+ghost use Rattle.opgp_octets.specs.Rows.{StandsFor};
 
-/// The layer that refuses an input, lowest first.
+/// The layer that refuses an input, lowest first. Each layer has a number, which never changes.
 #[derive(Clone, Copy, Debug, PartialEq, Eq)]
 pub enum Layer {
     /// The input as a whole: it is too long.
-    Input,
+    Input = 0,
     /// The armored text (RFC 9580, 6).
-    Armor,
+    Armor = 1,
     /// The packets' headers and lengths (RFC 9580, 4.2).
-    Framing,
+    Framing = 2,
     /// The contents of a packet's body (RFC 9580, 5).
-    Body,
+    Body = 3,
     /// The order of packets (RFC 9580, 10.1).
-    Composition,
+    Composition = 4,
+    /// The line ends of a document that is hashed as text (RFC 9580, 5.2.1.2).
+    Text = 5,
 }
 
 /// Why an input is refused. Each reason has a number, which never changes.
@@ -89,6 +93,8 @@ pub enum Reason {
     AreaShort = 40,
     /// A salt whose size isn't that of its hash algorithm.
     SaltSize = 41,
+    /// A carriage return that no line feed follows, in a document that is to be text.
+    StrayReturn = 43,
     /// A component or signature before the first primary key.
     NoPrimary = 50,
     /// A packet that has no place in a keyring.
@@ -99,6 +105,8 @@ pub enum Reason {
     NotASignedLiteral = 53,
     /// A block with another label than expected.
     BlockLabel = 54,
+    /// A packet that is no signature, or no signature at all, where only signatures may be.
+    NotASignature = 55,
 }
 
 /// The fault of an input. Offsets count from 0.
@@ -149,6 +157,36 @@ impl BodyFault {
 }
 
 impl Layer {
+    /// All of them, by number.
+    pub const ALL: [Layer; 6] = [
+        Layer::Input,
+        Layer::Armor,
+        Layer::Framing,
+        Layer::Body,
+        Layer::Composition,
+        Layer::Text,
+    ];
+
+    /// The layer of this number; None if no layer has it.
+    pub fn of(number: u8) -> Option<Layer>
+        ensures value { result ≡ layer_of number }
+        ensures stands { StandsFor layer_number number result }
+    {
+        for layer in &Layer::ALL {
+            if layer.number() == number {
+                return Some(*layer);
+            }
+        }
+        None
+    }
+
+    /// The number.
+    pub fn number(self) -> u8
+        ensures { result ≡ layer_number self }
+    {
+        self as u8
+    }
+
     #[tactic(auto, unfolding(crate::specs::Fault::layer_name))]
     /// The name in lower case, as a fault's line has it.
     pub fn name(self) -> &'static str
@@ -160,12 +198,34 @@ impl Layer {
             Layer::Framing => "framing",
             Layer::Body => "body",
             Layer::Composition => "composition",
+            Layer::Text => "text",
         }
     }
 }
 
+// The reasons, by number.
+macro_rules! reasons {
+    ($write:ident $($value:expr)?) => {
+        $write! { $($value,)? Reason;
+            Spent Short MpiBits Outside NoBlock Label Header Letters Padding AfterChecksum EndLabel
+            Unfinished LineTooLong InputTooLong NotAPacket TypeZero Compressed UnknownCritical
+            Indeterminate Truncated PartialKind FirstPartial BodyTooLong TooManyPieces KeyVersion
+            KeyTooLong Count OidSize KdfSize Trailing SubEmpty SubShort AreaShort SaltSize
+            StrayReturn NoPrimary NotInKeyring CertTooLong NotASignedLiteral BlockLabel
+            NotASignature
+        }
+    };
+}
+
+/// The variants.
+macro_rules! all {
+    ($table:ident; $($variant:ident)*) => {
+        [$($table::$variant,)*]
+    };
+}
+
 /// The name of a variant, which is that of the variant itself.
-macro_rules! names {
+macro_rules! name {
     ($value:expr, $table:ident; $($variant:ident)*) => {
         match $value {
             $($table::$variant => stringify!($variant),)*
@@ -174,6 +234,22 @@ macro_rules! names {
 }
 
 impl Reason {
+    /// All of them, by number.
+    pub const ALL: [Reason; 41] = reasons!(all);
+
+    /// The reason of this number; None if no reason has it.
+    pub fn of(number: u8) -> Option<Reason>
+        ensures value { result ≡ reason_of number }
+        ensures stands { StandsFor reason_number number result }
+    {
+        for reason in &Reason::ALL {
+            if reason.number() == number {
+                return Some(*reason);
+            }
+        }
+        None
+    }
+
     /// The number.
     pub fn number(self) -> u8
         ensures { result ≡ reason_number self }
@@ -186,12 +262,6 @@ impl Reason {
     pub fn name(self) -> &'static str
         ensures { result.now ≡ reason_name self }
     {
-        names! { self, Reason;
-            Spent Short MpiBits Outside NoBlock Label Header Letters Padding AfterChecksum EndLabel
-            Unfinished LineTooLong InputTooLong NotAPacket TypeZero Compressed UnknownCritical
-            Indeterminate Truncated PartialKind FirstPartial BodyTooLong TooManyPieces KeyVersion
-            KeyTooLong Count OidSize KdfSize Trailing SubEmpty SubShort AreaShort SaltSize
-            NoPrimary NotInKeyring CertTooLong NotASignedLiteral BlockLabel
-        }
+        reasons!(name self)
     }
 }

@@ -6,13 +6,36 @@ ghost use Rattle.opgp_octets.specs.Fault.{fault_text, body_fault_text, layer_nam
 
 use crate::fault::{BodyFault, Fault, Layer, Reason};
 use crate::refusal::OutOfMemory;
+use arrayvec::ArrayString;
+use itoa::Buffer;
 use std::alloc::Global;
 use std::error::Error;
 use std::fmt;
 
-/// The fault's line, without a line end: `<layer>: <Reason> block <b> at <pos> inner <inner>`.
-///
-/// It is what `Display` writes. Fails only when out of memory.
+/// How many octets the longest line of a fault has: 11 of its layer, 17 of its reason, 20 of each
+/// of three numbers, and 20 between them.
+pub const FAULT_LINE: usize = 108;
+
+/// The line of a fault, without a line end: `<layer>: <Reason> block <b> at <pos> inner <inner>`.
+/// It takes no allocation.
+#[tactic(auto, using(crate::proofs::Numbers::layer_short, crate::proofs::Numbers::reason_short))]
+pub fn short_line(fault: &Fault) -> ArrayString<FAULT_LINE>
+    ensures { result.bytes ≡ fault_text fault.now }
+{
+    let mut line = ArrayString::new();
+    line.push_str(fault.layer.name());
+    line.push_str(": ");
+    line.push_str(fault.reason.name());
+    line.push_str(" block ");
+    line.push_str(Buffer::new().format(fault.block));
+    line.push_str(" at ");
+    line.push_str(Buffer::new().format(fault.pos));
+    line.push_str(" inner ");
+    line.push_str(Buffer::new().format(fault.inner));
+    line
+}
+
+/// The line of [`short_line`], as a text of its own. Fails only when out of memory.
 pub fn fault_line(alloc: Global, fault: &Fault) -> Result<String, OutOfMemory>
     ensures { IfOk result (λ line. string_bytes line ≡ fault_text fault.now) }
 {
@@ -43,17 +66,12 @@ impl fmt::Display for Reason {
 
 impl Error for Reason {}
 
-/// The fault's line, without a line end: `<layer>: <Reason> block <b> at <pos> inner <inner>`.
+/// The line of [`short_line`].
 impl fmt::Display for Fault {
     ghost output = { λ fault. Some (fault_text fault) };
 
     fn fmt<W: fmt::Write>(&self, f: &mut fmt::Formatter<W>) -> fmt::Result {
-        let layer = self.layer.name();
-        let reason = self.reason.name();
-        let block = self.block;
-        let pos = self.pos;
-        let inner = self.inner;
-        write!(f, "{layer}: {reason} block {block} at {pos} inner {inner}")
+        f.write_str(short_line(self).as_str())
     }
 }
 

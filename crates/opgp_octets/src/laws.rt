@@ -2,11 +2,21 @@
 //! read again.
 
 ghost use Rattle.std.specs.Prelude.{◌≡◌, ◌++◌, List, ℕ, Bool, Some, Ok, length};
+ghost use Rattle.opgp_octets.specs.Fault.{layer_number, layer_of, reason_number, reason_of};
 ghost use Rattle.opgp_octets.specs.PacketLen.{PacketLenFits, packet_len_octets, packet_len_at};
 ghost use Rattle.opgp_octets.specs.SubLen.{SubLenFits, sub_len_octets, sub_len_at};
 ghost use Rattle.opgp_octets.specs.Mpi.{MpiValue, IsMpi, MayStand, mpi_octets, mpi_at};
+ghost use Rattle.opgp_octets.specs.declared.fault.Layer.{Layer};
+ghost use Rattle.opgp_octets.specs.declared.fault.Reason.{Reason};
 ghost use Rattle.opgp_octets.specs.declared.packet_len.PacketLen.{PacketLen};
 ghost use Rattle.opgp_octets.specs.declared.sub_len.SubLen.{SubLen};
+
+/// Each layer, and each reason, is what its number stands for. So no two have one number.
+#[tactic(auto, using(crate::proofs::Numbers::layer_listed, crate::proofs::Numbers::reason_listed))]
+pub fn numbers_of_faults()
+    ensures layer { (l : Layer) → layer_of (layer_number l) ≡ Some l }
+    ensures reason { (r : Reason) → reason_of (reason_number r) ≡ Some r }
+{}
 
 /// No packet length's encoding is a proper prefix of another's.
 #[tactic(auto, using(crate::proofs::PacketLens::one_packet_len))]

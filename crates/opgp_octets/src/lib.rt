@@ -25,7 +25,7 @@ mod subpacket_kind;
 
 pub use appending::put;
 pub use fault::{BodyFault, Fault, Layer, Reason};
-pub use fault_text::fault_line;
+pub use fault_text::{FAULT_LINE, fault_line, short_line};
 pub use hash_algorithm::HashAlgorithm;
 pub use hexadecimal::{write_digits, write_hexadecimal};
 pub use key_algorithm::KeyAlgorithm;

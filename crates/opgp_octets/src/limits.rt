@@ -114,8 +114,8 @@ impl Limits {
     }
 
     /// The default limits: lines of 8,192 octets, bodies of 16,777,216, certificates of 67,108,864,
-    /// an input of 2^40, and 1,048,576 partial lengths of a packet. Lines outside of blocks are passed
-    /// over, and malformed signatures refused.
+    /// an input of 2^40, and 1,048,576 partial lengths of a packet. Lines outside of blocks are
+    /// passed over, and malformed signatures refused.
     pub fn usual() -> Limits
         ensures line { line_limit result ≡ line_range.usual }
         ensures body { body_limit result ≡ body_range.usual }

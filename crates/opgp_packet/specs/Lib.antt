@@ -7,6 +7,7 @@ pub mod AttributeBody
 pub mod Cursor
 pub mod FieldReading
 pub mod Fields
+pub mod Flags
 pub mod Forms
 pub mod Key
 pub mod KeyBody

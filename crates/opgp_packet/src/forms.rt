@@ -2,10 +2,9 @@
 
 ghost use Rattle.std.specs.Prelude.{◌≡◌, ◌≤◌, length, option_map, IfSome, IfNone, ℕ, List};
 ghost use Rattle.opgp_octets.specs.Octets.{IsBodySized};
-ghost use Rattle.opgp_packet.specs.MeaningReading.{number_in, one_in, two_in, ended_in, behind_one_in};
-ghost use Rattle.opgp_packet.specs.MeaningReading.{behind_two_in};
-ghost use Rattle.opgp_packet.specs.MeaningReading.{revoker_in, eight_in, notation_in, named_in};
-ghost use Rattle.opgp_packet.specs.MeaningReading.{pairs_in};
+ghost use Rattle.opgp_packet.specs.MeaningReading.{number_in, one_in, two_in, ended_in};
+ghost use Rattle.opgp_packet.specs.MeaningReading.{behind_one_in, behind_two_in, revoker_in};
+ghost use Rattle.opgp_packet.specs.MeaningReading.{eight_in, notation_in, named_in, pairs_in};
 
 use crate::sub_meaning::KeyId8;
 use opgp_octets::{u16_at, u32_at};

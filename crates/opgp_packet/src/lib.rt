@@ -7,6 +7,7 @@ mod areas;
 mod attribute;
 mod cursor;
 pub mod field_laws;
+mod flags;
 mod forms;
 mod key;
 pub mod key_laws;
@@ -36,6 +37,7 @@ pub use areas::{
 };
 pub use attribute::{Attribute, AttributeSub, AttributeView};
 pub use cursor::{AreaLength, Cursor};
+pub use flags::{Flag, features, key_flags, key_server_preferences};
 pub use key::{Key, KeyView};
 pub use key_material::{Material, MaterialView};
 pub use literal::{Literal, LiteralView};

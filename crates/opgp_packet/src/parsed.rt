@@ -9,8 +9,7 @@ ghost use Rattle.opgp_octets.specs.Reading.{Reads};
 ghost use Rattle.opgp_octets.specs.declared.fault.BodyFault.{BodyFault};
 ghost use Rattle.opgp_packet.specs.AreaReading.{fault_of};
 ghost use Rattle.opgp_packet.specs.FieldReading.{body_at};
-ghost use Rattle.opgp_packet.specs.Fields.{Field, Grammar};
-ghost use Rattle.opgp_packet.specs.Fields.{Body as IsBody, FirstFault};
+ghost use Rattle.opgp_packet.specs.Fields.{Field, Grammar, Body as IsBody, FirstFault};
 
 use opgp_octets::{BodyFault, OutOfMemory, ParseFault};
 use std::alloc::{AllocError, Global};
@@ -97,7 +96,8 @@ impl<B: Octets + Drop, F: Body + Drop> Parsed<B, F> {
         ensures only { (fields : List Field) → IsBody F.grammar fields (B.octets body)
             → Reads (λ p. body_fields p) result (Ok fields) }
         // The body begins with some fields, and the next one can't be read there.
-        ensures fault { IfErr result (FirstFault (length (B.octets body)) F.grammar (B.octets body)) }
+        ensures fault { IfErr result
+            (FirstFault (length (B.octets body)) F.grammar (B.octets body)) }
         ensures exact { Reads (λ p. body_fields p) result (body_at F.grammar (B.octets body)) }
         ensures body { IfOk result (λ p. body_octets p ≡ B.octets body) }
     {

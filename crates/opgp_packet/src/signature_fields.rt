@@ -5,10 +5,10 @@ ghost use Rattle.opgp_octets.specs.KeyAlgorithm.{key_algorithm_of};
 ghost use Rattle.opgp_packet.specs.Cursor.{body_under, ReadsField, ReadsAll};
 ghost use Rattle.opgp_packet.specs.Fields.{named, sequence};
 ghost use Rattle.opgp_packet.specs.Spans.{octets_in, IsIn};
-ghost use Rattle.opgp_packet.specs.SignatureMaterial.{fields_in, shape, AreIn, material_fields, HasSizes};
+ghost use Rattle.opgp_packet.specs.SignatureMaterial.{fields_in, shape, AreIn, material_fields};
+ghost use Rattle.opgp_packet.specs.SignatureMaterial.{HasSizes};
 ghost use Rattle.opgp_packet.specs.SignatureShape.{shape_of};
-ghost use Rattle.opgp_packet.specs.SignatureBody.{salt_of, material_kinds};
-ghost use Rattle.opgp_packet.specs.SignatureBody.{old_material_kinds};
+ghost use Rattle.opgp_packet.specs.SignatureBody.{salt_of, material_kinds, old_material_kinds};
 
 use crate::signature_material::{MaterialPlaces, SignatureMaterial, SignatureMaterialView};
 use crate::{Cursor, MpiSpan, Span};

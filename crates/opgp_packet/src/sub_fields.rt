@@ -2,8 +2,9 @@
 
 use crate::sub_meaning::KeyId8;
 
-/// The fields of a subpacket's data, by the form that its kind has (RFC 9580, 5.2.3.11 to 5.2.3.36).
-/// Several kinds share a form: whoever stores or shows data without minding its kind needs no more.
+/// The fields of a subpacket's data, by the form that its kind has (RFC 9580, 5.2.3.11 to
+/// 5.2.3.36). Several kinds share a form: whoever stores or shows data without minding its kind
+/// needs no more.
 #[derive(Clone, Copy)]
 pub enum SubFields<'a> {
     /// A number of four octets: a time, or a number of seconds.

@@ -2,6 +2,7 @@
 
 ghost use Rattle.std.specs.Prelude.{◌≡◌, MatchOption, length, option_map};
 ghost use Rattle.opgp_octets.specs.Octets.{IsBodySized};
+ghost use Rattle.opgp_octets.specs.declared.subpacket_kind.SubpacketKind.TheVariants as kinds;
 ghost use Rattle.opgp_packet.specs.Meaning.{unfit};
 ghost use Rattle.opgp_packet.specs.MeaningReading.{meaning_of};
 ghost use Rattle.opgp_packet.specs.SubMeaning.{meaning_shown};
@@ -195,14 +196,7 @@ pub(crate) fn typed(kind: SubpacketKind, o: &[u8]) -> Option<SubMeaning<'_>>
         SubpacketKind::Revocable => SubMeaning::Revocable(one(o)?),
         SubpacketKind::KeyExpires => SubMeaning::KeyExpires(number(o)?),
         SubpacketKind::PreferredSymmetric => SubMeaning::PreferredSymmetric(o),
-        SubpacketKind::RevocationKey => {
-            let (class, algorithm, fingerprint) = revoker(o)?;
-            SubMeaning::RevocationKey {
-                class,
-                algorithm,
-                fingerprint,
-            }
-        }
+        SubpacketKind::RevocationKey => revocation_key(o)?,
         SubpacketKind::Issuer => SubMeaning::Issuer(key_id(o)?),
         SubpacketKind::Notation => {
             let (flags, name, value) = notation(o)?;
@@ -221,33 +215,76 @@ pub(crate) fn typed(kind: SubpacketKind, o: &[u8]) -> Option<SubMeaning<'_>>
             SubMeaning::RevocationReason { code, text }
         }
         SubpacketKind::Features => SubMeaning::Features(o),
-        SubpacketKind::SignatureTarget => {
-            let (algorithm, hash, digest) = behind_two(o)?;
-            SubMeaning::SignatureTarget {
-                algorithm,
-                hash,
-                digest,
-            }
-        }
-        SubpacketKind::EmbeddedSignature => {
-            let view = SigView::parse_body(o).ok()?;
-            SubMeaning::EmbeddedSignature(view.body())
-        }
-        SubpacketKind::IssuerFingerprint => {
-            let (version, fingerprint) = named(o)?;
-            SubMeaning::IssuerFingerprint {
-                version,
-                fingerprint,
-            }
-        }
-        SubpacketKind::IntendedRecipient => {
-            let (version, fingerprint) = named(o)?;
-            SubMeaning::IntendedRecipient {
-                version,
-                fingerprint,
-            }
-        }
+        SubpacketKind::SignatureTarget => signature_target(o)?,
+        SubpacketKind::EmbeddedSignature => embedded_signature(o)?,
+        SubpacketKind::IssuerFingerprint => issuer_fingerprint(o)?,
+        SubpacketKind::IntendedRecipient => intended_recipient(o)?,
         SubpacketKind::PreferredAead => SubMeaning::PreferredAead(pairs(o)?),
         SubpacketKind::Other(_) => SubMeaning::Unknown,
+    })
+}
+
+/// Who may revoke the key (RFC 9580, 5.2.3.23).
+#[tactic(auto, unfolding(crate::specs::MeaningReading::meaning_of))]
+fn revocation_key(o: &[u8]) -> Option<SubMeaning<'_>>
+    ensures { MatchOption result (meaning_of kinds.RevocationKey o.now ≡ unfit)
+        (λ m. meaning_shown m ≡ meaning_of kinds.RevocationKey o.now) }
+{
+    let (class, algorithm, fingerprint) = revoker(o)?;
+    Some(SubMeaning::RevocationKey {
+        class,
+        algorithm,
+        fingerprint,
+    })
+}
+
+/// The signature that this one refers to (RFC 9580, 5.2.3.33).
+#[tactic(auto, unfolding(crate::specs::MeaningReading::meaning_of))]
+fn signature_target(o: &[u8]) -> Option<SubMeaning<'_>>
+    ensures { MatchOption result (meaning_of kinds.SignatureTarget o.now ≡ unfit)
+        (λ m. meaning_shown m ≡ meaning_of kinds.SignatureTarget o.now) }
+{
+    let (algorithm, hash, digest) = behind_two(o)?;
+    Some(SubMeaning::SignatureTarget {
+        algorithm,
+        hash,
+        digest,
+    })
+}
+
+/// The body of another signature (RFC 9580, 5.2.3.34).
+#[tactic(auto, unfolding(crate::specs::MeaningReading::meaning_of))]
+fn embedded_signature(o: &[u8]) -> Option<SubMeaning<'_>>
+    requires { IsBodySized o.now }
+    ensures { MatchOption result (meaning_of kinds.EmbeddedSignature o.now ≡ unfit)
+        (λ m. meaning_shown m ≡ meaning_of kinds.EmbeddedSignature o.now) }
+{
+    let view = SigView::parse_body(o).ok()?;
+    Some(SubMeaning::EmbeddedSignature(view.body()))
+}
+
+/// The issuer's fingerprint (RFC 9580, 5.2.3.35).
+#[tactic(auto, unfolding(crate::specs::MeaningReading::meaning_of))]
+fn issuer_fingerprint(o: &[u8]) -> Option<SubMeaning<'_>>
+    ensures { MatchOption result (meaning_of kinds.IssuerFingerprint o.now ≡ unfit)
+        (λ m. meaning_shown m ≡ meaning_of kinds.IssuerFingerprint o.now) }
+{
+    let (version, fingerprint) = named(o)?;
+    Some(SubMeaning::IssuerFingerprint {
+        version,
+        fingerprint,
+    })
+}
+
+/// The fingerprint of an intended recipient (RFC 9580, 5.2.3.36).
+#[tactic(auto, unfolding(crate::specs::MeaningReading::meaning_of))]
+fn intended_recipient(o: &[u8]) -> Option<SubMeaning<'_>>
+    ensures { MatchOption result (meaning_of kinds.IntendedRecipient o.now ≡ unfit)
+        (λ m. meaning_shown m ≡ meaning_of kinds.IntendedRecipient o.now) }
+{
+    let (version, fingerprint) = named(o)?;
+    Some(SubMeaning::IntendedRecipient {
+        version,
+        fingerprint,
     })
 }

@@ -76,9 +76,9 @@ impl<'a> SubView<'a> {
         named(self.octets())
     }
 
-    /// Its data in the form of its kind, or [`SubMeaning::Unfit`], or
-    /// [`SubMeaning::Unknown`]. Allocates nothing; the work is linear in the length of the data. For
-    /// kind 32 it reads a whole signature, so look at [`SubView::kind`] first for any other kind.
+    /// Its data in the form of its kind, or [`SubMeaning::Unfit`], or [`SubMeaning::Unknown`].
+    /// Allocates nothing; the work is linear in the length of the data. For kind 32 it reads a
+    /// whole signature, so look at [`SubView::kind`] first for any other kind.
     pub fn meaning(&self) -> SubMeaning<'a>
         ensures means { Means (subpacket_kind_of (kind_shown (sub_shown self.now).kind))
             (sub_shown self.now).octets (meaning_shown result) }

@@ -22,9 +22,9 @@ pub struct FingerprintedRow {
     pub signer: Option<Fingerprint>,
 }
 
-/// What is found of the signatures of a keyring, in order, with fingerprints. It keeps the rows, the
-/// name of the issuer of each that is hashed, and an index of the keys, where signers are found as
-/// rows are visited.
+/// What is found of the signatures of a keyring, in order, with fingerprints. It keeps the rows,
+/// the name of the issuer of each that is hashed, and an index of the keys, where signers are found
+/// as rows are visited.
 #[derive(Drop)]
 pub struct FingerprintedReport {
     pub(crate) rows: Vec<Row>,
@@ -49,8 +49,8 @@ impl FingerprintedReport {
     }
 }
 
-/// The rows of a report that are left to be visited, in order, with fingerprints. A signer is found in
-/// time that grows with the logarithm of the number of keys. Allocates nothing.
+/// The rows of a report that are left to be visited, in order, with fingerprints. A signer is found
+/// in time that grows with the logarithm of the number of keys. Allocates nothing.
 #[derive(Clone, Copy)]
 pub struct FingerprintedRows<'a> {
     rows: &'a [Row],

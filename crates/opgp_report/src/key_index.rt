@@ -95,8 +95,8 @@ impl KeyIndex {
         }
     }
 
-    /// The index with the keys of a certificate appended: its primary key, then its subkeys. Each key
-    /// is hashed once.
+    /// The index with the keys of a certificate appended: its primary key, then its subkeys. Each
+    /// key is hashed once.
     ///
     /// Fails only when out of memory.
     pub fn with_certificate(self, certificate: &Certificate) -> Result<KeyIndex, OutOfMemory>
@@ -106,8 +106,8 @@ impl KeyIndex {
         self.with_named(certificate, print_of(&certificate.key()))
     }
 
-    /// The same, where this is the fingerprint of the certificate's primary key. Fails only when out
-    /// of memory.
+    /// The same, where this is the fingerprint of the certificate's primary key. Fails only when
+    /// out of memory.
     pub(crate) fn with_named(
         self,
         certificate: &Certificate,

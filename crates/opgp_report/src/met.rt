@@ -31,8 +31,8 @@ pub struct Met<'a> {
 }
 
 impl<'a> Met<'a> {
-    /// What it hashes over the hasher's subject, or why nothing is. It is made only here, so that who
-    /// doesn't ask doesn't pay. Inlined, so that the question isn't copied from place to place.
+    /// What it hashes over the hasher's subject, or why nothing is. It is made only here, so that
+    /// who doesn't ask doesn't pay. Inlined, so that the question isn't copied from place to place.
     #[inline(always)]
     pub fn asked(&self, hasher: &CertificateHasher<'a>) -> Posed<'a>
         ensures exact { (read : Result SignatureValue BodyFault) → IsMet self.now.signature read

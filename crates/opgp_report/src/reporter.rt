@@ -43,8 +43,8 @@ impl<'a, V: Verifier> Reporter<'a, V> {
     }
 }
 
-/// What is found of a signature that is hashed, over the hasher's current subject, and whose issuer's
-/// key is this one.
+/// What is found of a signature that is hashed, over the hasher's current subject, and whose
+/// issuer's key is this one.
 pub(crate) fn found<V: Verifier>(
     hasher: &mut CertificateHasher<'_>,
     signature: SigView<'_>,

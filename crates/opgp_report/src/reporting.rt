@@ -17,9 +17,9 @@ use std::alloc::Global;
 /// doesn't depend on the signer: what [`check`](crate::check) makes of a keyring, made of one
 /// certificate after the other. It is for callers that don't keep the certificates.
 ///
-/// It keeps a row for each signature, the name of the issuer of each that is hashed, and an index of
-/// the certificates' keys, since a later key may be the issuer: some 165 octets for a signature and
-/// 100 for a key, and up to twice that while these grow.
+/// It keeps a row for each signature, the name of the issuer of each that is hashed, and an index
+/// of the certificates' keys, since a later key may be the issuer: some 165 octets for a signature
+/// and 100 for a key, and up to twice that while these grow.
 #[derive(Drop)]
 pub struct Reporting {
     pub(crate) keys: KeyIndex,
@@ -47,8 +47,8 @@ impl Reporting {
         }
     }
 
-    /// With the next certificate of the keyring. Each of its keys is hashed once for its fingerprint,
-    /// and its signatures are hashed as by [`check`](crate::check).
+    /// With the next certificate of the keyring. Each of its keys is hashed once for its
+    /// fingerprint, and its signatures are hashed as by [`check`](crate::check).
     ///
     /// Fails only when out of memory.
     pub fn with(self, certificate: &Certificate) -> Result<Reporting, OutOfMemory>
@@ -58,8 +58,8 @@ impl Reporting {
         self.with_named(certificate, print_of(&certificate.key()))
     }
 
-    /// The same, where this is the fingerprint of the certificate's primary key. Fails only when out
-    /// of memory.
+    /// The same, where this is the fingerprint of the certificate's primary key. Fails only when
+    /// out of memory.
     pub(crate) fn with_named(
         self,
         certificate: &Certificate,

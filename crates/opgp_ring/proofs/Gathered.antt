@@ -6,7 +6,7 @@ use Rattle.opgp_ring.specs.Composed.{IsKeyringOf, PartValue, of_lead, of_certifi
 use Rattle.opgp_ring.specs.Composition.{Item}
 use Rattle.opgp_ring.specs.Fed.{Fed, is_ready}
 use Rattle.opgp_ring.specs.Keyring.{CertificateValue, KeyringValue}
-use Rattle.opgp_ring.specs.Parts.{AreParts, HasAll, HasParts}
+use Rattle.opgp_ring.specs.Parts.{AreParts}
 use Rattle.opgp_ring.proofs.Adding.{keyring}
 use Rattle.opgp_ring.proofs.HandedOut.{parts_before}
 use Rattle.opgp_ring.proofs.Parts.{lead_alone, parts_push, same_parts}
@@ -29,5 +29,5 @@ pub certificate_kept : (ring : KeyringValue) (c : CertificateValue) (parts : Lis
 certificate_kept ring c parts e = sym (parts_push ring.lead ring.certificates c) ∙ ap (λ (ps : List PartValue). ps ++ of_certificate c ∷ []) e
 
 -- a keyring that has all parts is the one
-pub all_kept : (limits : Limits) (items : List Item) (ring : KeyringValue) → HasAll HasParts limits items ring → IsKeyringOf limits items ring
-all_kept limits items ring h = subst (IsKeyringOf limits items) (sym (same_parts ring h.ring h.has)) h.composed
+pub all_kept : (limits : Limits) (items : List Item) (ring r : KeyringValue) → parts_of ring ≡ parts_of r → IsKeyringOf limits items r → IsKeyringOf limits items ring
+all_kept limits items ring r has composed = subst (IsKeyringOf limits items) (sym (same_parts ring r has)) composed

@@ -30,3 +30,6 @@ pub mod SignedBodies
 pub mod SignedLaws
 pub mod SignedShapes
 pub mod SignedStates
+pub mod DetachedLaws
+pub mod DetachedStates
+pub mod ReadBodies

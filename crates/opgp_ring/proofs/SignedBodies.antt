@@ -1,5 +1,5 @@
 -- The bodies of a signed literal's packets, by their types.
-use Rattle.std.proofs.Common.{◌≡◌, ℕ, suc, zero, ◌+◌, ◌<◌, All, Bool, true, false, not, ◌==◌, cond, List, [], ◌∷◌, ◌++◌, map, replicate, length, take, drop, get_or, refl, sym, ap, subst, ◌∙◌, arith, length-append}
+use Rattle.std.proofs.Common.{◌≡◌, ℕ, suc, zero, ◌+◌, ◌<◌, All, Bool, true, false, not, ◌==◌, cond, List, [], ◌∷◌, ◌++◌, map, replicate, length, take, drop, get_or, refl, sym, ap, subst, ◌∙◌, append-nil, arith, length-append}
 use Rattle.std.specs.List.{filter}
 use Rattle.std.proofs.lemmas.Bool.{eqb-true, eq-eqb, ne_eqb}
 use Rattle.std.proofs.lemmas.List.{map-append, take_more}
@@ -67,10 +67,19 @@ other : (kind : ℕ) (p : PacketValue) → (p.kind ≡ kind → ⊥) → bodies_
 other kind p e = ap (λ (b : Bool). map (λ (q : PacketValue). q.body) (cond b (p ∷ []) [])) (ne_eqb p.kind kind e)
 
 -- one more that hasn't the type
+pub no_more : (kind i : ℕ) (ps : List PacketValue) (p : PacketValue) → i < length ps → p ≡ get_or ps i p → (p.kind ≡ kind → ⊥) → bodies_of kind (take (i + 1) ps) ≡ bodies_of kind (take i ps)
+no_more kind i ps p h e another =
+    ap (bodies_of kind) (take_more ps i p h) ∙ bodies-append kind (take i ps) (get_or ps i p ∷ []) ∙ ap (λ (q : PacketValue). bodies_of kind (take i ps) ++ bodies_of kind (q ∷ [])) (sym e)
+    ∙ ap (λ (l : List (List ℕ)). bodies_of kind (take i ps) ++ l) (other kind p another) ∙ append-nil (bodies_of kind (take i ps))
+
 pub none_more : (kind i : ℕ) (ps : List PacketValue) (p : PacketValue) → i < length ps → p ≡ get_or ps i p → (p.kind ≡ kind → ⊥) → bodies_of kind (take i ps) ≡ [] → bodies_of kind (take (i + 1) ps) ≡ []
-none_more kind i ps p h e another none =
-    ap (bodies_of kind) (take_more ps i p h) ∙ bodies-append kind (take i ps) (get_or ps i p ∷ []) ∙ ap (λ (l : List (List ℕ)). l ++ bodies_of kind (get_or ps i p ∷ [])) none
-    ∙ ap (λ (q : PacketValue). bodies_of kind (q ∷ [])) (sym e) ∙ other kind p another
+none_more kind i ps p h e another none = no_more kind i ps p h e another ∙ none
+
+-- one more that has it
+pub one_more : (kind i : ℕ) (ps : List PacketValue) (p : PacketValue) → i < length ps → p ≡ get_or ps i p → p.kind ≡ kind → bodies_of kind (take (i + 1) ps) ≡ bodies_of kind (take i ps) ++ p.body ∷ []
+one_more kind i ps p h e is =
+    ap (bodies_of kind) (take_more ps i p h) ∙ bodies-append kind (take i ps) (get_or ps i p ∷ []) ∙ ap (λ (q : PacketValue). bodies_of kind (take i ps) ++ bodies_of kind (q ∷ [])) (sym e)
+    ∙ ap (λ (b : Bool). bodies_of kind (take i ps) ++ map (λ (q : PacketValue). q.body) (cond b (p ∷ []) [])) (ap (λ (k : ℕ). k == kind) is ∙ eq-eqb kind kind refl)
 
 -- one that has it
 pub first_here : (kind i : ℕ) (ps : List PacketValue) (p : PacketValue) → i < length ps → p ≡ get_or ps i p → p.kind ≡ kind → bodies_of kind (take i ps) ≡ [] → bodies_of kind ps ≡ p.body ∷ bodies_of kind (drop (i + 1) ps)

@@ -116,7 +116,7 @@ breaks policy given p f sound b = record {
 
 -- ---- the end
 
-sound_packets : (policy : Malformed) (items : List Item) → All (IsSound policy) (placed_in items) → All (HasNoFault policy) (packets_in items)
+pub sound_packets : (policy : Malformed) (items : List Item) → All (IsSound policy) (placed_in items) → All (HasNoFault policy) (packets_in items)
 sound_packets policy [] a = All-nil (HasNoFault policy)
 sound_packets policy (of_label block fits ∷ items) a = sound_packets policy items a
 sound_packets policy (of_packet p ∷ items) a = All-cons (HasNoFault policy) p.packet (packets_in items) (All-head (IsSound policy) p (placed_in items) a) (sound_packets policy items (All-tail (IsSound policy) p (placed_in items) a))

@@ -24,3 +24,7 @@ pub mod Signed
 pub mod SignedGathering
 pub mod SignedLiteral
 pub mod SignedState
+pub mod Detached
+pub mod DetachedGathering
+pub mod DetachedSignatures
+pub mod DetachedState

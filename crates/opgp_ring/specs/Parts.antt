@@ -2,9 +2,7 @@
 use Rattle.std.specs.Prelude.{◌≡◌, List, map}
 use Rattle.opgp_frame.specs.Packet.{PacketValue}
 use Rattle.opgp_frame.specs.Reframed.{reframed}
-use Rattle.opgp_octets.specs.declared.limits.Limits.{Limits}
-use Rattle.opgp_ring.specs.Composed.{IsKeyringOf, PartValue, of_lead, of_certificate, parts_of}
-use Rattle.opgp_ring.specs.Composition.{Item}
+use Rattle.opgp_ring.specs.Composed.{PartValue, of_lead, of_certificate, parts_of}
 use Rattle.opgp_ring.specs.Keyring.{KeyringValue, certificate_packets}
 use Rattle.opgp_ring.specs.Normal.{normal_certificate}
 
@@ -26,10 +24,3 @@ pub record AreParts (parts : List PartValue) : Type 0 where
 -- the keyring has these parts
 abbrev pub HasParts : KeyringValue → List PartValue → Type 0
 HasParts r parts = parts_of r ≡ parts
-
--- A keeper has all parts of the keyring that the items are.
-pub record HasAll {K : Type 0} (kept : K → List PartValue → Type 0) (limits : Limits)
-    (items : List Item) (k : K) : Type 0 where
-  pub ring : KeyringValue
-  pub composed : IsKeyringOf limits items ring
-  pub has : kept k (parts_of ring)

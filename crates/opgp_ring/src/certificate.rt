@@ -1,6 +1,7 @@
 //! Certificates (transferable public keys).
 
-ghost use Rattle.std.specs.Prelude.{◌≡◌, ◌||◌, ◌++◌, ◌∷◌, ◌<◌, ◌^◌, [], true, All, OnOk, OnErr, IfOk};
+ghost use Rattle.std.specs.Prelude.{◌≡◌, ◌||◌, ◌++◌, ◌∷◌, ◌<◌, ◌^◌, [], true, All};
+ghost use Rattle.std.specs.Prelude.{IfOk, OnErr, OnOk};
 ghost use Rattle.std.specs.Prelude.{length};
 ghost use Rattle.opgp_ring.specs.Grouped.{components_left, hangs_left};
 ghost use Rattle.opgp_ring.specs.Keyring.{IsCertificate, IsFiller, IsPrimary, certificate_packets};
@@ -53,8 +54,8 @@ impl Certificate {
         Certificate::begin(Packed::new(alloc), primary)
     }
 
-    /// A certificate of a copy of a primary key alone, in the memory of these packets, of which there are
-    /// none. Fails only when out of memory.
+    /// A certificate of a copy of a primary key alone, in the memory of these packets, of which
+    /// there are none. Fails only when out of memory.
     #[inline(always)]
     pub(crate) fn begin(
         mut packets: Packed,

@@ -22,7 +22,8 @@ pub fn check_bodies(blocks: &[BlockOf]) -> Option<Fault>
     check_bodies_by(blocks, Malformed::Refuse)
 }
 
-/// The same, by this policy for malformed signatures: where they are kept, no signature has a fault.
+/// The same, by this policy for malformed signatures: where they are kept, no signature has a
+/// fault.
 pub fn check_bodies_by(blocks: &[BlockOf], malformed: Malformed) -> Option<Fault>
     ensures { MatchOption result (All (IsSound malformed) (placed_of blocks.now))
         (IsFirstBodyFault malformed (placed_of blocks.now)) }
@@ -50,9 +51,11 @@ pub(crate) fn check_packets(packets: &[Placed], malformed: Malformed) -> Option<
 
 /// The fault of the packet's body, if it has one (RFC 9580, 5). Allocates nothing.
 ///
-/// Keys, literals and user attributes can have one, and signatures where malformed ones are refused.
+/// Keys, literals and user attributes can have one, and signatures where malformed ones are
+/// refused.
 pub fn packet_fault(placed: &Placed, malformed: Malformed) -> Option<Fault>
-    ensures { MatchOption result (IsSound malformed placed.now) (IsPlacedFault malformed placed.now) }
+    ensures { MatchOption result (IsSound malformed placed.now)
+        (IsPlacedFault malformed placed.now) }
 {
     view_fault(PlacedView::of(placed), malformed)
 }

@@ -51,8 +51,8 @@ enum State {
 /// A composer of keyrings (RFC 9580, 10.1) that packets are pushed into, one at a time.
 ///
 /// It hands out the lead and each certificate as soon as it is complete. It keeps only the one that
-/// is unfinished or ready, and nothing after a fault or after running out of memory; and the memory of
-/// the part that was last given back, for the next certificate.
+/// is unfinished or ready, and nothing after a fault or after running out of memory; and the memory
+/// of the part that was last given back, for the next certificate.
 #[derive(Drop)]
 pub struct Composer {
     alloc: Global,
@@ -113,8 +113,8 @@ impl Composer {
         self.ready.take()
     }
 
-    /// Gives back a part that was taken, whose memory the next certificate uses. It changes nothing that
-    /// the composer says.
+    /// Gives back a part that was taken, whose memory the next certificate uses. It changes nothing
+    /// that the composer says.
     ///
     /// Allocates nothing.
     pub fn reuse(&mut self, part: Ready)
@@ -203,7 +203,8 @@ impl Composer {
     /// composer is spent from then on.
     pub fn push_view(&mut self, placed: PlacedView<'_>) -> Result<(), PushFault>
         requires { is_ready self.old ≡ false }
-        ensures fed { OnOk result (KeepsFed self.old self.new (of_packet (viewed placed.entry) ∷ []) []) }
+        ensures fed { OnOk result (KeepsFed self.old self.new
+            (of_packet (viewed placed.entry) ∷ []) []) }
         // Nothing becomes ready with the packet that is at fault.
         ensures quiet { IsSome (fault_of self.new) → is_ready self.new ≡ false }
         // After a fault nothing becomes ready, and the fault stays.
@@ -344,14 +345,19 @@ impl Composer {
         requires unspent { is_spent self.old ≡ false }
         requires sound { HasNoFault (malformed_of (limits_of self.old)) (viewed_packet packet) }
         ensures fed { OnOk result (TakesIn self.old self.new
-            (of_packet (record { packet = viewed_packet packet.entry; block = block; pos = pos }))) }
+            (of_packet (record {
+              packet = viewed_packet packet.entry;
+              block = block;
+              pos = pos;
+            }))) }
         // After a fault nothing changes.
         ensures behind { is_open self.old.state ≡ false
             → IsOk result × (self.new.state ≡ self.old.state)
             × (self.new.ready ≡ self.old.ready) }
         ensures quiet { OnOk result (IsSome (fault_of self.new) → is_ready self.new ≡ false) }
         ensures held { OnOk result (is_ready self.new ≡ true
-            → IsPrimary (viewed_packet packet.entry) × (self.new.size ≡ length (spelling (viewed_packet packet.entry)))) }
+            → IsPrimary (viewed_packet packet.entry)
+            × (self.new.size ≡ length (spelling (viewed_packet packet.entry)))) }
         ensures sound { OnOk result (is_spent self.new ≡ false) }
         ensures limits { limits_of self.new ≡ limits_of self.old }
     {
@@ -383,7 +389,11 @@ impl Composer {
         requires primary { IsPrimary (viewed_packet primary) }
         requires sound { HasNoFault (malformed_of (limits_of self.old)) (viewed_packet primary) }
         ensures fed { OnOk result (TakesIn self.old self.new
-            (of_packet (record { packet = viewed_packet primary.entry; block = block; pos = pos }))) }
+            (of_packet (record {
+              packet = viewed_packet primary.entry;
+              block = block;
+              pos = pos;
+            }))) }
         ensures quiet { OnOk result (IsSome (fault_of self.new) → is_ready self.new ≡ false) }
         ensures held { OnOk result (is_ready self.new ≡ true
             → self.new.size ≡ length (spelling (viewed_packet primary.entry))) }
@@ -421,12 +431,18 @@ impl Composer {
     fn grow(&mut self, packet: PacketView<'_>, block: u64, pos: u64) -> Result<(), OutOfMemory>
         requires open { is_open self.old.state ≡ true }
         requires unspent { is_spent self.old ≡ false }
-        requires behind { (is_head (viewed_packet packet).kind || is_hung (viewed_packet packet).kind) ≡ true }
+        requires behind { (is_head (viewed_packet packet).kind
+            || is_hung (viewed_packet packet).kind) ≡ true }
         // Fillers may come before the first primary key.
-        requires lead { has_begun self.old.state ≡ false → needs_primary (viewed_packet packet).kind ≡ true }
+        requires lead { has_begun self.old.state ≡ false
+            → needs_primary (viewed_packet packet).kind ≡ true }
         requires sound { HasNoFault (malformed_of (limits_of self.old)) (viewed_packet packet) }
         ensures fed { OnOk result (TakesIn self.old self.new
-            (of_packet (record { packet = viewed_packet packet.entry; block = block; pos = pos }))) }
+            (of_packet (record {
+              packet = viewed_packet packet.entry;
+              block = block;
+              pos = pos;
+            }))) }
         ensures ready { OnOk result (self.new.ready ≡ self.old.ready) }
         ensures sound { OnOk result (is_spent self.new ≡ false) }
         ensures limits { limits_of self.new ≡ limits_of self.old }
@@ -454,7 +470,11 @@ impl Composer {
         requires filler { IsFiller (viewed_packet filler) }
         requires sound { HasNoFault (malformed_of (limits_of self.old)) (viewed_packet filler) }
         ensures fed { OnOk result (TakesIn self.old self.new
-            (of_packet (record { packet = viewed_packet filler.entry; block = block; pos = pos }))) }
+            (of_packet (record {
+              packet = viewed_packet filler.entry;
+              block = block;
+              pos = pos;
+            }))) }
         ensures ready { OnOk result (self.new.ready ≡ self.old.ready) }
         ensures sound { OnOk result (is_spent self.new ≡ false) }
         ensures limits { limits_of self.new ≡ limits_of self.old }
@@ -476,7 +496,7 @@ impl Composer {
 
 /// The packet, whose body has no fault by this policy, as one of a keyring.
 #[inline(always)]
-fn keyring_member(packet: PacketView<'_>, malformed: Malformed) -> Member<'_>
+pub(crate) fn keyring_member(packet: PacketView<'_>, malformed: Malformed) -> Member<'_>
     requires stands { stands_in_keyring (viewed_packet packet).kind ≡ true }
     requires sound { HasNoFault malformed (viewed_packet packet) }
     ensures { member_packet result ≡ viewed_packet packet.entry }

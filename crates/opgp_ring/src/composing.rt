@@ -1,16 +1,19 @@
 //! Composing a keyring from blocks of packets.
 
-ghost use Rattle.std.specs.Prelude.{IfOk, MatchResult};
+ghost use Rattle.std.specs.Prelude.{◌≡◌, ◌++◌, ◌∷◌, [], List, false, IfOk, MatchResult, OnOk};
+ghost use Rattle.opgp_octets.specs.declared.limits.Limits.{Limits};
 ghost use Rattle.opgp_ring.specs.Block.{items_of};
 ghost use Rattle.opgp_ring.specs.Composed.{IsFault, IsKeyringOf};
+ghost use Rattle.opgp_ring.specs.Composition.{Item, of_packet};
+ghost use Rattle.opgp_ring.specs.Fed.{is_ready};
 ghost use Rattle.opgp_ring.specs.Gathering.{Gathers};
-ghost use Rattle.opgp_ring.specs.Parts.{HasParts};
 
 use crate::block_of::BlockOf;
-use crate::gathering::Gathering;
+use crate::composer::Composer;
 use crate::keyring::Keyring;
+use opgp_frame::Placed;
 use opgp_octets::{Fault, Limits, OutOfMemory};
-use std::alloc::Global;
+use std::alloc::{AllocError, Global};
 
 /// The keyring of the packets of all blocks, in order (RFC 9580, 10.1), or the one fault: that of
 /// the first body that has one, else the first in the order, where a block's label comes before its
@@ -26,23 +29,59 @@ pub fn compose(
         (IsKeyringOf limits.now (items_of blocks.items))
         (IsFault limits.now (items_of blocks.items))) }
 {
-    gather(alloc, blocks, *limits)?.finish()
-}
-
-/// All parts of the blocks' packets but the last.
-fn gather(
-    alloc: Global,
-    blocks: Vec<BlockOf>,
-    limits: Limits,
-) -> Result<Gathering<Keyring>, OutOfMemory>
-    ensures { IfOk result (λ g. Gathers HasParts limits g (items_of blocks.items)) }
-{
-    let mut gathering = Gathering::new(alloc, limits, Keyring::empty(alloc));
+    let mut composer = Composer::new(alloc, *limits);
+    let mut ring = Keyring::empty(alloc);
     for block in blocks {
-        if let Err(refused) = gathering.add_block(block) {
-            drop(gathering);
-            return Err(refused);
+        let BlockOf {
+            block,
+            label_fits,
+            packets,
+        } = block;
+        composer.begin_block(block, label_fits);
+        for placed in packets {
+            add(&mut composer, &mut ring, placed)?;
         }
     }
-    Ok(gathering)
+    finish(composer, ring)
+}
+
+/// Adds the next packet of a block, and to the keyring the part that it makes ready. The condition
+/// is that no part is ready.
+///
+/// Fails only when out of memory.
+fn add(composer: &mut Composer, ring: &mut Keyring, placed: Placed) -> Result<(), OutOfMemory>
+    requires { is_ready composer.old ≡ false }
+    ensures added { OnOk result ((limits : Limits) (given : List Item)
+        → Gathers limits composer.old ring.old given
+        → Gathers limits composer.new ring.new (given ++ of_packet placed ∷ [])) }
+    ensures free { OnOk result (is_ready composer.new ≡ false) }
+{
+    match composer.push(placed) {
+        Ok(()) => {}
+        Err(_) => return Err(AllocError),
+    }
+    if let Some(part) = composer.take() {
+        ring.keep(part)?;
+    }
+    Ok(())
+}
+
+/// Ends the packets: the keyring with its last part, or the one fault. The condition is that no
+/// part is ready.
+///
+/// Fails only when out of memory.
+fn finish(composer: Composer, mut ring: Keyring) -> Result<Result<Keyring, Fault>, OutOfMemory>
+    requires { is_ready composer ≡ false }
+    ensures { IfOk result (λ r. (limits : Limits) (given : List Item)
+        → Gathers limits composer ring given
+        → MatchResult r (IsKeyringOf limits given) (IsFault limits given)) }
+{
+    match composer.finish() {
+        Ok(None) => Ok(Ok(ring)),
+        Ok(Some(part)) => {
+            ring.keep(part)?;
+            Ok(Ok(ring))
+        }
+        Err(fault) => Ok(Err(fault)),
+    }
 }

@@ -15,7 +15,8 @@ pub enum Content<'a> {
     Attribute(AttributeView<'a>),
     /// A signature (5.2).
     Signature(SigView<'a>),
-    /// The body of a signature packet that is no signature's, where malformed ones are kept (5.2.5).
+    /// The body of a signature packet that is no signature's, where malformed ones are kept
+    /// (5.2.5).
     Malformed(&'a [u8]),
     /// A filler's type and body: a marker, trust or padding packet (5.8, 5.10, 5.14), or one of a
     /// type that isn't critical (4.3), which is kept in its place.

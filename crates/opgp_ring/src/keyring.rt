@@ -1,13 +1,17 @@
 //! Keyrings.
 
-ghost use Rattle.std.specs.Prelude.{◌≡◌, ◌++◌, ◌∷◌, [], IfOk, OnErr, OnOk};
+ghost use Rattle.std.specs.Prelude.{◌≡◌, ◌++◌, ◌∷◌, [], List, IfOk, OnErr, OnOk};
+ghost use Rattle.opgp_ring.specs.Composed.{PartValue};
 ghost use Rattle.opgp_ring.specs.Keyring.{KeyringValue, IsKeyring};
 ghost use Rattle.opgp_ring.specs.Member.{members_left};
+ghost use Rattle.opgp_ring.specs.Parts.{AreParts, HasParts};
+ghost use Rattle.opgp_ring.specs.State.{part_of};
 
 use crate::certificate::Certificate;
 use crate::copying::copy_all;
 use crate::lead::Lead;
 use crate::members::Members;
+use crate::ready::Ready;
 use opgp_octets::OutOfMemory;
 use std::alloc::Global;
 use std::marker::Model;
@@ -79,6 +83,27 @@ impl Keyring {
         let _known = certificate.primary();
         self.certificates.push(certificate)?;
         Ok(())
+    }
+
+    /// Keeps the next part: the fillers before the first certificate, or a certificate behind those
+    /// that are kept (RFC 9580, 10.1).
+    ///
+    /// Fails only when out of memory; nothing is known then of what is kept.
+    pub fn keep(&mut self, part: Ready) -> Result<(), OutOfMemory>
+        ensures { OnOk result ((parts : List PartValue) → HasParts self.old parts
+            → AreParts (parts ++ part_of part ∷ [])
+            → HasParts self.new (parts ++ part_of part ∷ [])) }
+    {
+        match part {
+            Ready::Lead(lead) => {
+                self.begin(lead);
+                Ok(())
+            }
+            Ready::Certificate(certificate) => {
+                self.add(certificate)?;
+                Ok(())
+            }
+        }
     }
 
     /// The fillers before the first certificate, the certificates, and the allocator.

@@ -1,7 +1,7 @@
 //! What the definitions imply.
 
-ghost use Rattle.std.specs.Prelude.{◌≡◌, ◌≤◌, ◌+◌, ◌*◌, ◌⊎◌, ◌↔◌, All, ◌++◌, ◌∷◌, [], ℕ, List, Some};
-ghost use Rattle.std.specs.Prelude.{length, sum_by, true, false};
+ghost use Rattle.std.specs.Prelude.{◌≡◌, ◌≤◌, ◌+◌, ◌*◌, ◌⊎◌, ◌↔◌, All, ◌++◌, ◌∷◌, [], ℕ, List};
+ghost use Rattle.std.specs.Prelude.{Some, length, sum_by, true, false};
 ghost use Rattle.opgp_octets.specs.declared.limits.Limits.{Limits};
 ghost use Rattle.opgp_octets.specs.Octets.{IsOctets};
 ghost use Rattle.opgp_octets.specs.declared.malformed.Malformed.{Malformed};
@@ -12,10 +12,12 @@ ghost use Rattle.opgp_octets.specs.declared.packet_type.PacketType.{PacketType};
 ghost use Rattle.opgp_frame.specs.Packet.{PacketValue};
 ghost use Rattle.opgp_ring.specs.Composed.{HasOctets, IsKeyringOf, IsFault, PartValue, parts_of};
 ghost use Rattle.opgp_ring.specs.Composition.{Item, AreKeyring, order_reason};
+ghost use Rattle.opgp_ring.specs.Detached.{IsDetachedFault, IsDetachedOf};
 ghost use Rattle.opgp_ring.specs.Keyring.{CertificateValue, IsCertificate, certificate_packets};
 ghost use Rattle.opgp_ring.specs.Keyring.{KeyringValue, IsKeyring, flat, octets_of};
 ghost use Rattle.opgp_ring.specs.Normal.{normal_of};
 ghost use Rattle.opgp_ring.specs.PacketBody.{HasBodyFault};
+ghost use Rattle.opgp_ring.specs.Parts.{AreParts};
 ghost use Rattle.opgp_ring.specs.Signed.{IsSignedFault, IsSignedOf};
 ghost use Rattle.opgp_ring.specs.declared.composer.Composer.{Composer};
 ghost use Rattle.opgp_ring.specs.Fed.{Fed, fault_of, held_of, is_ready, is_spent};
@@ -39,6 +41,12 @@ pub fn all_parts_but_the_last()
     ensures { (limits : Limits) (c : Composer) (given : List Item) (taken : List PartValue)
         (r : KeyringValue) → Fed limits c given taken → IsKeyringOf limits given r
         → IsAllButLast (so_far c taken) (parts_of r) }
+{}
+
+/// What was taken from a composer are all parts of some keyring, once nothing is ready.
+pub fn parts_taken_are_a_keyrings()
+    ensures { (limits : Limits) (c : Composer) (given : List Item) (taken : List PartValue)
+        → Fed limits c given taken → is_ready c ≡ false → AreParts taken }
 {}
 
 /// After a fault or running out of memory nothing is held, once nothing is ready.
@@ -142,4 +150,33 @@ pub fn some_signed_answer()
     opgp_packet::field_laws::no_fault();
     opgp_packet::signature_laws::some_answer();
     opgp_packet::signature_laws::no_fault();
+}
+
+/// Items are those of one list of detached signatures at most.
+pub fn one_list_of_signatures()
+    ensures { (policy : Malformed) (items : List Item) (ps qs : List PacketValue)
+        → IsDetachedOf policy items ps → IsDetachedOf policy items qs → ps ≡ qs }
+{}
+
+/// Items of detached signatures have no fault as such.
+pub fn no_detached_fault()
+    ensures { (policy : Malformed) (items : List Item) (ps : List PacketValue) (f : Fault)
+        → IsDetachedOf policy items ps → IsDetachedFault policy items f → ⊥ }
+{}
+
+/// Items have one fault at most as detached signatures.
+pub fn one_detached_fault()
+    ensures { (policy : Malformed) (items : List Item) (f g : Fault)
+        → IsDetachedFault policy items f → IsDetachedFault policy items g → f ≡ g }
+{
+    one_body_fault();
+}
+
+/// Items whose bodies are octets are those of detached signatures or have a fault as such.
+pub fn some_detached_answer()
+    ensures { (policy : Malformed) (items : List Item) → All HasOctets items
+        → ((ps : List PacketValue) × IsDetachedOf policy items ps)
+        ⊎ ((f : Fault) × IsDetachedFault policy items f) }
+{
+    some_signed_answer();
 }

@@ -129,8 +129,8 @@ impl<'a> Member<'a> {
         spelled_len_of(&self.form(), self.body.len() as u64)
     }
 
-    /// The packet as the head of a component. The condition is that it is a user ID, an attribute or a
-    /// subkey. Reads the body; allocates nothing.
+    /// The packet as the head of a component. The condition is that it is a user ID, an attribute
+    /// or a subkey. Reads the body; allocates nothing.
     pub fn head(self) -> Head<'a>
         requires { IsHead (member_packet self) }
         ensures kind { head_kind result ≡ (member_packet self.entry).kind }

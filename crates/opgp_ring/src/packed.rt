@@ -1,6 +1,7 @@
 //! Packets of a keyring, their bodies one after the other in one vector.
 
-ghost use Rattle.std.specs.Prelude.{◌≡◌, ◌↔◌, ◌<◌, ◌^◌, ◌++◌, ◌∷◌, [], All, IfOk, IsTrue, map, OnOk, OnErr};
+ghost use Rattle.std.specs.Prelude.{◌≡◌, ◌↔◌, ◌<◌, ◌^◌, ◌++◌, ◌∷◌, [], All};
+ghost use Rattle.std.specs.Prelude.{IfOk, IsTrue, map, OnErr, OnOk};
 ghost use Rattle.std.specs.Prelude.{length};
 ghost use Rattle.opgp_frame.specs.Reframed.{reframed};
 ghost use Rattle.opgp_ring.specs.Member.{member_packet, members_left};

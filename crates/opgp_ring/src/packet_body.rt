@@ -1,18 +1,20 @@
-//! The faults of packets' bodies, by type.
+//! Packets' bodies: their faults, by type, and signatures.
 
 ghost use Rattle.std.specs.Prelude.{◌≡◌, IfSome, IfNone, None};
 ghost use Rattle.opgp_octets.specs.declared.fault.BodyFault.{BodyFault};
 ghost use Rattle.opgp_octets.specs.Octets.{IsBodySized};
 ghost use Rattle.opgp_ring.specs.PacketBody.{HasBodyFault};
+ghost use Rattle.opgp_ring.specs.SignedLiteral.{IsReadAs};
 
+use opgp_frame::Packet;
 use opgp_octets::{BodyFault, Malformed, PacketType};
 use opgp_packet::{AttributeView, KeyView, Literal, SigView};
 
 /// The first fault of the body of a packet of this type, if it has one. Allocates nothing.
 ///
-/// Public keys and subkeys, literals and user attributes can have one, which is that of their parsers,
-/// and signatures where malformed ones are refused; a user ID is any octets, and the bodies of other
-/// types aren't read.
+/// Public keys and subkeys, literals and user attributes can have one, which is that of their
+/// parsers, and signatures where malformed ones are refused; a user ID is any octets, and the
+/// bodies of other types aren't read.
 pub fn body_fault(kind: PacketType, body: &[u8], malformed: Malformed) -> Option<BodyFault>
     requires { IsBodySized body.now }
     ensures fault { IfSome result (HasBodyFault malformed kind body.now) }
@@ -33,4 +35,11 @@ pub fn body_fault(kind: PacketType, body: &[u8], malformed: Malformed) -> Option
         },
         _ => None,
     }
+}
+
+/// The signature of a packet, or its fault if it is malformed (RFC 9580, 5.2). Allocates nothing.
+pub(crate) fn read_signature(packet: &Packet) -> Result<SigView<'_>, BodyFault>
+    ensures { IsReadAs packet.now.body result }
+{
+    SigView::parse_body(packet.body())
 }

@@ -5,6 +5,7 @@ ghost use Rattle.opgp_octets.specs.declared.malformed.Malformed.TheVariants.{Kee
 ghost use Rattle.opgp_ring.specs.Bodies.{HasNoFault};
 ghost use Rattle.opgp_ring.specs.Signed.{bodies_of, signature_bodies};
 
+use crate::packet_body::read_signature;
 use opgp_frame::Packet;
 use opgp_octets::{BodyFault, PacketType};
 use opgp_packet::SigView;
@@ -36,7 +37,7 @@ impl<'a> Signatures<'a> {
         match first_of(self.packets, PacketType::Signature.number()) {
             Some((packet, rest)) => {
                 self.packets = rest;
-                Some(SigView::parse_body(packet.body()))
+                Some(read_signature(packet))
             }
             None => None,
         }

@@ -158,7 +158,8 @@ impl SignedGathering {
 
     /// Keeps a packet whose body has no fault, if a signed literal can begin so.
     fn keep(&mut self, placed: Placed) -> Result<(), OutOfMemory>
-        ensures state { OnOk result ((policy : Malformed) (given : List Item) → IsSound policy placed
+        ensures state { OnOk result ((policy : Malformed) (given : List Item)
+            → IsSound policy placed
             → IsSignedIn policy self.old.state given self.old.flat.items
             → IsSignedIn policy self.new.state (given ++ of_packet placed ∷ [])
             self.new.flat.items) }

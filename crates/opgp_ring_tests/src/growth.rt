@@ -120,11 +120,11 @@ fn takes_lent(
     if deframe.ready() || composer.ready() || deframe.given() > 1 << 40 || octets.len() > 1 << 40 {
         panic!(rt; "something is ready");
     }
-    let Some((count, lent)) = deframe.lend(octets) else {
+    let Some((count, spot)) = deframe.find(octets) else {
         panic!(rt; "no packet");
     };
     assert!(rt; count == octets.len());
-    match composer.push_view(lent.view()) {
+    match composer.push_view(spot.lend(octets)) {
         Ok(()) => Some(()),
         Err(fault) => {
             assert!(rt; fault == PushFault::Memory);

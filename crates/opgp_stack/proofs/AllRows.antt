@@ -3,16 +3,10 @@ use Rattle.std.proofs.Common.{◌≡◌, ◌∙◌, ℕ, ◌+◌, List, [], ◌�
 use Rattle.opgp_hash.specs.Hashed.{hashed}
 use Rattle.opgp_hash.specs.QuestionValue.{QuestionValue}
 use Rattle.opgp_hash.specs.declared.why.Why.{Why}
-use Rattle.opgp_report.specs.Asked.{Asked, asked_by, asked_of}
+use Rattle.opgp_report.specs.Asked.{Asked, asked_by}
 use Rattle.opgp_report.specs.Standing.{Standing, by_number}
 use Rattle.opgp_report.specs.Visitor.{Leaves}
-use Rattle.opgp_engine.specs.Keyrings.{ComposesTo, key_label}
-use Rattle.opgp_engine.proofs.Kept.{value_by}
-use Rattle.opgp_stack.specs.AllOctets.{AddsRows, HasAllOctets, HasRows, asked_row, octets_row, octets_rows}
-use Rattle.opgp_stack.specs.Parts.{OfKeyring}
-use Rattle.opgp_stack.specs.Running.{Made, OfRing, Text}
-use Rattle.opgp_stack.specs.declared.task.Task.{Task}
-use Rattle.opgp_stack.proofs.KeptOf.{KeyringOf}
+use Rattle.opgp_stack.specs.AllOctets.{AddsRows, HasRows, asked_row, octets_row, octets_rows}
 
 row_push : (n : ℕ) (asked : List Asked) (x : Asked) → by_number asked_row n (asked ++ x ∷ []) ≡ by_number asked_row n asked ++ asked_row (n + length asked) x
 row_push n [] x = append-nil (asked_row n x) ∙ ap (λ (m : ℕ). asked_row m x) (omega arith)
@@ -54,13 +48,6 @@ module _ {D : Type 0} (has : D → List ℕ → Type 0) where
   -- no row yet
   pub no_rows : (draft : D) → has draft [] → HasRows has 0 draft []
   no_rows draft h = record { text = h; count = refl }
-
-  -- what is made of a keyring
-  pub octets_made : (Ends : Made → Type 0) (value : D) → ((octets : List ℕ) → has value octets → Ends (Text octets)) → (task : Task) (input : List ℕ) → KeyringOf (HasAllOctets has) task input (Ok value)
-      → (made : Made) × OfRing (λ r. Text (octets_rows (asked_of r))) task input made × Ends made
-  octets_made Ends value ends task input h =
-      let k = value_by key_label (OfKeyring (HasAllOctets has) task.limits) (ComposesTo task.limits) (λ a r. HasAllOctets has r a) task.mode task.limits input value (λ blocks items framed t. t) h in
-      (Text (octets_rows (asked_of k.0)), (Ok k.0, k.1, refl), ends (octets_rows (asked_of k.0)) k.2)
 
 module _ {K E : Type 0} (Has : K → List Asked → Type 0) where
   -- a signature more

@@ -1,13 +1,16 @@
 mod AllRows
 mod Calendar
+mod CanonicalText
 mod DateTexts
+mod DocumentLines
 mod GoingOn
-mod KeptOf
 mod KeyLines
 pub mod KeyTexts
 mod Looking
 mod MadeOnce
 mod PartTexts
+mod ReadFor
+mod RingMade
 mod Runs
 mod ShownTexts
 mod SoundLines

@@ -5,12 +5,12 @@ use Rattle.opgp_octets.specs.declared.limits.Limits.{Limits}
 use Rattle.opgp_frame.specs.Packet.{PacketValue}
 use Rattle.opgp_ring.specs.Composition.{Item}
 use Rattle.opgp_ring.specs.Keyring.{KeyringValue}
-use Rattle.opgp_engine.specs.Keyrings.{ComposesTo, key_label}
-use Rattle.opgp_engine.specs.Packets.{ArePackets, BlockValue, any_label}
-use Rattle.opgp_engine.specs.Reading.{AnswerOf, Outcome, Wanted}
+use Rattle.opgp_codec.specs.Keyrings.{ComposesTo, key_label}
+use Rattle.opgp_codec.specs.Packets.{ArePackets, BlockValue, any_label}
+use Rattle.opgp_codec.specs.Reading.{AnswerOf, Outcome, Wanted}
 use Rattle.opgp_stack.specs.Running.{Made, Makes, MakesBy, OfLiteral, OfPackets, OfRing, on_value}
-use Rattle.opgp_engine.specs.Signed.{AreSigned, message_label}
-use Rattle.opgp_engine.specs.declared.mode.Mode.{Mode}
+use Rattle.opgp_codec.specs.Signed.{AreSigned, message_label}
+use Rattle.opgp_codec.specs.declared.mode.Mode.{Mode}
 use Rattle.opgp_stack.specs.declared.task.Action.{Action}
 use Rattle.opgp_stack.specs.declared.task.Action.TheVariants as action
 use Rattle.opgp_stack.specs.declared.task.Top.TheVariants as top

@@ -1,24 +1,18 @@
 -- The certificates with a key of a name, as they come.
-use Rattle.std.proofs.Common.{◌≡◌, ◌∙◌, ℕ, Bool, true, false, List, [], ◌∷◌, ◌++◌, ◌||◌, refl, sym, ap, subst, append-nil, Ok}
+use Rattle.std.proofs.Common.{◌≡◌, ◌∙◌, ℕ, Bool, true, false, List, [], ◌∷◌, ◌++◌, ◌||◌, refl, sym, ap, subst, append-nil}
 use Rattle.std.specs.List.{list_any}
 use Rattle.std.proofs.lemmas.List.Concat.{flat_map-append}
 use Rattle.std.proofs.lemmas.List.Elements.{filter-append}
 use Rattle.std.proofs.lemmas.List.Folds.{list_any-append}
 use Rattle.opgp_frame.specs.Packet.{PacketValue}
-use Rattle.opgp_ring.specs.Composed.{PartValue, of_lead, of_certificate, parts_of}
-use Rattle.opgp_ring.specs.Keyring.{CertificateValue, KeyringValue, certificate_packets}
-use Rattle.opgp_engine.specs.Keyrings.{ComposesTo, key_label}
-use Rattle.opgp_engine.specs.declared.out.Out.{Out}
-use Rattle.opgp_engine.specs.Writing.{certificates_text, packets_text}
-use Rattle.opgp_engine.proofs.Kept.{value_by}
-use Rattle.opgp_stack.specs.ByKey.{HasNamed, NamedIn}
+use Rattle.opgp_ring.specs.Composed.{PartValue, of_lead, of_certificate}
+use Rattle.opgp_ring.specs.Keyring.{CertificateValue, certificate_packets}
+use Rattle.opgp_codec.specs.declared.out.Out.{Out}
+use Rattle.opgp_codec.specs.Writing.{certificates_text, packets_text}
+use Rattle.opgp_stack.specs.ByKey.{HasNamed}
 use Rattle.opgp_stack.specs.KeyName.{certificates_with, has_key}
 use Rattle.opgp_stack.specs.OnePart.{certificates_in}
-use Rattle.opgp_stack.specs.Parts.{OfKeyring}
-use Rattle.opgp_stack.specs.Running.{Made, OfRing, found_made, named_made}
-use Rattle.opgp_stack.specs.declared.task.Task.{Task}
-use Rattle.opgp_stack.proofs.KeptOf.{KeyringOf}
-use Rattle.opgp_stack.proofs.Looking.{lead_push, certificate_push, ring_certificates}
+use Rattle.opgp_stack.proofs.Looking.{lead_push, certificate_push}
 
 or_false : (b : Bool) → (b || false) ≡ b
 or_false true = refl
@@ -72,16 +66,3 @@ module _ {D : Type 0} (has : D → List ℕ → Type 0) (out : Out) (name : List
     text = subst (has new) (sym (text_with out name (certificates_in parts) c holds)) (adds _ h.text);
     any = is ∙ sym (list_any-append (has_key name) (certificates_in parts) (c ∷ []) ∙ or_true (list_any (has_key name) (certificates_in parts)) (has_key name c) holds);
   })
-
-  pub named_of_ring : (found : Bool) (draft : D) (r : KeyringValue) → HasNamed has out name found draft (certificates_in (parts_of r)) → NamedIn has out name r (draft, found)
-  named_of_ring found draft r h = subst (HasNamed has out name found draft) (ring_certificates r) h
-
-  -- what a task makes of it
-  pub named_made_of : (Ends : Made → Type 0) (value : D × Bool) → ((text : List ℕ) → has value.0 text → Ends (found_made value.1 text)) → (task : Task) (input : List ℕ)
-      → KeyringOf (NamedIn has out name) task input (Ok value) → (made : Made) × OfRing (λ r. named_made out name r.certificates) task input made × Ends made
-  named_made_of Ends value ends task input h =
-      let k = value_by key_label (OfKeyring (NamedIn has out name) task.limits) (ComposesTo task.limits) (λ a r. NamedIn has out name r a) task.mode task.limits input value (λ blocks items framed t. t) h in (
-        named_made out name k.0.certificates,
-        (Ok k.0, k.1, refl),
-        subst (λ (b : Bool). Ends (found_made b (certificates_text out (certificates_with name k.0.certificates)))) k.2.any (ends _ k.2.text),
-      )

@@ -10,8 +10,8 @@ use Rattle.opgp_ring.specs.Composed.{PartValue, of_lead, of_certificate, lead_pa
 use Rattle.opgp_ring.specs.Keyring.{CertificateValue, KeyringValue, certificate_packets, flat}
 use Rattle.opgp_ring.specs.Normal.{normal_certificate, normal_of}
 use Rattle.opgp_ring.specs.Parts.{normal_part, part_packets}
-use Rattle.opgp_engine.specs.declared.out.Out.{Out}
-use Rattle.opgp_engine.specs.Writing.{certificates_text, packets_text}
+use Rattle.opgp_codec.specs.declared.out.Out.{Out}
+use Rattle.opgp_codec.specs.Writing.{certificates_text, packets_text}
 use Rattle.opgp_stack.specs.Listing.{listing, packet_line}
 use Rattle.opgp_stack.specs.Parts.{certificate_text, chosen_octets, normal_octets, part_lines, part_octets, part_valued_lines}
 use Rattle.opgp_stack.specs.ValuedListing.{valued_listing, valued_packet_line}

@@ -2,9 +2,8 @@
 use Rattle.std.specs.Prelude.{◌≡◌, ⊤, ℕ, List, [], ◌++◌, length, map, codes, Result, Ok, Err}
 use Rattle.std.specs.Fmt.{decimal}
 use Rattle.opgp_hash.specs.Hashed.{hashed}
-use Rattle.opgp_report.specs.Asked.{Asked, asked_by, asked_of}
+use Rattle.opgp_report.specs.Asked.{Asked, asked_by}
 use Rattle.opgp_report.specs.Standing.{Standing, by_number}
-use Rattle.opgp_ring.specs.Keyring.{KeyringValue}
 
 -- `row <n> length <n>`
 abbrev pub octets_line : ℕ → ℕ → List ℕ
@@ -37,7 +36,3 @@ abbrev pub AddsRows : {K E : Type 0} → (K → List Asked → Type 0) → K →
 AddsRows Has old list (Ok new) =
     (asked : List Asked) → Has old asked → Has new (asked ++ map asked_by list)
 AddsRows Has old list (Err refusal) = ⊤
-
--- what has a text has that of a keyring's rows
-abbrev pub HasAllOctets : {D : Type 0} → (D → List ℕ → Type 0) → KeyringValue → D → Type 0
-HasAllOctets has r draft = has draft (octets_rows (asked_of r))

@@ -19,7 +19,7 @@ use Rattle.opgp_packet.specs.SignatureBody.{signature_at}
 use Rattle.opgp_stack.specs.Date.{date_words}
 use Rattle.opgp_stack.specs.declared.listing.Behind.{Behind}
 use Rattle.opgp_stack.specs.declared.listing.Behind.TheVariants.{End, Left}
-use Rattle.opgp_stream.specs.Texts.{escaped}
+use Rattle.opgp_io.specs.Texts.{escaped}
 
 -- ---- numbers of a body
 -- the number that a field is

@@ -29,16 +29,7 @@ IsRow number left None cs = left + length (asked_among cs) ≡ number
 IsRow number left (Some ring) cs = (number < length (asked_among cs))
     × (slice_get (asked_among cs) number ≡ slice_get (asked_of ring) left)
 
--- ---- what is found at the end
--- the certificate of this number
-abbrev pub HasNth : ℕ → KeyringValue → Option CertificateValue → Type 0
-HasNth number r found = slice_get r.certificates number ≡ found
-
 -- the question of a row in the report of what is found, if there is one
 abbrev pub found_question : Option KeyringValue → ℕ → Option QuestionValue
 found_question None left = None
 found_question (Some ring) left = question_in (slice_get (asked_of ring) left)
-
--- it is that of the row of this number
-abbrev pub HasRow : ℕ → KeyringValue → Option KeyringValue × ℕ → Type 0
-HasRow number r found = question_in (slice_get (asked_of r) number) ≡ found_question found.0 found.1

@@ -1,17 +1,13 @@
--- What is written of each part of a keyring, and of all of them.
-use Rattle.std.specs.Prelude.{ℕ, List, [], MatchResult}
-use Rattle.std.specs.List.{flat_map}
-use Rattle.opgp_octets.specs.declared.limits.Limits.{Limits}
+-- What is written of each part of a keyring.
+use Rattle.std.specs.Prelude.{ℕ, List, []}
 use Rattle.opgp_frame.specs.Packet.{packets_octets}
-use Rattle.opgp_ring.specs.Composed.{IsFault, IsKeyringOf, PartValue, of_lead, of_certificate, parts_of}
-use Rattle.opgp_ring.specs.Composition.{Item}
-use Rattle.opgp_ring.specs.Keyring.{KeyringValue, certificate_packets}
+use Rattle.opgp_ring.specs.Composed.{PartValue, of_lead, of_certificate}
+use Rattle.opgp_ring.specs.Keyring.{certificate_packets}
 use Rattle.opgp_ring.specs.Parts.{normal_part, part_packets}
 use Rattle.opgp_merge.specs.Chosen.{chosen_part}
 use Rattle.opgp_merge.specs.declared.choice.Choice.{Choice}
-use Rattle.opgp_engine.specs.declared.out.Out.{Out}
-use Rattle.opgp_engine.specs.Reading.{Outcome}
-use Rattle.opgp_engine.specs.Writing.{packets_text}
+use Rattle.opgp_codec.specs.declared.out.Out.{Out}
+use Rattle.opgp_codec.specs.Writing.{packets_text}
 use Rattle.opgp_stack.specs.Listing.{listing}
 use Rattle.opgp_stack.specs.ValuedListing.{valued_listing}
 
@@ -38,15 +34,3 @@ chosen_octets choice part = packets_octets (part_packets (chosen_part choice par
 abbrev pub certificate_text : Out → PartValue → List ℕ
 certificate_text out (of_lead ps) = []
 certificate_text out (of_certificate c) = packets_text out (certificate_packets c)
-
--- The labels and packets are those of a keyring, of which this is so; or this is their fault.
-abbrev pub OfKeyring : {A : Type 0} → (KeyringValue → A → Type 0) → Limits → List Item → Outcome A
-    → Type 0
-OfKeyring Holds limits items answer = MatchResult answer
-    (λ value. (r : KeyringValue) × IsKeyringOf limits items r × Holds r value)
-    (IsFault limits items)
-
--- what has a text has the one made of its parts
-abbrev pub HasText : {A : Type 0} → (A → List ℕ → Type 0) → (PartValue → List ℕ) → KeyringValue → A
-    → Type 0
-HasText has text r value = has value (flat_map text (parts_of r))

@@ -16,33 +16,33 @@ use Rattle.opgp_ring.specs.Keyring.{KeyringValue, CertificateValue, certificate_
 use Rattle.opgp_ring.specs.Normal.{normal_of}
 use Rattle.opgp_merge.specs.Chosen.{chosen_keyring}
 use Rattle.opgp_merge.specs.Merged.{merged_of}
-use Rattle.opgp_engine.specs.declared.draft_error.DraftError.{DraftError}
-use Rattle.opgp_engine.specs.declared.draft_error.DraftError.TheVariants as draft
-use Rattle.opgp_engine.specs.declared.engine_error.EngineError.{EngineError}
-use Rattle.opgp_engine.specs.declared.engine_error.EngineError.TheVariants as engine
+use Rattle.opgp_codec.specs.declared.draft_error.DraftError.{DraftError}
+use Rattle.opgp_codec.specs.declared.draft_error.DraftError.TheVariants as draft
+use Rattle.opgp_codec.specs.declared.engine_error.EngineError.{EngineError}
+use Rattle.opgp_codec.specs.declared.engine_error.EngineError.TheVariants as engine
 use Rattle.opgp_stack.specs.declared.run_fault.RunFault.{RunFault}
 use Rattle.opgp_stack.specs.declared.run_fault.RunFault.TheVariants as run
 use Rattle.opgp_stack.specs.declared.task.Action.{Action}
 use Rattle.opgp_stack.specs.declared.task.Action.TheVariants as action
-use Rattle.opgp_engine.specs.declared.out.Out.{Out}
+use Rattle.opgp_codec.specs.declared.out.Out.{Out}
 use Rattle.opgp_stack.specs.declared.task.Top.TheVariants as top
 use Rattle.opgp_stack.specs.declared.task.Task.{Task}
 use Rattle.opgp_stack.specs.AllOctets.{octets_rows}
 use Rattle.opgp_stack.specs.Hashing.{message_asked}
-use Rattle.opgp_engine.specs.Draft.{IsDrafted}
-use Rattle.opgp_engine.specs.Keyrings.{ComposesTo, key_label}
+use Rattle.opgp_codec.specs.Draft.{IsDrafted}
+use Rattle.opgp_codec.specs.Keyrings.{ComposesTo, key_label}
 use Rattle.opgp_stack.specs.KeyName.{certificates_with, has_key, name_octets}
 use Rattle.opgp_stack.specs.Listing.{listing}
-use Rattle.opgp_engine.specs.Packets.{ArePackets, BlockValue, any_label}
-use Rattle.opgp_engine.specs.Pulled.{OfAll}
-use Rattle.opgp_engine.specs.Reading.{AnswerOf, Outcome, Wanted}
+use Rattle.opgp_codec.specs.Packets.{ArePackets, BlockValue, any_label}
+use Rattle.opgp_codec.specs.Pulled.{OfAll}
+use Rattle.opgp_codec.specs.Reading.{AnswerOf, Outcome, Wanted}
 use Rattle.opgp_stack.specs.Report.{fingerprinted_lines, report_lines}
 use Rattle.opgp_stack.specs.Showing.{shown_blocks}
 use Rattle.opgp_stack.specs.ValuedListing.{valued_listing}
 use Rattle.opgp_stack.specs.Values.{valued_blocks}
-use Rattle.opgp_engine.specs.Signed.{AreSigned, message_label}
-use Rattle.opgp_engine.specs.Writing.{certificates_text, packets_text}
-use Rattle.opgp_engine.specs.Written.{IsWritten}
+use Rattle.opgp_codec.specs.Signed.{AreSigned, message_label}
+use Rattle.opgp_codec.specs.Writing.{certificates_text, packets_text}
+use Rattle.opgp_codec.specs.Written.{IsWritten}
 
 -- ---- what is made
 -- a text to write, or why there is none
@@ -139,18 +139,25 @@ IsMade held failed old new result NoSuchRow = (result ≡ Err run.NoSuchRow) × 
 IsMade held failed old new result NoSuchCertificate =
     (result ≡ Err run.NoSuchCertificate) × (new ≡ old)
 
--- A run makes what its task says of all that the source gives, and this is so of the sink; or the
--- source fails, or memory runs out while it is read, and nothing is written.
-pub data RunsBy {R W : Type 0} (left : R → Option (List ℕ)) (has_failed : R → Bool)
-    (Ends : W → W → Result Unit RunFault → Made → Type 0) (task : Task) (reader reader' : R)
-    (writer writer' : W) (result : Result Unit RunFault) : Type 0 where
-  makes : OfAll left has_failed reader reader' task.limits (λ octets. (made : Made)
-      × Makes task octets made × Ends writer writer' result made)
-      → RunsBy left has_failed Ends task reader reader' writer writer' result
+-- A run makes this of all that the source gives, and this is so of the sink; or the source fails,
+-- or memory runs out while it is read, and nothing is written.
+pub data RunsOf {R W : Type 0} (left : R → Option (List ℕ)) (has_failed : R → Bool)
+    (Ends : W → W → Result Unit RunFault → Made → Type 0) (limits : Limits)
+    (Of : List ℕ → Made → Type 0) (reader reader' : R) (writer writer' : W)
+    (result : Result Unit RunFault) : Type 0 where
+  makes : OfAll left has_failed reader reader' limits (λ octets. (made : Made)
+      × Of octets made × Ends writer writer' result made)
+      → RunsOf left has_failed Ends limits Of reader reader' writer writer' result
   fails : result ≡ Err run.Read → has_failed reader' ≡ true → writer' ≡ writer
-      → RunsBy left has_failed Ends task reader reader' writer writer' result
+      → RunsOf left has_failed Ends limits Of reader reader' writer writer' result
   lacks : result ≡ Err run.Memory → has_failed reader' ≡ false → writer' ≡ writer
-      → RunsBy left has_failed Ends task reader reader' writer writer' result
+      → RunsOf left has_failed Ends limits Of reader reader' writer writer' result
+
+-- .. what its task says
+abbrev pub RunsBy : {R W : Type 0} → (R → Option (List ℕ)) → (R → Bool)
+    → (W → W → Result Unit RunFault → Made → Type 0) → Task → R → R → W → W
+    → Result Unit RunFault → Type 0
+RunsBy left has_failed Ends task = RunsOf left has_failed Ends task.limits (Makes task)
 
 -- It is made.
 abbrev pub RunsAs : {R W : Type 0} → (R → Option (List ℕ)) → (R → Bool) → (W → Option (List ℕ))

@@ -17,7 +17,7 @@ use Rattle.opgp_packet.specs.MeaningReading.{meaning_of}
 use Rattle.opgp_packet.specs.SignatureBody.{SignatureValue, signature_at}
 use Rattle.opgp_packet.specs.SubView.{is_critical, kind_shown}
 use Rattle.opgp_frame.specs.Header.{is_type}
-use Rattle.opgp_engine.specs.Packets.{BlockValue}
+use Rattle.opgp_codec.specs.Packets.{BlockValue}
 use Rattle.opgp_stack.specs.declared.showing.Area.{Area}
 use Rattle.opgp_stack.specs.declared.showing.Area.TheVariants.{Hashed, Unhashed}
 

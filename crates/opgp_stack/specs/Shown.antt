@@ -1,14 +1,19 @@
--- What is shown of an input's packets, one after the other.
-use Rattle.std.specs.Prelude.{ℕ, List}
-use Rattle.std.specs.List.{flat_map}
-use Rattle.opgp_octets.specs.declared.malformed.Malformed.{Malformed}
-use Rattle.opgp_frame.specs.declared.packet.Placed.{Placed}
-use Rattle.opgp_engine.specs.Reading.{Outcome}
-use Rattle.opgp_engine.specs.SoundPackets.{AreSound}
+-- What is shown of the packets of octets.
+use Rattle.std.specs.Prelude.{ℕ, List, Ok, Err, MatchResult}
+use Rattle.opgp_codec.specs.Packets.{ArePackets, BlockValue, any_label}
+use Rattle.opgp_codec.specs.Reading.{AnswerOf, Outcome}
+use Rattle.opgp_stack.specs.PacketText.{lines_of_packet}
+use Rattle.opgp_stack.specs.Showing.{lines_of}
+use Rattle.opgp_stack.specs.declared.packet_text.PacketText.{PacketText}
+use Rattle.opgp_stack.specs.declared.task.Task.{Task}
 
--- By the policy for malformed signatures no body has a fault, and what has a text has the lines of the
--- packets; or this is the fault of the first body that has one.
-abbrev pub IsShown : {A : Type 0} → Malformed → (Placed → List ℕ) → (A → List ℕ → Type 0)
-    → List Placed → Outcome A → Type 0
-IsShown policy lines has packets answer =
-    AreSound policy (λ value ps. has value (flat_map lines ps)) packets answer
+-- The octets are blocks of packets, and what has a text has the lines of them all; or this is the fault
+-- of the octets.
+abbrev pub IsShownOf : {A : Type 0} → (A → List ℕ → Type 0) → PacketText → Task → List ℕ → Outcome A
+    → Type 0
+IsShownOf has text task octets answer = MatchResult answer
+    (λ draft. (blocks : List BlockValue)
+    × AnswerOf any_label (ArePackets task.limits) task.mode task.limits octets (Ok blocks)
+    × has draft (lines_of (lines_of_packet text) blocks))
+    (λ fault. AnswerOf {A = List BlockValue} any_label (ArePackets task.limits) task.mode task.limits octets
+    (Err fault))

@@ -1,6 +1,6 @@
 -- The lines that show packets with what they say: for each packet its fields, and behind each subpacket
 -- of a signature what it means.
-use Rattle.std.specs.Prelude.{ℕ, ◌/◌, ◌%◌, ◌==◌, if◌then◌else◌, List, [], ◌∷◌, ◌++◌, length}
+use Rattle.std.specs.Prelude.{ℕ, ◌==◌, bit_and, if◌then◌else◌, List, [], ◌∷◌, ◌++◌, length}
 use Rattle.std.specs.Prelude.{codes, Result, Ok, Err}
 use Rattle.std.specs.Fmt.{decimal}
 use Rattle.std.specs.List.{flat_map}
@@ -15,6 +15,7 @@ use Rattle.opgp_packet.specs.Areas.{hashed_subs, unhashed_subs}
 use Rattle.opgp_packet.specs.AttributeBody.{attribute}
 use Rattle.opgp_packet.specs.FieldReading.{body_at}
 use Rattle.opgp_packet.specs.Fields.{Field, small, named, wide, bare}
+use Rattle.opgp_packet.specs.Flags.{feature_rows, key_flag_rows, server_rows}
 use Rattle.opgp_packet.specs.Forms as form
 use Rattle.opgp_packet.specs.KeyBody.{key}
 use Rattle.opgp_packet.specs.LiteralBody.{literal}
@@ -23,13 +24,13 @@ use Rattle.opgp_packet.specs.MeaningReading.{meaning_of}
 use Rattle.opgp_packet.specs.SignatureBody.{SignatureValue, signature_at}
 use Rattle.opgp_packet.specs.Subpackets.{Sub}
 use Rattle.opgp_packet.specs.SubView.{kind_shown}
-use Rattle.opgp_engine.specs.Packets.{BlockValue}
+use Rattle.opgp_codec.specs.Packets.{BlockValue}
 use Rattle.opgp_stack.specs.declared.showing.Area.{Area}
 use Rattle.opgp_stack.specs.declared.showing.Area.TheVariants.{Hashed, Unhashed}
 use Rattle.opgp_stack.specs.Date.{date_words}
 use Rattle.opgp_stack.specs.Listing.{attribute_line, dated_key_line, signature_line, user_id_line}
 use Rattle.opgp_stack.specs.Showing.{header_line, lines_of, subpacket_start}
-use Rattle.opgp_stream.specs.Texts.{escaped}
+use Rattle.opgp_io.specs.Texts.{escaped}
 
 -- ---- what stands in a line
 -- `"<text>"`
@@ -48,29 +49,17 @@ number_text n = codes " " ++ decimal n
 abbrev pub numbers_text : List ℕ → List ℕ
 numbers_text o = flat_map number_text o
 
--- the word, if this bit is set
-abbrev pub flag_word : ℕ → ℕ → List ℕ → List ℕ
-flag_word n bit word = if n / bit % 2 == 1 then word else []
-
 -- the first octet of flags: those that have a name are in it
 abbrev pub first_flags : List ℕ → ℕ
 first_flags [] = 0
 first_flags (n ∷ o) = n
 
--- what a key is for (RFC 9580, 5.2.3.29)
-abbrev pub key_flag_words : ℕ → List ℕ
-key_flag_words n = flag_word n 1 (codes " certify") ++ flag_word n 2 (codes " sign")
-    ++ flag_word n 4 (codes " encrypt-communications") ++ flag_word n 8 (codes " encrypt-storage")
-    ++ flag_word n 16 (codes " split") ++ flag_word n 32 (codes " authenticate")
-    ++ flag_word n 128 (codes " group")
+-- the name of a flag behind a space, if its bit is set
+abbrev pub flag_word : ℕ → ℕ × List ℕ → List ℕ
+flag_word n flag = if bit_and n flag.0 == 0 then [] else codes " " ++ flag.1
 
--- what an implementation supports (5.2.3.32)
-abbrev pub feature_words : ℕ → List ℕ
-feature_words n = flag_word n 1 (codes " seipd1") ++ flag_word n 8 (codes " seipd2")
-
--- what a key server is asked for (5.2.3.25)
-abbrev pub server_words : ℕ → List ℕ
-server_words n = flag_word n 128 (codes " no-modify")
+abbrev pub flag_words : ℕ → List (ℕ × List ℕ) → List ℕ
+flag_words n flags = flat_map (flag_word n) flags
 
 -- ---- ends of lines: a word, and behind it
 -- a number
@@ -101,8 +90,8 @@ abbrev pub numbers_line : List ℕ → List ℕ → List ℕ
 numbers_line word o = word ++ numbers_text o ++ codes "\n"
 
 -- flags, in hexadecimal and by name
-abbrev pub flags_line : List ℕ → List ℕ → List ℕ → List ℕ
-flags_line word o names = word ++ digits_or_none o ++ names ++ codes "\n"
+abbrev pub flags_line : List ℕ → List ℕ → List (ℕ × List ℕ) → List ℕ
+flags_line word o names = word ++ digits_or_none o ++ flag_words (first_flags o) names ++ codes "\n"
 
 -- two numbers, each behind its word, and octets
 abbrev pub pair_digits_line : List ℕ → ℕ → List ℕ → ℕ → List ℕ → List ℕ
@@ -142,16 +131,16 @@ value_line (typed kind.PreferredHash form.octets list) o = numbers_line (codes "
 value_line (typed kind.PreferredCompression form.octets list) o =
     numbers_line (codes " compression") list
 value_line (typed kind.KeyServerPreferences form.octets flags) o =
-    flags_line (codes " server-flags ") flags (server_words (first_flags flags))
+    flags_line (codes " server-flags ") flags server_rows
 value_line (typed kind.PreferredKeyServer form.octets text) o = text_line (codes " key-server ") text
 value_line (typed kind.PrimaryUserId form.octet n) o = number_line (codes " primary-user-id ") n
 value_line (typed kind.PolicyUri form.octets text) o = text_line (codes " policy ") text
 value_line (typed kind.KeyFlags form.octets flags) o =
-    flags_line (codes " key-flags ") flags (key_flag_words (first_flags flags))
+    flags_line (codes " key-flags ") flags key_flag_rows
 value_line (typed kind.SignersUserId form.octets text) o = text_line (codes " signers-user-id ") text
 value_line (typed kind.RevocationReason form.code_and_text x) o = reason_line x.0 x.1
 value_line (typed kind.Features form.octets flags) o =
-    flags_line (codes " features ") flags (feature_words (first_flags flags))
+    flags_line (codes " features ") flags feature_rows
 value_line (typed kind.SignatureTarget form.target x) o =
     pair_digits_line (codes " target alg ") x.0 (codes " hash ") x.1 x.2
 value_line (typed kind.EmbeddedSignature form.signature body) o = codes " " ++ signature_line o

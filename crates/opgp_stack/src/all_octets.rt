@@ -1,7 +1,7 @@
 //! The octets that all signatures of a keyring hash, written as its certificates come.
 
 ghost use Rattle.std.specs.Prelude.{◌≡◌, ◌++◌, ◌+◌, ◌∷◌, [], ℕ, List, true, false, IfOk, IfSome, OnOk};
-ghost use Rattle.opgp_engine.specs.Draft.{DraftHas};
+ghost use Rattle.opgp_codec.specs.Draft.{DraftHas};
 ghost use Rattle.opgp_hash.specs.CertificateHasher.{hasher_subject};
 ghost use Rattle.opgp_hash.specs.Hashed.{hashed};
 ghost use Rattle.opgp_hash.specs.Question.{question_value};
@@ -13,14 +13,14 @@ ghost use Rattle.opgp_ring.specs.Parts.{AreParts};
 ghost use Rattle.opgp_ring.specs.State.{part_of};
 ghost use Rattle.opgp_stack.specs.AllOctets.{AddsRows, HasRows, octets_line, octets_row};
 ghost use Rattle.opgp_stack.specs.OnePart.{asked_among, certificates_in};
-ghost use Rattle.opgp_stream.specs.Output.{Extends, sink_of};
+ghost use Rattle.opgp_io.specs.Output.{Extends, sink_of};
 
-use opgp_engine::{Draft, Spool, Text};
+use opgp_codec::{Draft, Spool, Text};
 use opgp_hash::{CertificateHasher, Question, write_octets};
+use opgp_io::{Output, Sink, Word};
 use opgp_octets::OutOfMemory;
 use opgp_report::{Met, Posed, Visitor, visit};
-use opgp_ring::{Keeper, Keyring, Ready};
-use opgp_stream::{Output, Sink, Word};
+use opgp_ring::{Keyring, Ready};
 use std::alloc::{AllocError, Global};
 use std::io;
 
@@ -77,6 +77,24 @@ impl<S: Spool + Drop> AllOctets<S> {
             draft,
             rows: 0,
         })
+    }
+
+    /// Adds the rows of the next part, if it is a certificate. It gives back no part: the memory of
+    /// a certificate goes into a keyring of it alone. Fails only when out of memory; nothing is known
+    /// of what is written then.
+    pub(crate) fn keep(&mut self, part: Ready) -> Result<Option<Ready>, OutOfMemory>
+        ensures { OnOk result ((parts : List PartValue)
+            → HasRows (DraftHas S.serves S.tells S.holds S.has_failed) self.old.rows self.old.draft
+            (asked_among (certificates_in parts))
+            → HasRows (DraftHas S.serves S.tells S.holds S.has_failed) self.new.rows self.new.draft
+            (asked_among (certificates_in (parts ++ part_of part ∷ [])))) }
+    {
+        let Some(certificate) = part.certificate() else {
+            return Ok(None);
+        };
+        let ring = Keyring::of(self.alloc, certificate)?;
+        self.add_ring(&ring)?;
+        Ok(None)
     }
 
     /// What is written.
@@ -151,19 +169,5 @@ impl<'a, S: Spool + Drop> Visitor<'a> for AllOctets<S> {
                 Ok(())
             }
         }
-    }
-}
-
-impl<S: Spool + Drop> Keeper for AllOctets<S> {
-    ghost kept = { λ k parts. HasRows (DraftHas S.serves S.tells S.holds S.has_failed) k.rows k.draft
-        (asked_among (certificates_in parts)) };
-
-    fn keep(&mut self, part: Ready) -> Result<(), OutOfMemory> {
-        let Some(certificate) = part.certificate() else {
-            return Ok(());
-        };
-        let ring = Keyring::of(self.alloc, certificate)?;
-        self.add_ring(&ring)?;
-        Ok(())
     }
 }

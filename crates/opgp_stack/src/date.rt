@@ -4,9 +4,9 @@ ghost use Rattle.std.specs.Prelude.{◌≡◌, ◌+◌, ◌++◌, ◌<◌, codes
 ghost use Rattle.opgp_stack.specs.Date.{date_of, date_words, date_words_or_none};
 ghost use Rattle.opgp_stack.specs.Date.{day_text, digit, seconds_text};
 ghost use Rattle.opgp_stack.specs.March.{date_value, march_days};
-ghost use Rattle.opgp_stream.specs.Output.{Extends, sink_of};
+ghost use Rattle.opgp_io.specs.Output.{Extends, sink_of};
 
-use opgp_stream::{Output, Sink, Word};
+use opgp_io::{Output, Sink, Word};
 use std::io;
 
 /// The days from 1 March of the year 0 to 1970-01-01.

@@ -13,11 +13,11 @@ ghost use Rattle.opgp_stack.specs.Running.{IsMade, question_made};
 
 use crate::run_fault::RunFault;
 use crate::running::end;
-use opgp_engine::{EngineError, Text, write};
+use opgp_codec::{EngineError, Text, write};
 use opgp_hash::{Question, Subject, ask_view, write_octets};
+use opgp_io::{Output, Sink};
 use opgp_packet::SigView;
 use opgp_ring::SignedLiteral;
-use opgp_stream::{Output, Sink};
 use std::alloc::Global;
 use std::io;
 
@@ -57,8 +57,8 @@ pub(crate) fn question_of(message: &SignedLiteral, row: u64) -> Option<Question<
 
 /// Octets as they are.
 #[derive(Clone, Copy)]
-struct OctetsText<'a> {
-    octets: &'a [u8],
+pub(crate) struct OctetsText<'a> {
+    pub(crate) octets: &'a [u8],
 }
 
 impl Text for OctetsText<'_> {

@@ -9,7 +9,7 @@ ghost use Rattle.opgp_stack.specs.Running.{Made, Makes};
 ghost use Rattle.opgp_stack.specs.declared.key_name.KeyName.{KeyName};
 ghost use Rattle.opgp_stack.specs.declared.task.Task.{Task};
 
-pub use opgp_engine::laws::{
+pub use opgp_codec::laws::{
     one_answer, one_list_of_packets, one_signed_literal, packets_are_written_again, some_answer,
     some_list_of_packets, some_signed_literal,
 };

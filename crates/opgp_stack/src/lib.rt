@@ -3,24 +3,34 @@
 #![tactic(auto)]
 
 mod all_octets;
-mod by_key;
-mod chosen_text;
+mod around;
+mod canonical;
+mod checking;
+mod checking_fingerprints;
 mod date;
+mod digest_lines;
+mod digesting;
 mod hashing;
 mod key_name;
 mod key_text;
+mod keyring_text;
 pub mod laws;
 mod listing;
-mod one_part;
-mod part_texts;
+mod made;
+mod making;
+mod making_from;
+mod named_certificates;
+mod nth_certificate;
+mod packet_text;
+mod part_text;
 mod reporting;
-mod row_keeper;
+mod row_found;
 mod run_fault;
 mod running;
 mod showing;
-mod shown_text;
+mod showing_from;
+mod signature_lines;
 mod task;
-mod texts;
 mod valued;
 mod valued_listing;
 mod values;
@@ -28,15 +38,19 @@ mod writing_listing;
 mod writing_report;
 mod writing_shown;
 
+pub use around::{Around, run_around};
+pub use canonical::run_canonical;
+pub use digesting::run_digests;
 pub use key_name::KeyName;
-pub use opgp_engine::{
-    Answer, Draft, DraftError, EngineError, Mode, NoSpool, Out, PacketBlocks, PacketsText,
-    ReadError, Receiver, Sink, Source, Spool, Text, Watched, read_keyring, read_packets,
-    read_signed, read_with, write, write_certificate, write_certificates, write_keyring,
+pub use opgp_codec::{
+    Answer, Draft, DraftError, EngineError, Mode, NoSpool, Out, PacketsText, ReadError, Sink,
+    Source, Spool, Text, Watched, read_keyring, read_packets, read_signatures, read_signed, write,
+    write_certificate, write_certificates, write_keyring,
 };
 pub use opgp_merge::Choice;
 pub use run_fault::RunFault;
 pub use running::{run, run_last, run_spooled};
+pub use signature_lines::run_signatures;
 pub use task::{Action, Task, Top};
 pub use writing_listing::write_listing;
 pub use writing_report::{write_fingerprinted_report, write_report};

@@ -14,13 +14,13 @@ ghost use Rattle.opgp_stack.specs.Listing.{opaque_text, packet_line, signature_l
 ghost use Rattle.opgp_stack.specs.Listing.{signature_text, typed_start};
 ghost use Rattle.opgp_stack.specs.Listing.{key_names, key_numbers, user_id_line};
 ghost use Rattle.opgp_stack.specs.Role.{role_name};
-ghost use Rattle.opgp_stream.specs.Output.{Extends, sink_of};
+ghost use Rattle.opgp_io.specs.Output.{Extends, sink_of};
 
 use crate::date::add_date;
 use opgp_hash::{KeyId, fingerprint_of_view};
+use opgp_io::{Output, Sink, Word};
 use opgp_packet::{AttributeView, KeyView, SigView};
 use opgp_ring::{Content, Packets};
-use opgp_stream::{Output, Sink, Word};
 use std::io;
 
 /// What a key's line begins with.

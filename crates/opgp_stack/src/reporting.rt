@@ -10,12 +10,12 @@ ghost use Rattle.opgp_stack.specs.Report.{fields_at, finding_words, fingerprinte
 ghost use Rattle.opgp_stack.specs.Report.{fingerprinted_lines, id_or_none, number_or_none};
 ghost use Rattle.opgp_stack.specs.Report.{print_or_none, print_words, report_lines, row_fields};
 ghost use Rattle.opgp_stack.specs.Report.{row_line, verdict_name};
-ghost use Rattle.opgp_stream.specs.Line.{word_text};
-ghost use Rattle.opgp_stream.specs.Output.{Extends, sink_of};
+ghost use Rattle.opgp_io.specs.Line.{word_text};
+ghost use Rattle.opgp_io.specs.Output.{Extends, sink_of};
 
 use opgp_hash::{Digest, Fingerprint, KeyId, Why};
+use opgp_io::{Output, Sink, Word};
 use opgp_report::{Finding, FingerprintedRow, FingerprintedRows, Place, Row, Verdict};
-use opgp_stream::{Output, Sink, Word};
 use std::io;
 
 fn number_or_none(number: Option<usize>) -> Word<'static>
@@ -28,7 +28,7 @@ fn number_or_none(number: Option<usize>) -> Word<'static>
 }
 
 /// The word of a verdict, and the verdict.
-fn verdict_words(verdict: Verdict) -> &'static [u8]
+pub(crate) fn verdict_words(verdict: Verdict) -> &'static [u8]
     ensures { result.now ≡ codes " verdict " ++ verdict_name verdict }
 {
     match verdict {
@@ -49,7 +49,7 @@ fn id_or_none(id: &Option<KeyId>) -> Word<'_>
 }
 
 /// The first two octets of a digest.
-fn left_of(digest: &Digest) -> [u8; 2]
+pub(crate) fn left_of(digest: &Digest) -> [u8; 2]
     ensures { result ≡ take 2 (digest_octets digest.now) }
 {
     match digest.octets() {

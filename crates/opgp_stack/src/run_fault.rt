@@ -1,9 +1,10 @@
 //! The errors of a run.
 
 ghost use Rattle.std.specs.Prelude.{◌≡◌, Some};
-ghost use Rattle.opgp_stack.specs.Faults.{run_number, run_text};
+ghost use Rattle.opgp_stack.specs.Faults.{run_fault_of, run_number, run_text};
 
-use opgp_octets::Fault;
+use opgp_codec::ReadError;
+use opgp_octets::{Fault, OutOfMemory};
 use std::error::Error;
 use std::fmt;
 
@@ -25,6 +26,8 @@ pub enum RunFault {
     NoSuchRow,
     /// There is no certificate of that number, or none with a key of that name.
     NoSuchCertificate,
+    /// There are more than 64 signatures over one document.
+    TooManySignatures,
 }
 
 impl RunFault {
@@ -40,6 +43,7 @@ impl RunFault {
             RunFault::Spool => 63,
             RunFault::NoSuchRow => 70,
             RunFault::NoSuchCertificate => 71,
+            RunFault::TooManySignatures => 72,
         }
     }
 }
@@ -57,8 +61,32 @@ impl fmt::Display for RunFault {
             RunFault::Spool => f.write_str("spool failed"),
             RunFault::NoSuchRow => f.write_str("no such row"),
             RunFault::NoSuchCertificate => f.write_str("no such certificate"),
+            RunFault::TooManySignatures => f.write_str("too many signatures"),
         }
     }
 }
 
 impl Error for RunFault {}
+
+// Reading ends a run so.
+impl From<ReadError> for RunFault {
+    ghost from_gives = { λ error fault. fault ≡ run_fault_of error };
+
+    fn from(error: ReadError) -> RunFault {
+        match error {
+            ReadError::Refused(fault) => RunFault::Refused(fault),
+            ReadError::Read => RunFault::Read,
+            ReadError::Memory => RunFault::Memory,
+        }
+    }
+}
+
+impl From<OutOfMemory> for RunFault {
+    ghost use Rattle.opgp_stack.specs.declared.run_fault.RunFault.TheVariants.{Memory};
+
+    ghost from_gives = { λ _ fault. fault ≡ Memory };
+
+    fn from(_error: OutOfMemory) -> RunFault {
+        RunFault::Memory
+    }
+}

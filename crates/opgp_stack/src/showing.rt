@@ -8,17 +8,17 @@ ghost use Rattle.opgp_packet.specs.Subs.{subs_to_come};
 ghost use Rattle.opgp_packet.specs.SubView.{kind_shown, sub_shown};
 ghost use Rattle.opgp_packet.specs.MeaningReading.{meaning_of};
 ghost use Rattle.opgp_packet.specs.SubMeaning.{meaning_shown};
-ghost use Rattle.opgp_engine.specs.Packets.{block_value};
+ghost use Rattle.opgp_codec.specs.Packets.{block_value};
 ghost use Rattle.opgp_stack.specs.Showing.{area_lines, area_name, bit_name, content_lines};
 ghost use Rattle.opgp_stack.specs.Showing.{form_name, header_line, meaning_name, packet_lines};
 ghost use Rattle.opgp_stack.specs.Showing.{shown, shown_blocks, signature_lines, subpacket_start};
-ghost use Rattle.opgp_stream.specs.Output.{Extends, sink_of};
+ghost use Rattle.opgp_io.specs.Output.{Extends, sink_of};
 
 use opgp_frame::{Form, Placed, PlacedView};
+use opgp_io::{Output, Sink, Word};
 use opgp_octets::PacketType;
 use opgp_packet::{SigView, SubMeaning, SubView, Subs};
 use opgp_ring::BlockOf;
-use opgp_stream::{Output, Sink, Word};
 use std::io;
 
 /// An area of a signature.

@@ -1,7 +1,7 @@
 //! The tasks of the program.
 
 use crate::key_name::KeyName;
-use opgp_engine::{Mode, Out};
+use opgp_codec::{Mode, Out};
 use opgp_merge::Choice;
 use opgp_octets::Limits;
 

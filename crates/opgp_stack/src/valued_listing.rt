@@ -13,17 +13,17 @@ ghost use Rattle.opgp_stack.specs.Listing.{signature_text, typed_start};
 ghost use Rattle.opgp_stack.specs.ValuedListing.{created_in, created_words, issuer_words};
 ghost use Rattle.opgp_stack.specs.ValuedListing.{valued_listing, valued_packet_line, value_words};
 ghost use Rattle.opgp_stack.specs.ValuedListing.{with_values};
-ghost use Rattle.opgp_stream.specs.Output.{Extends, sink_of};
+ghost use Rattle.opgp_io.specs.Output.{Extends, sink_of};
 
 use crate::date::add_date_or_none;
 use crate::listing::{Behind, Role, add_content, add_dated_key, add_signature, add_typed};
-use opgp_engine::Text;
+use opgp_codec::Text;
 use opgp_hash::KeyId;
+use opgp_io::{Output, Sink, Word};
 use opgp_octets::SubpacketKind;
 use opgp_packet::{SigView, SubView, Subs};
 use opgp_report::{IssuerName, issuer_named};
 use opgp_ring::{Content, Member, Packets};
-use opgp_stream::{Output, Sink, Word};
 use std::io;
 
 /// The creation time that a subpacket states, in seconds since 1970, if the kind is 2 and there are
@@ -148,7 +148,10 @@ fn add_valued_signature<W: Sink>(
 }
 
 /// Adds the line of a packet.
-fn add_valued_line<W: Sink>(output: &mut Output<'_, W>, packet: Member<'_>) -> io::Result<()>
+pub(crate) fn add_valued_line<W: Sink>(
+    output: &mut Output<'_, W>,
+    packet: Member<'_>,
+) -> io::Result<()>
     requires { W.has_failed (sink_of output.old) ≡ false }
     ensures { Extends W.held W.has_failed output.old output.new result
         (valued_packet_line (member_packet packet.entry)) }

@@ -1,22 +1,22 @@
 //! The lines that show packets with what they say, without an allocation.
 
-ghost use Rattle.std.specs.Prelude.{◌≡◌, ◌++◌, ◌<◌, false, codes};
+ghost use Rattle.std.specs.Prelude.{◌≡◌, ◌++◌, false, codes, map};
 ghost use Rattle.opgp_octets.specs.Octets.{IsBodySized};
+ghost use Rattle.opgp_packet.specs.Flags.{flag_shown};
 ghost use Rattle.opgp_packet.specs.SubMeaning.{meaning_shown};
 ghost use Rattle.opgp_stack.specs.Listing.{signature_line};
 ghost use Rattle.opgp_stack.specs.Values.{digits_line, digits_or_none, first_flags, flag_word};
-ghost use Rattle.opgp_stack.specs.Values.{feature_words, flags_line, key_flag_words, notation_line};
-ghost use Rattle.opgp_stack.specs.Values.{number_line, number_text, numbers_line, numbers_text};
-ghost use Rattle.opgp_stack.specs.Values.{pair_digits_line};
-ghost use Rattle.opgp_stack.specs.Values.{pair_line, print_line, reason_line, server_words};
+ghost use Rattle.opgp_stack.specs.Values.{flag_words, flags_line, notation_line, number_line};
+ghost use Rattle.opgp_stack.specs.Values.{number_text, numbers_line, numbers_text};
+ghost use Rattle.opgp_stack.specs.Values.{pair_digits_line, pair_line, print_line, reason_line};
 ghost use Rattle.opgp_stack.specs.Values.{text_line, time_line, time_words, value_line};
-ghost use Rattle.opgp_stream.specs.Line.{word_text};
-ghost use Rattle.opgp_stream.specs.Output.{Extends, sink_of};
+ghost use Rattle.opgp_io.specs.Line.{word_text};
+ghost use Rattle.opgp_io.specs.Output.{Extends, sink_of};
 
 use crate::date::add_date;
 use crate::listing::add_body;
-use opgp_packet::SubMeaning;
-use opgp_stream::{Output, Sink, Word};
+use opgp_io::{Output, Sink, Word};
+use opgp_packet::{Flag, SubMeaning, features, key_flags, key_server_preferences};
 use std::io;
 
 /// Adds a word, and a number behind it.
@@ -173,64 +173,46 @@ fn first(flags: &[u8]) -> u8
     }
 }
 
-/// The word, if this bit is set.
-fn named(flags: u8, bit: u8, word: &'static [u8]) -> &'static [u8]
-    requires { 0 < bit }
-    ensures { result.now ≡ flag_word flags bit word.now }
-{
-    if flags / bit % 2 == 1 { word } else { b"" }
-}
-
-/// Adds the end of a line of flags for key servers.
-fn add_server_flags<W: Sink>(output: &mut Output<'_, W>, flags: &[u8]) -> io::Result<()>
+/// Adds the name of a flag behind a space, if its bit is set.
+fn add_flag<W: Sink>(output: &mut Output<'_, W>, flags: u8, flag: &Flag) -> io::Result<()>
     requires { W.has_failed (sink_of output.old) ≡ false }
     ensures { Extends W.held W.has_failed output.old output.new result
-        (flags_line (codes " server-flags ") flags.now (server_words (first_flags flags.now))) }
+        (flag_word flags (flag_shown flag.now)) }
 {
-    let n = first(flags);
-    output.add_words(&[
-        Word::Text(b" server-flags "),
-        digits_word(flags),
-        Word::Text(named(n, 128, b" no-modify")),
-        Word::Text(b"\n"),
-    ])
+    if flags & flag.bit == 0 {
+        return Ok(());
+    }
+    output.add_words(&[Word::Text(b" "), Word::Text(flag.name.as_bytes())])
 }
 
-/// Adds the end of a line of a key's flags.
-fn add_key_flags<W: Sink>(output: &mut Output<'_, W>, flags: &[u8]) -> io::Result<()>
+/// Adds the names of the flags whose bits are set, each behind a space.
+fn add_each_flag<W: Sink>(output: &mut Output<'_, W>, flags: u8, names: &[Flag]) -> io::Result<()>
     requires { W.has_failed (sink_of output.old) ≡ false }
     ensures { Extends W.held W.has_failed output.old output.new result
-        (flags_line (codes " key-flags ") flags.now (key_flag_words (first_flags flags.now))) }
+        (flag_words flags (map flag_shown names.now)) }
 {
-    let n = first(flags);
-    output.add_words(&[
-        Word::Text(b" key-flags "),
-        digits_word(flags),
-        Word::Text(named(n, 1, b" certify")),
-        Word::Text(named(n, 2, b" sign")),
-        Word::Text(named(n, 4, b" encrypt-communications")),
-        Word::Text(named(n, 8, b" encrypt-storage")),
-        Word::Text(named(n, 16, b" split")),
-        Word::Text(named(n, 32, b" authenticate")),
-        Word::Text(named(n, 128, b" group")),
-        Word::Text(b"\n"),
-    ])
+    let mut left = names;
+    'each: while let [flag, rest @ ..] = left {
+        add_flag(output, flags, flag)?;
+        left = rest;
+    }
+    Ok(())
 }
 
-/// Adds the end of a line of features.
-fn add_features<W: Sink>(output: &mut Output<'_, W>, flags: &[u8]) -> io::Result<()>
+/// Adds a word, and flags behind it, in hexadecimal and by name.
+fn add_flags<'a, W: Sink>(
+    output: &mut Output<'_, W>,
+    word: &'a [u8],
+    flags: &'a [u8],
+    names: &[Flag],
+) -> io::Result<()>
     requires { W.has_failed (sink_of output.old) ≡ false }
     ensures { Extends W.held W.has_failed output.old output.new result
-        (flags_line (codes " features ") flags.now (feature_words (first_flags flags.now))) }
+        (flags_line word.now flags.now (map flag_shown names.now)) }
 {
-    let n = first(flags);
-    output.add_words(&[
-        Word::Text(b" features "),
-        digits_word(flags),
-        Word::Text(named(n, 1, b" seipd1")),
-        Word::Text(named(n, 8, b" seipd2")),
-        Word::Text(b"\n"),
-    ])
+    output.add_words(&[Word::Text(word), digits_word(flags)])?;
+    add_each_flag(output, first(flags), names)?;
+    output.add(b"\n")
 }
 
 /// Adds a key's version and fingerprint.
@@ -339,14 +321,19 @@ pub(crate) fn add_value<W: Sink>(
         SubMeaning::Notation { flags, name, value } => add_notation(output, flags, name, value),
         SubMeaning::PreferredHash(list) => add_numbers(output, b" hash", list),
         SubMeaning::PreferredCompression(list) => add_numbers(output, b" compression", list),
-        SubMeaning::KeyServerPreferences(flags) => add_server_flags(output, flags),
+        SubMeaning::KeyServerPreferences(flags) => add_flags(
+            output,
+            b" server-flags ",
+            flags,
+            key_server_preferences(),
+        ),
         SubMeaning::PreferredKeyServer(text) => add_text(output, b" key-server ", text),
         SubMeaning::PrimaryUserId(n) => add_number(output, b" primary-user-id ", n as u64),
         SubMeaning::PolicyUri(text) => add_text(output, b" policy ", text),
-        SubMeaning::KeyFlags(flags) => add_key_flags(output, flags),
+        SubMeaning::KeyFlags(flags) => add_flags(output, b" key-flags ", flags, key_flags()),
         SubMeaning::SignersUserId(text) => add_text(output, b" signers-user-id ", text),
         SubMeaning::RevocationReason { code, text } => add_reason(output, code, text),
-        SubMeaning::Features(flags) => add_features(output, flags),
+        SubMeaning::Features(flags) => add_flags(output, b" features ", flags, features()),
         SubMeaning::SignatureTarget {
             algorithm,
             hash,

@@ -4,12 +4,12 @@ ghost use Rattle.std.specs.Prelude.{◌≡◌, false, map};
 ghost use Rattle.opgp_report.specs.Fingerprinting.{fingerprinted_rows_of, rows_to_come};
 ghost use Rattle.opgp_report.specs.Row.{report_rows, row_value};
 ghost use Rattle.opgp_stack.specs.Report.{fingerprinted_lines, report_lines};
-ghost use Rattle.opgp_engine.specs.Written.{IsWritten};
+ghost use Rattle.opgp_codec.specs.Written.{IsWritten};
 
 use crate::reporting::{add_fingerprinted_report, add_report};
-use opgp_engine::{EngineError, Text, write};
+use opgp_codec::{EngineError, Text, write};
+use opgp_io::{Output, Sink};
 use opgp_report::{FingerprintedReport, FingerprintedRows, Report, Row};
-use opgp_stream::{Output, Sink};
 use std::alloc::Global;
 use std::io;
 

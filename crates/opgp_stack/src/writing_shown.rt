@@ -1,14 +1,14 @@
 //! Writes what packets are into a sink.
 
 ghost use Rattle.std.specs.Prelude.{◌≡◌, false, map};
-ghost use Rattle.opgp_engine.specs.Packets.{block_value};
+ghost use Rattle.opgp_codec.specs.Packets.{block_value};
 ghost use Rattle.opgp_stack.specs.Showing.{shown_blocks};
-ghost use Rattle.opgp_engine.specs.Written.{IsWritten};
+ghost use Rattle.opgp_codec.specs.Written.{IsWritten};
 
 use crate::showing::add_shown;
-use opgp_engine::{EngineError, Text, write};
+use opgp_codec::{EngineError, Text, write};
+use opgp_io::{Output, Sink};
 use opgp_ring::BlockOf;
-use opgp_stream::{Output, Sink};
 use std::alloc::Global;
 use std::io;
 

@@ -1,7 +1,7 @@
 //! Sources that give little and fail, sinks that take little and fail, and what goes through them.
 
 ghost use Rattle.std.specs.Prelude.{◌≡◌, false};
-ghost use Rattle.opgp_stream.specs.Watch.{watched_failed};
+ghost use Rattle.opgp_io.specs.Watch.{watched_failed};
 
 use opgp_octets::Limits;
 use opgp_ring::Keyring;
@@ -94,8 +94,8 @@ pub fn in_drips(alloc: Global, most: usize, at: u64, trouble: Trouble) -> Watche
     })
 }
 
-/// Whether a sink of `most` octets a write holds these octets, or, where the write of this number failed, what it took before,
-/// and was asked no more.
+/// Whether a sink of `most` octets a write holds these octets, or, where the write of this number
+/// failed, what it took before, and was asked no more.
 pub fn holds(drips: &Drips, octets: &[u8], most: usize, at: u64, fails: bool) -> bool {
     let size = if fails {
         most.saturating_mul(at.saturating_sub(1) as usize)
@@ -106,8 +106,8 @@ pub fn holds(drips: &Drips, octets: &[u8], most: usize, at: u64, fails: bool) ->
     drips.held.as_slice() == front && (!fails || drips.writes == at)
 }
 
-/// How reading a keyring ends (0: a keyring, 1: a fault, 2: a failed read, 3: out of memory), how many fillers lead it, how
-/// many certificates it has, and how many reads it took.
+/// How reading a keyring ends (0: a keyring, 1: a fault, 2: a failed read, 3: out of memory), how
+/// many fillers lead it, how many certificates it has, and how many reads it took.
 pub fn read_of(
     alloc: Global,
     mut reader: Watched<Pieces<'_>>,

@@ -39,7 +39,8 @@ fn refused_growth(rt: HostRuntime) {
     assert!(rt; held[written..].iter().all(|octet| *octet == b'.'));
 }
 
-// The list of blocks grows from 4 to 8 and 16; each block takes a growth, the octets of their lines two, and a reader one more.
+// The list of blocks grows from 4 to 8 and 16; each block takes a growth, the octets of their lines
+// two, and a reader one more.
 #[test]
 fn nine_blocks_in_15_growths(rt: HostRuntime) {
     let mut reader = in_pieces(NINE_BLOCKS, 1000, 0);

@@ -1,4 +1,5 @@
-//! Tests of reading and writing keyrings and of runs, by what the crate `opgp_stack` makes public, and a spool in memory.
+//! Tests of reading and writing keyrings and of runs, by what the crate `opgp_stack` makes public,
+//! and a spool in memory.
 #![tactic(auto)]
 
 #[cfg(test)]

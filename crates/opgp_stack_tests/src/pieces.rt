@@ -1,10 +1,11 @@
 //! What the readers in pieces hand out of an input that is refused.
 
-use opgp_engine::{Mode, PacketReader, PartReader, Parts};
+use opgp_codec::{Mode, PacketReader, PartReader, Parts};
 use opgp_octets::Limits;
 use std::test::Fail;
 
-// Three blocks: of a key, a user ID and a signature that is cut off; and twice of a key and a user ID.
+// Three blocks: of a key, a user ID and a signature that is cut off; and twice of a key and a user
+// ID.
 const CUT_FIRST: &[u8] = b"-----BEGIN PGP PUBLIC KEY BLOCK-----\n\n\
     xjMEU/NfCxYJKwYBBAHaRw8BAQdAPwmJlL3ZFu1AUxl5NOSofIBzOhKA1i+AEJku\n\
     Q+47JAbNAWHCDgQgFggAAA==\n\
@@ -68,7 +69,8 @@ fn a_part_comes_with_the_octet_that_completes_it(rt: HostRuntime) -> Result<(), 
     Ok(())
 }
 
-// User IDs of 3,725 octets, up to an odd length that is larger than all pieces that are read at a time.
+// User IDs of 3,725 octets, up to an odd length that is larger than all pieces that are read at a
+// time.
 #[test]
 fn many_octets_are_taken_at_once(rt: HostRuntime) -> Result<(), Fail> {
     let octets = vec![in rt.alloc(); 0xcd; 1_000_003]?;

@@ -1,4 +1,5 @@
-//! Inputs cut into pieces, inputs of the limit, reads that fail, and packets and signed literals that are read.
+//! Inputs cut into pieces, inputs of the limit, reads that fail, and packets and signed literals
+//! that are read.
 
 use crate::ends::{in_pieces, is_written, read_of};
 use crate::keys::{KEY_1, KEY_3, KEYS, TWO_BLOCKS};
@@ -16,8 +17,8 @@ const ARMORED: &[u8] = b"-----BEGIN PGP MESSAGE-----\n\n\
     xA0AAAAAAAAAAAAAAAAAywdiAAAAAABhwg4EABYIAAAAAKvNAAAAAA==\n\
     -----END PGP MESSAGE-----\n";
 
-/// How many blocks an input has and how many packets are in them; the sum of the packets' places, with 1,000 for each block
-/// before, and that of their bodies' sizes. Zeros where it is refused.
+/// How many blocks an input has and how many packets are in them; the sum of the packets' places,
+/// with 1,000 for each block before, and that of their bodies' sizes. Zeros where it is refused.
 fn packets_of(alloc: Global, input: &[u8], most: usize, mode: Mode) -> [u64; 4] {
     let mut reader = in_pieces(input, most, 0);
     let mut said = [0u64; 4];
@@ -72,7 +73,8 @@ fn inputs_however_cut(rt: HostRuntime) -> Result<(), Fail> {
     Ok(())
 }
 
-// The key is of 53 octets. One octet a read: a read for each octet, and one for the end. A read that fails is the last.
+// The key is of 53 octets. One octet a read: a read for each octet, and one for the end. A read
+// that fails is the last.
 #[test]
 fn reads_of_an_input(rt: HostRuntime) -> Result<(), Fail> {
     let alloc = rt.alloc();

@@ -87,8 +87,8 @@ fn runs_whose_reads_fail(rt: HostRuntime) {
     }
 }
 
-// Into a sink that takes `most` octets a write, and is in trouble at each in turn: it holds the front
-// of the output that it took before, and nothing is written after a failure.
+// Into a sink that takes `most` octets a write, and is in trouble at each in turn: it holds the
+// front of the output that it took before, and nothing is written after a failure.
 #[test]
 fn runs_whose_writes_fail(rt: HostRuntime) -> Result<(), Fail> {
     let alloc = rt.alloc();

@@ -11,7 +11,8 @@ use opgp_stack::{Action, RunFault, Watched, run_spooled};
 use std::alloc::Global;
 use std::test::Fail;
 
-/// How a run by such a spool ends, over both keys: 0 without a fault, 1 with that of the spool, 2 otherwise; and what it wrote.
+/// How a run by such a spool ends, over both keys: 0 without a fault, 1 with that of the spool, 2
+/// otherwise; and what it wrote.
 fn spooled(alloc: Global, action: Action, spool: Heap) -> (u8, Vec<u8>)
     requires { heap_octets spool ≡ [] }
 {
@@ -25,8 +26,8 @@ fn spooled(alloc: Global, action: Action, spool: Heap) -> (u8, Vec<u8>)
     (end, sink.into_inner())
 }
 
-/// Whether a run by a spool of `most` octets a call, which fails at the call of this number, writes the output, or the front of it
-/// where the spool failed; and whether it failed.
+/// Whether a run by a spool of `most` octets a call, which fails at the call of this number, writes
+/// the output, or the front of it where the spool failed; and whether it failed.
 fn writes(alloc: Global, action: Action, most: usize, fails_at: u64) -> Result<(bool, bool), Fail>
     requires { 0 < most }
 {

@@ -1,5 +1,5 @@
-//! A reader of armor in a process whose memory runs out, and what it uses again. What the calls answer is tried by
-//! tests/crates/calls.py.
+//! A reader of armor in a process whose memory runs out, and what it uses again. What the calls
+//! answer is tried by tests/crates/calls.py.
 
 use opgp_armor::{ArmorEvent, Dearmor};
 use opgp_octets::{Fault, Layer, Limits, PushFault, Reason};
@@ -89,8 +89,8 @@ fn lines_in_1_growths(rt: HostRuntime) {
     }
 }
 
-// A vector that was given back is that of the next octets, with none of what it held; but not one that has room for more than
-// twice the octets of a line.
+// A vector that was given back is that of the next octets, with none of what it held; but not one
+// that has room for more than twice the octets of a line.
 #[test]
 fn vectors_given_back(rt: HostRuntime) -> Result<(), Fail> {
     let mut reader = within_block(rt.alloc());

@@ -1,5 +1,5 @@
-//! Readers of packets in a process whose memory runs out, and the room that bodies take. What the calls answer is tried
-//! by tests/crates/calls.py.
+//! Readers of packets in a process whose memory runs out, and the room that bodies take. What the
+//! calls answer is tried by tests/crates/calls.py.
 
 use byteorder::{BigEndian, ByteOrder};
 use opgp_frame::{Deframe, Placed, write_packet};

@@ -1,4 +1,5 @@
-//! Lengths that are written in a process whose memory runs out. What the calls answer is tried by tests/crates/calls.py.
+//! Lengths that are written in a process whose memory runs out. What the calls answer is tried by
+//! tests/crates/calls.py.
 
 use opgp_octets::{PacketLen, SubLen, write_len, write_sub_len};
 use std::alloc::Global;

@@ -1,10 +1,10 @@
 //! How many allocations an output and a sink in memory make. What they put is proved.
 
 ghost use Rattle.std.specs.Prelude.{◌≡◌, false};
-ghost use Rattle.opgp_stream.specs.Watch.{watched_failed};
+ghost use Rattle.opgp_io.specs.Watch.{watched_failed};
 
 use opgp_armor::Label;
-use opgp_stream::{Armoring, Buffer, Held, Output, Watched, Word, put_all};
+use opgp_io::{Armoring, Buffer, Held, Output, Watched, Word, put_all};
 use std::io;
 
 const TEXT: &[u8] = b"70A\\x0A-----BEGIN PGP MESSAGE-----\n\nxgED\n-----END PGP MESSAGE-----\n";

@@ -1,5 +1,5 @@
 -- Words name one task at most.
-use Rattle.std.proofs.Common.{◌≡◌, ◌∙◌, ap, sym, subst, refl, Bool, ℕ, List, Option, Some, None, codes}
+use Rattle.std.proofs.Common.{◌≡◌, ◌∙◌, ap, sym, subst, refl, Bool, true, false, ◌||◌, ℕ, List, Option, Some, None, codes}
 use Rattle.std.proofs.lemmas.Option.{same_Some, none-some}
 use Rattle.std.specs.Prelude.{slice_get, option_and_then, option_map}
 use Rattle.std.specs.Str.{bytes_eq}
@@ -7,7 +7,7 @@ use Rattle.std.specs.Str.Parse.{digits_value, without_leading_plus}
 use Rattle.clap.specs.Walk.{row_text}
 use Rattle.clap.specs.Words.{App, Row, Text, read_as}
 use Rattle.opgp_octets.specs.declared.limits.Limits.{Limits}
-use Rattle.opgp_engine.specs.declared.mode.Mode.{Mode}
+use Rattle.opgp_codec.specs.declared.mode.Mode.{Mode}
 use Rattle.opgp_merge.specs.Chosen.{everything, is_everything}
 use Rattle.opgp_merge.specs.declared.choice.Choice.{Choice}
 use Rattle.opgp_stack.specs.declared.task.Action.{Action}
@@ -18,7 +18,8 @@ use Rattle.opgp_stack.specs.declared.key_name.KeyName.{KeyName}
 use Rattle.opgp_merge.proofs.Staying.{choice_with}
 use Rattle.opgp_stack.proofs.KeyTexts.{one_name}
 use Rattle.opgp_tool.specs.Program.{SaysTask}
-use Rattle.opgp_tool.specs.Words.{Asked, HasKey, HasLimits, HasNumber, IsAction, IsChoice, IsGivenNumber, IsRequest, IsTask}
+use Rattle.opgp_tool.specs.Words.{Asked, AskedWork, DocumentWork, HasKey, HasLimits, HasNumber, IsAction, IsChoice, IsDocument, IsDocumentWork, IsGivenNumber, IsRequest, IsTask, IsWork}
+use Rattle.opgp_tool.specs.Words.{of_around, of_canonical, of_digests, of_document, of_signatures, of_task}
 use Rattle.opgp_tool.proofs.Reading.{apart}
 use Rattle.opgp_tool.proofs.SameLimits.{same_limits}
 
@@ -137,16 +138,89 @@ one_said name options a b m n =
     ∙ ap (λ (x : Limits). task_with b.mode x a.action) (one_limits options _ _ m.limits n.limits)
     ∙ ap (task_with b.mode b.limits) (one_action name options _ _ m.action n.action)
 
-abbrev asked_with : Task → Bool → Bool → Option Text → Asked
-asked_with task progress quiet spool = record { task = task; progress = progress; quiet = quiet; spool = spool }
+-- ---- the commands on signatures and documents
+abbrev document_name : DocumentWork → Text
+document_name of_signatures = codes "signatures"
+document_name (of_digests file) = codes "digest"
+document_name (of_around file row part) = codes "digest"
+document_name of_canonical = codes "canonical"
+
+document_named : (name : Text) (options : List Row) (w : DocumentWork) → IsDocumentWork name options w
+    → name ≡ document_name w
+document_named name options of_signatures said = said
+document_named name options (of_digests file) said = said.0
+document_named name options (of_around file row part) said = said.0
+document_named name options of_canonical said = said
+
+one_document_work : (name : Text) (options : List Row) (a b : DocumentWork)
+    → IsDocumentWork name options a → IsDocumentWork name options b → a ≡ b
+one_document_work name options of_signatures of_signatures a b = refl
+one_document_work name options of_canonical of_canonical a b = refl
+one_document_work name options (of_digests f) (of_digests g) a b =
+    ap of_digests (same_Some f g (sym a.1 ∙ b.1))
+one_document_work name options (of_around f m p) (of_around g n q) a b =
+    let files : f ≡ g = same_Some f g (sym a.1 ∙ b.1) in
+    let rows : m ≡ n = one_number options _ m n a.2 b.2 in
+    cc (files, rows, a.3, b.3)
+one_document_work name options (of_digests f) (of_around g n q) a b = absurd (no_text _ b.2.0 a.2 b.2.1)
+one_document_work name options (of_around f m p) (of_digests g) a b = absurd (no_text _ a.2.0 b.2 a.2.1)
+one_document_work name options x y a b =
+    let same : document_name x ≡ document_name y = sym (document_named name options x a) ∙ document_named name options y b in
+    absurd (apart (ap (λ (t : Text). bytes_eq t (document_name x)) same))
+
+-- no task has their names
+abbrev is_document : Text → Bool
+is_document name = bytes_eq name (codes "signatures") || bytes_eq name (codes "digest") || bytes_eq name (codes "canonical")
+
+of_no_task : (a : Action) → is_document (name_of a) ≡ false
+of_no_task action.Show = refl
+of_no_task action.ShowValues = refl
+of_no_task action.List = refl
+of_no_task action.ListValues = refl
+of_no_task action.Check = refl
+of_no_task action.CheckFingerprints = refl
+of_no_task (action.Octets row top) = refl
+of_no_task action.OctetsAll = refl
+of_no_task (action.Write out) = refl
+of_no_task (action.WriteChosen out choice) = refl
+of_no_task (action.Normalise out) = refl
+of_no_task (action.Split out nth) = refl
+of_no_task (action.SplitKey out key) = refl
+of_no_task (action.Join out merge) = refl
+
+of_documents : (w : DocumentWork) → is_document (document_name w) ≡ true
+of_documents of_signatures = refl
+of_documents (of_digests file) = refl
+of_documents (of_around file row part) = refl
+of_documents of_canonical = refl
+
+clash : (a : Action) (w : DocumentWork) → name_of a ≡ document_name w → ⊥
+clash a w e = apart (sym (of_documents w) ∙ ap is_document (sym e) ∙ of_no_task a)
+
+abbrev document_with : Mode → Limits → DocumentWork → AskedWork
+document_with mode limits work = of_document mode limits work
+
+one_work : (name : Text) (options : List Row) (a b : AskedWork) → IsWork name options a → IsWork name options b → a ≡ b
+one_work name options (of_task a) (of_task b) m n = ap of_task (one_said name options a b m n)
+one_work name options (of_document x l w) (of_document y k v) m n =
+    ap (λ (z : Mode). document_with z l w) (m.read ∙ sym n.read)
+    ∙ ap (λ (z : Limits). document_with y z w) (one_limits options l k m.within n.within)
+    ∙ ap (document_with y k) (one_document_work name options w v m.made n.made)
+one_work name options (of_task a) (of_document y k v) m n =
+    absurd (clash a.action v (sym (named name options a.action m.action) ∙ document_named name options v n.made))
+one_work name options (of_document x l w) (of_task b) m n =
+    absurd (clash b.action w (sym (named name options b.action n.action) ∙ document_named name options w m.made))
+
+abbrev asked_with : AskedWork → Bool → Bool → Option Text → Asked
+asked_with work progress quiet spool = record { work = work; progress = progress; quiet = quiet; spool = spool }
 
 one_request : (name : Text) (options : List Row) (a b : Asked) → IsRequest name options a
     → IsRequest name options b → a ≡ b
 one_request name options a b m n =
-    ap (λ (x : Task). asked_with x a.progress a.quiet a.spool) (one_said name options _ _ m.task n.task)
-    ∙ ap (λ (x : Bool). asked_with b.task x a.quiet a.spool) (m.progress ∙ sym n.progress)
-    ∙ ap (λ (x : Bool). asked_with b.task b.progress x a.spool) (m.quiet ∙ sym n.quiet)
-    ∙ ap (asked_with b.task b.progress b.quiet) (m.spool ∙ sym n.spool)
+    ap (λ (x : AskedWork). asked_with x a.progress a.quiet a.spool) (one_work name options _ _ m.work n.work)
+    ∙ ap (λ (x : Bool). asked_with b.work x a.quiet a.spool) (m.progress ∙ sym n.progress)
+    ∙ ap (λ (x : Bool). asked_with b.work b.progress x a.spool) (m.quiet ∙ sym n.quiet)
+    ∙ ap (asked_with b.work b.progress b.quiet) (m.spool ∙ sym n.spool)
 
 pub one_task : (program : App) (words : List Text) (a b : Asked) → SaysTask program words a
     → SaysTask program words b → a ≡ b

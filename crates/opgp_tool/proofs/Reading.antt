@@ -8,12 +8,17 @@ use Rattle.clap.specs.Words.{Row, Text, first_of, one_of}
 use Rattle.clap.specs.Matches.{ReadsOne}
 use Rattle.opgp_merge.specs.Chosen.{everything}
 use Rattle.opgp_merge.specs.declared.choice.Choice.{Choice}
+use Rattle.opgp_octets.specs.declared.limits.Limits.{Limits}
+use Rattle.opgp_codec.specs.declared.mode.Mode.{Mode}
+use Rattle.opgp_stack.specs.declared.task.Task.{Task}
 use Rattle.opgp_stack.specs.declared.task.Action.{Action}
 use Rattle.opgp_stack.specs.declared.task.Action.TheVariants as action
 use Rattle.opgp_stack.specs.declared.task.Top.TheVariants as top
 use Rattle.opgp_stack.specs.KeyText.{IsKeyText}
 use Rattle.opgp_stack.specs.declared.key_name.KeyName.{KeyName}
 use Rattle.opgp_tool.specs.Words.{HasKey, HasNumber, IsAction, IsChoice, IsGivenNumber, is_given, top_of}
+use Rattle.opgp_tool.specs.Words.{AskedWork, DocumentWork, IsDocument, IsDocumentWork, IsTask, IsWork}
+use Rattle.opgp_tool.specs.Words.{of_around, of_canonical, of_digests, of_document, of_signatures, of_task}
 
 module _ (E : Type 0) (Gives : List ℕ → Result ℕ E → Type 0)
     (parses : (t : List ℕ) (r : Result ℕ E) → Gives t r → ParsesUnsigned 64 10 t r)
@@ -131,3 +136,21 @@ no_write options none (action.Normalise out) said = absurd (apart (ap is_write s
 no_write options none (action.Split out nth) said = absurd (apart (ap is_write said.0))
 no_write options none (action.SplitKey out key) said = absurd (apart (ap is_write said.0))
 no_write options none (action.Join out merge) said = absurd (apart (ap is_write said.0))
+
+abbrev is_digest : Text → Bool
+is_digest name = bytes_eq name (codes "digest")
+
+-- options of digest whose `--octets` is no number are no work
+pub no_digest : (options : List Row) → ((row : Option ℕ) → IsGivenNumber options (codes "octets") row → ⊥)
+    → (work : DocumentWork) → IsDocumentWork (codes "digest") options work → ⊥
+no_digest options none of_signatures said = absurd (apart (ap is_digest said))
+no_digest options none (of_digests file) said = none None said.2
+no_digest options none (of_around file row part) said = none (Some row) said.2
+no_digest options none of_canonical said = absurd (apart (ap is_digest said))
+
+-- what is neither a task nor a document's work is no work
+pub no_work : (name : Text) (options : List Row) → ((task : Task) → IsTask name options task → ⊥)
+    → ((mode : Mode) (limits : Limits) (work : DocumentWork) → IsDocument name options mode limits work → ⊥)
+    → (work : AskedWork) → IsWork name options work → ⊥
+no_work name options tasks documents (of_task task) said = tasks task said
+no_work name options tasks documents (of_document mode limits work) said = documents mode limits work said

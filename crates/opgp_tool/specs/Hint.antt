@@ -11,8 +11,8 @@ use Rattle.opgp_octets.specs.declared.fault.Layer.TheVariants as layer
 use Rattle.opgp_octets.specs.declared.fault.Reason.{Reason}
 use Rattle.opgp_octets.specs.declared.fault.Reason.TheVariants as reason
 use Rattle.opgp_frame.specs.Header.{kind_in}
-use Rattle.opgp_engine.specs.Reading.{is_binary}
-use Rattle.opgp_engine.specs.declared.mode.Mode.{Mode}
+use Rattle.opgp_codec.specs.Reading.{is_binary}
+use Rattle.opgp_codec.specs.declared.mode.Mode.{Mode}
 use Rattle.opgp_stack.specs.declared.run_fault.RunFault.{RunFault}
 use Rattle.opgp_stack.specs.declared.run_fault.RunFault.TheVariants as run
 use Rattle.opgp_tool.specs.HintText.{text_of}
@@ -170,6 +170,7 @@ reason_advice reason.NotInKeyring block octets rest = foreign_advice rest
 reason_advice reason.CertTooLong block octets rest = advice.LongCertificate
 reason_advice reason.NotASignedLiteral block octets rest = advice.NotSigned
 reason_advice reason.BlockLabel block octets rest = label_of_block block octets
+reason_advice reason.NotASignature block octets rest = advice.NotASignature
 reason_advice _ block octets rest = advice.Malformed
 
 abbrev pub packet_advice : Fault → List ℕ → List ℕ → Advice
@@ -194,6 +195,7 @@ fault_hint binary fault octets = by_layer binary fault octets fault.layer where
   by_layer binary fault octets layer.Framing = Some (packet_hint binary fault octets)
   by_layer binary fault octets layer.Body = Some (packet_hint binary fault octets)
   by_layer binary fault octets layer.Composition = Some (packet_hint binary fault octets)
+  by_layer binary fault octets layer.Text = Some (about octets fault.pos advice.StrayReturn)
 
 -- ---- what is told of a run: `octets` are the first ones of its input, which has `count`, and `skipped`
 -- is how many of them lie outside of armored blocks though they are no text

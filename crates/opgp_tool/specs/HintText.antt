@@ -70,3 +70,7 @@ text_of advice.NoPrimary =
 text_of advice.MessagePacket = codes "a packet of a message, not of a keyring; opgp show lists it"
 text_of advice.ForeignPacket = codes "a packet that no public keyring has; opgp show lists it"
 text_of advice.NotSigned = codes "not one literal packet with its signatures"
+text_of advice.NotASignature =
+    codes "not detached signatures alone; opgp show lists any packets"
+text_of advice.StrayReturn =
+    codes "a carriage return without a line feed; programs hash three different texts for it"

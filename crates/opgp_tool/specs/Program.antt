@@ -1,4 +1,4 @@
--- The command line as `clap` reads it: eight commands, and the options of each.
+-- The command line as `clap` reads it: eleven commands, and the options of each.
 use Rattle.std.specs.Prelude.{◌≡◌, List, [], ◌∷◌, Some, true, false, codes, map}
 use Rattle.std.specs.Borrow.{Bor}
 use Rattle.std.specs.List.{AllByRecursion}
@@ -113,6 +113,15 @@ quiet_rule = flag_rule (codes "quiet")
 abbrev pub text_rule : Text → Rule
 text_rule name = valued_rule name parser.NonEmptyString
 
+abbrev pub signatures_rule : Rule
+signatures_rule = text_rule (codes "signatures")
+
+abbrev pub signature_rule : Rule
+signature_rule = number_rule (codes "octets")
+
+abbrev pub salt_rule : Rule
+salt_rule = flag_rule (codes "salt")
+
 abbrev pub spool_rule : Rule
 spool_rule = text_rule (codes "spool")
 
@@ -178,11 +187,12 @@ bare_program = record {
   subs = [];
 }
 
--- the eight commands, in order, each with its own values for `--mode`, `--outside`, `--malformed`,
+-- the eleven commands, in order, each with its own values for `--mode`, `--outside`, `--malformed`,
 -- `--of` and `--out`
 abbrev pub program_of : (show list check octets write normalise split join : Choices)
+    → (signatures digest canonical : Choices)
     → (tops write_outs normalise_outs split_outs join_outs : Choice) → App
-program_of show list check octets write normalise split join tops
+program_of show list check octets write normalise split join signatures digest canonical tops
     write_outs normalise_outs split_outs join_outs = record {
       top = record (new_shape (codes "opgp")) { subcommand_required = true; is_leaf = false };
       subs = command_shape (codes "show") show (values_rule ∷ [])
@@ -195,6 +205,10 @@ program_of show list check octets write normalise split join tops
           ∷ command_shape (codes "split") split
           (out_rule split_outs ∷ nth_rule ∷ key_rule ∷ [])
           ∷ command_shape (codes "join") join (out_rule join_outs ∷ merge_rule ∷ [])
+          ∷ command_shape (codes "signatures") signatures []
+          ∷ command_shape (codes "digest") digest
+          (signatures_rule ∷ signature_rule ∷ salt_rule ∷ [])
+          ∷ command_shape (codes "canonical") canonical []
           ∷ [];
     }
 
@@ -207,8 +221,12 @@ pub record IsProgram (program : App) : Type 0 where
   pub normalise_choices : Choices
   pub split_choices : Choices
   pub join_choices : Choices
+  pub signatures_choices : Choices
+  pub digest_choices : Choices
+  pub canonical_choices : Choices
   pub are_choices : AllChoices (show_choices ∷ list_choices ∷ check_choices ∷ octets_choices
-      ∷ write_choices ∷ normalise_choices ∷ split_choices ∷ join_choices ∷ [])
+      ∷ write_choices ∷ normalise_choices ∷ split_choices ∷ join_choices ∷ signatures_choices
+      ∷ digest_choices ∷ canonical_choices ∷ [])
   pub tops : Choice
   pub are_tops : AreTops tops
   pub write_outs : Choice
@@ -218,6 +236,7 @@ pub record IsProgram (program : App) : Type 0 where
   pub are_outs : AllOuts (write_outs ∷ normalise_outs ∷ split_outs ∷ join_outs ∷ [])
   pub is : program ≡ program_of show_choices list_choices check_choices octets_choices
       write_choices normalise_choices split_choices join_choices
+      signatures_choices digest_choices canonical_choices
       tops write_outs normalise_outs split_outs join_outs
 
 -- the command line names a command of this program, and asks for what its name and its options say

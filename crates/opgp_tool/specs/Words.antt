@@ -11,10 +11,10 @@ use Rattle.opgp_octets.specs.declared.malformed.Malformed.{Malformed}
 use Rattle.opgp_octets.specs.declared.malformed.Malformed.TheVariants as malformed
 use Rattle.opgp_octets.specs.declared.outside.Outside.{Outside}
 use Rattle.opgp_octets.specs.declared.outside.Outside.TheVariants as outside
-use Rattle.opgp_engine.specs.declared.mode.Mode.{Mode}
-use Rattle.opgp_engine.specs.declared.mode.Mode.TheVariants as mode
-use Rattle.opgp_engine.specs.declared.out.Out.{Out}
-use Rattle.opgp_engine.specs.declared.out.Out.TheVariants as out
+use Rattle.opgp_codec.specs.declared.mode.Mode.{Mode}
+use Rattle.opgp_codec.specs.declared.mode.Mode.TheVariants as mode
+use Rattle.opgp_codec.specs.declared.out.Out.{Out}
+use Rattle.opgp_codec.specs.declared.out.Out.TheVariants as out
 use Rattle.opgp_merge.specs.Chosen.{everything, is_everything}
 use Rattle.opgp_merge.specs.declared.choice.Choice.{Choice}
 use Rattle.opgp_stack.specs.KeyText.{IsKeyText}
@@ -24,7 +24,13 @@ use Rattle.opgp_stack.specs.declared.task.Top.TheVariants as top
 use Rattle.opgp_stack.specs.declared.task.Action.{Action}
 use Rattle.opgp_stack.specs.declared.task.Action.TheVariants as action
 use Rattle.opgp_stack.specs.declared.task.Task.{Task}
+use Rattle.opgp_stack.specs.declared.around.Around.{Around}
+use Rattle.opgp_stack.specs.declared.around.Around.TheVariants as around
 use Rattle.opgp_tool.specs.declared.task.Request.{Request}
+use Rattle.opgp_tool.specs.declared.document.DocumentAction.{DocumentAction}
+use Rattle.opgp_tool.specs.declared.document.DocumentAction.TheVariants as said
+use Rattle.opgp_tool.specs.declared.task.Work.{Work}
+use Rattle.opgp_tool.specs.declared.task.Work.TheVariants as work
 
 -- the text is this number of 64 bits, in decimal digits, perhaps after a plus
 pub record IsNumber (text : Text) (n : ℕ) : Type 0 where
@@ -143,24 +149,76 @@ pub record IsTask (name : Text) (options : List Row) (task : Task) : Type 0 wher
   pub limits : HasLimits options task.limits
   pub action : IsAction name options task.action
 
--- what a command line asks for: a task, whether `--progress` and `--quiet` are given, and the directory
--- of `--spool`, if it is
+-- ---- the commands on detached signatures and their documents
+-- what each makes; the text is the name of the file of signatures
+pub data DocumentWork : Type 0 where
+  of_signatures : DocumentWork
+  of_digests : Text → DocumentWork
+  of_around : Text → ℕ → Around → DocumentWork
+  of_canonical : DocumentWork
+
+-- `--salt`: what a signature hashes in front of its document, or else what it hashes behind it
+abbrev pub part_of : Bool → Around
+part_of true = around.Front
+part_of false = around.Behind
+
+-- the work of the command of this name with these options
+abbrev pub IsDocumentWork : Text → List Row → DocumentWork → Type 0
+IsDocumentWork name options of_signatures = name ≡ codes "signatures"
+IsDocumentWork name options (of_digests file) = (name ≡ codes "digest")
+    × (first_of (codes "signatures") options ≡ Some file)
+    × (first_of (codes "octets") options ≡ None)
+    × (is_given (first_of (codes "salt") options) ≡ false)
+IsDocumentWork name options (of_around file row part) = (name ≡ codes "digest")
+    × (first_of (codes "signatures") options ≡ Some file) × HasNumber options (codes "octets") row
+    × (part ≡ part_of (is_given (first_of (codes "salt") options)))
+IsDocumentWork name options of_canonical = name ≡ codes "canonical"
+
+-- ---- all of them
+-- a task; or how the input is read, within which limits, and what is made
+pub data AskedWork : Type 0 where
+  of_task : Task → AskedWork
+  of_document : Mode → Limits → DocumentWork → AskedWork
+
+pub record IsDocument (name : Text) (options : List Row) (mode : Mode) (limits : Limits)
+    (work : DocumentWork) : Type 0 where
+  pub read : mode ≡ mode_of (first_of (codes "mode") options)
+  pub within : HasLimits options limits
+  pub made : IsDocumentWork name options work
+
+abbrev pub IsWork : Text → List Row → AskedWork → Type 0
+IsWork name options (of_task task) = IsTask name options task
+IsWork name options (of_document mode limits work) = IsDocument name options mode limits work
+
+-- what a command line asks for: its work, whether `--progress` and `--quiet` are given, and the
+-- directory of `--spool`, if it is
 pub record Asked : Type 0 where
-  pub task : Task
+  pub work : AskedWork
   pub progress : Bool
   pub quiet : Bool
   pub spool : Option Text
 
+abbrev pub document_said : DocumentAction → DocumentWork
+document_said said.Signatures = of_signatures
+document_said (said.Digests file) = of_digests file.now
+document_said (said.Around file row part) = of_around file.now row part
+document_said said.Canonical = of_canonical
+
+abbrev pub work_said : Work → AskedWork
+work_said (work.Task task) = of_task task
+work_said (work.Document task) =
+    of_document task.mode task.limits (document_said task.action)
+
 abbrev pub asked_by : Request → Asked
 asked_by request = record {
-  task = request.task;
+  work = work_said request.work;
   progress = request.progress;
   quiet = request.quiet;
   spool = option_map (λ word. word.now) request.spool;
 }
 
 pub record IsRequest (name : Text) (options : List Row) (asked : Asked) : Type 0 where
-  pub task : IsTask name options asked.task
+  pub work : IsWork name options asked.work
   pub progress : asked.progress ≡ is_given (first_of (codes "progress") options)
   pub quiet : asked.quiet ≡ is_given (first_of (codes "quiet") options)
   pub spool : asked.spool ≡ first_of (codes "spool") options

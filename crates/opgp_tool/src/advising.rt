@@ -1,12 +1,15 @@
 //! What is told of an input that is refused, by its fault and its first octets.
 
-ghost use Rattle.std.specs.Prelude.{◌≡◌, ◌+◌, ◌==◌, ◌≤◌, length, take, drop, count_by, true, false, IsSome, Some, is_some};
+ghost use Rattle.std.specs.Prelude.{◌≡◌, ◌+◌, ◌==◌, ◌≤◌, length, take, drop, count_by, true, false};
+ghost use Rattle.std.specs.Prelude.{IsSome, Some, is_some};
 ghost use Rattle.opgp_frame.specs.Header.{kind_in};
-ghost use Rattle.opgp_engine.specs.Reading.{is_binary};
-ghost use Rattle.opgp_tool.specs.Hint.{about, armor_hint, before_begin, begins, binary_hint, block_advice, end_advice};
-ghost use Rattle.opgp_tool.specs.Hint.{fault_hint, first_line, foreign_advice, format_of, hint_of, done_hint, label_advice};
-ghost use Rattle.opgp_tool.specs.Hint.{label_of_block, line_advice, mark_in, no_block_hint, no_packet_advice};
-ghost use Rattle.opgp_tool.specs.Hint.{packet_advice, packet_hint, text_format_of, type_advice};
+ghost use Rattle.opgp_codec.specs.Reading.{is_binary};
+ghost use Rattle.opgp_tool.specs.Hint.{about, armor_hint, before_begin, begins, binary_hint};
+ghost use Rattle.opgp_tool.specs.Hint.{block_advice, end_advice, fault_hint, first_line};
+ghost use Rattle.opgp_tool.specs.Hint.{foreign_advice, format_of, hint_of, done_hint, label_advice};
+ghost use Rattle.opgp_tool.specs.Hint.{label_of_block, line_advice, mark_in, no_block_hint};
+ghost use Rattle.opgp_tool.specs.Hint.{no_packet_advice, packet_advice, packet_hint};
+ghost use Rattle.opgp_tool.specs.Hint.{text_format_of, type_advice};
 
 use crate::hint::{Advice, Hint};
 use memchr::{memchr, memmem};
@@ -281,7 +284,8 @@ fn label_of_block(block: u64, octets: &[u8]) -> Advice
     }
 }
 
-/// A fault below the armor, with the octets of its packet and of what is behind it, if they are known.
+/// A fault below the armor, with the octets of its packet and of what is behind it, if they are
+/// known.
 fn packet_advice(fault: &Fault, octets: &[u8], rest: &[u8]) -> Advice
     ensures { result ≡ packet_advice fault.now octets.now rest.now }
 {
@@ -302,6 +306,7 @@ fn packet_advice(fault: &Fault, octets: &[u8], rest: &[u8]) -> Advice
         Reason::CertTooLong => Advice::LongCertificate,
         Reason::NotASignedLiteral => Advice::NotSigned,
         Reason::BlockLabel => label_of_block(fault.block, octets),
+        Reason::NotASignature => Advice::NotASignature,
         _ => Advice::Malformed,
     }
 }
@@ -331,6 +336,7 @@ fn fault_hint(is_binary: bool, fault: &Fault, octets: &[u8]) -> Option<Hint>
         } else {
             Hint::Plain(packet_advice(fault, octets, &octets[octets.len()..]))
         }),
+        Layer::Text => Some(about(octets, fault.pos, Advice::StrayReturn)),
     }
 }
 
@@ -361,8 +367,9 @@ fn done_hint(count: u64, skipped: u64) -> Option<Hint>
     }
 }
 
-/// What is told of a run beside its last line, if there is something to tell: of an input of `count` octets,
-/// which begin with `octets`, and of which `skipped` lie outside of armored blocks though they are no text.
+/// What is told of a run beside its last line, if there is something to tell: of an input of
+/// `count` octets, which begin with `octets`, and of which `skipped` lie outside of armored blocks
+/// though they are no text.
 pub fn hint_of(
     mode: Mode,
     outcome: &Result<(), RunFault>,

@@ -2,17 +2,19 @@
 
 ghost use Rattle.std.specs.Prelude.{◌≡◌, true, false, IfOk, IsOkAnd, [], ◌∷◌, codes};
 ghost use Rattle.clap.specs.Words.{rule_of, app_of, shape_of, with_rule, with_subcommand};
-ghost use Rattle.opgp_tool.specs.Program.{Choice, AreModes, ArePolicies, AreSignaturePolicies, AreOuts, AreTops};
-ghost use Rattle.opgp_tool.specs.Program.{mode_rule, outside_rule, malformed_rule, out_rule};
-ghost use Rattle.opgp_tool.specs.Program.{of_rule, limit_rule, row_rule, nth_rule, flag_rule, merge_rule, key_rule};
-ghost use Rattle.opgp_tool.specs.Program.{choice_rule, number_rule, valued_rule};
-ghost use Rattle.opgp_tool.specs.Program.{text_rule, values_rule, fingerprints_rule, all_rule, with_limits};
+ghost use Rattle.opgp_tool.specs.Program.{Choice, AreModes, ArePolicies, AreSignaturePolicies};
+ghost use Rattle.opgp_tool.specs.Program.{AreOuts, AreTops, mode_rule, outside_rule};
+ghost use Rattle.opgp_tool.specs.Program.{malformed_rule, out_rule, of_rule, limit_rule, row_rule};
+ghost use Rattle.opgp_tool.specs.Program.{nth_rule, flag_rule, merge_rule, key_rule, choice_rule};
+ghost use Rattle.opgp_tool.specs.Program.{number_rule, valued_rule, text_rule, values_rule};
+ghost use Rattle.opgp_tool.specs.Program.{fingerprints_rule, all_rule, with_limits};
+ghost use Rattle.opgp_tool.specs.Program.{signatures_rule, signature_rule, salt_rule};
 ghost use Rattle.opgp_tool.specs.Program.{own_signatures_rule, no_attributes_rule, user_id_rule};
 ghost use Rattle.opgp_tool.specs.Program.{IsCommand, IsProgram, bare_program};
 
 use crate::help::{
-    CHECK_HELP, JOIN_HELP, LIST_HELP, NORMALISE_HELP, OCTETS_HELP, PROGRAM_HELP, SHOW_HELP,
-    SPLIT_HELP, WRITE_HELP,
+    CANONICAL_HELP, CHECK_HELP, DIGEST_HELP, JOIN_HELP, LIST_HELP, NORMALISE_HELP, OCTETS_HELP,
+    PROGRAM_HELP, SHOW_HELP, SIGNATURES_HELP, SPLIT_HELP, WRITE_HELP,
 };
 use clap::builder::ValueParser;
 use clap::{Arg, ArgAction, Command};
@@ -323,6 +325,20 @@ fn join_command<'a>(alloc: Global) -> Result<Command<'a>, OutOfMemory>
     with_option(command, flag_option(alloc, "merge", help))
 }
 
+fn digest_command<'a>(alloc: Global) -> Result<Command<'a>, OutOfMemory>
+    ensures { IfOk result (IsCommand (codes "digest")
+        (signatures_rule ∷ signature_rule ∷ salt_rule ∷ [])) }
+{
+    let about = "List the digests that signatures have of a document";
+    let command = new_command(alloc, "digest", about, DIGEST_HELP);
+    let help = "The file of the detached signatures";
+    let command = with_option(command, text_option(alloc, "signatures", "FILE", help));
+    let help = "Write what the signature of this number hashes behind the document";
+    let command = with_option(command, number_option(alloc, "octets", help));
+    let help = "With --octets, write what it hashes in front of it";
+    with_option(command, flag_option(alloc, "salt", help))
+}
+
 /// The program without its commands.
 fn bare_program<'a>(alloc: Global) -> Result<Command<'a>, OutOfMemory>
     ensures { IfOk result (λ c. app_of c ≡ bare_program) }
@@ -334,7 +350,7 @@ fn bare_program<'a>(alloc: Global) -> Result<Command<'a>, OutOfMemory>
         .bin_name("opgp")
 }
 
-/// The program and its eight commands.
+/// The program and its eleven commands.
 pub fn program<'a>(alloc: Global) -> Result<Command<'a>, OutOfMemory>
     ensures { IfOk result (λ c. IsProgram (app_of c)) }
 {
@@ -350,5 +366,13 @@ pub fn program<'a>(alloc: Global) -> Result<Command<'a>, OutOfMemory>
         writing_command(alloc, "normalise", about, NORMALISE_HELP),
     )?;
     let tool = with_command(tool, split_command(alloc))?;
-    with_command(tool, join_command(alloc))
+    let tool = with_command(tool, join_command(alloc))?;
+    let about = "List detached signatures";
+    let tool = with_command(
+        tool,
+        new_command(alloc, "signatures", about, SIGNATURES_HELP),
+    )?;
+    let tool = with_command(tool, digest_command(alloc))?;
+    let about = "Write the canonical text of a document";
+    with_command(tool, new_command(alloc, "canonical", about, CANONICAL_HELP))
 }

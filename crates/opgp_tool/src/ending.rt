@@ -27,6 +27,9 @@ pub fn end_of(alloc: Global, outcome: &Result<(), RunFault>) -> Result<(u8, Stri
         Err(RunFault::NoSuchCertificate) => {
             (1, String::from_str(alloc, "opgp: no such certificate\n")?)
         }
+        Err(RunFault::TooManySignatures) => {
+            (1, String::from_str(alloc, "opgp: too many signatures\n")?)
+        }
         Err(RunFault::Read) => (3, String::from_str(alloc, "opgp: read failed\n")?),
         Err(RunFault::Write) => (3, String::from_str(alloc, "opgp: write failed\n")?),
         Err(RunFault::Memory) => (3, String::from_str(alloc, "opgp: out of memory\n")?),

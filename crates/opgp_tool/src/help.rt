@@ -65,3 +65,25 @@ and writes equal user
 IDs, attributes, subkeys and signatures once.
 
 Example: cat ONE.asc OTHER.asc | opgp join --merge --outside refuse > BOTH.asc";
+
+pub const SIGNATURES_HELP: &str = "The input is detached signatures, armored or binary, and \
+nothing else. Each has a line, as
+list --values shows it.
+
+Example: opgp signatures < RELEASE.tar.gz.asc";
+
+pub const DIGEST_HELP: &str = "Standard input is the document that the signatures in the file are \
+over. Each signature
+has a line with its number and the first octets of its digest. It is bad if the digest
+doesn't begin with the 16 bits that the signature states. No signature is verified. --octets
+reads no document: it writes what one signature hashes behind it, and with --salt what a
+version 6 signature hashes in front of it.
+
+Example: opgp digest --signatures RELEASE.tar.gz.asc < RELEASE.tar.gz";
+
+pub const CANONICAL_HELP: &str = "The input is a document. The output is what a signature of type \
+01 hashes of it: each line
+ends in a carriage return and a line feed. A document with a carriage return that no line
+feed follows is refused.
+
+Example: opgp canonical < LETTER.txt | sha512sum";

@@ -73,6 +73,18 @@ pub enum Advice {
     MessagePacket,
     ForeignPacket,
     NotSigned,
+    NotASignature,
+    /// A document that is no text.
+    StrayReturn,
+}
+
+/// The text of each of them.
+macro_rules! texts {
+    ($advice:expr; $($name:ident $text:literal,)*) => {
+        match $advice {
+            $(Advice::$name => $text,)*
+        }
+    };
 }
 
 impl Advice {
@@ -81,75 +93,68 @@ impl Advice {
     pub fn text(self) -> &'static str
         ensures { result.now ≡ text_of self }
     {
-        match self {
-            Advice::Empty => "the input is empty",
-            Advice::Gzip => "this looks like gzip; decompress it first",
-            Advice::Bzip2 => "this looks like bzip2; decompress it first",
-            Advice::Xz => "this looks like xz; decompress it first",
-            Advice::Zstandard => "this looks like zstd; decompress it first",
-            Advice::Zip => "this looks like a zip archive; unpack it first",
-            Advice::Png => "this looks like a PNG picture, not a key",
-            Advice::Jpeg => "this looks like a JPEG picture, not a key",
-            Advice::Pdf => "this looks like a PDF document, not a key",
-            Advice::Page => "this looks like an HTML or XML page; save the text of the key alone",
-            Advice::Keybox => "this is GnuPG's keybox; gpg --export writes its keys",
-            Advice::Pem =>
-                "this looks like PEM, as TLS and SSH have it; OpenPGP has -----BEGIN PGP",
-            Advice::Ssh => "this looks like an SSH key, not like OpenPGP",
-            Advice::ByteOrderMark =>
-                "the input begins with a byte order mark; remove its three octets",
-            Advice::Wide => "this looks like UTF-16 text; save it as UTF-8",
-            Advice::NotArmored => { "no line begins with -----BEGIN PGP; this isn't armored" }
-            Advice::Quoted =>
+        texts! { self; Empty "the input is empty",
+            Gzip "this looks like gzip; decompress it first",
+            Bzip2 "this looks like bzip2; decompress it first",
+            Xz "this looks like xz; decompress it first",
+            Zstandard "this looks like zstd; decompress it first",
+            Zip "this looks like a zip archive; unpack it first",
+            Png "this looks like a PNG picture, not a key",
+            Jpeg "this looks like a JPEG picture, not a key",
+            Pdf "this looks like a PDF document, not a key",
+            Page "this looks like an HTML or XML page; save the text of the key alone",
+            Keybox "this is GnuPG's keybox; gpg --export writes its keys",
+            Pem "this looks like PEM, as TLS and SSH have it; OpenPGP has -----BEGIN PGP",
+            Ssh "this looks like an SSH key, not like OpenPGP",
+            ByteOrderMark "the input begins with a byte order mark; remove its three octets",
+            Wide "this looks like UTF-16 text; save it as UTF-8",
+            NotArmored "no line begins with -----BEGIN PGP; this isn't armored",
+            Quoted
                 "a begin line that isn't at the start of its line; remove what is in front of each line",
-            Advice::SignedText =>
-                "a cleartext signed message, which opgp doesn't read; gpgv verifies it",
-            Advice::ArmoredFile => "an ARMORED FILE; gpg --dearmor writes its octets",
-            Advice::LostLineEnds =>
+            SignedText "a cleartext signed message, which opgp doesn't read; gpgv verifies it",
+            ArmoredFile "an ARMORED FILE; gpg --dearmor writes its octets",
+            LostLineEnds
                 "text follows the begin line's hyphens; remove it, or restore the line ends that were lost",
-            Advice::OtherLabel => "a begin line of no block that opgp reads",
-            Advice::NoHeader => "not a header; a blank line must be in front of the data",
-            Advice::NoLetter => "a character that isn't base64; the text is quoted or was changed",
-            Advice::BadPadding =>
-                "the base64 doesn't end as it must; letters are missing or changed",
-            Advice::AfterChecksum => "text between the checksum and the end line",
-            Advice::GluedFiles =>
+            OtherLabel "a begin line of no block that opgp reads",
+            NoHeader "not a header; a blank line must be in front of the data",
+            NoLetter "a character that isn't base64; the text is quoted or was changed",
+            BadPadding "the base64 doesn't end as it must; letters are missing or changed",
+            AfterChecksum "text between the checksum and the end line",
+            GluedFiles
                 "a begin line within a block; the end line, or the line end in front of it, is missing",
-            Advice::NoEndLine => "begins with a hyphen, but isn't the block's end line",
-            Advice::LongLine => "a line longer than --line allows",
-            Advice::CutText => "the text ends within a block; its end line is missing",
-            Advice::NotBlank =>
+            NoEndLine "begins with a hyphen, but isn't the block's end line",
+            LongLine "a line longer than --line allows",
+            CutText "the text ends within a block; its end line is missing",
+            NotBlank
                 "not blank, outside of armored blocks; read each file by itself, or remove the line",
-            Advice::ReadAsPackets =>
+            ReadAsPackets
                 "a begin line of armor, but this was read as packets; --mode armor reads armored blocks alone",
-            Advice::LineEndBehind => "a line end where a packet should begin; remove it",
-            Advice::ZerosBehind => "zeros where a packet should begin; remove them",
-            Advice::NoPacket => "these octets aren't an OpenPGP packet",
-            Advice::CutPacket => "octets of a packet are missing; it was cut, or isn't OpenPGP",
-            Advice::CompressedPacket =>
+            LineEndBehind "a line end where a packet should begin; remove it",
+            ZerosBehind "zeros where a packet should begin; remove them",
+            NoPacket "these octets aren't an OpenPGP packet",
+            CutPacket "octets of a packet are missing; it was cut, or isn't OpenPGP",
+            CompressedPacket
                 "a packet of compressed data, as messages have; gpg --decrypt unpacks it",
-            Advice::OtherPacket => "a packet that opgp doesn't read, or no OpenPGP at all",
-            Advice::LongInput => "the input is longer than --input allows",
-            Advice::LongBody => "a packet longer than --body allows, or no OpenPGP at all",
-            Advice::ManyPieces => "a packet in more pieces than --pieces allows",
-            Advice::LongCertificate =>
+            OtherPacket "a packet that opgp doesn't read, or no OpenPGP at all",
+            LongInput "the input is longer than --input allows",
+            LongBody "a packet longer than --body allows, or no OpenPGP at all",
+            ManyPieces "a packet in more pieces than --pieces allows",
+            LongCertificate
                 "a certificate, or what precedes the first one, longer than --cert allows",
-            Advice::Malformed =>
-                "a malformed packet; --malformed keep accepts malformed signatures",
-            Advice::OtherKeyVersion =>
-                "a key of a version other than 4 and 6, which opgp doesn't read",
-            Advice::SecretKey =>
-                "a secret key; don't pass it on (gpg --export writes the public key)",
-            Advice::SignatureBlock => "a signature alone; opgp show lists its packets",
-            Advice::MessageBlock => "a message, not a keyring; opgp show lists its packets",
-            Advice::OtherBlock =>
-                "a block that this command doesn't read; opgp show lists its packets",
-            Advice::NoPrimary => {
-                "no key in front of it; a revocation certificate goes behind its key, a detached signature isn't a keyring"
-            }
-            Advice::MessagePacket => "a packet of a message, not of a keyring; opgp show lists it",
-            Advice::ForeignPacket => "a packet that no public keyring has; opgp show lists it",
-            Advice::NotSigned => "not one literal packet with its signatures",
+            Malformed "a malformed packet; --malformed keep accepts malformed signatures",
+            OtherKeyVersion "a key of a version other than 4 and 6, which opgp doesn't read",
+            SecretKey "a secret key; don't pass it on (gpg --export writes the public key)",
+            SignatureBlock "a signature alone; opgp show lists its packets",
+            MessageBlock "a message, not a keyring; opgp show lists its packets",
+            OtherBlock "a block that this command doesn't read; opgp show lists its packets",
+            NoPrimary
+                "no key in front of it; a revocation certificate goes behind its key, a detached signature isn't a keyring",
+            MessagePacket "a packet of a message, not of a keyring; opgp show lists it",
+            ForeignPacket "a packet that no public keyring has; opgp show lists it",
+            NotSigned "not one literal packet with its signatures",
+            NotASignature "not detached signatures alone; opgp show lists any packets",
+            StrayReturn
+                "a carriage return without a line feed; programs hash three different texts for it",
         }
     }
 }

@@ -1,9 +1,14 @@
 //! Reads OpenPGP keyrings from standard input, and lists or writes them on standard output.
 #![tactic(auto)]
 
+ghost use Rattle.std.specs.Prelude.{◌≡◌, IfOk, false};
+ghost use Rattle.opgp_io.specs.Watch.{watched_failed};
+ghost use Rattle.opgp_tool.specs.Progress.{read_of};
+
 mod advising;
 mod beginning;
 mod command;
+mod document;
 mod ending;
 mod help;
 mod hint;
@@ -13,14 +18,20 @@ mod spool_file;
 mod task;
 
 use advising::hint_of;
+use document::{DocumentAction, DocumentTask};
 use ending::end_of;
 use hint::Hint;
-use opgp_stack::{RunFault, Watched, run_last, run_spooled};
+use opgp_stack::{
+    Around, Mode, NoSpool, RunFault, Source, Task, Watched, read_signatures, run_around,
+    run_canonical, run_digests, run_last, run_signatures, run_spooled,
+};
 use progress::Progress;
-use spool_file::open_spool;
+use spool_file::{beside_streams, open_spool};
+use std::fs::File;
+use std::io::{Stderr, Stdin, Write};
 use std::process::ExitCode;
 use std::{env, io};
-use task::{Request, Usage, task_of};
+use task::{Request, Usage, Work, task_of};
 
 /// The exit status of an invalid command line.
 const USAGE: u8 = 2;
@@ -46,10 +57,13 @@ fn main(rt: HostRuntime) -> ExitCode {
     ExitCode::from(status)
 }
 
-/// Runs the task of a command line.
+/// Runs what a command line asks for.
 fn run_words(rt: &HostRuntime, words: &[String]) -> u8 {
     match task_of(rt.alloc(), words) {
-        Ok(request) => run_task(rt, &request),
+        Ok(request) => match request.work {
+            Work::Task(task) => run_task(rt, &request, &task),
+            Work::Document(task) => run_document(rt, &request, &task),
+        },
         Err(Usage::Text(text)) => {
             let _ = eprint!(rt; "{text}");
             USAGE
@@ -58,29 +72,164 @@ fn run_words(rt: &HostRuntime, words: &[String]) -> u8 {
     }
 }
 
-/// Runs the task, from standard input to standard output.
-fn run_task(rt: &HostRuntime, request: &Request) -> u8 {
+/// Standard input, whose count is shown if that is asked for.
+fn input(rt: &HostRuntime, request: &Request) -> Progress<Watched<Stdin>, Stderr>
+    ensures { watched_failed (read_of result) ≡ false }
+{
     let shown = if request.progress {
         Some(rt.stderr())
     } else {
         None
     };
-    let mut reader = Progress::new(rt.alloc(), Watched::new(rt.stdin()), shown);
+    Progress::new(rt.alloc(), Watched::new(rt.stdin()), shown)
+}
+
+/// Runs a task, from standard input to standard output.
+fn run_task(rt: &HostRuntime, request: &Request, task: &Task) -> u8 {
+    let mut reader = input(rt, request);
     let mut writer = Watched::new(rt.stdout());
     let outcome = match request.spool {
-        None => run_last(rt.alloc(), &request.task, &mut reader, &mut writer),
+        None => run_last(rt.alloc(), task, &mut reader, &mut writer),
         Some(dir) => match open_spool(rt.alloc(), rt, dir) {
-            Ok(spool) => { run_spooled(rt.alloc(), &request.task, spool, &mut reader, &mut writer) }
+            Ok(spool) => run_spooled(rt.alloc(), task, spool, &mut reader, &mut writer),
             Err(fault) => Err(fault),
         },
     };
     reader.end();
-    let status = end(rt, &outcome);
+    finish(rt, request, task.mode, &outcome, &reader)
+}
+
+/// Makes what is asked of detached signatures and their document, to standard output.
+fn run_document(rt: &HostRuntime, request: &Request, task: &DocumentTask) -> u8 {
+    match task.action {
+        DocumentAction::Signatures => list_signatures(rt, request, task),
+        DocumentAction::Digests(file) => list_digests(rt, request, task, file),
+        DocumentAction::Around(file, row, part) => {
+            write_around(rt, request, task, file, row, part)
+        }
+        DocumentAction::Canonical => write_canonical(rt, request, task),
+    }
+}
+
+/// Lists the signatures on standard input.
+fn list_signatures(rt: &HostRuntime, request: &Request, task: &DocumentTask) -> u8 {
+    let mut reader = input(rt, request);
+    let mut writer = Watched::new(rt.stdout());
+    let outcome = run_signatures(
+        rt.alloc(),
+        task.mode,
+        &task.limits,
+        &mut reader,
+        &mut writer,
+    );
+    reader.end();
+    finish(rt, request, task.mode, &outcome, &reader)
+}
+
+/// Lists the signatures in a file, over the document on standard input.
+fn list_digests(rt: &HostRuntime, request: &Request, task: &DocumentTask, file: &str) -> u8 {
+    let mut source = match open_signatures(rt, file) {
+        Ok(source) => source,
+        Err(_) => return unopened(rt, request, file),
+    };
+    let signatures = match read_signatures(rt.alloc(), &mut source, task.mode, &task.limits) {
+        Ok(signatures) => signatures,
+        Err(error) => {
+            let outcome = Err(RunFault::from(error));
+            return finish(rt, request, task.mode, &outcome, &source);
+        }
+    };
+    let mut reader = input(rt, request);
+    let mut writer = Watched::new(rt.stdout());
+    let outcome = run_digests(
+        rt.alloc(),
+        &task.limits,
+        &signatures,
+        &mut reader,
+        &mut writer,
+    );
+    reader.end();
+    finish(rt, request, task.mode, &outcome, &reader)
+}
+
+/// Writes what the signature of this number in a file hashes around its document.
+fn write_around(
+    rt: &HostRuntime,
+    request: &Request,
+    task: &DocumentTask,
+    file: &str,
+    row: u64,
+    part: Around,
+) -> u8 {
+    let mut source = match open_signatures(rt, file) {
+        Ok(source) => source,
+        Err(_) => return unopened(rt, request, file),
+    };
+    let mut writer = Watched::new(rt.stdout());
+    let outcome = run_around(
+        rt.alloc(),
+        task.mode,
+        &task.limits,
+        row,
+        part,
+        &mut source,
+        &mut writer,
+    );
+    finish(rt, request, task.mode, &outcome, &source)
+}
+
+/// Writes the canonical text of the document on standard input.
+fn write_canonical(rt: &HostRuntime, request: &Request, task: &DocumentTask) -> u8 {
+    let mut reader = input(rt, request);
+    let mut writer = Watched::new(rt.stdout());
+    let limits = &task.limits;
+    let outcome = match request.spool {
+        None => run_canonical(
+            rt.alloc(),
+            limits,
+            None::<NoSpool>,
+            &mut reader,
+            &mut writer,
+        ),
+        Some(dir) => match open_spool(rt.alloc(), rt, dir) {
+            Ok(spool) => run_canonical(rt.alloc(), limits, Some(spool), &mut reader, &mut writer),
+            Err(fault) => Err(fault),
+        },
+    };
+    reader.end();
+    finish(rt, request, task.mode, &outcome, &reader)
+}
+
+/// Opens the file of signatures, beside the standard streams.
+fn open_signatures(rt: &HostRuntime, file: &str) -> io::Result<Progress<Watched<File>, Stderr>>
+    ensures { IfOk result (λ reader. watched_failed (read_of reader) ≡ false) }
+{
+    let file = beside_streams(File::open(rt, file)?)?;
+    Ok(Progress::new(rt.alloc(), Watched::new(file), None))
+}
+
+/// Says that the file of signatures can't be opened.
+fn unopened(rt: &HostRuntime, request: &Request, file: &str) -> u8 {
+    let status = end(rt, &Err(RunFault::Read));
+    if !request.quiet {
+        let _ = eprintln!(rt; "opgp: {file} can't be opened");
+    }
+    status
+}
+
+/// Prints the last lines of a run that read this.
+fn finish<R: Source, W: Write + Drop>(
+    rt: &HostRuntime,
+    request: &Request,
+    mode: Mode,
+    outcome: &Result<(), RunFault>,
+    reader: &Progress<R, W>,
+) -> u8 {
+    let status = end(rt, outcome);
     if !request.quiet && status != FAILED {
-        let mode = request.task.mode;
         let hint = hint_of(
             mode,
-            &outcome,
+            outcome,
             reader.beginning(),
             reader.octets(),
             reader.skipped(),

@@ -30,8 +30,8 @@ impl fmt::Display for Counts {
     }
 }
 
-/// A source that counts what is read of another one, shows it on a writer, if there is one, and keeps
-/// the first octets.
+/// A source that counts what is read of another one, shows it on a writer, if there is one, and
+/// keeps the first octets.
 #[derive(Drop)]
 pub struct Progress<R, W> {
     alloc: Global,
@@ -62,7 +62,8 @@ impl<R: Source, W: Write + Drop> Progress<R, W> {
         }
     }
 
-    /// The first octets that were read, at most 65,536, or fewer where there was no memory for them.
+    /// The first octets that were read, at most 65,536, or fewer where there was no memory for
+    /// them.
     pub fn beginning(&self) -> &[u8] {
         self.beginning.octets()
     }
@@ -77,8 +78,8 @@ impl<R: Source, W: Write + Drop> Progress<R, W> {
         self.skipped
     }
 
-    /// Shows the counts, with this text behind them. A writer that fails, or no memory for the text,
-    /// changes nothing else.
+    /// Shows the counts, with this text behind them. A writer that fails, or no memory for the
+    /// text, changes nothing else.
     fn show(&mut self, behind: &str)
         ensures { read_of self.new ≡ read_of self.old }
     {

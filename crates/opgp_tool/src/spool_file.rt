@@ -3,7 +3,7 @@
 ghost use Rattle.std.specs.Prelude.{◌≡◌, ◌≤◌, ◌||◌, [], ◌∷◌, length, take, true, false};
 ghost use Rattle.std.specs.Prelude.{IfOk, OnOk, Some};
 ghost use Rattle.std.specs.Io.KnownBytes.{Appends, Keeps, WriteAppends};
-ghost use Rattle.opgp_stream.specs.Stream.{put_fails};
+ghost use Rattle.opgp_io.specs.Stream.{put_fails};
 ghost use Rattle.opgp_tool.specs.SpoolFile.{IsBesideStreams, file_in, put_so_far, spool_failed};
 
 use opgp_stack::{RunFault, Spool};
@@ -68,7 +68,7 @@ where
 /// The same open file by a number that no standard stream has. A file opened while a standard
 /// stream is closed gets that stream's number: what is meant for the stream would go into the file,
 /// or come from it.
-fn beside_streams<F: OpenFile + AsRawFd + Drop>(file: F) -> io::Result<F>
+pub(crate) fn beside_streams<F: OpenFile + AsRawFd + Drop>(file: F) -> io::Result<F>
     ensures { IfOk result (λ file. IsBesideStreams (F.raw_fd file)) }
 {
     if file.as_raw_fd() > LAST_STREAM {

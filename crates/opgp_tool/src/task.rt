@@ -8,13 +8,16 @@ ghost use Rattle.opgp_merge.specs.declared.choice.Choice.{Choice};
 ghost use Rattle.opgp_stack.specs.declared.task.Action.{Action};
 ghost use Rattle.opgp_stack.specs.declared.task.Task.{Task};
 ghost use Rattle.opgp_octets.specs.declared.limits.Limits.{Limits};
-ghost use Rattle.opgp_tool.specs.Words.{mode_of, outside_of, malformed_of, out_of, top_of, is_given};
-ghost use Rattle.opgp_tool.specs.Words.{HasNumber, HasLimits};
-ghost use Rattle.opgp_tool.specs.Words.{Asked, IsAction, IsChoice, IsGivenNumber, IsRequest, IsTask, asked_by};
+ghost use Rattle.opgp_tool.specs.Words.{mode_of, outside_of, malformed_of, out_of, top_of};
+ghost use Rattle.opgp_tool.specs.Words.{is_given, HasNumber, HasLimits, Asked, IsAction, IsChoice};
+ghost use Rattle.opgp_tool.specs.Words.{DocumentWork, IsDocument, IsGivenNumber, IsRequest, IsTask};
+ghost use Rattle.opgp_tool.specs.Words.{AskedWork, IsWork, asked_by, document_said, work_said};
+ghost use Rattle.opgp_codec.specs.declared.mode.Mode.{Mode};
 ghost use Rattle.opgp_tool.specs.Program.{IsProgram, SaysNone, SaysTask};
 ghost use Rattle.opgp_tool.specs.declared.task.Usage.TheVariants.{Memory};
 
 use crate::command::program;
+use crate::document::{DocumentTask, document_action_of};
 use clap::error::ErrorKind;
 use clap::{ArgMatches, Error};
 use opgp_octets::{Limits, Malformed, OutOfMemory, Outside};
@@ -28,14 +31,23 @@ const NAME: &str = "a fingerprint has 40 or 64 hexadecimal digits, a key ID 16";
 /// What a command line asks for.
 #[derive(Drop)]
 pub struct Request<'a> {
-    /// The task.
-    pub task: Task,
+    /// What is to be made.
+    pub work: Work<'a>,
     /// Whether standard error shows how much was read.
     pub progress: bool,
     /// Whether standard error says no more than the fault.
     pub quiet: bool,
     /// The directory of the file in which the output is held; None: it is held in memory.
     pub spool: Option<&'a str>,
+}
+
+/// What is to be made, and of what.
+#[derive(Clone, Copy)]
+pub enum Work<'a> {
+    /// What a task makes of standard input.
+    Task(Task),
+    /// What is made of detached signatures and their document.
+    Document(DocumentTask<'a>),
 }
 
 /// Why a command line names no task.
@@ -48,7 +60,7 @@ pub enum Usage {
 }
 
 /// The value of an option, or None if it has none.
-fn word_of<'a>(matches: &ArgMatches<'a>, id: &str) -> Option<&'a str>
+pub(crate) fn word_of<'a>(matches: &ArgMatches<'a>, id: &str) -> Option<&'a str>
     ensures { option_map (λ word. word.now) result
         ≡ first_of id.now (rows_of (found_of matches.now)) }
 {
@@ -110,9 +122,9 @@ fn number_of(matches: &ArgMatches, id: &str) -> Option<u64>
     matches.get_one::<u64>(id)
 }
 
-/// The number that is an option's value, if it is given. The outer None means that its value isn't a
-/// number.
-fn given_number_of(matches: &ArgMatches, option: &str) -> Option<Option<u64>>
+/// The number that is an option's value, if it is given. The outer None means that its value isn't
+/// a number.
+pub(crate) fn given_number_of(matches: &ArgMatches, option: &str) -> Option<Option<u64>>
     ensures some { IfSome result (IsGivenNumber (rows_of (found_of matches.now)) option.now) }
     ensures none { IfNone result ((given : Option ℕ)
         → IsGivenNumber (rows_of (found_of matches.now)) option.now given → ⊥) }
@@ -124,7 +136,7 @@ fn given_number_of(matches: &ArgMatches, option: &str) -> Option<Option<u64>>
 }
 
 /// Whether a flag is given.
-fn is_given(matches: &ArgMatches, id: &str) -> bool
+pub(crate) fn is_given(matches: &ArgMatches, id: &str) -> bool
     ensures { result ≡ is_given (first_of id.now (rows_of (found_of matches.now))) }
 {
     match word_of(matches, id) {
@@ -269,6 +281,35 @@ fn task_from(name: &str, matches: &ArgMatches) -> Option<Task>
     })
 }
 
+/// What the command of this name with these options makes of signatures and their document.
+fn document_from<'a>(name: &str, matches: &ArgMatches<'a>) -> Option<DocumentTask<'a>>
+    ensures some { IfSome result (λ task. IsDocument name.now (rows_of (found_of matches.now))
+        task.mode task.limits (document_said task.action)) }
+    ensures none { IfNone result ((mode : Mode) (limits : Limits) (work : DocumentWork)
+        → IsDocument name.now (rows_of (found_of matches.now)) mode limits work → ⊥) }
+{
+    let limits = limits_of(matches)?;
+    let action = document_action_of(name, matches)?;
+    Some(DocumentTask {
+        mode: mode_of(matches),
+        limits,
+        action,
+    })
+}
+
+/// What the command of this name with these options makes.
+fn work_from<'a>(name: &str, matches: &ArgMatches<'a>) -> Option<Work<'a>>
+    ensures some { IfSome result (λ work.
+        IsWork name.now (rows_of (found_of matches.now)) (work_said work)) }
+    ensures none { IfNone result ((work : AskedWork)
+        → IsWork name.now (rows_of (found_of matches.now)) work → ⊥) }
+{
+    match document_from(name, matches) {
+        Some(task) => Some(Work::Document(task)),
+        None => Some(Work::Task(task_from(name, matches)?)),
+    }
+}
+
 /// What a command of this name with these options asks for.
 fn request_from<'a>(name: &str, matches: &ArgMatches<'a>) -> Option<Request<'a>>
     ensures some { IfSome result (λ request.
@@ -277,7 +318,7 @@ fn request_from<'a>(name: &str, matches: &ArgMatches<'a>) -> Option<Request<'a>>
         → IsRequest name.now (rows_of (found_of matches.now)) asked → ⊥) }
 {
     Some(Request {
-        task: task_from(name, matches)?,
+        work: work_from(name, matches)?,
         progress: is_given(matches, "progress"),
         quiet: is_given(matches, "quiet"),
         spool: word_of(matches, "spool"),
@@ -314,13 +355,14 @@ fn is_about_a_file(text: &str) -> bool {
 fn no_task(alloc: Global, matches: &ArgMatches) -> Usage {
     match matches.subcommand() {
         Some(("octets", options)) => no_octets(alloc, options),
+        Some(("digest", options)) => no_digest(alloc, options),
         Some((_, options)) => no_split(alloc, options),
         None => no_split(alloc, matches),
     }
 }
 
-/// What to print where the options of `octets` name no task: `clap` doesn't judge options that exclude
-/// each other, nor that one of two is wanted.
+/// What to print where the options of `octets` name no task: `clap` doesn't judge options that
+/// exclude each other, nor that one of two is wanted.
 fn no_octets(alloc: Global, options: &ArgMatches) -> Usage {
     let text = if !is_given(options, "all") {
         "error: the following required arguments were not provided:\n  <--row <N>|--all>"
@@ -332,8 +374,19 @@ fn no_octets(alloc: Global, options: &ArgMatches) -> Usage {
     with_advice(String::from_str(alloc, text))
 }
 
-/// What to print where the options of `split` name no task: `clap` judges neither the text of `--key`
-/// nor two options that exclude each other.
+/// What to print where the options of `digest` name no task: `clap` doesn't judge that an option is
+/// wanted, nor that one wants another.
+fn no_digest(alloc: Global, options: &ArgMatches) -> Usage {
+    let text = if word_of(options, "signatures").is_none() {
+        "error: the following required arguments were not provided:\n  --signatures <FILE>"
+    } else {
+        "error: the argument '--salt' wants '--octets <N>'"
+    };
+    with_advice(String::from_str(alloc, text))
+}
+
+/// What to print where the options of `split` name no task: `clap` judges neither the text of
+/// `--key` nor two options that exclude each other.
 fn no_split(alloc: Global, options: &ArgMatches) -> Usage {
     let key = match word_of(options, "key") {
         Some(key) => key,

@@ -1,7 +1,7 @@
 use Rattle.std.proofs.Common.{◌∙◌, ap, subst, sym}
 use Rattle.opgp_c.specs.Readings.{IsGoing, begun}
 use Rattle.opgp_c.specs.declared.reader.Reader.{Reader}
-use Rattle.opgp_c.specs.declared.reading_slot.Reading.{Reading}
+use Rattle.opgp_c.specs.declared.slot.Reading.{Reading}
 use Rattle.opgp_c.proofs.opgp_reader_open.Goals as goal
 
 -- the handle holds the reading that was begun

@@ -1,7 +1,7 @@
 use Rattle.std.proofs.Common.{ℕ, List, Ok, Err, Bor, subst}
 use Rattle.opgp_ring.specs.Keyring.{KeyringValue}
-use Rattle.opgp_engine.specs.Keyrings.{ComposesTo, key_label}
-use Rattle.opgp_engine.specs.Reading.{AnswerOf}
+use Rattle.opgp_codec.specs.Keyrings.{ComposesTo, key_label}
+use Rattle.opgp_codec.specs.Reading.{AnswerOf}
 use Rattle.opgp_c.proofs.calls.read_ring.Goals as goal
 
 -- the keyring, or the fault, is that of the octets that the source had

@@ -1,7 +1,7 @@
 use Rattle.std.proofs.Common.{List, ◌++◌, ◌∙◌, ap, sym, append_assoc}
 use Rattle.opgp_ring.specs.Composed.{PartValue}
 use Rattle.opgp_ring.specs.State.{ready_parts}
-use Rattle.opgp_engine.specs.Waiting.{parts_in}
+use Rattle.opgp_codec.specs.Waiting.{parts_in}
 use Rattle.opgp_c.proofs.reading.next.Goals as goal
 
 -- the part is behind those that were taken, and before those that wait now

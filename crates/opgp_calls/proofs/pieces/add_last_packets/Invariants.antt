@@ -1,5 +1,5 @@
 use Rattle.std.proofs.Common.{length}
-use Rattle.opgp_engine.specs.PacketReader.{packets_in}
+use Rattle.opgp_codec.specs.PacketReader.{packets_in}
 use Rattle.opgp_calls.proofs.pieces.add_last_packets.Given as goal
 
 abbrev pub decreases-rest : goal.decreases-rest

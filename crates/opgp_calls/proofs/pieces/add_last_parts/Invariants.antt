@@ -1,5 +1,5 @@
 use Rattle.std.proofs.Common.{length}
-use Rattle.opgp_engine.specs.Waiting.{parts_in}
+use Rattle.opgp_codec.specs.Waiting.{parts_in}
 use Rattle.opgp_calls.proofs.pieces.add_last_parts.Given as goal
 
 abbrev pub decreases-rest : goal.decreases-rest

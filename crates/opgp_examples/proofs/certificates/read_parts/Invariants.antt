@@ -1,6 +1,6 @@
 use Rattle.std.proofs.Common.{◌≡◌, ◌≤◌, ◌+◌, ◌-◌}
 use Rattle.opgp.specs.Octets.Limits.{input_limit}
-use Rattle.opgp.specs.Engine.PartReader.{IsReading, octets_given}
+use Rattle.opgp.specs.Codec.PartReader.{IsReading, octets_given}
 use Rattle.opgp_examples.proofs.certificates.read_parts.Given as goal
 
 abbrev pub invariant-pieces : goal.invariant-pieces

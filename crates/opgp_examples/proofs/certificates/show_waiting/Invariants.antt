@@ -1,6 +1,6 @@
 use Rattle.std.proofs.Common.{◌≡◌, length}
 use Rattle.opgp.specs.Octets.declared.limits.Limits.{Limits}
-use Rattle.opgp.specs.Engine.PartReader.{IsReading, octets_given, waits}
+use Rattle.opgp.specs.Codec.PartReader.{IsReading, octets_given, waits}
 use Rattle.opgp_examples.proofs.certificates.show_waiting.Given as goal
 
 abbrev pub invariant-parts : goal.invariant-parts

@@ -1,6 +1,6 @@
 use Rattle.std.proofs.Common.{◌≡◌, ◌≤◌, ◌+◌, ◌-◌}
 use Rattle.opgp.specs.Octets.Limits.{input_limit}
-use Rattle.opgp.specs.Engine.PacketReader.{IsReading, octets_given}
+use Rattle.opgp.specs.Codec.PacketReader.{IsReading, octets_given}
 use Rattle.opgp_examples.proofs.packets.read_packets.Given as goal
 
 abbrev pub invariant-pieces : goal.invariant-pieces

@@ -1,6 +1,6 @@
 use Rattle.std.proofs.Common.{◌≡◌, length}
 use Rattle.opgp.specs.Octets.declared.limits.Limits.{Limits}
-use Rattle.opgp.specs.Engine.PacketReader.{IsReading, octets_given, waits}
+use Rattle.opgp.specs.Codec.PacketReader.{IsReading, octets_given, waits}
 use Rattle.opgp_examples.proofs.packets.show_waiting.Given as goal
 
 abbrev pub invariant-packets : goal.invariant-packets

@@ -1,10 +1,14 @@
-use Rattle.std.proofs.Common.{List, ℕ, drop, slice_index_or, arith, subst, is_some, sym, ap, ◌∙◌}
+use Rattle.std.proofs.Common.{◌≡◌, List, [], ℕ, ◌+◌, length, drop, Some, slice_index_or, arith, subst, is_some, sym, ap, ◌∙◌}
 use Rattle.std.proofs.lemmas.Grind.{common_steps}
 use Rattle.std.proofs.lemmas.List.{take_rest}
 use Rattle.std.proofs.lemmas.Option.{some_pair_parts}
 use Rattle.opgp_octets.specs.declared.fault.Reason.{Reason}
+use Rattle.opgp_octets.specs.Octets.{IsOctets}
+use Rattle.opgp_frame.specs.declared.spot.Spot.{Spot}
+use Rattle.opgp_frame.specs.FormOf.{form_with}
 use Rattle.opgp_frame.specs.Length.{LengthBegins, length_amount}
-use Rattle.opgp_frame.proofs.Wholes.{shows_whole, whole_begins}
+use Rattle.opgp_frame.specs.Whole.{LiesWhole}
+use Rattle.opgp_frame.proofs.Wholes.{shows_whole, whole_lies}
 use Rattle.opgp_frame.proofs.whole.whole_in.Goals as goal
 
 pub returns-clause-whole : goal.returns-clause-whole
@@ -12,7 +16,14 @@ returns-clause-whole c =
     let octets = c.args.octets.now in
     let header = slice_index_or octets 0 0 in
     let begins : LengthBegins header (drop 1 octets) c.in_ok-last.last c.in_ok-last.size = subst (λ (o : List ℕ). LengthBegins header o c.in_ok-last.last c.in_ok-last.size) (take_rest octets 1) c.in_ok-last.ensures.found in
-    whole_begins c.args.limits octets c.in_ok-last.last c.in_ok-last.size c.amount-amount.result (omega arith) (omega arith) (grind (arith, common_steps)) begins (grind (arith, common_steps)) c.amount-amount.ensures.value (omega arith) (omega arith)
+    let are : IsOctets octets = λ i. omega (arith, c.type_inv.octets i) in
+    let none : c.new.result.items ≡ [] = grind (arith, common_steps) in
+    let shape = c.form_of.ensures.exact (λ some. absurd (omega (arith, some, ap (length {A = ℕ}) none))) in
+    let found : form_with [] c.in_ok-last.last ≡ Some c.in_ok-form.form = sym (subst (λ (ks : List ℕ). c.form_of.result ≡ form_with ks c.in_ok-last.last) none shape) ∙ c.in_ok-form.was in
+    let spot : ℕ → Spot = λ kind. record { form = c.in_ok-form.form; kind = kind; from = 1 + c.in_ok-last.size; until = 1 + c.in_ok-last.size + c.amount-amount.result; block = c.args.block; pos = c.args.pos } in
+    let lies = whole_lies c.args.limits octets c.in_ok-last.last c.in_ok-last.size c.amount-amount.result c.in_ok-form.form c.args.block c.args.pos (omega arith) are (grind (arith, common_steps)) begins (grind (arith, common_steps))
+    c.amount-amount.ensures.value (omega arith) (omega arith) found in
+    subst (λ (kind : ℕ). LiesWhole c.args.limits (spot kind) octets) (sym c.kind_in.ensures) lies
 
 pub returns-then-is_some-clause-some : goal.returns-then-is_some-clause-some
 returns-then-is_some-clause-some c h =

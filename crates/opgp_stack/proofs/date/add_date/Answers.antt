@@ -1,5 +1,5 @@
 use Rattle.std.proofs.Common.{◌∙◌, ap}
-use Rattle.opgp_stream.proofs.Extended.{extends_same}
+use Rattle.opgp_io.proofs.Extended.{extends_same}
 use Rattle.opgp_stack.specs.Date.{day_text}
 use Rattle.opgp_stack.proofs.DateTexts.{date_line}
 use Rattle.opgp_stack.proofs.date.add_date.Goals as goal

@@ -1,5 +1,5 @@
 use Rattle.std.proofs.Common.{Err, refl}
-use Rattle.opgp_engine.specs.declared.engine_error.EngineError.TheVariants as engine
+use Rattle.opgp_codec.specs.declared.engine_error.EngineError.TheVariants as engine
 use Rattle.opgp_stack.proofs.hashing.write_question.Goals as goal
 
 pub returns : goal.returns

@@ -1,4 +1,4 @@
-use Rattle.opgp_stream.proofs.Extended.{extends_same}
+use Rattle.opgp_io.proofs.Extended.{extends_same}
 use Rattle.opgp_stack.proofs.SoundLines.{view_line}
 use Rattle.opgp_stack.proofs.listing.add_content.Goals as goal
 

@@ -1,7 +1,7 @@
 use Rattle.std.proofs.Common.{◌++◌, ℕ, ap, refl}
 use Rattle.opgp_packet.specs.Key.{key_value}
 use Rattle.opgp_packet.specs.Parsed.{body_octets}
-use Rattle.opgp_stream.proofs.Extended.{extends_stop, extends_then}
+use Rattle.opgp_io.proofs.Extended.{extends_stop, extends_then}
 use Rattle.opgp_stack.specs.Date.{date_words}
 use Rattle.opgp_stack.specs.Listing.{key_fields_in, key_start, number_at}
 use Rattle.opgp_stack.specs.Role.{role_name}

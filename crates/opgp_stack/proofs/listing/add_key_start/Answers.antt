@@ -3,7 +3,7 @@ use Rattle.opgp_hash.specs.Fingerprint.{fingerprint_of, print_octets}
 use Rattle.opgp_hash.specs.KeyId.{key_id_of}
 use Rattle.opgp_packet.specs.Parsed.{body_octets}
 use Rattle.opgp_packet.specs.Key.{key_value}
-use Rattle.opgp_stream.proofs.Extended.{extends_stop, extends_then}
+use Rattle.opgp_io.proofs.Extended.{extends_stop, extends_then}
 use Rattle.opgp_stack.specs.Listing.{key_names, key_numbers}
 use Rattle.opgp_stack.specs.Role.{role_name}
 use Rattle.opgp_stack.proofs.KeyLines.{key_start_is}

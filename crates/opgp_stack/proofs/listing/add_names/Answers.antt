@@ -1,6 +1,6 @@
 use Rattle.std.proofs.Common.{◌++◌, codes, refl}
 use Rattle.hex.specs.Hex.{encode_upper}
-use Rattle.opgp_stream.proofs.Extended.{extends_stop, extends_then}
+use Rattle.opgp_io.proofs.Extended.{extends_stop, extends_then}
 use Rattle.opgp_stack.proofs.listing.add_names.Goals as goal
 
 pub returns-in_err-add_hex : goal.returns-in_err-add_hex

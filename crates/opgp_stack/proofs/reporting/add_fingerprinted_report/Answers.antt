@@ -6,7 +6,7 @@ use Rattle.opgp_report.specs.IssuerName.{name_value}
 use Rattle.opgp_report.specs.KeyIndex.{prints_shown}
 use Rattle.opgp_report.specs.Row.{row_value}
 use Rattle.opgp_report.proofs.Fingerprints.{few_found}
-use Rattle.opgp_stream.proofs.Extended.{extends_all_left, extends_broken_left, extends_less_left, extends_nothing_left}
+use Rattle.opgp_io.proofs.Extended.{extends_all_left, extends_broken_left, extends_less_left, extends_nothing_left}
 use Rattle.opgp_stack.specs.Report.{fingerprinted_lines}
 use Rattle.opgp_stack.proofs.reporting.add_fingerprinted_report.Goals as goal
 

@@ -1,6 +1,6 @@
 use Rattle.std.proofs.Common.{◌+◌, ◌<◌, ◌^◌, length}
 use Rattle.opgp_report.specs.Fingerprinting.{rows_to_come}
-use Rattle.opgp_stream.proofs.Extended.{ExtendsAllBut}
+use Rattle.opgp_io.proofs.Extended.{ExtendsAllBut}
 use Rattle.opgp_stack.specs.Report.{fingerprinted_lines}
 use Rattle.opgp_stack.proofs.reporting.add_fingerprinted_report.Given as goal
 

@@ -2,7 +2,7 @@ use Rattle.std.proofs.Common.{arith, ◌+◌, List, ap, map}
 use Rattle.std.proofs.lemmas.List.{nil_from_length}
 use Rattle.opgp_report.specs.declared.row.Row.{Row}
 use Rattle.opgp_report.specs.Row.{row_value}
-use Rattle.opgp_stream.proofs.Extended.{extends_all_left, extends_broken_left, extends_less_left, extends_nothing_left}
+use Rattle.opgp_io.proofs.Extended.{extends_all_left, extends_broken_left, extends_less_left, extends_nothing_left}
 use Rattle.opgp_stack.specs.Report.{report_lines}
 use Rattle.opgp_stack.proofs.reporting.add_report.Goals as goal
 

@@ -1,6 +1,6 @@
 use Rattle.std.proofs.Common.{◌≡◌, ◌+◌, length, map}
 use Rattle.opgp_report.specs.Row.{row_value}
-use Rattle.opgp_stream.proofs.Extended.{ExtendsAllBut}
+use Rattle.opgp_io.proofs.Extended.{ExtendsAllBut}
 use Rattle.opgp_stack.specs.Report.{report_lines}
 use Rattle.opgp_stack.proofs.reporting.add_report.Given as goal
 

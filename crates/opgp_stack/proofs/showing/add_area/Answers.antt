@@ -1,6 +1,6 @@
 use Rattle.std.proofs.Common.{ap}
 use Rattle.opgp_packet.specs.Subs.{subs_to_come}
-use Rattle.opgp_stream.proofs.Extended.{extends_all_left, extends_broken_left, extends_less_left, extends_nothing_left}
+use Rattle.opgp_io.proofs.Extended.{extends_all_left, extends_broken_left, extends_less_left, extends_nothing_left}
 use Rattle.opgp_stack.specs.Showing.{area_lines}
 use Rattle.opgp_stack.proofs.showing.add_area.Goals as goal
 

@@ -1,6 +1,6 @@
 use Rattle.std.proofs.Common.{length}
 use Rattle.opgp_packet.specs.Subs.{subs_to_come}
-use Rattle.opgp_stream.proofs.Extended.{ExtendsAllBut}
+use Rattle.opgp_io.proofs.Extended.{ExtendsAllBut}
 use Rattle.opgp_stack.specs.Showing.{area_lines}
 use Rattle.opgp_stack.proofs.showing.add_area.Given as goal
 

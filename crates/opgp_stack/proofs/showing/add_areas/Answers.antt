@@ -1,6 +1,6 @@
 use Rattle.std.proofs.Common.{refl}
 use Rattle.opgp_packet.specs.Subs.{subs_to_come}
-use Rattle.opgp_stream.proofs.Extended.{extends_stop, extends_then}
+use Rattle.opgp_io.proofs.Extended.{extends_stop, extends_then}
 use Rattle.opgp_stack.specs.Showing.{area_lines}
 use Rattle.opgp_stack.specs.declared.showing.Area.TheVariants.{Unhashed}
 use Rattle.opgp_stack.proofs.showing.add_areas.Goals as goal

@@ -1,6 +1,6 @@
 use Rattle.std.proofs.Common.{refl}
 use Rattle.opgp_frame.specs.View.{viewed}
-use Rattle.opgp_stream.proofs.Extended.{extends_stop, extends_then}
+use Rattle.opgp_io.proofs.Extended.{extends_stop, extends_then}
 use Rattle.opgp_stack.specs.Showing.{content_lines}
 use Rattle.opgp_stack.proofs.showing.add_packet.Goals as goal
 

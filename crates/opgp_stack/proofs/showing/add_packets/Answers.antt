@@ -1,9 +1,9 @@
 use Rattle.std.proofs.Common.{◌∙◌, refl, ap, sym}
-use Rattle.opgp_stream.proofs.Extended.{extends_same}
-use Rattle.opgp_stream.specs.Added.{State}
-use Rattle.opgp_stream.specs.Output.{state_of}
+use Rattle.opgp_io.proofs.Extended.{extends_same}
+use Rattle.opgp_io.specs.Added.{State}
+use Rattle.opgp_io.specs.Output.{state_of}
 use Rattle.opgp_stack.specs.Showing.{packet_lines}
-use Rattle.opgp_engine.proofs.Loops.{broken_of, more_of}
+use Rattle.opgp_codec.proofs.Loops.{broken_of, more_of}
 use Rattle.opgp_stack.proofs.showing.add_packets.Goals as goal
 
 pub returns-in_err-add_packet : goal.returns-in_err-add_packet

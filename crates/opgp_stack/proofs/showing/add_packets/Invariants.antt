@@ -1,6 +1,6 @@
 use Rattle.std.proofs.Common.{◌≡◌, take}
-use Rattle.opgp_stream.specs.Added.{Adds}
-use Rattle.opgp_stream.specs.Output.{sink_name, state_of}
+use Rattle.opgp_io.specs.Added.{Adds}
+use Rattle.opgp_io.specs.Output.{sink_name, state_of}
 use Rattle.opgp_stack.specs.Showing.{shown}
 use Rattle.opgp_stack.proofs.showing.add_packets.Given as goal
 

@@ -1,11 +1,11 @@
 use Rattle.std.proofs.Common.{◌∙◌, List, ℕ, refl, ◌+◌, sym, subst, take}
 use Rattle.std.proofs.lemmas.List.Folds.{flat_map-map}
 use Rattle.opgp_ring.specs.declared.block_of.BlockOf.{BlockOf}
-use Rattle.opgp_stream.specs.Added.{State, Adds, Writes}
-use Rattle.opgp_stream.specs.Output.{state_of}
-use Rattle.opgp_engine.specs.Packets.{BlockValue, block_value}
+use Rattle.opgp_io.specs.Added.{State, Adds, Writes}
+use Rattle.opgp_io.specs.Output.{state_of}
+use Rattle.opgp_codec.specs.Packets.{BlockValue, block_value}
 use Rattle.opgp_stack.specs.Showing.{shown}
-use Rattle.opgp_engine.proofs.Loops.{broken_of, more_of}
+use Rattle.opgp_codec.proofs.Loops.{broken_of, more_of}
 use Rattle.opgp_stack.proofs.showing.add_shown.Goals as goal
 
 pub returns-in_err-add_packets : goal.returns-in_err-add_packets

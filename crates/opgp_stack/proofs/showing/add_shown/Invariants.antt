@@ -1,7 +1,7 @@
 use Rattle.std.proofs.Common.{◌≡◌, take, map}
-use Rattle.opgp_stream.specs.Added.{Adds}
-use Rattle.opgp_stream.specs.Output.{sink_name, state_of}
-use Rattle.opgp_engine.specs.Packets.{block_value}
+use Rattle.opgp_io.specs.Added.{Adds}
+use Rattle.opgp_io.specs.Output.{sink_name, state_of}
+use Rattle.opgp_codec.specs.Packets.{block_value}
 use Rattle.opgp_stack.specs.Showing.{shown_blocks}
 use Rattle.opgp_stack.proofs.showing.add_shown.Given as goal
 

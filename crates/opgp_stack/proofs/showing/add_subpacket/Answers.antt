@@ -2,7 +2,7 @@ use Rattle.std.proofs.Common.{◌≡◌, ◌∙◌, sym, Bool, List, ℕ, [], �
 use Rattle.std.specs.Fmt.{decimal}
 use Rattle.opgp_octets.specs.SubLen.{sub_len_amount}
 use Rattle.opgp_packet.specs.Meaning.{Meaning}
-use Rattle.opgp_stream.proofs.Extended.{extends_same}
+use Rattle.opgp_io.proofs.Extended.{extends_same}
 use Rattle.opgp_stack.specs.Showing.{bit_name, meaning_name}
 use Rattle.opgp_stack.proofs.showing.add_subpacket.Goals as goal
 

@@ -1,6 +1,6 @@
 use Rattle.std.proofs.Common.{length}
 use Rattle.opgp_packet.specs.Subs.{subs_to_come}
-use Rattle.opgp_stream.proofs.Extended.{ExtendsAllBut}
+use Rattle.opgp_io.proofs.Extended.{ExtendsAllBut}
 use Rattle.opgp_stack.specs.Values.{valued_area}
 use Rattle.opgp_stack.proofs.valued.add_area.Given as goal
 

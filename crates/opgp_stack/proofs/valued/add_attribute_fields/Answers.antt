@@ -1,4 +1,4 @@
-use Rattle.opgp_stream.proofs.Extended.{extends_stop, extends_then}
+use Rattle.opgp_io.proofs.Extended.{extends_stop, extends_then}
 use Rattle.opgp_stack.specs.Listing.{attribute_line}
 use Rattle.opgp_stack.proofs.SoundLines.{sound_line}
 use Rattle.opgp_stack.proofs.valued.add_attribute_fields.Goals as goal

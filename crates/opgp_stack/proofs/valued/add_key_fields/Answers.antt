@@ -1,4 +1,4 @@
-use Rattle.opgp_stream.proofs.Extended.{extends_stop, extends_then}
+use Rattle.opgp_io.proofs.Extended.{extends_stop, extends_then}
 use Rattle.opgp_stack.specs.Listing.{dated_key_line}
 use Rattle.opgp_stack.specs.Role.{role_name}
 use Rattle.opgp_stack.proofs.SoundLines.{sound_line}

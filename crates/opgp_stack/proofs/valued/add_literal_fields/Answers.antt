@@ -1,7 +1,7 @@
 use Rattle.std.proofs.Common.{ap}
 use Rattle.std.specs.Prelude.{length}
 use Rattle.opgp_packet.specs.Literal.{literal_value}
-use Rattle.opgp_stream.proofs.Extended.{extends_stop, extends_then}
+use Rattle.opgp_io.proofs.Extended.{extends_stop, extends_then}
 use Rattle.opgp_stack.specs.Values.{literal_rest, literal_text}
 use Rattle.opgp_stack.proofs.valued.add_literal_fields.Goals as goal
 

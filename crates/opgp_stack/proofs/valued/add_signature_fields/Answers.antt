@@ -1,7 +1,7 @@
 use Rattle.std.proofs.Common.{◌++◌, refl, Ok}
 use Rattle.opgp_packet.specs.SigView.{sig_view_value}
 use Rattle.opgp_packet.specs.SignatureBody.{signature_at}
-use Rattle.opgp_stream.proofs.Extended.{extends_stop, extends_then}
+use Rattle.opgp_io.proofs.Extended.{extends_stop, extends_then}
 use Rattle.opgp_stack.specs.Listing.{signature_line, signature_text}
 use Rattle.opgp_stack.specs.Values.{valued_areas}
 use Rattle.opgp_stack.proofs.SoundLines.{opaque_parts, signature_parts}

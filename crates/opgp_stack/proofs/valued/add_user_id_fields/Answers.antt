@@ -1,5 +1,5 @@
 use Rattle.std.proofs.Common.{refl}
-use Rattle.opgp_stream.proofs.Extended.{extends_stop, extends_then}
+use Rattle.opgp_io.proofs.Extended.{extends_stop, extends_then}
 use Rattle.opgp_stack.specs.Listing.{user_id_line}
 use Rattle.opgp_stack.proofs.valued.add_user_id_fields.Goals as goal
 

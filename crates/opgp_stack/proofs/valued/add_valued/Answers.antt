@@ -1,6 +1,6 @@
 use Rattle.std.proofs.Common.{◌≡◌, ◌∙◌, ◌++◌, ℕ, List, ap, refl, sym}
 use Rattle.opgp_frame.specs.View.{viewed}
-use Rattle.opgp_stream.proofs.Extended.{extends_stop, extends_then}
+use Rattle.opgp_io.proofs.Extended.{extends_stop, extends_then}
 use Rattle.opgp_stack.specs.Showing.{header_line}
 use Rattle.opgp_stack.specs.Values.{fields_line}
 use Rattle.opgp_stack.proofs.valued.add_valued.Goals as goal

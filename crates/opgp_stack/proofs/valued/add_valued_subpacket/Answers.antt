@@ -2,7 +2,7 @@ use Rattle.std.proofs.Common.{List, ℕ, append-nil, refl, sym}
 use Rattle.opgp_octets.specs.SubpacketKind.{subpacket_kind_of}
 use Rattle.opgp_packet.specs.MeaningReading.{meaning_of}
 use Rattle.opgp_packet.specs.SubView.{kind_shown, sub_shown}
-use Rattle.opgp_stream.proofs.Extended.{extends_same, extends_stop, extends_then}
+use Rattle.opgp_io.proofs.Extended.{extends_same, extends_stop, extends_then}
 use Rattle.opgp_stack.specs.Showing.{subpacket_start}
 use Rattle.opgp_stack.specs.Values.{value_line}
 use Rattle.opgp_stack.proofs.valued.add_valued_subpacket.Goals as goal

@@ -4,7 +4,7 @@ use Rattle.opgp_packet.specs.SignatureBody.{SignatureValue}
 use Rattle.opgp_report.specs.IssuerName.{name_value}
 use Rattle.opgp_report.specs.Left.{left_in}
 use Rattle.opgp_report.specs.Signer.{by_id}
-use Rattle.opgp_stream.proofs.Extended.{extends_same}
+use Rattle.opgp_io.proofs.Extended.{extends_same}
 use Rattle.opgp_stack.specs.Listing.{signature_text, typed_start}
 use Rattle.opgp_report.specs.Named.{named_of}
 use Rattle.opgp_stack.specs.ValuedListing.{created_of}

@@ -1,5 +1,5 @@
 use Rattle.std.proofs.Common.{◌-◌, drop, length, take}
-use Rattle.opgp_stream.proofs.Extended.{extends_broken_left, extends_less_left}
+use Rattle.opgp_io.proofs.Extended.{extends_broken_left, extends_less_left}
 use Rattle.opgp_stack.specs.Values.{numbers_text}
 use Rattle.opgp_stack.proofs.NumberTexts.{first_number}
 use Rattle.opgp_stack.proofs.values.add_each.Goals as goal

@@ -1,5 +1,5 @@
 use Rattle.std.proofs.Common.{length}
-use Rattle.opgp_stream.proofs.Extended.{ExtendsAllBut}
+use Rattle.opgp_io.proofs.Extended.{ExtendsAllBut}
 use Rattle.opgp_stack.specs.Values.{numbers_text}
 use Rattle.opgp_stack.proofs.values.add_each.Given as goal
 

@@ -1,5 +1,5 @@
 use Rattle.std.proofs.Common.{◌++◌, append_assoc, codes, refl}
-use Rattle.opgp_stream.proofs.Extended.{extends_stop, extends_then}
+use Rattle.opgp_io.proofs.Extended.{extends_stop, extends_then}
 use Rattle.opgp_stack.specs.Values.{numbers_text}
 use Rattle.opgp_stack.proofs.values.add_numbers.Goals as goal
 

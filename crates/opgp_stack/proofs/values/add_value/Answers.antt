@@ -1,7 +1,7 @@
 use Rattle.std.proofs.Common.{ap}
 use Rattle.opgp_packet.specs.SubMeaning.{meaning_shown}
 use Rattle.opgp_packet.specs.declared.sub_meaning.SubMeaning.{SubMeaning}
-use Rattle.opgp_stream.proofs.Extended.{extends_same}
+use Rattle.opgp_io.proofs.Extended.{extends_same}
 use Rattle.opgp_stack.specs.Values.{value_line}
 use Rattle.opgp_stack.proofs.OtherValues.{octets_alone}
 use Rattle.opgp_stack.proofs.values.add_value.Goals as goal
@@ -46,7 +46,7 @@ pub returns-in-PreferredCompression : goal.returns-in-PreferredCompression
 returns-in-PreferredCompression g c = rw c.in-PreferredCompression.is c.add_numbers-in-PreferredCompression.ensures
 
 pub returns-in-KeyServerPreferences : goal.returns-in-KeyServerPreferences
-returns-in-KeyServerPreferences g c = rw c.in-KeyServerPreferences.is c.add_server_flags.ensures
+returns-in-KeyServerPreferences g c = rw c.in-KeyServerPreferences.is (rw c.key_server_preferences.ensures at c.add_flags.ensures)
 
 pub returns-in-PreferredKeyServer : goal.returns-in-PreferredKeyServer
 returns-in-PreferredKeyServer g c = rw c.in-PreferredKeyServer.is c.add_text-in-PreferredKeyServer.ensures
@@ -55,7 +55,7 @@ pub returns-in-PolicyUri : goal.returns-in-PolicyUri
 returns-in-PolicyUri g c = rw c.in-PolicyUri.is c.add_text-in-PolicyUri.ensures
 
 pub returns-in-KeyFlags : goal.returns-in-KeyFlags
-returns-in-KeyFlags g c = rw c.in-KeyFlags.is c.add_key_flags.ensures
+returns-in-KeyFlags g c = rw c.in-KeyFlags.is (rw c.key_flags.ensures at c.add_flags-in-KeyFlags.ensures)
 
 pub returns-in-SignersUserId : goal.returns-in-SignersUserId
 returns-in-SignersUserId g c = rw c.in-SignersUserId.is c.add_text-in-SignersUserId.ensures
@@ -64,7 +64,7 @@ pub returns-in-RevocationReason : goal.returns-in-RevocationReason
 returns-in-RevocationReason g c = rw c.in-RevocationReason.is c.add_reason.ensures
 
 pub returns-in-Features : goal.returns-in-Features
-returns-in-Features g c = rw c.in-Features.is c.add_features.ensures
+returns-in-Features g c = rw c.in-Features.is (rw c.features.ensures at c.add_flags-in-Features.ensures)
 
 pub returns-in-SignatureTarget : goal.returns-in-SignatureTarget
 returns-in-SignatureTarget g c = rw c.in-SignatureTarget.is c.add_pair_digits-in-SignatureTarget.ensures

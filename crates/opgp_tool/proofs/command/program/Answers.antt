@@ -17,7 +17,7 @@ both (Ok command) P Q p q = (command, p, q)
 both (Err e) P Q p q = absurd q
 
 pub returns : goal.returns
-returns c = IfOk-weaker c.with_command-8.result _ _ (λ r last.
+returns c = IfOk-weaker c.with_command-11.result _ _ (λ r last.
     let show = both c.show_command.result _ _ c.show_command.ensures c.in_ok-tool-2.ensures in
     let list = both c.list_command.result _ _ c.list_command.ensures c.in_ok-tool-3.ensures in
     let check = both c.check_command.result _ _ c.check_command.ensures c.in_ok-tool-4.ensures in
@@ -27,7 +27,10 @@ returns c = IfOk-weaker c.with_command-8.result _ _ (λ r last.
     let normalise = both c.writing_command.result _ _ c.writing_command.ensures
     c.in_ok-tool-7.ensures in
     let split = both c.split_command.result _ _ c.split_command.ensures c.in_ok-tool-8.ensures in
-    let join = both c.join_command.result _ _ c.join_command.ensures last in
+    let join = both c.join_command.result _ _ c.join_command.ensures c.in_ok-tool-9.ensures in
+    let signatures = both c.new_command.result _ _ c.new_command.ensures c.in_ok-tool-10.ensures in
+    let digest = both c.digest_command.result _ _ c.digest_command.ensures c.in_ok-tool-11.ensures in
+    let canonical = both c.new_command-2.result _ _ c.new_command-2.ensures last in
     let one = show.2 (ap plain_of show.1.app)
     ∙ ap₂ with_subcommand c.in_ok-tool.ensures (ap top_of show.1.app) in
     let two = list.2 (ap plain_of list.1.app)
@@ -44,6 +47,12 @@ returns c = IfOk-weaker c.with_command-8.result _ _ (λ r last.
     ∙ ap₂ with_subcommand six (ap top_of split.1.2.app) in
     let eight = join.2 (ap plain_of join.1.2.app)
     ∙ ap₂ with_subcommand seven (ap top_of join.1.2.app) in
+    let nine = signatures.2 (ap plain_of signatures.1.app)
+    ∙ ap₂ with_subcommand eight (ap top_of signatures.1.app) in
+    let ten = digest.2 (ap plain_of digest.1.app)
+    ∙ ap₂ with_subcommand nine (ap top_of digest.1.app) in
+    let eleven = canonical.2 (ap plain_of canonical.1.app)
+    ∙ ap₂ with_subcommand ten (ap top_of canonical.1.app) in
     record {
       show_choices = show.1.choices;
       list_choices = list.1.choices;
@@ -53,6 +62,9 @@ returns c = IfOk-weaker c.with_command-8.result _ _ (λ r last.
       normalise_choices = normalise.1.2.choices;
       split_choices = split.1.2.choices;
       join_choices = join.1.2.choices;
+      signatures_choices = signatures.1.choices;
+      digest_choices = digest.1.choices;
+      canonical_choices = canonical.1.choices;
       are_choices = (
         show.1.are_choices,
         (
@@ -65,7 +77,16 @@ returns c = IfOk-weaker c.with_command-8.result _ _ (λ r last.
                 write.1.2.are_choices,
                 (
                   normalise.1.2.are_choices,
-                  (split.1.2.are_choices, (join.1.2.are_choices, tt)),
+                  (
+                    split.1.2.are_choices,
+                    (
+                      join.1.2.are_choices,
+                      (
+                        signatures.1.are_choices,
+                        (digest.1.are_choices, (canonical.1.are_choices, tt)),
+                      ),
+                    ),
+                  ),
                 ),
               ),
             ),
@@ -79,5 +100,5 @@ returns c = IfOk-weaker c.with_command-8.result _ _ (λ r last.
       split_outs = split.1.0;
       join_outs = join.1.0;
       are_outs = (write.1.1, (normalise.1.1, (split.1.1, (join.1.1, tt))));
-      is = eight;
-    }) c.with_command-8.ensures
+      is = eleven;
+    }) c.with_command-11.ensures

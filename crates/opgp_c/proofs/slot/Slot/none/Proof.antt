@@ -31,7 +31,7 @@ use denote.Triple.Table.{entered}
 use denote.Triple.Walked.{says, Stays, stay_dropped, walk_of, ends_at, Goes-dropped, walk_Meets}
 use Rattle.std.proofs.alloc.Calls.{handle_tells}
 use Rattle.std.proofs.ResultValues.{and_tt}
-use Rattle.opgp_c.proofs.AsBox.{E}
+use Rattle.opgp_c.proofs.AsBox.{HeldBox as E}
 use Rattle.std.specs.contracts.alloc.Global as Heap
 use Rattle.opgp_c.specs.contracts.slot.Slot as Sealed
 use Rattle.opgp_c.specs.contracts.slot.Slot.none as F

@@ -25,7 +25,7 @@ use denote.Triple.Table.{entered}
 use denote.Triple.Walked.{says, Stays, stay_dropped, walk_of, ends_at, Goes-dropped, walk_Meets}
 use Rattle.std.proofs.BoxSteps.Form.{D, B, word, box_typed}
 use Rattle.std.proofs.BoxSteps.Steps.{box_out, box_in}
-use Rattle.opgp_c.proofs.AsBox.{E, FromParts as From}
+use Rattle.opgp_c.proofs.AsBox.{HeldBox as E, FromParts as From}
 use Rattle.opgp_c.specs.contracts.slot.Slot.of_parts as F
 use Rattle.opgp_c.specs.contracts.slot.Slot.of_parts.Key.{name as #self}
 use Rattle.opgp_c.proofs.slot.Slot.of_parts.Statement as stated

@@ -1,6 +1,6 @@
 use Rattle.std.proofs.Common.{◌≡◌, length}
 use Rattle.opgp_octets.specs.declared.limits.Limits.{Limits}
-use Rattle.opgp_engine.specs.PacketReader.{IsReading, octets_given, waits}
+use Rattle.opgp_codec.specs.PacketReader.{IsReading, octets_given, waits}
 use Rattle.opgp_calls.proofs.pieces.PacketReaderReader.add_waiting.Given as goal
 
 abbrev pub invariant-packets : goal.invariant-packets

@@ -1,5 +1,5 @@
 use Rattle.std.proofs.Common.{List}
-use Rattle.opgp_engine.specs.Draft.{DraftHas}
+use Rattle.opgp_codec.specs.Draft.{DraftHas}
 use Rattle.opgp_report.specs.Asked.{Asked}
 use Rattle.opgp_report.specs.Standing.{standing_in}
 use Rattle.opgp_stack.specs.AllOctets.{HasRows}

@@ -1,5 +1,5 @@
 use Rattle.std.proofs.Common.{List, ap}
-use Rattle.opgp_engine.specs.Draft.{DraftHas}
+use Rattle.opgp_codec.specs.Draft.{DraftHas}
 use Rattle.opgp_hash.specs.CertificateHasher.{hasher_subject}
 use Rattle.opgp_packet.specs.SignatureBody.{signature_at}
 use Rattle.opgp_report.specs.Asked.{Asked, question_of}

@@ -1,5 +1,5 @@
 use Rattle.std.proofs.Common.{refl}
-use Rattle.opgp_stream.proofs.Extended.{extends_stop, extends_then}
+use Rattle.opgp_io.proofs.Extended.{extends_stop, extends_then}
 use Rattle.opgp_stack.proofs.all_octets.RowTextText.add.Goals as goal
 
 pub returns-in_err-add_row_line : goal.returns-in_err-add_row_line

@@ -1,0 +1,31 @@
+use Rattle.std.proofs.Common.{◌++◌, Ok, Err}
+use Rattle.opgp_octets.specs.Limits.{malformed_of}
+use Rattle.opgp_ring.specs.SignedLiteral.{signed_packets}
+use Rattle.opgp_codec.specs.Found.{opened}
+use Rattle.opgp_codec.specs.Signed.{AreSigned, message_label}
+use Rattle.opgp_codec.specs.declared.accepts.Accepts.TheVariants.{Messages}
+use Rattle.opgp_codec.proofs.Coming.{of_input}
+use Rattle.opgp_codec.proofs.Concluding.{answer_fault, answer_top}
+use Rattle.opgp_codec.proofs.Ends.{signed_is}
+use Rattle.opgp_codec.proofs.reading_signed.finish.Goals as goal
+
+pub returns-in-Ok-finish : goal.returns-in-Ok-finish
+returns-in-Ok-finish c mode limits before now items came over has =
+    let all = items ++ opened c.in-Ok.opening in
+    let told = c.open_block.ensures (malformed_of limits) items has in
+    let ended = rw c.in-Ok.is at (c.in_ok-opening.ensures Messages mode limits before now items came over) in
+    of_input before now limits _ _ (λ octets h. answer_top message_label (AreSigned limits) mode limits octets items c.in-Ok.opening (Ok (signed_packets c.in-Ok-finish.literal)) c.a_block_has_no_more_octets_than_the_text.ensures
+    (λ read. signed_is limits all (Ok c.in-Ok-finish.literal) read.ends (c.in-Ok-finish.ensures (malformed_of limits) all told)) h) ended
+
+pub returns-in-Err-finish : goal.returns-in-Err-finish
+returns-in-Err-finish c mode limits before now items came over has =
+    let all = items ++ opened c.in-Ok.opening in
+    let told = c.open_block.ensures (malformed_of limits) items has in
+    let ended = rw c.in-Ok.is at (c.in_ok-opening.ensures Messages mode limits before now items came over) in
+    of_input before now limits _ _ (λ octets h. answer_top message_label (AreSigned limits) mode limits octets items c.in-Ok.opening (Err c.in-Err-finish.fault) c.a_block_has_no_more_octets_than_the_text.ensures
+    (λ read. signed_is limits all (Err c.in-Err-finish.fault) read.ends (c.in-Err-finish.ensures (malformed_of limits) all told)) h) ended
+
+pub returns-in-Err : goal.returns-in-Err
+returns-in-Err c mode limits before now items came over has =
+    let ended = rw c.in-Err.is at (c.in_ok-opening.ensures Messages mode limits before now items came over) in
+    of_input before now limits _ _ (λ octets h. answer_fault message_label (AreSigned limits) mode limits octets items c.in-Err.fault h) ended

@@ -1,0 +1,60 @@
+//! Reads keyrings, packets, signed literals and detached signatures from armored or binary octets,
+//! in any pieces, or the one fault; and writes keyrings into a sink.
+#![tactic(auto)]
+
+mod accepts;
+mod answer;
+mod blocks;
+mod draft;
+mod draft_error;
+mod engine_error;
+mod found;
+mod incoming;
+mod incoming_octets;
+mod incoming_packets;
+mod incoming_parts;
+mod items;
+pub mod laws;
+mod mode;
+mod out;
+mod packet_reader;
+mod part_reader;
+mod parts;
+mod read_error;
+mod reading_keyring;
+mod reading_packets;
+mod reading_signatures;
+mod reading_signed;
+mod skipped;
+mod spool;
+mod spooled;
+mod text;
+mod via;
+mod waiting;
+mod waiting_packets;
+mod writing;
+mod writing_keyring;
+
+pub use answer::Answer;
+pub use draft::Draft;
+pub use draft_error::DraftError;
+pub use engine_error::EngineError;
+pub use incoming_octets::IncomingOctets;
+pub use incoming_packets::IncomingPackets;
+pub use incoming_parts::IncomingParts;
+pub use mode::Mode;
+pub use opgp_io::{Sink, Source, Watched};
+pub use out::Out;
+pub use packet_reader::PacketReader;
+pub use part_reader::PartReader;
+pub use parts::Parts;
+pub use read_error::ReadError;
+pub use reading_keyring::read_keyring;
+pub use reading_packets::read_packets;
+pub use reading_signatures::read_signatures;
+pub use reading_signed::read_signed;
+pub use spool::{NoSpool, Spool};
+pub use waiting::Waiting;
+pub use waiting_packets::WaitingPackets;
+pub use writing::{Text, write};
+pub use writing_keyring::{PacketsText, write_certificate, write_certificates, write_keyring};

@@ -1,0 +1,10 @@
+pub mod Closing
+pub mod Feeding
+pub mod Given
+pub mod OneAnswer
+pub mod OneDocument
+pub mod Pairs
+pub mod Places
+pub mod Reading
+pub mod Stray
+pub mod Text

@@ -1,0 +1,13 @@
+pub mod Answer
+pub mod CanonicalText
+pub mod DocumentHasher
+pub mod DocumentWhy
+pub mod HashedDocument
+pub mod OpenFault
+pub mod OwnOctets
+pub mod Place
+pub mod Sha1Hasher
+pub mod SignatureHasher
+pub mod SignedDocument
+pub mod StrayReturn
+pub mod Text

@@ -1,4 +1,0 @@
-use Rattle.opgp_engine.proofs.parts.compose.Goals as goal
-
-pub returns-in-Ok-clause-fed : goal.returns-in-Ok-clause-fed
-returns-in-Ok-clause-fed c = rw c.in-Some.is c.in-Ok.ensures.fed

@@ -1,0 +1,124 @@
+-- What an action makes of a keyring, and what is made of the parts that came so far.
+use Rattle.std.specs.Prelude.{◌≡◌, ℕ, Bool, true, false, List, [], slice_get, Some, None, Ok, Err, MatchResult}
+use Rattle.std.specs.List.{flat_map}
+use Rattle.opgp_ring.specs.Composed.{PartValue, parts_of}
+use Rattle.opgp_ring.specs.Keyring.{KeyringValue, flat}
+use Rattle.opgp_ring.specs.Normal.{normal_of}
+use Rattle.opgp_ring.specs.Parts.{HasParts}
+use Rattle.opgp_merge.specs.Chosen.{chosen_keyring}
+use Rattle.opgp_merge.specs.Merged.{merged_of}
+use Rattle.opgp_report.specs.Asked.{asked_of, question_in}
+use Rattle.opgp_report.specs.Fingerprinted.{fingerprinted_report_of}
+use Rattle.opgp_report.specs.Fingerprinting.{ReportsPrints}
+use Rattle.opgp_report.specs.Left.{says_left}
+use Rattle.opgp_report.specs.Report.{report_of}
+use Rattle.opgp_report.specs.Reporting.{Reports}
+use Rattle.opgp_codec.specs.declared.draft.Draft.{Draft}
+use Rattle.opgp_codec.specs.declared.out.Out.{Out}
+use Rattle.opgp_codec.specs.declared.out.Out.TheVariants as outs
+use Rattle.opgp_codec.specs.Keyrings.{ComposesTo, key_label}
+use Rattle.opgp_codec.specs.Reading.{AnswerOf, Outcome}
+use Rattle.opgp_codec.specs.Writing.{certificates_text, packets_text}
+use Rattle.opgp_stack.specs.AllOctets.{HasRows, octets_rows}
+use Rattle.opgp_stack.specs.ByKey.{HasNamed}
+use Rattle.opgp_stack.specs.KeyName.{name_octets}
+use Rattle.opgp_stack.specs.Listing.{listing}
+use Rattle.opgp_stack.specs.OnePart.{IsNth, IsRow, asked_among, certificates_in}
+use Rattle.opgp_stack.specs.PartText.{text_of_part}
+use Rattle.opgp_stack.specs.Report.{fingerprinted_lines, report_lines}
+use Rattle.opgp_stack.specs.Running.{Made, Text, named_made, one_text, question_made}
+use Rattle.opgp_stack.specs.ValuedListing.{valued_listing}
+use Rattle.opgp_stack.specs.declared.key_name.KeyName.{KeyName}
+use Rattle.opgp_stack.specs.declared.keyring_text.KeyringText.{KeyringText}
+use Rattle.opgp_stack.specs.declared.making.Making.{Making}
+use Rattle.opgp_stack.specs.declared.making.Making.TheVariants as making
+use Rattle.opgp_stack.specs.declared.named_certificates.NamedCertificates.{NamedCertificates}
+use Rattle.opgp_stack.specs.declared.part_text.PartText.{PartText}
+use Rattle.opgp_stack.specs.declared.part_text.PartText.TheVariants as texts
+use Rattle.opgp_stack.specs.declared.task.Action.{Action}
+use Rattle.opgp_stack.specs.declared.task.Action.TheVariants as action
+use Rattle.opgp_stack.specs.declared.task.Task.{Task}
+use Rattle.opgp_stack.specs.declared.task.Top.TheVariants as top
+
+-- an action makes something of a keyring; the others, of packets or of a signed literal
+abbrev pub is_of_parts : Action → Bool
+is_of_parts action.Show = false
+is_of_parts action.ShowValues = false
+is_of_parts (action.Octets row top.Literal) = false
+is_of_parts other = true
+
+-- ---- of the parts that came so far
+-- each is written in this way
+abbrev pub HasTexts : {S : Type 0} → (Draft S → List ℕ → Type 0) → PartText → KeyringText S
+    → List PartValue → Type 0
+HasTexts has text k parts = (k.text ≡ text) × has k.draft (flat_map (text_of_part text) parts)
+
+-- the certificates with a key of this name are written in this way, each on its own
+abbrev pub HasNames : {S : Type 0} → (Draft S → List ℕ → Type 0) → Out → KeyName
+    → NamedCertificates S → List PartValue → Type 0
+HasNames has out key k parts = (k.out ≡ out) × (k.key ≡ key)
+    × HasNamed has out (name_octets key) k.found k.draft (certificates_in parts)
+
+-- what an action has made of them, where a draft has a text by `has`
+abbrev pub HasMade : {S : Type 0} → (Draft S → List ℕ → Type 0) → Action → Making S
+    → List PartValue → Type 0
+HasMade has action.List (making.Text k) parts = HasTexts has texts.Lines k parts
+HasMade has action.ListValues (making.Text k) parts = HasTexts has texts.ValuedLines k parts
+HasMade has action.Check (making.Report k) parts = Reports k.rows (certificates_in parts)
+HasMade has action.CheckFingerprints (making.Fingerprinted k) parts =
+    ReportsPrints k.rows (certificates_in parts)
+HasMade has (action.Octets row top.Ring) (making.Row k) parts =
+    IsRow row k.left k.found (certificates_in parts)
+HasMade has action.OctetsAll (making.AllOctets k) parts =
+    HasRows has k.rows k.draft (asked_among (certificates_in parts))
+HasMade has (action.Write out) (making.Text k) parts = HasTexts has texts.AsTheyAre k parts
+HasMade has (action.WriteChosen out choice) (making.Text k) parts =
+    HasTexts has (texts.Chosen choice) k parts
+HasMade has (action.Normalise out) (making.Text k) parts = HasTexts has texts.Normalised k parts
+HasMade has (action.Split out None) (making.Text k) parts = HasTexts has (texts.Alone out) k parts
+HasMade has (action.Split out (Some number)) (making.Nth k) parts =
+    IsNth number k.left k.found (certificates_in parts)
+HasMade has (action.SplitKey out key) (making.Named k) parts = HasNames has out key k parts
+HasMade has (action.Join out false) (making.Text k) parts = HasTexts has texts.AsTheyAre k parts
+HasMade has (action.Join out true) (making.Ring ring) parts = HasParts ring parts
+HasMade has other k parts = ⊥
+
+-- ---- of the whole keyring
+-- how what an action made of a keyring is written: in binary, if the parts have their form already
+abbrev pub out_of : Action → Out
+out_of (action.Write out) = out
+out_of (action.WriteChosen out choice) = out
+out_of (action.Normalise out) = out
+out_of (action.Split out (Some number)) = out
+out_of (action.Join out merges) = out
+out_of other = outs.Binary
+
+-- what an action makes of a keyring; nothing, where it makes something else
+abbrev pub ring_made : Action → KeyringValue → Made
+ring_made action.List r = Text (listing (flat r))
+ring_made action.ListValues r = Text (valued_listing (flat r))
+ring_made action.Check r = Text (report_lines 0 (report_of says_left r))
+ring_made action.CheckFingerprints r =
+    Text (fingerprinted_lines 0 (fingerprinted_report_of says_left r))
+ring_made (action.Octets row top.Ring) r = question_made (question_in (slice_get (asked_of r) row))
+ring_made action.OctetsAll r = Text (octets_rows (asked_of r))
+ring_made (action.Write out) r = Text (packets_text out (flat r))
+ring_made (action.WriteChosen out choice) r =
+    Text (packets_text out (flat (chosen_keyring choice r)))
+ring_made (action.Normalise out) r = Text (packets_text out (flat (normal_of r)))
+ring_made (action.Split out None) r = Text (certificates_text out r.certificates)
+ring_made (action.Split out (Some number)) r = one_text out (slice_get r.certificates number)
+ring_made (action.SplitKey out key) r = named_made out (name_octets key) r.certificates
+ring_made (action.Join out false) r = Text (packets_text out (flat r))
+ring_made (action.Join out true) r = Text (packets_text out (flat (merged_of r)))
+ring_made other r = Text []
+
+-- ---- of octets
+-- they are a keyring, and this is made of all its parts; or this is their fault
+abbrev pub IsMadeOf : {S : Type 0} → (Draft S → List ℕ → Type 0) → Task → List ℕ → Outcome (Making S)
+    → Type 0
+IsMadeOf has task octets answer = MatchResult answer
+    (λ m. (r : KeyringValue) × AnswerOf key_label (ComposesTo task.limits) task.mode task.limits octets (Ok r)
+    × HasMade has task.action m (parts_of r))
+    (λ fault. AnswerOf {A = KeyringValue} key_label (ComposesTo task.limits) task.mode task.limits octets
+    (Err fault))

@@ -1,0 +1,58 @@
+//! The report of a keyring, made as its certificates come.
+
+ghost use Rattle.std.specs.Prelude.{◌++◌, ◌∷◌, [], List, OnOk};
+ghost use Rattle.opgp_ring.specs.Composed.{PartValue};
+ghost use Rattle.opgp_ring.specs.Keyring.{KeyringValue};
+ghost use Rattle.opgp_ring.specs.State.{part_of};
+ghost use Rattle.opgp_report.specs.Reporting.{Reports};
+ghost use Rattle.opgp_stack.specs.OnePart.{certificates_in};
+ghost use Rattle.opgp_stack.specs.Report.{HasReport};
+
+use opgp_octets::OutOfMemory;
+use opgp_report::{Report, Reporting};
+use opgp_ring::Ready;
+use std::alloc::Global;
+use std::mem;
+
+/// The rows of the certificates that came so far, and what their keys are found by. No certificate
+/// is kept.
+#[derive(Drop)]
+pub(crate) struct Checking {
+    alloc: Global,
+    rows: Reporting,
+}
+
+impl Checking {
+    /// No rows yet. Allocates nothing.
+    pub(crate) fn new(alloc: Global) -> Checking
+        ensures { Reports result.rows [] }
+    {
+        Checking {
+            alloc,
+            rows: Reporting::new(alloc),
+        }
+    }
+
+    /// Adds the rows of the next part, if it is a certificate, and gives it back, so that the next
+    /// one may use its memory. Fails only when out of memory; nothing is known of the rows then.
+    pub(crate) fn keep(&mut self, part: Ready) -> Result<Option<Ready>, OutOfMemory>
+        ensures { OnOk result ((parts : List PartValue)
+            → Reports self.old.rows (certificates_in parts)
+            → Reports self.new.rows (certificates_in (parts ++ part_of part ∷ []))) }
+    {
+        let Some(certificate) = part.certificate() else {
+            return Ok(None);
+        };
+        let rows = mem::replace(&mut self.rows, Reporting::new(self.alloc));
+        let rows = rows.with(&certificate);
+        drop(mem::replace(&mut self.rows, rows?));
+        Ok(Some(Ready::Certificate(certificate)))
+    }
+
+    /// The report of the keyring that has the certificates that came.
+    pub(crate) fn report(self) -> Report
+        ensures { (r : KeyringValue) → Reports self.rows r.certificates → HasReport r result }
+    {
+        self.rows.report()
+    }
+}

@@ -1,0 +1,200 @@
+//! What an action made of a keyring, written.
+
+ghost use Rattle.std.specs.Prelude.{◌≡◌, ◌⊎◌, ℕ, List, false};
+ghost use Rattle.opgp_codec.specs.Draft.{DraftHas};
+ghost use Rattle.opgp_codec.specs.Writing.{octets_text, packets_text};
+ghost use Rattle.opgp_merge.specs.Merged.{merged_of};
+ghost use Rattle.opgp_report.specs.Fingerprinting.{fingerprinted_rows_of};
+ghost use Rattle.opgp_report.specs.Row.{report_rows};
+ghost use Rattle.opgp_ring.specs.Composed.{parts_of};
+ghost use Rattle.opgp_ring.specs.Keyring.{KeyringValue, flat};
+ghost use Rattle.opgp_stack.specs.Making.{HasMade, out_of, ring_made};
+ghost use Rattle.opgp_stack.specs.OnePart.{found_question};
+ghost use Rattle.opgp_stack.specs.Report.{fingerprinted_lines, report_lines};
+ghost use Rattle.opgp_stack.specs.Running.{IsMade, IsSpooled, Made};
+ghost use Rattle.opgp_stack.specs.Running.{found_made, one_text, question_made};
+
+use crate::hashing::write_question;
+use crate::making::Making;
+use crate::run_fault::RunFault;
+use crate::running::{After, done, end};
+use crate::task::Action;
+use crate::writing_report::{write_fingerprinted_report, write_report};
+use opgp_codec::{Draft, DraftError, EngineError, Out, Spool, write_certificate, write_keyring};
+use opgp_io::Sink;
+use opgp_merge::merge;
+use opgp_report::{FingerprintedReport, Report, question_at};
+use opgp_ring::{Certificate, Keyring};
+use std::alloc::Global;
+
+impl<S: Spool + Drop> Making<S> {
+    /// Writes it, once all parts of a keyring have come, and frees or leaks what was read. The
+    /// condition is that the sink hasn't failed.
+    ///
+    /// With any error but `Write` and `Spool` nothing was written; after these the sink holds a prefix
+    /// of the text.
+    pub(crate) fn write<W: Sink>(
+        self,
+        alloc: Global,
+        action: Action,
+        writer: &mut W,
+        after: After,
+    ) -> Result<(), RunFault>
+        requires { W.has_failed writer.old ≡ false }
+        ensures { (r : KeyringValue)
+            → HasMade (DraftHas S.serves S.tells S.holds S.has_failed) action self (parts_of r)
+            → IsMade W.held W.has_failed writer.old writer.new result (ring_made action r)
+            ⊎ IsSpooled S.serves S.tells W.held W.has_failed writer.old writer.new result
+            (ring_made action r) }
+    {
+        let out = out_of(action);
+        match self {
+            Making::Text(text) => write_draft(text.into_draft(), out, writer),
+            Making::Named(named) => {
+                let (text, found) = named.found();
+                write_found(text, found, writer)
+            }
+            Making::Nth(nth) => {
+                let found = nth.found();
+                done(write_one(alloc, out, &found, writer), found, after)
+            }
+            Making::Row(row) => {
+                let found = row.found();
+                done(write_row(alloc, &found, writer), found, after)
+            }
+            Making::Report(rows) => {
+                let report = rows.report();
+                done(write_rows(alloc, &report, writer), report, after)
+            }
+            Making::Fingerprinted(rows) => {
+                let report = rows.report();
+                done(write_fingerprinted(alloc, &report, writer), report, after)
+            }
+            Making::AllOctets(octets) => write_draft(octets.into_draft(), out, writer),
+            Making::Ring(ring) => write_merged(alloc, ring, out, writer, after),
+        }
+    }
+}
+
+/// How what an action made of a keyring is written.
+fn out_of(action: Action) -> Out
+    ensures { result ≡ out_of action }
+{
+    match action {
+        Action::Write { out } => out,
+        Action::WriteChosen { out, .. } => out,
+        Action::Normalise { out } => out,
+        Action::Split { out, nth: Some(_) } => out,
+        Action::Join { out, .. } => out,
+        _ => Out::Binary,
+    }
+}
+
+/// Writes a text that was held.
+pub(crate) fn write_draft<W: Sink, S: Spool + Drop>(
+    draft: Draft<S>,
+    out: Out,
+    writer: &mut W,
+) -> Result<(), RunFault>
+    requires { W.has_failed writer.old ≡ false }
+    ensures { (text : List ℕ) → DraftHas S.serves S.tells S.holds S.has_failed draft text
+        → IsSpooled S.serves S.tells W.held W.has_failed writer.old writer.new result
+        (Made.Text (octets_text out text)) }
+{
+    match draft.write(out, writer) {
+        Ok(()) => Ok(()),
+        Err(DraftError::Write) => Err(RunFault::Write),
+        Err(DraftError::Spool) => Err(RunFault::Spool),
+    }
+}
+
+/// Writes a text that was held, if what it is made of was found.
+fn write_found<W: Sink, S: Spool + Drop>(
+    draft: Draft<S>,
+    found: bool,
+    writer: &mut W,
+) -> Result<(), RunFault>
+    requires { W.has_failed writer.old ≡ false }
+    ensures { (text : List ℕ) → DraftHas S.serves S.tells S.holds S.has_failed draft text
+        → IsMade W.held W.has_failed writer.old writer.new result (found_made found text)
+        ⊎ IsSpooled S.serves S.tells W.held W.has_failed writer.old writer.new result
+        (found_made found text) }
+{
+    if found {
+        write_draft(draft, Out::Binary, writer)
+    } else {
+        Err(RunFault::NoSuchCertificate)
+    }
+}
+
+/// Writes a certificate, if there is one.
+fn write_one<W: Sink>(
+    alloc: Global,
+    out: Out,
+    found: &Option<Certificate>,
+    writer: &mut W,
+) -> Result<(), RunFault>
+    requires { W.has_failed writer.old ≡ false }
+    ensures { IsMade W.held W.has_failed writer.old writer.new result (one_text out found.now) }
+{
+    match found {
+        None => Err(RunFault::NoSuchCertificate),
+        Some(certificate) => end(write_certificate(alloc, certificate, out, writer)),
+    }
+}
+
+/// Writes the hashed octets of a row of a keyring's report, if there is one.
+fn write_row<W: Sink>(
+    alloc: Global,
+    found: &(Option<Keyring>, usize),
+    writer: &mut W,
+) -> Result<(), RunFault>
+    requires { W.has_failed writer.old ≡ false }
+    ensures { IsMade W.held W.has_failed writer.old writer.new result
+        (question_made (found_question found.now.0 found.now.1)) }
+{
+    match &found.0 {
+        None => Err(RunFault::NoSuchRow),
+        Some(ring) => write_question(alloc, question_at(ring, found.1), writer),
+    }
+}
+
+/// Writes a line for each row of a report.
+fn write_rows<W: Sink>(alloc: Global, report: &Report, writer: &mut W) -> Result<(), RunFault>
+    requires { W.has_failed writer.old ≡ false }
+    ensures { IsMade W.held W.has_failed writer.old writer.new result
+        (Made.Text (report_lines 0 (report_rows report.now))) }
+{
+    end(write_report(alloc, report, writer))
+}
+
+/// Writes a line for each row of a report with fingerprints.
+fn write_fingerprinted<W: Sink>(
+    alloc: Global,
+    report: &FingerprintedReport,
+    writer: &mut W,
+) -> Result<(), RunFault>
+    requires { W.has_failed writer.old ≡ false }
+    ensures { IsMade W.held W.has_failed writer.old writer.new result
+        (Made.Text (fingerprinted_lines 0 (fingerprinted_rows_of report.now))) }
+{
+    end(write_fingerprinted_report(alloc, report, writer))
+}
+
+/// Merges the certificates of a keyring, writes it, and frees or leaks it.
+fn write_merged<W: Sink>(
+    alloc: Global,
+    ring: Keyring,
+    out: Out,
+    writer: &mut W,
+    after: After,
+) -> Result<(), RunFault>
+    requires { W.has_failed writer.old ≡ false }
+    ensures { IsMade W.held W.has_failed writer.old writer.new result
+        (Made.Text (packets_text out (flat (merged_of ring)))) }
+{
+    match merge(ring) {
+        Ok(ring) => done(end(write_keyring(alloc, &ring, out, writer)), ring, after),
+        Err(_) => end(Err(EngineError::Memory)),
+    }
+}

@@ -1,5 +1,0 @@
-use Rattle.opgp_stream.proofs.Added.{breaks_then}
-use Rattle.opgp_stream.proofs.laws.a_failure_behind.Goals as goal
-
-pub returns : goal.returns
-returns c = breaks_then

@@ -1,0 +1,17 @@
+use Rattle.std.proofs.Common.{arith, ◌≡◌, ◌∷◌, ℕ, List, length, ap}
+use Rattle.opgp_packet.specs.SignatureBody.{signature_at}
+use Rattle.opgp_ring.specs.SignedLiteral.{signatures_left}
+use Rattle.opgp_tables.specs.DocumentJobs.{read_shown}
+use Rattle.opgp_tables.proofs.Documents.{made_many, read_is}
+use Rattle.opgp_tables.proofs.document_jobs.sizes_of.Goals as goal
+
+pub signatures-preserved : goal.signatures-preserved
+signatures-preserved c =
+    let body : List ℕ = c.in-Some.ensures.0 in
+    let e : signatures_left c.signatures.signatures ≡ body ∷ signatures_left c.next.new.self = c.in-Some.ensures.1 in
+    let r : signature_at body ≡ read_shown c.in-Some.read = read_is body c.in-Some.read c.in-Some.ensures.2 in record {
+      rows = omega (arith, c.signatures.invariant.rows, c.add.ensures.rows, ap (λ (l : List (List ℕ)). length l) e);
+      bytes = omega (arith, c.signatures.invariant.bytes, c.add.ensures.bytes, c.octets_of.ensures, made_many body (signatures_left c.signatures.signatures) (signatures_left c.next.new.self) (read_shown c.in-Some.read) e r);
+      most_rows = omega (arith, c.add.ensures.rows);
+      most_bytes = omega (arith, c.add.ensures.bytes);
+    }

@@ -1,0 +1,17 @@
+use Rattle.std.proofs.Common.{◌≡◌, ◌+◌, ◌≤◌, length}
+use Rattle.opgp_ring.specs.SignedLiteral.{signatures_left}
+use Rattle.opgp_tables.specs.DocumentJobs.{document_job_bytes}
+use Rattle.opgp_tables.specs.Sizes.{capped}
+use Rattle.opgp_tables.proofs.document_jobs.sizes_of.Given as goal
+
+-- the rows and octets so far, and those that are to come, are all
+abbrev pub invariant-signatures : goal.invariant-signatures
+invariant-signatures l = record {
+  rows : capped (l.sizes.rows + length (signatures_left l.signatures)) ≡ capped (length (signatures_left l.initial.signatures));
+  bytes : capped (l.sizes.bytes + length (document_job_bytes (signatures_left l.signatures))) ≡ capped (length (document_job_bytes (signatures_left l.initial.signatures)));
+  most_rows : l.sizes.rows ≤ 18446744073709551615;
+  most_bytes : l.sizes.bytes ≤ 18446744073709551615;
+}
+
+abbrev pub decreases-signatures : goal.decreases-signatures
+decreases-signatures l = length (signatures_left l.signatures)

@@ -1,0 +1,26 @@
+use Rattle.std.proofs.Common.{◌≡◌, ◌∙◌, ◌+◌, List, [], ◌++◌, Ok, arith, length, ap, sym, append-nil, zero-add}
+use Rattle.std.specs.List.{flat_map}
+use Rattle.opgp_report.specs.Standing.{Standing, standing_in}
+use Rattle.opgp_ring.specs.Keyring.{KeyringValue}
+use Rattle.opgp_tables.specs.declared.job_counter.JobCounter.{JobCounter}
+use Rattle.opgp_tables.specs.Jobs.{job_octets}
+use Rattle.opgp_tables.specs.Sizes.{capped}
+use Rattle.opgp_tables.proofs.Counting.{jobs_many}
+use Rattle.opgp_tables.proofs.job_counter.job_sizes.Goals as goal
+
+-- the whole keyring is visited
+pub returns-clause-rows : goal.returns-clause-rows
+returns-clause-rows c =
+    let new : JobCounter = c.visit.new.visitor in
+    let r : KeyringValue = c.args.keyring.now in
+    let counted : (new.sizes.rows ≡ capped (0 + length (standing_in r ++ []))) × (new.sizes.bytes ≡ capped (0 + length (flat_map job_octets (standing_in r ++ [])))) =
+    c.in-Ok.ensures [] (Ok new) (omega (arith, c.counted.ensures.rows), omega (arith, c.counted.ensures.bytes)) in
+    ap (λ s. s.rows) c.counted.ensures.same ∙ counted.0 ∙ ap (λ n. capped n) (zero-add (length (standing_in r ++ [])) ∙ ap (λ (l : List Standing). length l) (append-nil (standing_in r)) ∙ sym (jobs_many r))
+
+pub returns-clause-bytes : goal.returns-clause-bytes
+returns-clause-bytes c =
+    let new : JobCounter = c.visit.new.visitor in
+    let r : KeyringValue = c.args.keyring.now in
+    let counted : (new.sizes.rows ≡ capped (0 + length (standing_in r ++ []))) × (new.sizes.bytes ≡ capped (0 + length (flat_map job_octets (standing_in r ++ [])))) =
+    c.in-Ok.ensures [] (Ok new) (omega (arith, c.counted.ensures.rows), omega (arith, c.counted.ensures.bytes)) in
+    ap (λ s. s.bytes) c.counted.ensures.same ∙ counted.1 ∙ ap (λ n. capped n) (zero-add (length (flat_map job_octets (standing_in r ++ []))) ∙ ap (λ (l : List Standing). length (flat_map job_octets l)) (append-nil (standing_in r)))

@@ -1,0 +1,17 @@
+pub mod DocumentJobs
+pub mod FaultRow
+pub mod FilledJobs
+pub mod FilledSubpackets
+pub mod Filling
+pub mod GivenLimits
+pub mod HashedRows
+pub mod HashedTable
+pub mod Jobs
+pub mod Keys
+pub mod Names
+pub mod Packets
+pub mod Parts
+pub mod Room
+pub mod Sizes
+pub mod SubpacketValues
+pub mod Subpackets

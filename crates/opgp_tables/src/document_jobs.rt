@@ -1,0 +1,183 @@
+//! The table of the signatures over a document.
+
+ghost use Rattle.std.specs.Prelude.{◌≡◌, ◌∷◌, [], ◌+◌, ◌<◌, ◌≤◌, ◌++◌, drop, length, map};
+ghost use Rattle.std.specs.Prelude.{OnErr, OnOk};
+ghost use Rattle.opgp_packet.specs.SigView.{sig_view_value};
+ghost use Rattle.opgp_report.specs.KeyIndex.{prints_shown};
+ghost use Rattle.opgp_ring.specs.DetachedSignatures.{detached_packets};
+ghost use Rattle.opgp_ring.specs.Signed.{signature_bodies};
+ghost use Rattle.opgp_ring.specs.SignedLiteral.{signatures_left};
+ghost use Rattle.opgp_tables.specs.DocumentJobs.{document_answer, document_job_bytes};
+ghost use Rattle.opgp_tables.specs.DocumentJobs.{document_job_rows, document_jobs_from};
+ghost use Rattle.opgp_tables.specs.DocumentJobs.{document_row, made_read, read_shown};
+ghost use Rattle.opgp_tables.specs.DocumentJobs.{signature_place};
+ghost use Rattle.opgp_tables.specs.Filling.{Fills};
+ghost use Rattle.opgp_tables.specs.Jobs.{prints_in};
+ghost use Rattle.opgp_tables.specs.Sizes.{capped};
+
+use crate::job_counter::said_octets_in;
+use crate::job_filler::put_job;
+use crate::job_row::{Answered, JobRow};
+use crate::job_table::{digest_answer, opaque_row, why_answer};
+use crate::putting::put_item;
+use crate::table_sizes::TableSizes;
+use opgp_document::DocumentWhy;
+use opgp_hash::Digest;
+use opgp_octets::{BodyFault, OutOfMemory};
+use opgp_packet::SigView;
+use opgp_report::{KeyIndex, Place, index_keys};
+use opgp_ring::{DetachedSignatures, Keyring, Signatures};
+use std::alloc::Global;
+
+/// The place of the signature of this number: it is in no certificate.
+pub(crate) fn signature_place(number: usize) -> Place
+    ensures { result ≡ signature_place number }
+{
+    Place {
+        certificate: usize::MAX,
+        component: None,
+        hang: number,
+        nested: None,
+    }
+}
+
+/// The digest of what a signature hashes, and whether it differs from the left octets; or why it
+/// isn't hashed.
+fn document_answer(signature: SigView<'_>, answer: Result<Digest, DocumentWhy>) -> Answered
+    ensures { result ≡ document_answer (sig_view_value signature.entry) answer }
+{
+    match answer {
+        Ok(digest) => digest_answer(signature, digest),
+        Err(why) => why_answer(why.number()),
+    }
+}
+
+/// Puts the row of a signature, or of a malformed one, and what it points into, and says how many
+/// rows and octets there are then.
+fn put_signature(
+    names: &KeyIndex,
+    rows: &mut [JobRow],
+    bytes: &mut [u8],
+    here: TableSizes,
+    number: usize,
+    read: Result<SigView<'_>, BodyFault>,
+    answer: Result<Digest, DocumentWhy>,
+) -> TableSizes
+    requires rows { here.rows < length rows.old }
+    requires bytes { here.bytes + length (made_read (read_shown read)) ≤ length bytes.old }
+    ensures { Fills (document_row (prints_shown names.now) number here.bytes
+        (read_shown read.entry) answer ∷ []) (made_read (read_shown read.entry)) here result
+        rows.old rows.new bytes.old bytes.new }
+{
+    let place = signature_place(number);
+    match read {
+        Ok(view) => {
+            let answered = document_answer(view, answer);
+            put_job(names, rows, bytes, here, place, view, answered)
+        }
+        Err(_) => {
+            let row = opaque_row(place, here.bytes);
+            put_item(rows, here.rows as usize, row);
+            TableSizes {
+                rows: here.rows + 1,
+                bytes: here.bytes,
+            }
+        }
+    }
+}
+
+/// Puts the rows of signatures at the front of two tables that have the room.
+fn put_signatures(
+    names: &KeyIndex,
+    mut signatures: Signatures<'_>,
+    answers: &[Result<Digest, DocumentWhy>],
+    rows: &mut [JobRow],
+    bytes: &mut [u8],
+)
+    requires answers { length answers.now ≡ length (signatures_left signatures) }
+    requires rows { length (signatures_left signatures) ≤ length rows.old }
+    requires bytes { length (document_job_bytes (signatures_left signatures)) ≤ length bytes.old }
+    ensures rows { rows.new ≡ document_jobs_from (prints_shown names.now) 0 0
+        (signatures_left signatures.entry) answers.now
+        ++ drop (length (document_jobs_from (prints_shown names.now) 0 0
+        (signatures_left signatures.entry) answers.now)) rows.old }
+    ensures bytes { bytes.new ≡ document_job_bytes (signatures_left signatures.entry)
+        ++ drop (length (document_job_bytes (signatures_left signatures.entry))) bytes.old }
+{
+    let mut reached = TableSizes::NOTHING;
+    let mut number = 0;
+    'signatures: while let Some(read) = signatures.next() {
+        let answer = answers[number];
+        reached = put_signature(names, rows, bytes, reached, number, read, answer);
+        number += 1;
+    }
+}
+
+/// Fills the front of two tables with the signatures over a document, in order, and the octets that
+/// they point into; their issuers' keys are named by their rows in the keyring's table of keys. The
+/// conditions are that there is an answer for each signature, as
+/// [`opgp_document::DocumentAnswers`] tells, and that both tables have the room that
+/// [`document_job_sizes`] tells. Fails only when out of memory, and the tables are then unchanged.
+pub fn fill_document_jobs(
+    alloc: Global,
+    keyring: &Keyring,
+    signatures: &DetachedSignatures,
+    answers: &[Result<Digest, DocumentWhy>],
+    rows: &mut [JobRow],
+    bytes: &mut [u8],
+) -> Result<(), OutOfMemory>
+    requires answers { length answers.now
+        ≡ length (signature_bodies (detached_packets signatures.now)) }
+    requires rows { length (signature_bodies (detached_packets signatures.now))
+        ≤ length rows.old }
+    requires bytes { length (document_job_bytes (signature_bodies
+        (detached_packets signatures.now))) ≤ length bytes.old }
+    ensures rows { OnOk result (rows.new ≡ document_job_rows keyring.now
+        (signature_bodies (detached_packets signatures.now)) answers.now
+        ++ drop (length (document_job_rows keyring.now
+        (signature_bodies (detached_packets signatures.now)) answers.now)) rows.old) }
+    ensures bytes { OnOk result (bytes.new
+        ≡ document_job_bytes (signature_bodies (detached_packets signatures.now))
+        ++ drop (length (document_job_bytes (signature_bodies (detached_packets signatures.now))))
+        bytes.old) }
+    ensures kept { OnErr result ((rows.new ≡ rows.old) × (bytes.new ≡ bytes.old)) }
+{
+    let names = index_keys(alloc, keyring)?;
+    put_signatures(&names, signatures.signatures(), answers, rows, bytes);
+    drop(names);
+    Ok(())
+}
+
+/// How many octets the row of a signature points into.
+fn octets_of(read: Result<SigView<'_>, BodyFault>) -> u64
+    ensures { result ≡ capped (length (made_read (read_shown read.entry))) }
+{
+    match read {
+        Ok(view) => said_octets_in(view),
+        Err(_) => 0,
+    }
+}
+
+/// How large the table of these signatures is.
+fn sizes_of(mut signatures: Signatures<'_>) -> TableSizes
+    ensures rows { result.rows ≡ capped (length (signatures_left signatures.entry)) }
+    ensures bytes { result.bytes
+        ≡ capped (length (document_job_bytes (signatures_left signatures.entry))) }
+{
+    let mut sizes = TableSizes::NOTHING;
+    'signatures: while let Some(read) = signatures.next() {
+        sizes.add(1, octets_of(read));
+    }
+    sizes
+}
+
+/// How many rows and octets the table of the signatures over a document has. Allocates nothing, and
+/// hashes nothing.
+pub fn document_job_sizes(signatures: &DetachedSignatures) -> TableSizes
+    ensures rows { result.rows
+        ≡ capped (length (signature_bodies (detached_packets signatures.now))) }
+    ensures bytes { result.bytes ≡ capped (length (document_job_bytes
+        (signature_bodies (detached_packets signatures.now)))) }
+{
+    sizes_of(signatures.signatures())
+}

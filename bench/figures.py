@@ -1,4 +1,4 @@
-"""The figures that bench/run, bench/library, bench/hostile and bench/compared write down, and how they measure.
+"""The figures that bench/run, bench/library, bench/documents, bench/hostile and bench/compared write down, and how they measure.
 
 bench/figures.json is one object with sorted keys, a figure a line. A key is 'PART/WHAT/PROGRAM'; a figure may have "command", "ms"
 (processor time, user and system, the least of all runs), "mb" (the most memory that a run held, in MB of 2^20 octets) and "runs".
@@ -18,7 +18,7 @@ FILE = f"{HERE}/bench/figures.json"
 OPGP = f"{HERE}/crates/opgp_tool/out/opgp_tool"
 KEYRING = "/usr/share/keyrings/debian-keyring.gpg"
 VERSIONS = {"gpg": "gpg --version", "sq": "sq --version", "rnp": "rnp --version", "pgpdump": "pgpdump -v", "valgrind": "valgrind --version",
-            "openssl": "openssl version", "cc": "cc --version"}
+            "openssl": "openssl version", "cc": "cc --version", "sqv": "sqv --version"}
 
 
 def read():

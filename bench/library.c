@@ -5,6 +5,7 @@
  *     handle RUNS FILE   the same by opgp_ring_open and opgp_ring_keys, without the layer on top
  *     open RUNS FILE     opens the keyring, makes all its tables, and closes it
  *     packets RUNS FILE  the same with the table of packets alone
+ *     document RUNS FILE hashes the file's first 1,024 octets for a signature 10,000 times, by opgp_document_open and so on: of one time
  *     octets RUNS FILE   the same with what each signature hashes, row after row, and no table
  *     ring RUNS FILE     the same with none of it
  *     pieces RUNS FILE   reads it in pieces of 65,536 octets, and takes each part
@@ -89,6 +90,29 @@ static void handle(void)
         memcpy(print, keys[0].print, sizeof print);
         opgp_ring_close(ring);
     }
+}
+
+static void document(void)
+{
+    /* Of type 00, by SHA2-256, with nothing in its areas. */
+    static const uint8_t signature[] = {0xC2, 14, 4, 0, 22, 8, 0, 0, 0, 0, 0xAB, 0xCD, 0, 0, 0, 0};
+    opgp_limits limits;
+    opgp_ring ring = {0};
+    opgp_fault fault;
+    opgp_usual_limits(&limits);
+    wanted(size >= 1024 && opgp_ring_open(in, 0, &limits, &ring, &fault) == OPGP_DONE, "opgp_ring_open");
+    for (int i = 0; i < TIMES; i++) {
+        opgp_document it = {0};
+        opgp_job job;
+        uint8_t made[64];
+        opgp_sizes sizes;
+        wanted(opgp_document_open(signature, sizeof signature, OPGP_MODE_AUTO, &limits, &it, &fault) == OPGP_DONE, "opgp_document_open");
+        wanted(opgp_document_push(&it, in, 1024) == OPGP_DONE && opgp_document_end(&it) == OPGP_DONE, "opgp_document_push");
+        wanted(opgp_document_jobs(&it, &ring, &job, 1, made, sizeof made, &sizes) == OPGP_DONE, "opgp_document_jobs");
+        memcpy(print, job.digest, sizeof print);
+        opgp_document_close(it);
+    }
+    opgp_ring_close(ring);
 }
 
 static void open_all(void)
@@ -232,7 +256,8 @@ int main(int argc, char **argv)
         const char *word;
         void (*work)(void);
         double times;
-    } works[] = {{"call", call, TIMES}, {"handle", handle, TIMES}, {"open", open_all, 1}, {"packets", open_packets, 1},
+    } works[] = {{"call", call, TIMES}, {"handle", handle, TIMES}, {"document", document, TIMES}, {"open", open_all, 1},
+                 {"packets", open_packets, 1},
                  {"octets", all_octets, 1}, {"ring", open_ring, 1}, {"pieces", in_pieces, 1}};
     wanted(argc == 4, "the words");
     unsigned long runs = strtoul(argv[2], NULL, 10);

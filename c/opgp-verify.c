@@ -1,8 +1,9 @@
 /* Verifies the signatures of a keyring by OpenSSL's libcrypto: a line for each, as `opgp check` writes it, with the verdict good,
- * bad or undecided, and after undecided why. Section numbers are those of RFC 9580.
+ * bad or undecided, and after undecided why. With --signature it verifies detached signatures over a document (10.4) by the keys of
+ * keyrings: a line for each, as `opgp digest` writes it. Section numbers are those of RFC 9580.
  *
- * `good` says that the issuer's key made the signature over what `opgp octets` writes, and nothing of whether the signature,
- * the key or what it certifies is valid: expiries, revocations and key flags aren't looked at. */
+ * `good` says that the issuer's key made the signature over what `opgp octets` writes, or over the document, and nothing of whether
+ * the signature, the key or what it certifies is valid: expiries, revocations and key flags aren't looked at. */
 #include <opgp.h>
 
 #include "examples/open.h"
@@ -38,10 +39,14 @@ struct run {
     const opgp_key *keys;
     const opgp_job *jobs;
     size_t key_count, job_count;
-    bool is_usual;             /* the policy */
+    bool is_over_document;            /* the rows are signatures over a document, and not the keyring's */
+    const uint8_t *made;              /* what the algorithms of those made */
+    const opgp_subpacket *subpackets; /* all of those, in order */
+    size_t subpacket_count;
+    bool is_usual;                    /* the policy */
     bool is_out_of_memory;
-    const char *why;           /* of what the verifier answered last */
-    struct finding *findings;  /* of each row so far */
+    const char *why;                  /* of what the verifier answered last */
+    struct finding *findings;         /* of each row so far */
 };
 
 /* Whether libcrypto was refused memory. It doesn't always say so, and then a good signature is bad to it. It is known where
@@ -352,14 +357,18 @@ static bool is_rsa_number(uint8_t algorithm)
 }
 
 /* Whether the signature has a critical subpacket (5.2.3.7) of an unknown kind or form, or a critical notation (5.2.3.24), of which
- * none is known here. The subpackets were made with the jobs. */
-static bool has_unknown_critical(const opgp_keyring *keyring, size_t row)
+ * none is known here. Where there is no memory for its subpackets the run ends. */
+static bool has_unknown_critical(struct run *run, size_t row)
 {
-    size_t count;
-    const opgp_subpacket *subpackets;
-    opgp_subpackets_of(keyring, row, &subpackets, &count);
+    size_t count = run->subpacket_count;
+    const opgp_subpacket *subpackets = run->subpackets;
+    if (!run->is_over_document && opgp_subpackets_of(run->keyring, row, &subpackets, &count) != OPGP_DONE) {
+        run->is_out_of_memory = true;
+    }
     for (size_t i = 0; i < count; i++) {
-        if (subpackets[i].is_critical && (subpackets[i].meaning != 0 || subpackets[i].kind == OPGP_SUBPACKET_NOTATION_DATA)) {
+        bool is_here = !run->is_over_document || subpackets[i].hang == row;
+        if (is_here && subpackets[i].is_critical
+            && (subpackets[i].meaning != 0 || subpackets[i].kind == OPGP_SUBPACKET_NOTATION_DATA)) {
             return true;
         }
     }
@@ -376,7 +385,7 @@ static opgp_verdict verify(void *context, const opgp_question *question)
     if (algorithm != key && !(is_rsa_number(algorithm) && is_rsa_number(key))) {
         return undecided(run, "algorithm");
     }
-    if (has_unknown_critical(run->keyring, question->row)) {
+    if (has_unknown_critical(run, question->row)) {
         return undecided(run, "critical");
     }
     if (run->is_usual && question->job->hash == OPGP_HASH_SHA1) {
@@ -405,6 +414,42 @@ static int keep(void *context, size_t row, const opgp_job *job, opgp_verdict ver
     return run->is_out_of_memory || was_refused;
 }
 
+/* The verdict on a signature over a document, as opgp_check gives it on one of a keyring. */
+static opgp_verdict verdict_of(struct run *run, size_t row)
+{
+    const opgp_job *job = &run->jobs[row];
+    if (job->is_bad) {
+        return OPGP_BAD;
+    }
+    if (job->why != OPGP_WHY_HASHED || job->signer == OPGP_NONE) {
+        return OPGP_UNDECIDED;
+    }
+    opgp_question question = {.row = row, .job = job, .signer = &run->keys[job->signer]};
+    if (question.signer->version != job->version) {
+        return OPGP_UNDECIDED;
+    }
+    question.made[0] = (opgp_span){run->made + job->at, (size_t)job->sizes[0]};
+    question.made[1] = (opgp_span){question.made[0].octets + job->sizes[0], (size_t)job->sizes[1]};
+    for (unsigned k = 0; k < 4; k++) {
+        question.key[k] = opgp_key_field(run->keyring, question.signer, k);
+    }
+    return verify(run, &question);
+}
+
+/* Finds what is to be found of each row; false if memory ran out. */
+static bool is_checked(struct run *run)
+{
+    if (!run->is_over_document) {
+        return opgp_check(run->keyring, verify, keep, run) == OPGP_DONE;
+    }
+    for (size_t row = 0; row < run->job_count; row++) {
+        if (keep(run, row, &run->jobs[row], verdict_of(run, row)) != 0) {
+            return false;
+        }
+    }
+    return true;
+}
+
 /* ---- Lines */
 
 /* A word and a number, or - for none. */
@@ -424,16 +469,27 @@ static void print_digits(const uint8_t *octets, size_t size)
     }
 }
 
+/* Where a row's signature is. */
+static void print_place(const struct run *run, size_t row)
+{
+    const opgp_job *job = &run->jobs[row];
+    if (run->is_over_document) {
+        printf("signature %zu", row);
+        return;
+    }
+    printf("row %zu cert %" PRIu64, row, job->certificate);
+    print_number("part", job->component);
+    print_number("hang", job->hang);
+    print_number("nested", job->nested);
+}
+
 static void print_row(const struct run *run, size_t row)
 {
     static const char *const words[] = {"undecided", "good", "bad"};
     const opgp_job *job = &run->jobs[row];
     const struct finding *finding = &run->findings[row];
     char why[OPGP_NAME_ROOM];
-    printf("row %zu cert %" PRIu64, row, job->certificate);
-    print_number("part", job->component);
-    print_number("hang", job->hang);
-    print_number("nested", job->nested);
+    print_place(run, row);
     if (job->why != OPGP_WHY_HASHED) {
         printf(" : none %s\n", opgp_name_text(OPGP_WHYS, job->why, why));
         return;
@@ -461,10 +517,15 @@ static int said(int status, const char *text)
     return status;
 }
 
+#define NOT_JUDGED "whether a key has expired, is revoked or may sign isn't judged yet"
+
 /* What the command line asks for. */
 struct task {
-    const char *name; /* of the file; NULL: standard input */
+    const char *name; /* of the keyring, or of the document; NULL or -: standard input */
     const char *policy, *require;
+    const char *signature; /* the file of the signatures over the document; NULL: those of the keyring */
+    const char **keyrings; /* the files of the keyrings that have their signers */
+    size_t keyring_count;
 };
 
 /* Writes the lines, and on standard error how many signatures are good and so on; the exit status. */
@@ -482,53 +543,260 @@ static int told(const struct run *run, const struct task *task)
     }
     fprintf(stderr, "opgp-verify: %zu good, %zu bad, %zu undecided, %zu not hashed\n", counts[OPGP_GOOD], counts[OPGP_BAD],
             counts[OPGP_UNDECIDED], unhashed);
-    return counts[OPGP_BAD] > 0 || (task->require && counts[OPGP_GOOD] == 0) ? 1 : 0;
+    if (run->is_over_document) {
+        said(0, "good is arithmetic: " NOT_JUDGED);
+    }
+    bool is_good_wanted = task->require || run->is_over_document;
+    return counts[OPGP_BAD] > 0 || (is_good_wanted && counts[OPGP_GOOD] == 0) ? 1 : 0;
 }
 
-/* Verifies, and writes all lines if nothing failed. */
-static int verified(const opgp_keyring *keyring, const struct task *task)
+/* Verifies the rows, which are those of the keyring unless they are over a document, and writes all lines if nothing failed. */
+static int verified(struct run *run, const struct task *task)
 {
-    struct run run = {.keyring = keyring, .is_usual = !task->policy || strcmp(task->policy, "usual") == 0};
     int status = 3;
-    if (opgp_keys(keyring, &run.keys, &run.key_count) == OPGP_DONE && opgp_jobs(keyring, &run.jobs, &run.job_count) == OPGP_DONE) {
-        run.findings = calloc(run.job_count + 1, sizeof *run.findings);
+    run->is_usual = !task->policy || strcmp(task->policy, "usual") == 0;
+    if (opgp_keys(run->keyring, &run->keys, &run->key_count) == OPGP_DONE
+        && (run->is_over_document || opgp_jobs(run->keyring, &run->jobs, &run->job_count) == OPGP_DONE)) {
+        run->findings = calloc(run->job_count + 1, sizeof *run->findings);
     }
-    if (!run.findings || opgp_check(keyring, verify, keep, &run) != OPGP_DONE) {
+    if (!run->findings || !is_checked(run)) {
         said(status, "out of memory");
     } else {
-        status = told(&run, task);
+        status = told(run, task);
     }
-    free(run.findings);
+    free(run->findings);
     return status;
 }
 
-/* Opens the file of this name, or standard input for none, and verifies. */
-static int verified_file(const char *name, const struct task *task)
+/* Whether this names standard input. */
+static bool is_input(const char *name)
 {
-    int status;
-    FILE *file = name ? fopen(name, "rb") : stdin;
-    if (!file) {
-        fprintf(stderr, "opgp-verify: can't read '%s': %s\n", name, strerror(errno));
-        return 3;
+    static const char *const names[] = {"-", "/dev/stdin", "/dev/fd/0", "/proc/self/fd/0"};
+    for (size_t i = 0; i < sizeof names / sizeof *names; i++) {
+        if (strcmp(name, names[i]) == 0) {
+            return true;
+        }
     }
-    opgp_keyring *keyring = open_whole(file, "opgp-verify", &status);
-    if (name) {
+    return false;
+}
+
+static FILE *open_named(const char *name)
+{
+    return is_input(name) ? stdin : fopen(name, "rb");
+}
+
+static void close_named(FILE *file)
+{
+    if (file != stdin) {
         fclose(file);
     }
+}
+
+/* Says why a file can't be read, as errno has it. */
+static int cannot_read(const char *name)
+{
+    fprintf(stderr, "opgp-verify: can't read '%s': %s\n", name, strerror(errno));
+    return 3;
+}
+
+/* Opens the keyring of this name, and verifies its signatures. */
+static int verified_keyring(const char *name, const struct task *task)
+{
+    int status;
+    FILE *file = open_named(name);
+    if (!file) {
+        return cannot_read(name);
+    }
+    opgp_keyring *keyring = open_whole(file, "opgp-verify", &status);
+    close_named(file);
     if (keyring) {
-        status = verified(keyring, task);
+        struct run run = {.keyring = keyring};
+        status = verified(&run, task);
         opgp_close(keyring);
     }
     return status;
 }
 
+/* ---- Signatures over a document */
+
+/* All octets of the file of this name, for free(). If it can't be read, this says why, and gives NULL: the exit status is 3. */
+static uint8_t *read_named(const char *name, size_t *size)
+{
+    FILE *file = open_named(name);
+    if (!file) {
+        cannot_read(name);
+        return NULL;
+    }
+    uint8_t *octets = read_whole(file, size);
+    if (!octets) {
+        said(3, "out of memory");
+    } else if (ferror(file)) {
+        cannot_read(name);
+        free(octets);
+        octets = NULL;
+    }
+    close_named(file);
+    return octets;
+}
+
+/* Says why the library didn't take the file of this name; the exit status. */
+static int refused(const char *name, uint32_t status, const opgp_fault *fault)
+{
+    char text[OPGP_FAULT_ROOM];
+    if (status == OPGP_MANY) {
+        fprintf(stderr, "opgp-verify: '%s': more than %d signatures\n", name, OPGP_MOST_SIGNATURES);
+        return 1;
+    }
+    if (status == OPGP_REFUSED) {
+        fprintf(stderr, "opgp-verify: '%s': %s\n", name, opgp_fault_text(fault, text));
+        return 1;
+    }
+    return said(3, opgp_status_text(status));
+}
+
+/* Reads the signatures, and begins the document that they are over; the exit status if it isn't 0. */
+static int open_signatures(const char *name, opgp_document *document)
+{
+    size_t size;
+    uint8_t *octets = read_named(name, &size);
+    opgp_limits usual;
+    opgp_fault fault;
+    if (!octets) {
+        return 3;
+    }
+    opgp_usual_limits(&usual);
+    uint32_t status = opgp_document_open(octets, size, OPGP_MODE_AUTO, &usual, document, &fault);
+    free(octets);
+    return status == OPGP_DONE ? 0 : refused(name, status, &fault);
+}
+
+/* Reads the keyring of a file; the exit status if it isn't 0. */
+static int read_keyring(const char *name, opgp_keyring **keyring)
+{
+    size_t size;
+    uint8_t *octets = read_named(name, &size);
+    opgp_fault fault;
+    if (!octets) {
+        return 3;
+    }
+    uint32_t status = opgp_open(octets, size, NULL, keyring, &fault);
+    free(octets);
+    return status == OPGP_DONE ? 0 : refused(name, status, &fault);
+}
+
+/* Makes the first of these keyrings all of them, in order: neighbours are joined until one is left, so that none is copied often.
+ * The exit status if it isn't 0. */
+static int join_all(opgp_keyring **keyrings, size_t count)
+{
+    for (; count > 1; count = (count + 1) / 2) {
+        for (size_t i = 0; i + 1 < count; i += 2) {
+            opgp_keyring *joined;
+            uint32_t status = opgp_join(keyrings[i], keyrings[i + 1], &joined);
+            opgp_close(keyrings[i]);
+            opgp_close(keyrings[i + 1]);
+            keyrings[i] = keyrings[i + 1] = NULL;
+            keyrings[i / 2] = joined;
+            if (status != OPGP_DONE) {
+                return said(3, opgp_status_text(status));
+            }
+        }
+        if (count % 2 == 1) {
+            keyrings[count / 2] = keyrings[count - 1];
+            keyrings[count - 1] = NULL;
+        }
+    }
+    return 0;
+}
+
+/* Gives the document its octets, piece by piece; the exit status if it isn't 0. */
+static int push_named(const char *name, opgp_document *document)
+{
+    static uint8_t piece[1 << 16];
+    size_t size = sizeof piece;
+    uint32_t status = OPGP_DONE;
+    int exit_status = 0;
+    FILE *file = open_named(name);
+    if (!file) {
+        return cannot_read(name);
+    }
+    while (exit_status == 0 && status == OPGP_DONE && size == sizeof piece) { /* a shorter piece is the last one */
+        size = fread(piece, 1, sizeof piece, file);
+        exit_status = ferror(file) ? cannot_read(name) : 0;
+        status = opgp_document_push(document, piece, size);
+    }
+    close_named(file);
+    status = status == OPGP_DONE ? opgp_document_end(document) : status;
+    return exit_status == 0 && status != OPGP_DONE ? said(3, opgp_status_text(status)) : exit_status;
+}
+
+/* Makes the table of the signatures' subpackets, for free(). Asked with no room, the call counts how much is wanted. */
+static uint32_t make_subpackets(opgp_document *document, opgp_subpacket **rows, size_t *count)
+{
+    opgp_sizes sizes = {0, 0};
+    uint32_t status = opgp_document_subpackets(document, NULL, 0, NULL, 0, &sizes);
+    if (status == OPGP_ROOM) {
+        uint8_t *data = malloc((size_t)sizes.bytes + 1);
+        *rows = calloc((size_t)sizes.rows, sizeof **rows);
+        status = !data || !*rows ? OPGP_MEMORY
+                                 : opgp_document_subpackets(document, *rows, (size_t)sizes.rows, data, (size_t)sizes.bytes, &sizes);
+        free(data);
+    }
+    *count = status == OPGP_DONE ? (size_t)sizes.rows : 0;
+    return status;
+}
+
+/* Verifies the signatures over a document that has ended. */
+static int verified_over(opgp_document *document, const opgp_keyring *keyring, const struct task *task)
+{
+    struct run run = {.keyring = keyring, .is_over_document = true};
+    opgp_job *jobs;
+    opgp_subpacket *subpackets = NULL;
+    uint8_t *made;
+    uint32_t status = opgp_signatures(document, keyring, &jobs, &run.job_count, &made);
+    status = status == OPGP_DONE ? make_subpackets(document, &subpackets, &run.subpacket_count) : status;
+    run.jobs = jobs;
+    run.made = made;
+    run.subpackets = subpackets;
+    int exit_status = status == OPGP_DONE ? verified(&run, task) : said(3, opgp_status_text(status));
+    free(jobs);
+    free(made);
+    free(subpackets);
+    return exit_status;
+}
+
+/* Reads the signatures, then the keyrings, then the document, and verifies. */
+static int verified_document(const char *name, const struct task *task)
+{
+    opgp_document document = {false, NULL};
+    opgp_keyring **keyrings = calloc(task->keyring_count, sizeof *keyrings);
+    int status = keyrings ? open_signatures(task->signature, &document) : said(3, "out of memory");
+    for (size_t i = 0; status == 0 && i < task->keyring_count; i++) {
+        status = read_keyring(task->keyrings[i], &keyrings[i]);
+    }
+    status = status == 0 ? join_all(keyrings, task->keyring_count) : status;
+    status = status == 0 ? push_named(name, &document) : status;
+    status = status == 0 ? verified_over(&document, keyrings[0], task) : status;
+    for (size_t i = 0; keyrings && i < task->keyring_count; i++) {
+        opgp_close(keyrings[i]);
+    }
+    free(keyrings);
+    opgp_document_clear(&document);
+    return status;
+}
+
+/* ---- The command line */
+
 #define USAGE "Usage: opgp-verify [OPTIONS] [FILE]\n"
+#define OF_DOCUMENTS "opgp-verify [OPTIONS] --signature <SIG> --keyring <FILE>... [DOCUMENT]\n"
 #define MORE "\nFor more information, try '--help'.\n"
 
 static const char help[] =
-    "Verifies the signatures of the keyring in FILE, or on standard input, by OpenSSL's libcrypto\n"
-    "\n" USAGE "\n"
+    "Verifies the signatures of the keyring in FILE, or on standard input, by OpenSSL's libcrypto; or with\n"
+    "--signature detached signatures over the DOCUMENT, or standard input, by the keys of keyrings\n"
+    "\n" USAGE "       " OF_DOCUMENTS "\n"
     "Options:\n"
+    "      --signature <SIG>  the file of the signatures, 64 at most; '-' is standard input\n"
+    "      --keyring <FILE>   a keyring with the signers, one for each time that this is given; or '-'\n"
     "      --policy <POLICY>  usual: SHA-1, RSA keys of fewer than 2048 bits and other keys of less than\n"
     "                         112 bits of strength are undecided; any: they are verified too\n"
     "                         [default: usual] [possible values: usual, any]\n"
@@ -536,19 +804,27 @@ static const char help[] =
     "  -V, --version          Print the version\n"
     "  -h, --help             Print this help\n"
     "\n"
-    "A line for each signature, as 'opgp check' writes it, with its verdict: good, bad, or undecided\n"
-    "and why; and on standard error how many are good and so on. Exit status: 0 no signature is bad, of\n"
-    "no signatures too; 1 one is bad, or none is good where that is required, or the input is refused;\n"
-    "2 the command line is invalid, or help was asked for; 3 reading, writing or memory failed.\n";
+    "A line for each signature, as 'opgp check' writes it, or 'opgp digest' of one over a document, with\n"
+    "its verdict: good, bad, or undecided and why; and on standard error how many are good and so on.\n"
+    "Good is arithmetic: " NOT_JUDGED ".\n"
+    "Exit status: 0 no signature is bad, of no signatures too; 1 one is bad, or none is good where that is\n"
+    "required, as it always is with --signature, or an input is refused; 2 the command line is invalid, or\n"
+    "help was asked for; 3 reading, writing or memory failed.\n";
+
+/* How to use the program for what the words name so far. */
+static const char *usage_of(const struct task *task)
+{
+    return task->signature || task->keyring_count > 0 ? "Usage: " OF_DOCUMENTS : USAGE;
+}
 
 /* Says what is wrong with a word, between two texts. */
-static int wrong(const char *front, const char *word, const char *end)
+static int wrong(const struct task *task, const char *front, const char *word, const char *end)
 {
-    fprintf(stderr, "error: %s'%s'%s%s", front, word, end, MORE);
+    fprintf(stderr, "error: %s'%s'%s\n\n%s%s", front, word, end, usage_of(task), MORE);
     return 2;
 }
 
-/* An option that has a value: its name, as the help shows it, the values that it takes, and where its value goes. */
+/* An option that has a value: its name, as the help shows it, the values that it takes, if not any, and where its value goes. */
 struct option {
     const char *name, *shown, *values[2];
     const char **value;
@@ -566,53 +842,93 @@ static int wrong_value(const struct option *option, const char *value)
 {
     const char *const more = option->values[1] ? ", " : "";
     if (value) {
-        fprintf(stderr, "error: invalid value '%s' for '%s'", value, option->shown);
+        fprintf(stderr, "error: invalid value '%s' for '%s'\n", value, option->shown);
     } else {
-        fprintf(stderr, "error: a value is required for '%s' but none was supplied", option->shown);
+        fprintf(stderr, "error: a value is required for '%s' but none was supplied\n", option->shown);
     }
-    fprintf(stderr, "\n  [possible values: %s%s%s]\n" MORE, option->values[0], more, option->values[1] ? option->values[1] : "");
+    if (option->values[0]) {
+        fprintf(stderr, "  [possible values: %s%s%s]\n", option->values[0], more, option->values[1] ? option->values[1] : "");
+    }
+    fputs(MORE, stderr);
     return 2;
 }
 
 /* Takes an option's value, which may be in the next word; 0, or the exit status that ends the program. */
-static int take_value(const struct option *option, char ***words)
+static int take_value(const struct task *task, const struct option *option, char ***words)
 {
     size_t size = strlen(option->name);
-    const char *word = **words, *value = word[size] == '=' ? word + size + 1 : NULL;
-    if (!value && (*words)[1] && (*words)[1][0] != '-') {
+    const char *word = **words, *next = (*words)[1], *value = word[size] == '=' ? word + size + 1 : NULL;
+    bool takes_any = !option->values[0];
+    if (!value && next && (next[0] != '-' || (takes_any && is_input(next)))) {
         value = *++*words;
     }
     if (*option->value) {
-        return wrong("the argument ", option->shown, " cannot be used multiple times\n\n" USAGE);
+        return wrong(task, "the argument ", option->shown, " cannot be used multiple times");
     }
     if (!value || !value[0]) {
         return wrong_value(option, NULL);
     }
+    bool is_taken = takes_any;
     for (size_t i = 0; i < 2; i++) {
-        if (option->values[i] && strcmp(value, option->values[i]) == 0) {
-            *option->value = value;
-            return 0;
+        is_taken = is_taken || (option->values[i] && strcmp(value, option->values[i]) == 0);
+    }
+    if (!is_taken) {
+        return wrong_value(option, value);
+    }
+    *option->value = value;
+    return 0;
+}
+
+/* Takes a word that is an option, and its value; 0, or the exit status that ends the program. */
+static int take_option(struct task *task, char ***words)
+{
+    const struct option options[] = {
+        {"--policy", "--policy <POLICY>", {"usual", "any"}, &task->policy},
+        {"--require", "--require <WHAT>", {"good", NULL}, &task->require},
+        {"--signature", "--signature <SIG>", {NULL, NULL}, &task->signature},
+        {"--keyring", "--keyring <FILE>", {NULL, NULL}, &task->keyrings[task->keyring_count]},
+    };
+    for (size_t i = 0; i < sizeof options / sizeof *options; i++) {
+        if (is_option_word(&options[i], **words)) {
+            int status = take_value(task, &options[i], words);
+            task->keyring_count += task->keyrings[task->keyring_count] ? 1 : 0;
+            return status;
         }
     }
-    return wrong_value(option, value);
+    return wrong(task, "unexpected argument ", **words, " found");
+}
+
+/* Says what is wrong with the task as a whole; 0 if nothing is. */
+static int wrong_task(const struct task *task)
+{
+    size_t inputs = !task->name || is_input(task->name) ? 1 : 0;
+    if (!task->signature && task->keyring_count == 0) {
+        return 0;
+    }
+    if (!task->signature || task->keyring_count == 0) {
+        fprintf(stderr, "error: the following required arguments were not provided:\n  %s\n\n%s" MORE,
+                task->signature ? "--keyring <FILE>" : "--signature <SIG>", usage_of(task));
+        return 2;
+    }
+    inputs += is_input(task->signature);
+    for (size_t i = 0; i < task->keyring_count; i++) {
+        inputs += is_input(task->keyrings[i]);
+    }
+    return inputs > 1 ? wrong(task, "standard input ", "-", " cannot be used multiple times: it is the document if there is no other") : 0;
 }
 
 /* Takes the words of the command line; 0, or the exit status that ends the program. */
 static int take_words(struct task *task, char **words)
 {
-    const struct option policy = {"--policy", "--policy <POLICY>", {"usual", "any"}, &task->policy};
-    const struct option require = {"--require", "--require <WHAT>", {"good", NULL}, &task->require};
     bool has_options = true;
     for (int status = 0; *words; words++) {
         bool is_option = has_options && (*words)[0] == '-' && (*words)[1] != 0;
         if (is_option && strcmp(*words, "--") == 0) {
             has_options = false;
-        } else if (is_option && is_option_word(&policy, *words)) {
-            status = take_value(&policy, &words);
-        } else if (is_option && is_option_word(&require, *words)) {
-            status = take_value(&require, &words);
-        } else if (is_option || task->name) {
-            status = wrong("unexpected argument ", *words, " found\n\n" USAGE);
+        } else if (is_option) {
+            status = take_option(task, &words);
+        } else if (task->name) {
+            status = wrong(task, "unexpected argument ", *words, " found");
         } else {
             task->name = *words;
         }
@@ -620,7 +936,7 @@ static int take_words(struct task *task, char **words)
             return status;
         }
     }
-    return 0;
+    return wrong_task(task);
 }
 
 /* Whether a word before -- is one of these. */
@@ -634,9 +950,23 @@ static bool has_word(char **words, const char *short_form, const char *long_form
     return false;
 }
 
+/* Does what the words of the command line ask for. */
+static int done(struct task *task, char **words)
+{
+    int status = take_words(task, words);
+    if (status != 0) {
+        return status;
+    }
+    /* What libcrypto keeps for all its calls is made here, since it doesn't stand without. */
+    if (!OSSL_LIB_CTX_get0_global_default() || was_refused) {
+        return said(3, "out of memory");
+    }
+    const char *name = task->name ? task->name : "-";
+    return task->signature ? verified_document(name, task) : verified_keyring(name, task);
+}
+
 int main(int argc, char **argv)
 {
-    struct task task = {NULL, NULL, NULL};
     char **words = argv + (argc > 0);
     if (opgp_abi() != OPGP_ABI) {
         return said(3, "the library is of another version");
@@ -651,14 +981,8 @@ int main(int argc, char **argv)
         printf("opgp-verify %s, by %s\n", OPGP_VERSION, OpenSSL_version(OPENSSL_VERSION));
         return fflush(stdout) ? said(3, "write failed") : 0;
     }
-    int status = take_words(&task, words);
-    if (status != 0) {
-        return status;
-    }
-    /* What libcrypto keeps for all its calls is made here, since it doesn't stand without. */
-    if (!OSSL_LIB_CTX_get0_global_default() || was_refused) {
-        return said(3, "out of memory");
-    }
-    const char *name = task.name && strcmp(task.name, "-") != 0 ? task.name : NULL;
-    return verified_file(name, &task);
+    struct task task = {.keyrings = calloc((size_t)argc + 1, sizeof(char *))};
+    int status = task.keyrings ? done(&task, words) : said(3, "out of memory");
+    free(task.keyrings);
+    return status;
 }

@@ -39,7 +39,8 @@ extern "C" {
 #define OPGP_API
 #endif
 
-/* The version of the structs and calls below. opgp_abi() of the library must return it. */
+/* The version of the structs and calls below. opgp_abi() of the library must return it. It changes where one of them does, not where
+ * one is added. New in 3: opgp_document and its calls, opgp_signatures, opgp_canonical; the statuses 8 and 9; and the why 6. */
 #define OPGP_ABI 3
 
 /* The version of the library, for people. */
@@ -576,7 +577,7 @@ OPGP_API void opgp_reader_clear(opgp_reader *reader);
  * - octets: writes what the signature in a row hashes beside the document to octets[0 .. room), for who hashes elsewhere: if behind
  *   is 0 what comes in front of it, which is the salt in version 6 and nothing in version 4; else what comes behind it. *size is
  *   how much that is. OPGP_DONE, OPGP_ROOM; OPGP_NO_ROW: there is no such row, or its signature is malformed, or of another version
- *   than 4 and 6; OPGP_MEMORY, OPGP_CLOSED. With the last three *size means nothing.
+ *   than 4 and 6; OPGP_MEMORY, OPGP_CLOSED. With the last three *size is unchanged.
  * - close, clear: free what the handle holds, as opgp_ring_close and opgp_ring_clear do.
  *
  * A push and an end allocate nothing, and so can't run out of memory.
@@ -607,6 +608,38 @@ OPGP_API uint32_t opgp_document_octets(opgp_document *document, uint64_t row, ui
                                        uint64_t *size);
 OPGP_API void opgp_document_close(opgp_document document);
 OPGP_API void opgp_document_clear(opgp_document *document);
+
+/* Make the canonical text of a document (5.2.1.2), which comes in pieces of any size: what signatures of type 01 are over. A line
+ * ends in a line feed, or in a carriage return and a line feed; in the text each ends in the two. What is behind the last line end
+ * stays as it is. A document with a carriage return that no line feed follows has no canonical text: programs disagree about it.
+ *
+ *     opgp_text text = {0};
+ *     while there is a piece: opgp_canonical(&text, piece, n, octets, room, &size, &fault), then use octets[0 .. size)
+ *     opgp_canonical_end(&text, &fault);
+ *
+ * - canonical: takes the next piece of the document, piece[0 .. n), and writes its text to octets[0 .. room). *size is how many
+ *   octets that is, at most 2 * n. OPGP_DONE; OPGP_ROOM: the room is less than *size; OPGP_REFUSED with *fault: the document has
+ *   such a carriage return, and *size is unchanged. With any but OPGP_DONE the piece isn't taken, and text and octets are unchanged.
+ * - canonical_end: whether the document may end here. OPGP_DONE; OPGP_REFUSED with *fault: it ends in a carriage return.
+ *
+ * With any but OPGP_REFUSED *fault is unchanged. pos is the place of the carriage return in the document. Nothing is allocated, and
+ * there is nothing to free. A copy of text goes on from where text was.
+ *
+ * Proved, however the document is cut:
+ *
+ * - OPGP_DONE of the end: what was written, piece after piece, is the canonical text of the document.
+ * - OPGP_REFUSED: the document, whatever may come behind this piece, has such a carriage return, and *fault says where the first is.
+ * - OPGP_ROOM is returned only if the room is less than *size. */
+typedef struct opgp_text {
+    uint64_t given;            /* how many octets were given; behind 2^64 - 1 that */
+    uint64_t last_return;      /* where the last octet is, if it is a carriage return */
+    uint32_t is_behind_return; /* whether it is one */
+    uint32_t reserved;
+} opgp_text;
+
+OPGP_API uint32_t opgp_canonical(opgp_text *text, const uint8_t *piece, size_t n, uint8_t *octets, size_t room, uint64_t *size,
+                                 opgp_fault *fault);
+OPGP_API uint32_t opgp_canonical_end(const opgp_text *text, opgp_fault *fault);
 
 /* ---- On top. Not proved. */
 

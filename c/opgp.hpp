@@ -289,6 +289,39 @@ private:
     opgp_document handle = {};
 };
 
+/* The canonical text of a document that comes in pieces (5.2.1.2). */
+class CanonicalText {
+public:
+    /* Takes the next piece, and returns its text. Throws Fault for a carriage return that no line feed follows, and then takes
+     * nothing. */
+    std::string push(std::string_view piece)
+    {
+        opgp_fault fault = {};
+        uint64_t size = 0;
+        std::string found(2 * piece.size(), '\0');
+        uint32_t status = opgp_canonical(&state, reinterpret_cast<const uint8_t *>(piece.data()), piece.size(),
+                                         reinterpret_cast<uint8_t *>(&found[0]), found.size(), &size, &fault);
+        if (status == OPGP_REFUSED) {
+            throw Fault(fault);
+        }
+        check(status);
+        found.resize(static_cast<std::size_t>(size));
+        return found;
+    }
+
+    /* Ends the document. Throws Fault if it ends in a carriage return. */
+    void end() const
+    {
+        opgp_fault fault = {};
+        if (opgp_canonical_end(&state, &fault) == OPGP_REFUSED) {
+            throw Fault(fault);
+        }
+    }
+
+private:
+    opgp_text state = {};
+};
+
 } // namespace opgp
 
 #endif

@@ -10,11 +10,14 @@ An input is armored or binary. It is parsed as the one keyring that its octets e
 refused. This module reads no octet of it itself. It needs the shared library (`make install-library`). It looks for that at the
 path in the environment's OPGP_LIBRARY, else as libopgp.so.3 where the system looks for libraries.
 
+`document` hashes a document in a file for the detached signatures over it (10.4); a `Document` is given it in pieces.
+
 Sizes and places are in octets, and count from 0. Sections are those of RFC 9580. Rows outlive their keyring. Any number of
-threads may use a keyring or a reader at once. Exceptions are
+threads may use a keyring, a reader or a document at once. Exceptions are
 
 - Fault, a ValueError: the input is refused;
-- ValueError: a limit is out of its range, or what is used is closed;
+- ValueError: a limit is out of its range, or what is used is closed or has ended; of a document also that it hasn't ended, or has
+  more than 64 signatures;
 - IndexError: there is no such row or certificate;
 - TypeError: a value has a wrong type;
 - MemoryError: memory ran out.
@@ -30,14 +33,15 @@ import mmap
 import operator
 import os
 import threading
-from typing import Any, BinaryIO, Callable, Iterator, NamedTuple, Optional, TypeVar, Union
+from typing import Any, BinaryIO, Callable, Iterable, Iterator, NamedTuple, Optional, TypeVar, Union
 
-__all__ = ["Certificate", "Fault", "Key", "KeyFlags", "Keyring", "Limits", "Packet", "Question", "Reader", "Signature"]
-__all__ += ["Subpacket", "Verdict", "parts", "read"]
+__all__ = ["Certificate", "Document", "Fault", "Key", "KeyFlags", "Keyring", "Limits", "Packet", "Question", "Reader", "Signature"]
+__all__ += ["Subpacket", "Verdict", "document", "parts", "read"]
 
 _ABI = 3
 _NONE = 2**64 - 1
-_DONE, _REFUSED, _ROOM, _MEMORY, _LIMITS, _CLOSED, _NO_ROW, _ENDED = range(8)
+_DONE, _REFUSED, _ROOM, _MEMORY, _LIMITS, _CLOSED, _NO_ROW, _ENDED, _MANY, _GOING = range(10)
+_MOST_SIGNATURES = 64
 
 # The library's tables of names.
 _PACKET_TYPES, _KEY_ALGORITHMS, _HASH_ALGORITHMS, _SIGNATURE_TYPES, _SUBPACKET_KINDS, _LAYERS, _REASONS, _WHYS = range(8)
@@ -61,8 +65,12 @@ class _Fault(ctypes.Structure):
     ]
 
 
+class _Sizes(ctypes.Structure):
+    _fields_ = [("rows", ctypes.c_uint64), ("bytes", ctypes.c_uint64)]
+
+
 class _Span(ctypes.Structure):
-    _fields_ = [("octets", ctypes.POINTER(ctypes.c_uint8)), ("size", ctypes.c_size_t)]
+    _fields_ = [("octets", ctypes.c_void_p), ("size", ctypes.c_size_t)]
 
 
 class _Packet(ctypes.Structure):
@@ -134,6 +142,10 @@ class _Reader(ctypes.Structure):
     _fields_ = [("is_open", ctypes.c_bool), ("at", ctypes.c_void_p)]
 
 
+class _Document(ctypes.Structure):
+    _fields_ = [("is_open", ctypes.c_bool), ("at", ctypes.c_void_p)]
+
+
 _Verifier = ctypes.CFUNCTYPE(ctypes.c_int, ctypes.c_void_p, ctypes.POINTER(_Question))
 _Reporter = ctypes.CFUNCTYPE(ctypes.c_int, ctypes.c_void_p, ctypes.c_size_t, ctypes.POINTER(_Job), ctypes.c_int)
 
@@ -180,11 +192,21 @@ def _load() -> ctypes.CDLL:
         ("reader_end", status, pointer(_Reader), pointer(_Fault)),
         ("reader_clear", None, pointer(_Reader)),
         ("take", status, pointer(_Reader), pointer(keyring)),
+        ("document_open", status, ctypes.c_char_p, size, status, pointer(_Limits), pointer(_Document), pointer(_Fault)),
+        ("document_push", status, pointer(_Document), ctypes.c_char_p, size),
+        ("document_end", status, pointer(_Document)),
+        ("document_subpackets", status, pointer(_Document), pointer(_Subpacket), size, octets, size, pointer(_Sizes)),
+        ("document_octets", status, pointer(_Document), number, status, octets, size, pointer(number)),
+        ("document_clear", None, pointer(_Document)),
+        ("signatures", status, pointer(_Document), keyring, *table[_Job], pointer(octets)),
         ("check", status, keyring, _Verifier, _Reporter, ctypes.c_void_p),
         ("status_text", ctypes.c_char_p, status),
         ("name", status, status, ctypes.c_uint8, octets, size, pointer(number)),
     ):
-        call = getattr(library, f"opgp_{name}")
+        try:
+            call = getattr(library, f"opgp_{name}")
+        except AttributeError as why:
+            raise ImportError(f"{path} is older than this module: it has no opgp_{name}", name="opgp", path=path) from why
         call.restype, call.argtypes = gives, takes
     return library
 
@@ -217,23 +239,40 @@ def _name(table: int, number: int) -> Optional[str]:
     return bytes(text[: size.value]).decode("ascii") if status == _DONE else None
 
 
+_INT = 2**31 - 1  # the most that an int counts
+
+
+def _octets_at(at: int, size: int) -> bytes:
+    """So many octets from this address on. string_at takes their number as an int, and of more it would give too few."""
+    return ctypes.string_at(at, size) if size <= _INT else bytes((ctypes.c_uint8 * size).from_address(at))
+
+
 def _octets(span: Any) -> bytes:
-    return ctypes.string_at(span.octets, span.size) if span.size else b""
+    return _octets_at(span.octets, span.size) if span.size else b""
 
 
-def _fields(spans: Any) -> tuple[bytes, ...]:
-    """The octets of these spans, without the empty ones at the end."""
-    fields = [_octets(it) for it in spans]
-    while fields and not fields[-1]:
-        fields.pop()
-    return tuple(fields)
+def _filled(fields: Iterable[bytes]) -> tuple[bytes, ...]:
+    """These fields without the empty ones at the end."""
+    found = [*fields]
+    while found and not found[-1]:
+        found.pop()
+    return tuple(found)
+
+
+def _cut(at: int, *sizes: int) -> list[bytes]:
+    """The fields of these sizes, which stand one behind the other from this address on."""
+    found = []
+    for size in sizes:
+        found.append(_octets_at(at, size) if size else b"")
+        at += size
+    return found
 
 
 # ---- What is read
 
 
 class Limits(NamedTuple):
-    """Limits and policies. `Limits()` are the library's usual ones. `read` and `Reader` raise ValueError for one out of its
+    """Limits and policies. `Limits()` are the library's usual ones. What reads within them raises ValueError for one out of its
     range."""
 
     line: int = 2**13
@@ -391,21 +430,23 @@ class Subpacket:
 
 @dataclasses.dataclass(frozen=True)
 class Signature:
-    """A signature (5.2), of a packet or embedded in one, and the digest of what it hashes."""
+    """A signature (5.2), of a packet or embedded in one, or over a document, and the digest of what it hashes."""
 
     row: int
-    """Its number among the keyring's signatures, which is that of `opgp check`."""
-    certificate: int
+    """Its number among the keyring's signatures, which is that of `opgp check`; or among those over the document."""
+    certificate: Optional[int]
+    """The certificate that it is in; None: it is over a document."""
     component: Optional[int]
-    """The component that it is on; None for the primary key."""
+    """The component that it is on; None for the primary key, and over a document."""
     hang: int
-    """Its number among the signatures and fillers behind that."""
+    """Its number among the signatures and fillers behind that; over a document its row."""
     nested: Optional[int]
     """Its number among the signatures embedded in that packet; None: the packet's own."""
     signer: Optional[int]
     """The row of the key that it names as its issuer's; None: not in this keyring."""
     why_not: Optional[str]
-    """None: it is hashed; else why not: opaque, kind, misplaced, version or hash."""
+    """None: it is hashed; else why not: opaque, kind, misplaced, version or hash. Over a document it is opaque, kind, hash or
+    line-ends: it is over text (5.2.1.2), and a carriage return in the document isn't followed by a line feed."""
     version: int
     """3, 4 or 6; 0: not parsed."""
     kind: int
@@ -521,41 +562,34 @@ def _packets(handle: _Handle, certificate: Optional[int] = None) -> list[Packet]
 
 
 def _keys(handle: _Handle, certificate: Optional[int] = None) -> list[Key]:
-    return [
-        Key(
-            row,
-            it.certificate,
-            _number(it.component),
-            it.version,
-            it.algorithm,
-            it.created,
-            bytes(it.print[: it.print_size]),
-            bytes(it.key_id),
-            _fields(_library.opgp_key_field(handle, it, number) for number in range(4)),
-        )
-        for row, it in _rows("keys", _Key, handle, certificate)
-    ]
+    return [_key(handle, row, it) for row, it in _rows("keys", _Key, handle, certificate)]
+
+
+def _key_at(handle: _Handle, row: int) -> Key:
+    """The key in this row, which is there."""
+    return _key(handle, row, _table(_library.opgp_keys, _Key, handle)[0][row])
+
+
+def _key(handle: _Handle, row: int, it: Any) -> Key:
+    return Key(
+        row,
+        it.certificate,
+        _number(it.component),
+        it.version,
+        it.algorithm,
+        it.created,
+        bytes(it.print[: it.print_size]),
+        bytes(it.key_id),
+        _filled(_octets(_library.opgp_key_field(handle, it, number)) for number in range(4)),
+    )
 
 
 def _signatures(handle: _Handle, certificate: Optional[int] = None) -> list[Signature]:
     return [
-        Signature(
+        _signature(
             row,
-            it.certificate,
-            _number(it.component),
-            it.hang,
-            _number(it.nested),
-            _number(it.signer),
-            _name(_WHYS, it.why),
-            it.version,
-            it.kind,
-            it.algorithm,
-            it.hash,
-            bytes(it.left),
-            bool(it.is_bad),
-            bytes(it.digest[: it.digest_size]),
-            _fields(_library.opgp_job_field(handle, it, number) for number in range(2)),
-            it.created if it.is_dated else None,
+            it,
+            (_octets(_library.opgp_job_field(handle, it, number)) for number in range(2)),
             _octets(_library.opgp_issuer(handle, it)),
             _subpackets(handle, row),
         )
@@ -563,29 +597,44 @@ def _signatures(handle: _Handle, certificate: Optional[int] = None) -> list[Sign
     ]
 
 
+def _signature(row: int, it: Any, made: Iterable[bytes], issuer: bytes, subpackets: Iterable[Subpacket]) -> Signature:
+    return Signature(
+        row,
+        _number(it.certificate),
+        _number(it.component),
+        it.hang,
+        _number(it.nested),
+        _number(it.signer),
+        _name(_WHYS, it.why),
+        it.version,
+        it.kind,
+        it.algorithm,
+        it.hash,
+        bytes(it.left),
+        bool(it.is_bad),
+        bytes(it.digest[: it.digest_size]),
+        _filled(made),
+        it.created if it.is_dated else None,
+        issuer,
+        tuple(subpackets),
+    )
+
+
+def _subpackets(handle: _Handle, row: int) -> Iterator[Subpacket]:
+    rows, count = _table(_library.opgp_subpackets_of, _Subpacket, handle, row)
+    for it in rows[:count]:
+        first, second = it.field_sizes
+        one = _octets(_library.opgp_subpacket_field(handle, it, 0)) if first else b""
+        other = _octets(_library.opgp_subpacket_field(handle, it, 1)) if second else b""
+        yield _subpacket(it, _octets(_library.opgp_data(handle, it)), (one, other))
+
+
 _MEANINGS = ("typed", "unfit", "unknown")
 
 
-def _subpackets(handle: _Handle, row: int) -> tuple[Subpacket, ...]:
-    rows, count = _table(_library.opgp_subpackets_of, _Subpacket, handle, row)
-    return tuple(_subpacket(handle, it) for it in rows[:count])
-
-
-def _subpacket(handle: _Handle, it: Any) -> Subpacket:
-    (first, second), (one, other) = it.field_sizes, it.numbers
-    return Subpacket(
-        it.kind,
-        bool(it.is_critical),
-        bool(it.is_hashed),
-        _MEANINGS[it.meaning],
-        _octets(_library.opgp_data(handle, it)),
-        it.form,
-        (one, other),
-        (
-            _octets(_library.opgp_subpacket_field(handle, it, 0)) if first else b"",
-            _octets(_library.opgp_subpacket_field(handle, it, 1)) if second else b"",
-        ),
-    )
+def _subpacket(it: Any, data: bytes, fields: tuple[bytes, bytes]) -> Subpacket:
+    one, other = it.numbers
+    return Subpacket(it.kind, bool(it.is_critical), bool(it.is_hashed), _MEANINGS[it.meaning], data, it.form, (one, other), fields)
 
 
 # ---- Keyrings
@@ -668,11 +717,9 @@ class Keyring(_Held):
     _handle: Optional[_Handle] = None
 
     def __init__(self, octets: Octets, limits: Optional[Limits] = None, mode: str = "auto") -> None:
-        if mode not in _MODES:
-            raise ValueError(f"the mode is {mode!r}, and none of {', '.join(_MODES)}")
-        whole, fault, handle = _bytes(octets), _Fault(), _Handle()
+        by, whole, fault, handle = _mode(mode), _bytes(octets), _Fault(), _Handle()
         to = ctypes.byref(handle._as_parameter_), ctypes.byref(fault)
-        _raise_if_refused(_library.opgp_open_mode(whole, len(whole), _MODES.index(mode), _limits(limits), *to), fault)
+        _raise_if_refused(_library.opgp_open_mode(whole, len(whole), by, _limits(limits), *to), fault)
         self._handle = handle
 
     @classmethod
@@ -746,9 +793,7 @@ class Keyring(_Held):
 
     def joined(self, other: Keyring) -> Keyring:
         """A keyring of the packets of this one, and behind them those of another one, or of this one."""
-        if not isinstance(other, Keyring):
-            raise TypeError(f"a Keyring is wanted, and not a {type(other).__name__}")
-        handle, behind = self._open(), other._open()
+        behind, handle = _opened(other), self._open()
         return self._made(lambda made: _library.opgp_join(handle, behind, made))
 
     @staticmethod
@@ -757,7 +802,7 @@ class Keyring(_Held):
         octets, size = ctypes.POINTER(ctypes.c_uint8)(), ctypes.c_size_t()
         _raise_but_for_done(call(ctypes.byref(octets), ctypes.byref(size)))
         try:
-            return ctypes.string_at(octets, size.value)
+            return _octets_at(ctypes.addressof(octets.contents), size.value)
         finally:
             _free(octets)
 
@@ -858,6 +903,136 @@ class Reader(_Held):
             _library.opgp_reader_clear(self._reader)
 
 
+class Document(_Held):
+    """Hashes a document, whose octets come in pieces of any size, for the detached signatures over it (10.4). Each hashes the
+    document as it is (5.2.1.1), or as text with canonical line ends (5.2.1.2). No more of the document is kept than the digests
+    need, so it may have any size.
+
+    First it reads the signatures, armored or binary. Then push the pieces, end the document, and `check` it by a keyring. It is
+    closed by `close`, at the end of its `with`, or when nothing refers to it. Calls of several threads wait for one another.
+    """
+
+    _lock: Any
+    _document: Any
+
+    def __new__(cls, *_: Any, **__: Any) -> Document:
+        made = super().__new__(cls)
+        made._lock, made._document = threading.RLock(), _Document()
+        return made
+
+    def __init__(self, signatures: Octets, limits: Optional[Limits] = None, mode: str = "auto") -> None:
+        """Reads the signatures, by a mode and within limits, as `read` does a keyring. Raises what `read` raises, and ValueError
+        if there are more than 64 signatures."""
+        by, whole, within, fault = _mode(mode), _bytes(signatures), _limits(limits), _Fault()
+        with self._lock:
+            status = _library.opgp_document_open(whole, len(whole), by, within, self._document, fault)
+        if status == _MANY:
+            raise ValueError(f"there are more than {_MOST_SIGNATURES} signatures")
+        _raise_if_refused(status, fault)
+
+    def __del__(self, clear: Any = _library.opgp_document_clear) -> None:
+        clear(self._document)
+
+    def push(self, piece: Octets) -> None:
+        """Takes the next piece of the document. Raises ValueError if the document has ended, or is closed."""
+        octets = _bytes(piece)
+        with self._lock:
+            _raise_but_for_done(_library.opgp_document_push(self._document, octets, len(octets)))
+
+    def end(self) -> None:
+        """Ends the document. Raises ValueError if it had ended, or is closed."""
+        with self._lock:
+            _raise_but_for_done(_library.opgp_document_end(self._document))
+
+    def signatures(self, keyring: Optional[Keyring] = None) -> list[Signature]:
+        """The signatures over the document, in order, with their digests. Their signers are rows of the keyring's keys; without a
+        keyring there are none. Raises ValueError if the document hasn't ended, or what is used is closed."""
+        return self._found(None if keyring is None else _opened(keyring))
+
+    def _found(self, handle: Optional[_Handle]) -> list[Signature]:
+        rows, count, octets = ctypes.POINTER(_Job)(), ctypes.c_size_t(), ctypes.POINTER(ctypes.c_uint8)()
+        to = ctypes.byref(rows), ctypes.byref(count), ctypes.byref(octets)
+        with self._lock:
+            _raise_but_for_done(_library.opgp_signatures(self._document, handle, *to))
+            try:
+                subpackets, begin, found = self._subpackets(), ctypes.addressof(octets.contents), []
+                for row, it in enumerate(rows[: count.value]):
+                    *made, issuer = _cut(begin + it.at, *it.sizes, it.issuer_size)
+                    found.append(_signature(row, it, made, issuer, subpackets.get(row, ())))
+                return found
+            finally:
+                _free(rows)
+                _free(octets)
+
+    def _subpackets(self) -> dict[int, list[Subpacket]]:
+        """The subpackets of each signature that has some, by its row."""
+        sizes, status = _Sizes(), _ROOM
+        while status == _ROOM:
+            rows, octets = (_Subpacket * sizes.rows)(), (ctypes.c_uint8 * sizes.bytes)()
+            status = _library.opgp_document_subpackets(self._document, rows, len(rows), octets, len(octets), sizes)
+        _raise_but_for_done(status)
+        begin = ctypes.addressof(octets)
+        found: dict[int, list[Subpacket]] = {}
+        for it in rows:
+            (data,), (one, other) = _cut(begin + it.at, it.size), _cut(begin + it.fields_at, *it.field_sizes)
+            found.setdefault(it.hang, []).append(_subpacket(it, data, (one, other)))
+        return found
+
+    def check(self, keyring: Keyring, verify: Optional[Verifier] = None) -> list[tuple[Signature, Verdict]]:
+        """Each signature over the document, in order, with its verdict:
+
+        - BAD if its digest doesn't begin with the 16 bits that it states;
+        - what `verify` returns, which is called once, if it is hashed, and its issuer's key is in the keyring and has its
+          version;
+        - UNDECIDED for all others; without a `verify`, for all that aren't bad.
+
+        What `verify` raises ends the check, and is raised here. GOOD is arithmetic and no more. Expiries, revocations, key flags
+        and critical subpackets aren't looked at: whether to rely on a signature is up to you.
+        """
+        handle = _opened(keyring)
+        return [(it, _verdict(it, handle, verify)) for it in self._found(handle)]
+
+    def front(self, row: int) -> bytes:
+        """What the signature in this row hashes in front of the document (5.2.4): its salt in version 6, and nothing in version
+        4. Raises IndexError if there is no such row, or the signature is malformed, or of another version."""
+        return self._own(row, 0)
+
+    def behind(self, row: int) -> bytes:
+        """What it hashes behind the document: its own fields, and their size. Raises IndexError as `front` does."""
+        return self._own(row, 1)
+
+    def _own(self, row: int, is_behind: int) -> bytes:
+        at, size, status = _row(row), ctypes.c_uint64(), _ROOM
+        with self._lock:
+            while status == _ROOM:
+                octets = (ctypes.c_uint8 * size.value)()
+                status = _library.opgp_document_octets(self._document, at, is_behind, octets, len(octets), size)
+        _raise_but_for_done(status)
+        return bytes(octets)
+
+    def close(self) -> None:
+        """Frees what the document keeps. It can't be used again."""
+        with self._lock:
+            _library.opgp_document_clear(self._document)
+
+
+def _verdict(signature: Signature, handle: _Handle, verify: Optional[Verifier]) -> Verdict:
+    """The verdict on a signature over a document, whose signer is in this keyring: that of `opgp_check`."""
+    if signature.is_bad:
+        return Verdict.BAD
+    if not verify or signature.why_not or signature.signer is None:
+        return Verdict.UNDECIDED
+    signer = _key_at(handle, signature.signer)
+    return Verdict(verify(Question(signature, signer))) if signer.version == signature.version else Verdict.UNDECIDED
+
+
+def _opened(keyring: Any) -> _Handle:
+    """What the library holds of this keyring. Raises TypeError if it is none."""
+    if not isinstance(keyring, Keyring):
+        raise TypeError(f"a Keyring is wanted, and not a {type(keyring).__name__}")
+    return keyring._open()
+
+
 def _bytes(octets: Octets) -> bytes:
     """These octets. Raises TypeError for what isn't octets in memory, such as a number, a text, a list or a path."""
     return octets if isinstance(octets, bytes) else bytes(memoryview(octets))
@@ -871,6 +1046,13 @@ def _row(number: int) -> int:
 
 
 _MODES = ("auto", "armor", "binary")
+
+
+def _mode(mode: str) -> int:
+    """The library's number of this mode."""
+    if mode not in _MODES:
+        raise ValueError(f"the mode is {mode!r}, and none of {', '.join(_MODES)}")
+    return _MODES.index(mode)
 
 
 def _limits(limits: Optional[Limits]) -> Any:
@@ -890,6 +1072,7 @@ def _raise_but_for_done(status: int) -> None:
         return
     text = _library.opgp_status_text(status).decode("ascii")
     kinds = {_MEMORY: MemoryError, _LIMITS: ValueError, _CLOSED: ValueError, _NO_ROW: IndexError, _ENDED: ValueError}
+    kinds |= {_MANY: ValueError, _GOING: ValueError}
     raise kinds.get(status, RuntimeError)(text)
 
 
@@ -923,18 +1106,51 @@ def parts(source: BinaryIO, limits: Optional[Limits] = None, size: int = 1 << 16
     Raises Fault behind the last part if the input is refused: the parts before it are then those of no keyring. Raises ValueError
     for a size below 1, and BlockingIOError for a source that doesn't block and has nothing to read yet, which ends the reading.
     """
-    if size < 1:
-        raise ValueError(f"the size of pieces is {size}")
-    return _parts(Reader(limits), source, size)
+    return _parts(_pieces(source, size), Reader(limits))
 
 
-def _parts(reader: Reader, source: BinaryIO, size: int) -> Iterator[Keyring]:
+def _parts(pieces: Iterator[bytes], reader: Reader) -> Iterator[Keyring]:
     with reader:
-        while piece := _piece(source.read(size)):
+        for piece in pieces:
             reader.push(piece)
             yield from reader.taken()
         reader.end()
         yield from reader.taken()
+
+
+def document(
+    signatures: Octets,
+    source: BinaryIO,
+    limits: Optional[Limits] = None,
+    mode: str = "auto",
+    size: int = 1 << 16,
+    progress: Optional[Callable[[int], object]] = None,
+) -> Document:
+    """Hashes the document in this file for the signatures over it, and ends it: see `Document`. The limits and the mode are those
+    of the signatures. The file is read to its end, in pieces of at most this size. `progress` is called after each piece, with
+    how many octets were read so far.
+
+    Raises what `Document` raises, what reading the file and `progress` raise, and ValueError and BlockingIOError as `parts` does.
+    """
+    pieces, made, so_far = _pieces(source, size), Document(signatures, limits, mode), 0
+    try:
+        for piece in pieces:
+            made.push(piece)
+            so_far += len(piece)
+            if progress is not None:
+                progress(so_far)
+        made.end()
+    except BaseException:
+        made.close()
+        raise
+    return made
+
+
+def _pieces(source: BinaryIO, size: int) -> Iterator[bytes]:
+    """The octets of a source, in pieces of at most this size."""
+    if size < 1:
+        raise ValueError(f"the size of pieces is {size}")
+    return iter(lambda: _piece(source.read(size)), b"")
 
 
 def _piece(read_octets: Optional[Octets]) -> bytes:

@@ -6,6 +6,8 @@
  *     normalise, merge, join, nth=N   write the packets of the keyring that is made; joined with itself
  *     document=PIECE,SIGNATURES,KEYRING   prints what is told of signatures over a document that comes in pieces of so many octets
  *               (0: in one): standard input has so many octets of signatures, and of a keyring, and then the document
+ *     canonical=PIECE     writes the canonical text of standard input in pieces of so many octets (0: in one), or prints the fault
+ *     canonical_texts     canonical text: each status, each room that is too small
  *     documents           signatures over a document: each status, each room that is too small
  *     documents_wanting   the same, with each allocation failed in turn
  *     rooms     each room that is too small; each status
@@ -677,6 +679,84 @@ static void modes(const opgp_limits *limits)
           "a reading that begins within limits");
     opgp_reader_clear(&reader);
     holds(held == 0, "what cleared handles held is let go");
+}
+
+/* Writes the text of a piece to standard output, into the room that it wants; first into less. The status. */
+static uint32_t write_text(opgp_text *text, const uint8_t *piece, size_t n, opgp_fault *fault)
+{
+    opgp_text before = *text;
+    uint64_t wanted = 0, n_again = 0;
+    uint32_t status = opgp_canonical(text, piece, n, NULL, 0, &wanted, fault);
+    if (status != OPGP_ROOM) {
+        return status;
+    }
+    uint8_t *octets = block_of((size_t)wanted + 1);
+    holds(wanted > 0 && opgp_canonical(text, piece, n, octets, (size_t)wanted - 1, &n_again, fault) == OPGP_ROOM && n_again == wanted
+              && is_blank(octets, 0, (size_t)wanted + 1) && memcmp(text, &before, sizeof before) == 0,
+          "a text without room");
+    status = opgp_canonical(text, piece, n, octets, (size_t)wanted + 1, &n_again, fault);
+    holds(status == OPGP_DONE && n_again == wanted && is_blank(octets, (size_t)wanted, (size_t)wanted + 1), "a text with room");
+    fwrite(octets, 1, (size_t)wanted, stdout);
+    free(octets);
+    return status;
+}
+
+static int canonical(const char *number)
+{
+    size_t piece = strtoull(number, NULL, 10);
+    opgp_text text = {0, 0, 0, 0};
+    opgp_fault fault;
+    char line[OPGP_FAULT_ROOM];
+    uint32_t status = OPGP_DONE;
+    for (size_t at = 0; at < size && status == OPGP_DONE;) {
+        size_t n = piece == 0 || size - at < piece ? size - at : piece;
+        status = write_text(&text, in + at, n, &fault);
+        at += n;
+    }
+    if (status == OPGP_DONE) {
+        status = opgp_canonical_end(&text, &fault);
+    }
+    if (status == OPGP_REFUSED) {
+        fprintf(stderr, "%s\n", opgp_fault_text(&fault, line));
+    }
+    return failed > 0 ? 3 : status == OPGP_DONE ? 0 : 1;
+}
+
+/* Each status of the calls on canonical text. */
+static void canonical_texts(void)
+{
+    opgp_text text = {0, 0, 0, 0}, before;
+    opgp_fault fault;
+    uint8_t octets[4];
+    uint64_t n = 7;
+    memset(&fault, 0xA5, sizeof fault);
+    holds(opgp_canonical(&text, NULL, 0, NULL, 0, &n, &fault) == OPGP_DONE && n == 0 && opgp_canonical_end(&text, &fault) == OPGP_DONE,
+          "an empty piece");
+    holds(opgp_canonical(&text, (const uint8_t *)"a\r", 2, octets, 2, &n, &fault) == OPGP_DONE && n == 2 && memcmp(octets, "a\r", 2) == 0
+              && is_blank(&fault, 0, sizeof fault),
+          "a return at the end of a piece");
+    before = text;
+    holds(opgp_canonical_end(&text, &fault) == OPGP_REFUSED && fault.layer == 5 && fault.reason == 43 && fault.pos == 1 && fault.block == 0
+              && fault.inner == 0 && memcmp(&text, &before, sizeof text) == 0,
+          "a return at the end of a document");
+    memset(&fault, 0xA5, sizeof fault);
+    n = 7;
+    holds(opgp_canonical(&text, (const uint8_t *)"b\n", 2, octets, 4, &n, &fault) == OPGP_REFUSED && fault.pos == 1 && n == 7
+              && memcmp(&text, &before, sizeof text) == 0,
+          "a stray return");
+    memset(&fault, 0xA5, sizeof fault);
+    holds(opgp_canonical(&text, (const uint8_t *)"\n\n", 2, octets, 2, &n, &fault) == OPGP_ROOM && n == 3
+              && memcmp(&text, &before, sizeof text) == 0 && is_blank(&fault, 0, sizeof fault),
+          "a text that wants more room");
+    holds(opgp_canonical(&text, (const uint8_t *)"\n\n", 2, octets, 3, &n, &fault) == OPGP_DONE && n == 3
+              && memcmp(octets, "\n\r\n", 3) == 0 && opgp_canonical_end(&text, &fault) == OPGP_DONE && is_blank(&fault, 0, sizeof fault),
+          "a line end in two pieces");
+    /* Numbers that no call made are taken as they are: a place is told, and nothing else happens. */
+    text = (opgp_text){UINT64_MAX, UINT64_MAX, 77, 77};
+    holds(opgp_canonical(&text, (const uint8_t *)"b", 1, octets, 1, &n, &fault) == OPGP_REFUSED && fault.pos == UINT64_MAX, "the last place");
+    holds(opgp_canonical(&text, (const uint8_t *)"\nab", 3, octets, 3, &n, &fault) == OPGP_DONE && text.given == UINT64_MAX
+              && opgp_canonical_end(&text, &fault) == OPGP_DONE,
+          "behind the last place");
 }
 
 /* A signature of version 4 by hand: of this type, with nothing in its areas. */
@@ -1637,7 +1717,8 @@ int main(int argc, char **argv)
         const char *word;
         void (*run)(void);
     } runs[] = {{"rooms", rooms}, {"on_top", on_top}, {"memory", memory}, {"pieces", pieces}, {"wanting", wanting},
-                {"holding", holding}, {"threads", threads}, {"documents", documents}, {"documents_wanting", documents_wanting}};
+                {"holding", holding}, {"threads", threads}, {"documents", documents}, {"documents_wanting", documents_wanting},
+                {"canonical_texts", canonical_texts}};
     opgp_limits limits;
     const struct {
         const char *word;
@@ -1645,7 +1726,7 @@ int main(int argc, char **argv)
     } options[] = {{"--line=", &limits.line}, {"--body=", &limits.body}, {"--cert=", &limits.cert}, {"--input=", &limits.input},
                    {"--pieces=", &limits.pieces}, {"--policies=", &limits.policies}};
     bool is_told = false;
-    const char *making = NULL, *document = NULL;
+    const char *making = NULL, *document = NULL, *piece = NULL;
     opgp_usual_limits(&limits);
     size = fread(in, 1, sizeof in, stdin);
     for (int i = 1; i < argc; i++) {
@@ -1661,6 +1742,10 @@ int main(int argc, char **argv)
         }
         if (strncmp(argv[i], "document=", 9) == 0) {
             document = argv[i] + 9;
+            is_known = true;
+        }
+        if (strncmp(argv[i], "canonical=", 10) == 0) {
+            piece = argv[i] + 10;
             is_known = true;
         }
         for (size_t k = 0; k < sizeof options / sizeof *options; k++) {
@@ -1686,6 +1771,9 @@ int main(int argc, char **argv)
     }
     if (document) {
         return documented(document, &limits);
+    }
+    if (piece) {
+        return canonical(piece);
     }
     if (is_told) {
         return told(&limits);

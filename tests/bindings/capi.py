@@ -60,7 +60,18 @@ static bool documents(const opgp::Keyring &keyring)
         is_well = is_well && job.why == OPGP_WHY_HASHED && job.kind == job.hang && found.field(job, 0).empty() && found.issuer(job).empty();
         is_well = is_well && document.octets(job.hang, true).size() == 12;
     }
-    return is_well;
+    opgp::CanonicalText text;
+    std::string made = text.push("a\\n\\r");
+    made += text.push("");
+    made += text.push("\\nb");
+    text.end();
+    try {
+        text.push("\\rc");
+        return false;
+    } catch (const opgp::Fault &fault) {
+        is_well = is_well && fault.fault.pos == 5;
+    }
+    return is_well && made == "a\\r\\n\\r\\nb";
 }
 
 int main()
@@ -683,7 +694,14 @@ def documents(program):
     for octets, line in ((keys, b"composition: NotASignature"), (b"", b"composition: NotASignature"), (short, b"body: ")):
         ended = run(program, f"document=1,{len(octets)},0", input=octets)
         verdict(f"{octets[:4]} as signatures", ended.returncode == 1 and ended.stderr.startswith(line), ended)
-    counted("calls on documents", run(program, "documents", "documents_wanting", stdin=subprocess.DEVNULL))
+    counted("calls on documents", run(program, "documents", "documents_wanting", "canonical_texts", stdin=subprocess.DEVNULL))
+    for text in texts:
+        place = text.replace(b"\r\n", b"..").find(b"\r")
+        line = f"text: StrayReturn block 0 at {place} inner 0\n".encode()
+        for piece in (*range(71), 1 << 20):
+            ended = run(program, f"canonical={piece}", input=text)
+            holds = (ended.returncode, ended.stdout) == (0, re.sub(rb"\r?\n", b"\r\n", text)) if place < 0 else (ended.returncode, ended.stderr) == (1, line)
+            verdict(f"canonical text of {text[:20]} in pieces of {piece}", holds, ended)
 
 
 def names(program):

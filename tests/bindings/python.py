@@ -1,13 +1,15 @@
 #!/usr/bin/env python3
 """Tries python/opgp.py over the library for C, which OPGP_LIBRARY names or which is made: the rows, faults, hashed octets and packets
-of keyrings beside those that the program prints, limits, verifiers, closing, copies, threads, memory, the examples beside gpg where
-that and Debian's keyrings are, its wheel, and its types by mypy where that is. The last line counts what was tried."""
+of keyrings beside those that the program prints, signatures over documents beside hashlib, limits, verifiers, closing, copies, threads,
+memory, the examples beside gpg where that and Debian's keyrings are, its wheel, and its types by mypy where that is. The last line
+counts what was tried."""
 
 import array
 import base64
 import copy
 import ctypes
 import ctypes.util
+import dataclasses
 import datetime
 import glob
 import hashlib
@@ -181,30 +183,35 @@ def subpackets_fit(what, signatures, packets):
         if it.nested is not None:
             outer = model.Signature(body)
             body = [data for octet, _, data in (*outer.hashed, *outer.unhashed) if octet & 127 == 32][it.nested]
-        try:
-            found = model.Signature(body)
-        except model.Unfit:
-            found = None
-        kept = model.kept_signature(body)
-        fields = (kept.version, kept.kind, kept.algorithm, kept.hash, kept.left, filled(model.made_by(kept)))
-        told = (it.version, it.kind, it.algorithm, it.hash, it.left, it.made)
-        verdict(f"fields of row {it.row} of {what}", told == fields, (it, fields))
-        signer = model.signer_of(kept, keys)
-        verdict(f"signer of row {it.row} of {what}", it.signer == (keys.index(signer) if signer else None), it)
-        if it.why_not:
-            verdict(f"no digest of row {it.row} of {what}", (it.digest, it.is_bad) == (b"", False), it)
-        areas = ((True, found.hashed), (False, found.unhashed)) if found and found.version in (4, 6) else ()
-        wanted = [(octet & 127, octet > 127, is_hashed, model.meaning(octet & 127, data), data, *model.plain(octet & 127, data))
-                  for is_hashed, area in areas for octet, _, data in area]
-        told = [(of.kind, of.is_critical, of.is_hashed, of.meaning, of.data, of.form, of.numbers, of.fields) for of in it.subpackets]
-        verdict(f"subpackets of row {it.row} of {what}", told == wanted, (told, wanted))
-        hashed = {kind: data for kind, _, is_hashed, meaning, data, *_ in wanted if is_hashed and meaning == "typed"}
-        numbers = [int.from_bytes(hashed[kind], "big") if kind in hashed else None for kind in (3, 9)]
-        verdict(f"times of row {it.row} of {what}", [it.expires, it.key_expires] == numbers, (it, numbers))
-        wanted = model.created_of(kept), model.issuer_of(kept)
-        verdict(f"time and issuer of row {it.row} of {what}", (it.created, it.issuer) == wanted, (it, wanted))
-        flags = None if 27 not in hashed else int.from_bytes(hashed[27][:1], "big")
-        verdict(f"flags of row {it.row} of {what}", it.key_flags == flags, (it, flags))
+        row_fits(what, it, body, keys)
+
+
+def row_fits(what, it, body, keys):
+    """The same of one signature, with this body, where the keyring has keys of these bodies."""
+    try:
+        found = model.Signature(body)
+    except model.Unfit:
+        found = None
+    kept = model.kept_signature(body)
+    fields = (kept.version, kept.kind, kept.algorithm, kept.hash, kept.left, filled(model.made_by(kept)))
+    told = (it.version, it.kind, it.algorithm, it.hash, it.left, it.made)
+    verdict(f"fields of row {it.row} of {what}", told == fields, (it, fields))
+    signer = model.signer_of(kept, keys)
+    verdict(f"signer of row {it.row} of {what}", it.signer == (keys.index(signer) if signer else None), it)
+    if it.why_not:
+        verdict(f"no digest of row {it.row} of {what}", (it.digest, it.is_bad) == (b"", False), it)
+    areas = ((True, found.hashed), (False, found.unhashed)) if found and found.version in (4, 6) else ()
+    wanted = [(octet & 127, octet > 127, is_hashed, model.meaning(octet & 127, data), data, *model.plain(octet & 127, data))
+              for is_hashed, area in areas for octet, _, data in area]
+    told = [(of.kind, of.is_critical, of.is_hashed, of.meaning, of.data, of.form, of.numbers, of.fields) for of in it.subpackets]
+    verdict(f"subpackets of row {it.row} of {what}", told == wanted, (told, wanted))
+    hashed = {kind: data for kind, _, is_hashed, meaning, data, *_ in wanted if is_hashed and meaning == "typed"}
+    numbers = [int.from_bytes(hashed[kind], "big") if kind in hashed else None for kind in (3, 9)]
+    verdict(f"times of row {it.row} of {what}", [it.expires, it.key_expires] == numbers, (it, numbers))
+    wanted = model.created_of(kept), model.issuer_of(kept)
+    verdict(f"time and issuer of row {it.row} of {what}", (it.created, it.issuer) == wanted, (it, wanted))
+    flags = None if 27 not in hashed else int.from_bytes(hashed[27][:1], "big")
+    verdict(f"flags of row {it.row} of {what}", it.key_flags == flags, (it, flags))
 
 
 def names(opgp):
@@ -426,17 +433,21 @@ def limits(opgp):
     verdict("the usual policies", usual.policies == 0, usual.policies)
     octets = octets_of(A3)
     for it in ((8192, 1 << 24, 1 << 26, 1 << 40, 1 << 20), 5, "text", opgp.Limits(body="text"), opgp.Limits(line=None), opgp.Limits(cert=1e6)):
-        for call in (lambda it=it: opgp.read(octets, it), lambda it=it: opgp.Reader(it), lambda it=it: opgp.parts(io.BytesIO(octets), it)):
+        for call in (lambda it=it: opgp.read(octets, it), lambda it=it: opgp.Reader(it), lambda it=it: opgp.parts(io.BytesIO(octets), it),
+                     lambda it=it: opgp.Document(SIGNATURE, it), lambda it=it: opgp.document(SIGNATURE, io.BytesIO(b""), it)):
             verdict(f"limits that are {it!r}", raised(TypeError, call))
     ranges = {"line": (128, 1 << 20), "body": (512, (1 << 32) - 1), "cert": (512, 1 << 40), "input": (0, 1 << 62), "pieces": (1, 1 << 24)}
     for name, (least, most) in ranges.items():
         for value in (least - 1, most + 1, -1, 1 << 64):
-            it = raised(ValueError, lambda name=name, value=value: opgp.read(octets, opgp.Limits(**{name: value})))
-            said = f"the limit {name} is out of its range: {value}"
-            verdict(f"the limit {name} of {value}", it and not isinstance(it, opgp.Fault) and str(it) == said, it)
+            given = opgp.Limits(**{name: value})
+            for call in (lambda given=given: opgp.read(octets, given), lambda given=given: opgp.Document(SIGNATURE, given)):
+                it, said = raised(ValueError, call), f"the limit {name} is out of its range: {value}"
+                verdict(f"the limit {name} of {value}", it and not isinstance(it, opgp.Fault) and str(it) == said, it)
         for value in (least, most):
-            it = raised(BaseException, lambda name=name, value=value: opgp.read(octets, opgp.Limits(**{name: value})).close())
-            verdict(f"the limit {name} of {value}", it is None or isinstance(it, opgp.Fault), it)
+            given = opgp.Limits(**{name: value})
+            for call in (lambda given=given: opgp.read(octets, given).close(), lambda given=given: opgp.Document(SIGNATURE, given).close()):
+                it = raised(BaseException, call)
+                verdict(f"the limit {name} of {value}", it is None or isinstance(it, opgp.Fault), it)
 
 
 def policies(opgp):
@@ -477,7 +488,7 @@ def inputs(opgp):
     verdict("an input with an octet 0", opgp.read(bare).write() == bare and b"\0" in bare)
     verdict("no octets", opgp.read(b"").packets() == [] and opgp.read(b"").write() == b"")
     for it in NO_OCTETS:
-        for call in (lambda it=it: opgp.read(it), lambda it=it: opgp.Keyring(it)):
+        for call in (lambda it=it: opgp.read(it), lambda it=it: opgp.Keyring(it), lambda it=it: opgp.Document(it)):
             verdict(f"{it!r} is no input", raised(TypeError, call))
 
 
@@ -493,7 +504,22 @@ def modes(opgp):
             told = (f"{fault}\n" if fault else "", b"".join(found))
             verdict(f"{what} by the mode {mode}", told == (wanted.stderr.decode(), wanted.stdout), (told, wanted))
     for mode in ("", "Auto", "text", None, 0, b"armor"):
-        verdict(f"no mode {mode!r}", raised(ValueError, lambda mode=mode: opgp.read(octets, mode=mode)))
+        for call in (lambda mode=mode: opgp.read(octets, mode=mode), lambda mode=mode: opgp.Document(SIGNATURE, mode=mode)):
+            it, said = raised(ValueError, call), f"the mode is {mode!r}, and none of auto, armor, binary"
+            verdict(f"no mode {mode!r}", str(it) == said and not isinstance(it, opgp.Fault), it)
+
+
+def long_octets(opgp):
+    """What is longer than an int counts is read whole: as what is shorter, by way of a smaller int."""
+    usual, opgp._INT = opgp._INT, 3
+    try:
+        again = opgp.read(octets_of(A3))
+        found = again.write(), again.packets(), again.keys(), again.signatures(), again.octets(0)
+    finally:
+        opgp._INT = usual
+    keyring = opgp.read(octets_of(A3))
+    wanted = keyring.write(), keyring.packets(), keyring.keys(), keyring.signatures(), keyring.octets(0)
+    verdict("octets past an int", found == wanted and usual == (1 << 31) - 1)
 
 
 def searches(opgp):
@@ -525,8 +551,8 @@ def rows_refused(opgp):
 
 def errors(opgp):
     """What each status raises, and how: only a refused input is a Fault."""
-    kinds = {3: MemoryError, 4: ValueError, 5: ValueError, 6: IndexError, 7: ValueError}
-    for status in (*range(2, 10), 255, (1 << 32) - 1):
+    kinds = {3: MemoryError, 4: ValueError, 5: ValueError, 6: IndexError, 7: ValueError, 8: ValueError, 9: ValueError}
+    for status in (*range(2, 12), 255, (1 << 32) - 1):
         it = raised(BaseException, lambda status=status: opgp._raise_but_for_done(status))
         text = opgp._library.opgp_status_text(status).decode()
         verdict(f"what status {status} raises", type(it) is kinds.get(status, RuntimeError) and str(it) == text, it)
@@ -558,8 +584,32 @@ for name, call in calls.items():
 """
 
 
+LITTLE_OF_A_DOCUMENT = """
+import resource, opgp
+octets, small, pieces, told = open({path!r}, "rb").read(), {signature!r}, iter([bytes(1 << 16)] * 256), []
+kept = opgp.Document(octets)
+
+class Source:
+    def read(self, size):
+        return next(pieces, b"")
+
+taken = int(open("/proc/self/statm").read().split()[0]) * resource.getpagesize()
+resource.setrlimit(resource.RLIMIT_AS, (taken + {more}, resource.RLIM_INFINITY))
+calls = dict(open=lambda: opgp.Document(octets), push=lambda: kept.push(octets), end=kept.end, signatures=kept.signatures,
+             behind=lambda: kept.behind(0), front=lambda: kept.front(0), file=lambda: opgp.document(small, Source(), progress=told.append))
+for name, call in calls.items():
+    try:
+        call()
+        print(name, "done")
+    except BaseException as it:
+        print(name, type(it).__name__)
+print(told[-1])
+"""
+
+
 def little_memory(opgp, env, room):
-    """Where memory is wanting, MemoryError says so; a reading that is lost says so again."""
+    """Where memory is wanting, MemoryError says so; a reading that is lost says so again. A document takes memory for its signatures
+    alone, and only where they are asked for."""
     octets = opgp.read(octets_of(A3)).write() + b"\xcd\xff" + (1 << 24).to_bytes(4, "big") + b"u" * (1 << 24)
     path = f"{room}/octets"
     with open(path, "wb") as it:
@@ -568,6 +618,14 @@ def little_memory(opgp, env, room):
     verdict("where there is memory", lines_of(usual) == ["read done", "push done", "end done", "take done"], usual)
     little = run(sys.executable, "-c", LITTLE.format(path=path, more=4 << 20), env=env)
     verdict("where there is little", lines_of(little) == [f"{it} MemoryError" for it in ("read", "push", "end", "take")], little)
+    with open(path, "wb") as it:
+        it.write(packet(2, over(6, 0, 8, b"\xff" + ((1 << 23) + 1).to_bytes(4, "big") + b"d" + bytes(1 << 23))))
+    env = {**env, "MALLOC_MMAP_THRESHOLD_": "65536"}  # what is freed is given back
+    for more, wanting in ((1 << 40, ()), (6 << 20, ("open", "signatures", "behind"))):
+        ended = run(sys.executable, "-c", LITTLE_OF_A_DOCUMENT.format(path=path, signature=SIGNATURE, more=more), env=env)
+        names_of = ("open", "push", "end", "signatures", "behind", "front", "file")
+        wanted = [f"{it} {'MemoryError' if it in wanting else 'done'}" for it in names_of] + [str(1 << 24)]
+        verdict(f"a document, where there are {more} octets more", lines_of(ended) == wanted, ended)
 
 
 def large(opgp):
@@ -633,18 +691,21 @@ def closed(opgp):
 
 def copies(opgp):
     """What stands for the library's memory has no copies; rows and certificates have."""
-    keyring, reader = opgp.read(octets_of(A3)), opgp.Reader()
+    keyring, reader, document = opgp.read(octets_of(A3)), opgp.Reader(), opgp.Document(SIGNATURE)
     reader.push(octets_of(A3))
-    for it in (keyring, reader):
+    document.push(b"x")
+    for it in (keyring, reader, document):
         for name, call in (("copy", copy.copy), ("deepcopy", copy.deepcopy), ("pickle", pickle.dumps), ("pickle 0", lambda it: pickle.dumps(it, 0)),
                            ("__reduce__", lambda it: it.__reduce__()), ("__reduce_ex__", lambda it: it.__reduce_ex__(2))):
             verdict(f"{name} of a {type(it).__name__}", raised(TypeError, lambda it=it, call=call: call(it)))
     verdict("the keyring is as it was", len(keyring.keys()) == 2)
     reader.end()
     verdict("the reader is as it was", [it.write() for it in reader.taken()] == [keyring.write()])
+    document.end()
+    verdict("the document is as it was", told_of(document) == [usual_digest(b"x")])
     fault = raised(opgp.Fault, lambda: opgp.read(b"\xc6\1\3"))
     certificate, other = keyring.certificates()[0], opgp.read(octets_of(A1)).certificates()[0]
-    rows = [keyring.packets(), keyring.keys(), keyring.signatures(), opgp.Limits(), fault.args, certificate]
+    rows = [keyring.packets(), keyring.keys(), keyring.signatures(), document.signatures(), opgp.Limits(), fault.args, certificate]
     for call in (copy.copy, copy.deepcopy, lambda it: pickle.loads(pickle.dumps(it))):
         verdict("rows are copied", call(rows) == rows and str(pickle.loads(pickle.dumps(fault))) == str(fault))
         again = call(certificate)
@@ -783,6 +844,396 @@ def named_signers(opgp):
         verdict(f"what is asked of key {number}", (len(asked), [it for _, it in found]) == (int(is_asked), [wanted]), (asked, found))
 
 
+# Signatures over documents, beside hashlib.
+
+SALTS = {8: 16, 9: 24, 10: 32, 11: 16, 12: 16, 14: 32}  # octets of a salt (RFC 9580, 9.5)
+
+
+def over(version, kind, algorithm, hashed=b"", unhashed=b"", left=b"\0\0"):
+    """The body of a signature of this type, with this hash algorithm: EdDSALegacy in version 4, Ed25519 in version 6."""
+    areas = b"".join(model.sized(4 if version == 6 else 2, it) for it in (hashed, unhashed))
+    made = model.sized(1, b"S" * SALTS.get(algorithm, 7)) + b"s" * 64 if version == 6 else b"\0\x09\1\xff\0\x08\xff"
+    return bytes([version, kind, 27 if version == 6 else 22, algorithm]) + areas + left + made
+
+
+def named(name):
+    """A subpacket with the name of an issuer: a fingerprint (5.2.3.35) or a key ID (5.2.3.12)."""
+    return bytes([9, 16]) + name if len(name) == 8 else bytes([len(name) + 2, 33, 4 if len(name) == 20 else 6]) + name
+
+
+SIGNATURE = packet(2, over(4, 0, 8))
+OPAQUE = b"\4\0\x16\x08\0\1"  # the body of a malformed signature
+VERSION_3 = b"\3\5\0\0\0\0\1" + b"8 octets" + b"\1\x08\0\0" + b"\0\1\1"
+
+
+def text_of(document):
+    """The text of a document with canonical line ends (5.2.1.2), or None: a carriage return in it isn't followed by a line feed."""
+    text = document.replace(b"\r\n", b"\n")
+    return None if b"\r" in text else text.replace(b"\n", b"\r\n")
+
+
+def said_over(body, document):
+    """What a signature hashes in front of a document and behind it, and the digest of all; or why there is none."""
+    it = model.kept_signature(body)
+    if it.version not in (4, 6):
+        return None, None, "opaque"
+    front, behind = it.salt, it.front + bytes([it.version, 255]) + len(it.front).to_bytes(4, "big")
+    if it.kind > 1:
+        return front, behind, "kind"
+    if it.hash not in model.HASHES or (it.version, it.hash) == (6, 2):
+        return front, behind, "hash"
+    text = text_of(document) if it.kind else document
+    return front, behind, "line-ends" if text is None else hashlib.new(model.HASHES[it.hash], front + text + behind).digest()
+
+
+def stating(body, document):
+    """The same signature, stating the 16 bits that its digest begins with, if it has one."""
+    found, it = said_over(body, document)[2], model.kept_signature(body)
+    at = len(body) - len(it.material) - (it.version == 6 and 1 + len(it.salt)) - 2
+    return body[:at] + found[:2] + body[at + 2 :] if isinstance(found, bytes) else body
+
+
+def usual_digest(document):
+    """That of SIGNATURE over a document."""
+    return said_over(over(4, 0, 8), document)[2]
+
+
+def over_each(document, kinds=(0, 1, 2, 0x10, 0x40)):
+    """Signatures over a document, of each version, these types, and hash algorithms. Each other one states its digest's 16 bits."""
+    areas = b"", b"\5\2\0\0\1\0", b"\5\2\0\0\1\0" + named(b"8 octets") + b"\5\x83\0\0\0\7", b"\2\x64x" + named(bytes(32))
+    made = [(version, kind, algorithm) for version in (4, 6) for kind in kinds[:2] for algorithm in (1, 2, 3, 8, 9, 10, 11, 12, 14)]
+    made += [(version, kind, 8) for version in (4, 6) for kind in kinds[2:]]
+    bodies = [over(*it, areas[at % 4], areas[at // 4 % 4]) for at, it in enumerate(made)] + [VERSION_3]
+    return [stating(it, document) if at % 2 else it for at, it in enumerate(bodies)]
+
+
+def hashed_in_pieces(opgp, octets, pieces_of, limits_given=None):
+    """The document of these pieces, which has ended, with the signatures in these octets."""
+    made = opgp.Document(octets, limits_given)
+    for it in pieces_of:
+        made.push(it)
+    made.end()
+    return made
+
+
+def cut(document, size):
+    return [document[at : at + size] for at in range(0, len(document), size)]
+
+
+def told_of(document):
+    return [it.why_not or it.digest for it in document.signatures()]
+
+
+LINES = (
+    b"", b"\n", b"\r\n", b"a", b"a\n", b"a\nb", b"a\r\nb\r\n", b"a\nb\r\n", b"a \nb\t\n", b"\0\n\xff", b"\n" * 9, b"a\rb", b"a\r", b"\r",
+    b"a\rb\n", b"a\r\r\nb\n", b"a\n\rb\n", b"\r\n\r", b"x" * 65535 + b"\r\n", b"x" * 65535 + b"\rx", b"x\n" * 40000, b"line\n" * 30000 + b"\r",
+)
+
+
+def documents(opgp):
+    """Each row of the signatures over a document, what they hash around it, and the digest by hashlib, or why there is none."""
+    for document in LINES:
+        what, bodies = f"{document[:20]}, {len(document)} octets", over_each(document)
+        octets = b"\xca\x03PGP".join(packet(2, it) for it in bodies)
+        found = hashed_in_pieces(opgp, octets, [document])
+        rows = found.signatures()
+        places = [(it.row, it.certificate, it.component, it.hang, it.nested) for it in rows]
+        verdict(f"places of the signatures over {what}", places == [(at, None, None, at, None) for at in range(len(bodies))], places)
+        for it, body in zip(rows, bodies):
+            front, behind, wanted = said_over(body, document)
+            row_fits(f"those over {what}", it, body, [])
+            told = (it.why_not or it.digest, it.is_bad)
+            verdict(f"digest of row {it.row} over {what}", told == (wanted, not it.why_not and wanted[:2] != it.left), (it, wanted))
+            if front is None:
+                for call in (found.front, found.behind):
+                    verdict(f"no octets of row {it.row} over {what}", raised(IndexError, lambda call=call, it=it: call(it.row)))
+            else:
+                verdict(f"octets of row {it.row} over {what}", (found.front(it.row), found.behind(it.row)) == (front, behind))
+        whys = {None, "opaque", "kind", "hash", *["line-ends"] * (text_of(document) is None)}
+        verdict(f"whys over {what}", {it.why_not for it in rows} == whys)
+        verdict(f"some are bad over {what}, some not", 0 < sum(it.is_bad for it in rows) < len([it for it in rows if it.digest]))
+    for call in (found.front, found.behind):
+        for row in (len(bodies), -1, 1 << 63, (1 << 64) - 1, 1 << 64):
+            verdict(f"no row {row}", raised(IndexError, lambda call=call, row=row: call(row)))
+        for row in (None, 0.0, "0"):
+            verdict(f"no number {row!r}", raised(TypeError, lambda call=call, row=row: call(row)))
+    in_armor = hashed_in_pieces(opgp, model.armor(octets, b"SIGNATURE"), [document])
+    verdict("signatures in armor", in_armor.signatures() == rows)
+    for size in (100, 300, 70_000):
+        area = b"".join(b"\xff\0\0\0\x0bd" + it.to_bytes(10, "big") for it in range(size // 16))
+        body = over(6, 0, 10, area, area + named(b"8 octets"))
+        found = hashed_in_pieces(opgp, packet(2, body), [b"x"])
+        row_fits(f"a signature of {size} octets", found.signatures()[0], body, [])
+        verdict(f"octets of one of {size}", (found.front(0), found.behind(0), *told_of(found)) == said_over(body, b"x"))
+
+
+def document_pieces(opgp):
+    """The digests are the same however a document is cut."""
+    chance = random.Random(1)
+    made = [b"", b"one\r\ntwo\n\n\tthree \r\n" * 12, b"a line\n" * 60 + b"\r"]
+    made += [b"".join(chance.choices((b"a", b"b", b"\n", b"\r\n", b"\r"), (60, 60, 5, 5, strays), k=400)) for strays in (0, 0, 0.2, 1)]
+    made += [b"\r\n" * 200, b"\n" * 300, b"x" * 129 + b"\r\n" + b"x" * 126 + b"\n" + b"x" * 255 + b"\r\n"]
+    for document in made:
+        bodies = [it for it in over_each(document, (0, 1)) if said_over(it, b"")[2] not in ("hash", "opaque")]
+        octets, wanted = b"".join(packet(2, it) for it in bodies), [said_over(it, document)[2] for it in bodies]
+        for size in (*range(1, 71), 1 << 20):
+            found = told_of(hashed_in_pieces(opgp, octets, cut(document, size)))
+            verdict(f"{document[:20]}, {len(document)} octets, in pieces of {size}", found == wanted, (found, wanted))
+    bodies = [over(version, kind, algorithm) for version in (4, 6) for kind in (0, 1) for algorithm in (2, 8, 10)]
+    octets = b"".join(packet(2, it) for it in bodies)
+    for size in range(200):
+        document = bytes(chance.choices(b"a\r\n", (9, size % 2, 3), k=size)).replace(b"\r\r", b"\r\n")
+        at, cuts = 0, []
+        while at < size:
+            cuts.append(document[at : at + chance.choice((0, 1, 2, 3, 63, 64, 65, 127, 128))])
+            at += len(cuts[-1])
+        wanted = [said_over(it, document)[2] for it in bodies]
+        found = told_of(hashed_in_pieces(opgp, octets, cuts))
+        verdict(f"a document of {size} octets in other pieces", found == wanted, (document, cuts, found, wanted))
+    document = chance.randbytes(1 << 19).replace(b"\r", b"\n") * 2 + b"\r\nthe end"
+    wanted = [said_over(it, document)[2] for it in bodies]
+    for size in (1 << 16, 1 << 20, 1 << 30):
+        found = told_of(hashed_in_pieces(opgp, octets, cut(document, size)))
+        verdict(f"a document of {len(document)} octets in pieces of {size}", found == wanted)
+    for kind in (bytearray, memoryview, bytes, lambda it: array.array("B", it)):
+        verdict(f"a piece of type {kind}", told_of(hashed_in_pieces(opgp, octets, map(kind, cut(document, 1 << 19)))) == wanted)
+    with open(A1, "rb") as file, mmap.mmap(file.fileno(), 0, access=mmap.ACCESS_READ) as mapped:
+        verdict("a file in memory is a piece", told_of(hashed_in_pieces(opgp, SIGNATURE, [mapped])) == [usual_digest(octets_of(A1))])
+
+
+def document_refused(opgp):
+    """Signatures that are none, or too many, and the modes and policies by which they are read."""
+    behind = len(SIGNATURE)
+    for octets, fault in (
+        (b"", "composition: NotASignature block 0 at 0 inner 0"), (SIGNATURE[:-1], "framing: Truncated block 0 at 0 inner 1"),
+        (SIGNATURE + b"\xcb\x06b\0\0\0\0\0", f"composition: NotASignature block 0 at {behind} inner 0"),
+        (octets_of(A1), "composition: BlockLabel block 0 at 0 inner 0"), (b"hello\n", "armor: NoBlock block 0 at 6 inner 0"),
+        (opgp.read(octets_of(A1)).write(), "composition: NotASignature block 0 at 0 inner 0"),
+        (SIGNATURE + packet(2, OPAQUE), f"body: AreaShort block 0 at {behind} inner 4"),
+        (b"\xca\x03PGP", "composition: NotASignature block 0 at 5 inner 0"),
+    ):
+        for call in (lambda octets=octets: opgp.Document(octets), lambda octets=octets: opgp.document(octets, io.BytesIO(b"x"))):
+            found = raised(opgp.Fault, call)
+            verdict(f"signatures {octets[:20]}", str(found) == fault, (found, fault))
+    for count in (1, 2, 63, 64, 65, 66, 200):
+        made = []
+        found = raised(ValueError, lambda count=count, made=made: made.append(opgp.Document(SIGNATURE * count)))
+        if count <= 64:
+            made[0].end()
+            verdict(f"{count} signatures", found is None and [it.row for it in made[0].signatures()] == [*range(count)], found)
+        else:
+            verdict(f"{count} signatures", type(found) is ValueError and str(found) == "there are more than 64 signatures", found)
+    text = model.armor(SIGNATURE, b"SIGNATURE")
+    for octets in (SIGNATURE, text):
+        for mode in ("auto", "armor", "binary"):
+            made, wanted = [], raised(opgp.Fault, lambda octets=octets, mode=mode: opgp.read(octets, mode=mode))
+            found = raised(opgp.Fault, lambda octets=octets, mode=mode, made=made: made.append(opgp.Document(octets, mode=mode)))
+            holds = bool(made) if wanted.layer == "composition" else str(found) == str(wanted)
+            fits = mode in ("auto", "armor" if octets is text else "binary")
+            verdict(f"{octets[:9]} by the mode {mode}", holds and bool(made) == fits, found)
+    found = raised(opgp.Fault, lambda: opgp.Document(b"a line\n" + text, opgp.Limits(refuse_outside=True)))
+    verdict("a line outside of armored signatures is refused", str(found) == "armor: Outside block 0 at 0 inner 0", found)
+    verdict("or passed over", told_of(hashed_in_pieces(opgp, b"a line\n" + text, [])) == [usual_digest(b"")])
+    found = raised(opgp.Fault, lambda: opgp.Document(SIGNATURE * 2, opgp.Limits(input=2 * behind - 1)))
+    verdict("the limit of the input is that of the signatures", found and found.layer == "input", found)
+    within = opgp.Limits(input=2 * behind, keep_malformed=True)
+    verdict("and not of the document", told_of(hashed_in_pieces(opgp, SIGNATURE, [b"x" * 999], within)) == [usual_digest(b"x" * 999)])
+    kept = hashed_in_pieces(opgp, packet(2, OPAQUE) + SIGNATURE, [], within)
+    row_fits("a malformed signature that is kept", kept.signatures()[0], OPAQUE, [])
+    verdict("it is opaque", told_of(kept) == ["opaque", usual_digest(b"")] and raised(IndexError, lambda: kept.behind(0)))
+
+
+def document_uses(opgp):
+    """What a document can be asked before it ends, then, and when it is closed; and one that begins anew."""
+    keyring, two = opgp.read(octets_of(A1)), SIGNATURE + packet(2, over(6, 0, 10))
+    front, behind, _ = said_over(over(6, 0, 10), b"")
+    closed_ring = opgp.read(octets_of(A1))
+    closed_ring.close()
+
+    def digests(document):
+        return [said_over(it, document)[2] for it in (over(4, 0, 8), over(6, 0, 10))]
+
+    def asked(it):
+        return (("signatures", it.signatures), ("signatures by a keyring", lambda: it.signatures(keyring)), ("check", lambda: it.check(keyring)))
+
+    with opgp.Document(two) as it:
+        for piece in (b"", b"x", b""):
+            it.push(piece)
+            for name, call in asked(it):
+                verdict(f"{name} before the end", str(raised(ValueError, call)) == "the document hasn't ended")
+            verdict("octets before the end", (it.front(1), it.behind(1)) == (front, behind))
+        for wrong in NO_OCTETS:
+            verdict(f"{wrong!r} is no piece", raised(TypeError, lambda wrong=wrong, it=it: it.push(wrong)))
+        it.end()
+        for piece in (b"", b"y"):
+            verdict("a piece behind the end", type(raised(ValueError, lambda piece=piece, it=it: it.push(piece))) is ValueError)
+        verdict("a second end", type(raised(ValueError, it.end)) is ValueError)
+        rows, checked = it.signatures(), it.check(keyring)
+        verdict("asked twice", told_of(it) == digests(b"x") and rows == it.signatures(keyring) == [row for row, _ in checked])
+        verdict("octets behind the end", (it.front(1), it.behind(1), it.front(0)) == (front, behind, b""))
+        for wrong in (5, "text", SIGNATURE, it, keyring.certificates()[0]):
+            for call in (it.signatures, it.check):
+                verdict(f"no keyring {wrong!r}", raised(TypeError, lambda call=call, wrong=wrong: call(wrong)))
+        verdict("a check by none", raised(TypeError, lambda it=it: it.check(None)))
+        for call in (it.signatures, it.check):
+            verdict("a closed keyring", str(raised(ValueError, lambda call=call: call(closed_ring))) == "the keyring is closed")
+        verdict("a keyring of nothing", it.signatures(opgp.read(b"")) == rows)
+    verdict("closing twice", raised(BaseException, it.close) is None)
+    verdict("rows outlive their document", [row.digest for row in rows] == digests(b"x"))
+    for it in (it, opgp.Document.__new__(opgp.Document)):
+        for name, call in (("push", lambda it=it: it.push(b"")), ("end", it.end), ("front", lambda it=it: it.front(0)),
+                           ("behind", lambda it=it: it.behind(0)), *asked(it)):
+            verdict(f"{name} of a closed document", str(raised(ValueError, call)) == "the handle holds nothing")
+        it.__init__(two)
+        it.push(b"y")
+        it.__init__(two)
+        it.push(b"z")
+        for wrong in (b"\xc6\1\3", SIGNATURE * 65, b"", 5):
+            verdict("a document that can't begin anew", raised((ValueError, TypeError), lambda wrong=wrong, it=it: it.__init__(wrong)))
+        it.end()
+        verdict("a document that begins anew", told_of(it) == digests(b"z"))
+
+
+class Failing(Exception):
+    pass
+
+
+def document_files(opgp):
+    """A file is hashed to its end, in pieces, and what is told of its progress; where it can't be, the document is closed."""
+    chance, body = random.Random(2), over(4, 1, 8)
+    for document in (b"", b"a", b"a\nb\r\n" * 50, b"a\rb", chance.randbytes(200_000).replace(b"\r", b"\n")):
+        wanted = [said_over(body, document)[2]]
+        for size in (1, 7, 70, 1 << 16, 1 << 20)[2 * (len(document) > 1000) :]:
+            told = []
+            with opgp.document(packet(2, body), io.BytesIO(document), size=size, progress=told.append) as it:
+                verdict(f"a file of {len(document)} octets by {size}", told_of(it) == wanted, told_of(it))
+                verdict("it has ended", raised(ValueError, it.end))
+            verdict(f"its progress by {size}", told == [*range(size, len(document), size), *[len(document)] * bool(document)], told)
+        for seed in range(3):
+            told = []
+            it = opgp.document(packet(2, body), Short(document, seed), opgp.Limits(), "binary", 200, told.append)
+            holds = told == sorted({*told}) and told[-1:] == [len(document)] * bool(document)
+            verdict(f"{len(document)} octets by short reads", told_of(it) == wanted and holds, told[-3:])
+        ours, theirs = os.pipe()
+        with open(ours, "rb", buffering=0) as source, open(theirs, "wb", buffering=0) as sink:
+            them = threading.Thread(target=fed, args=(sink, document))
+            them.start()
+            verdict(f"{len(document)} octets through a pipe", told_of(opgp.document(packet(2, body), source)) == wanted)
+            them.join()
+    with open(A1, "rb") as file:
+        usual = opgp.document(model.armor(SIGNATURE, b"SIGNATURE"), file)
+        verdict("a file is read to its end", told_of(usual) == [usual_digest(octets_of(A1))] and file.read() == b"" and not file.closed)
+    made = []
+
+    class Kept(opgp.Document):
+        def __init__(self, *given):
+            super().__init__(*given)
+            made.append(self)
+
+    def fails(*_):
+        raise Failing
+
+    class Source:
+        read = fails
+
+    class Closing(io.BytesIO):
+        def read(self, _):
+            made[-1].close()
+            return super().read(1)
+
+    ours, theirs = os.pipe()
+    os.set_blocking(ours, False)
+    with open(ours, "rb", buffering=0) as waiting, open(theirs, "wb", buffering=0):
+        opgp.Document, usual = Kept, opgp.Document
+        try:
+            for what, kind, call in (
+                ("progress that raises", Failing, lambda: opgp.document(SIGNATURE, io.BytesIO(b"x"), progress=fails)),
+                ("progress that ends the process", SystemExit, lambda: opgp.document(SIGNATURE, io.BytesIO(b"x"), progress=sys.exit)),
+                ("a file that can't be read", Failing, lambda: opgp.document(SIGNATURE, Source())),
+                ("a pipe that waits", BlockingIOError, lambda: opgp.document(SIGNATURE, waiting)),
+                ("a file of text", TypeError, lambda: opgp.document(SIGNATURE, io.StringIO("text"))),
+                ("an empty file of text", TypeError, lambda: opgp.document(SIGNATURE, io.StringIO(""))),
+                ("a path", AttributeError, lambda: opgp.document(SIGNATURE, A1)),
+                ("a file that closes it", ValueError, lambda: opgp.document(SIGNATURE, Closing(b"x"))),
+            ):
+                made.clear()
+                verdict(what, raised(kind, call) and len(made) == 1)
+                verdict(f"the document of {what} is closed", [str(raised(ValueError, it.end)) for it in made] == ["the handle holds nothing"])
+        finally:
+            opgp.Document = usual
+    for size in (0, -1, -(1 << 40)):
+        it = raised(ValueError, lambda size=size: opgp.document(b"refused", Source(), size=size))
+        verdict(f"pieces of {size}", str(it) == f"the size of pieces is {size}", it)
+    verdict("refused signatures, and nothing is read", raised(opgp.Fault, lambda: opgp.document(b"refused", Source())))
+    verdict("no progress", told_of(opgp.document(SIGNATURE, io.BytesIO(b"x"), progress=None)) == [usual_digest(b"x")])
+
+
+def document_signers(opgp):
+    """Signers are rows of a keyring's keys; which signatures a verifier is asked of, and what becomes of its answers."""
+    one, three = opgp.read(octets_of(A1)), opgp.read(octets_of(A3))
+    document, keyring = b"a text\rof no lines", one.joined(three).joined(one)
+    keys, bodies = keyring.keys(), [it.body for it in keyring.packets() if it.kind in (6, 14)]
+    four, six = keys[0], next(it for it in keys if it.version == 6)
+    # a signature, the row of its signer, and whether a verifier is asked of it
+    rows = (
+        (over(4, 0, 8, named(four.fingerprint)), four.row, True),
+        (over(4, 0, 10, b"", named(four.key_id)), four.row, True),
+        (over(6, 0, 8, b"\5\2\0\0\1\0" + named(six.fingerprint)), six.row, True),
+        (over(6, 0, 9, named(keys[six.row + 1].fingerprint)), six.row + 1, True),
+        (over(4, 0, 8), None, False),
+        (over(4, 0, 8, named(b"8 octets")), None, False),
+        (over(4, 0, 8, named(six.key_id)), six.row, False),
+        (over(6, 0, 8, named(four.key_id)), four.row, False),
+        (over(4, 0x10, 8, named(four.fingerprint)), four.row, False),
+        (over(4, 0, 1, named(four.fingerprint)), four.row, False),
+        (over(4, 1, 8, named(four.fingerprint)), four.row, False),
+        (over(4, 0, 8, named(bytes(20))), None, False),
+    )
+    stated_rows = [stating(it, document) for it, _, _ in rows]
+    octets = b"".join(packet(2, it) for it in stated_rows) + packet(2, over(4, 0, 8, named(four.fingerprint), left=b"\0\0"))
+    found = hashed_in_pieces(opgp, octets, [document])
+    told = found.signatures(keyring)
+    verdict("signers of a document", [it.signer for it in told] == [*(it for _, it, _ in rows), four.row], told)
+    for it, body in zip(told, stated_rows):
+        row_fits("a document's signatures by a keyring", it, body, bodies)
+    verdict("signers by no keyring", found.signatures() == [dataclasses.replace(it, signer=None) for it in told])
+    others = [None if it.signer is None or it.signer == four.row else it.signer - six.row for it in told]
+    verdict("signers by another keyring", [it.signer for it in found.signatures(opgp.read(octets_of(A3)))] == others)
+    asked = []
+
+    def answers(given):
+        return lambda question: asked.append(question) or given
+
+    for given in opgp.Verdict:
+        asked.clear()
+        wanted = [given if it else opgp.Verdict.UNDECIDED for _, _, it in rows] + [opgp.Verdict.BAD]
+        checked = found.check(keyring, answers(given))
+        verdict(f"a document, where a verifier answers {given}", checked == [*zip(told, wanted)], checked)
+        verdict("what it is asked", asked == [(it, keys[it.signer]) for it, (_, _, holds) in zip(told, rows) if holds], asked)
+    wanted = [opgp.Verdict.UNDECIDED] * len(rows) + [opgp.Verdict.BAD]
+    verdict("a document without a verifier", found.check(keyring) == found.check(keyring, None) == [*zip(told, wanted)])
+    for given in (None, 7, "good"):
+        verdict(f"a verifier that answers {given!r} of a document", raised(ValueError, lambda given=given: found.check(keyring, answers(given))))
+    asked.clear()
+
+    def fails(question):
+        asked.append(question)
+        raise Failing
+
+    verdict("a verifier that raises ends the check of a document", raised(Failing, lambda: found.check(keyring, fails)) and len(asked) == 1, asked)
+
+    def closes(question):
+        keyring.close()
+        found.close()
+        return answers(opgp.Verdict.GOOD)(question)
+
+    asked.clear()
+    wanted = [opgp.Verdict.GOOD if it else opgp.Verdict.UNDECIDED for _, _, it in rows] + [opgp.Verdict.BAD]
+    checked = found.check(keyring, closes)
+    verdict("a verifier that closes the keyring and the document", checked == [*zip(told, wanted)] and len(asked) == 4, checked)
+    verdict("they are closed", raised(ValueError, keyring.keys) and raised(ValueError, found.signatures))
+
+
 def work(opgp):
     """Four times as many certificates take four times as many lines of the module, and no more, in each of its calls."""
     body = opgp.read(octets_of(A1)).packets()[0].body
@@ -813,6 +1264,11 @@ def work(opgp):
     for name, call in calls.items():
         one, four = lines(100, call), lines(400, call)
         verdict(f"the work of {name}", 0 < four <= 4.6 * one, (one, four))
+    signer = model.fingerprint(body[:1] + (7).to_bytes(4, "big") + body[5:])
+    document, asked = stating(over(4, 0, 8, named(signer)), b""), []
+    hashed = opgp.document(packet(2, document), io.BytesIO(b""))
+    one, four = (lines(count, lambda it: hashed.check(it, lambda of: asked.append(of.signer.row) or opgp.Verdict.GOOD)) for count in (100, 400))
+    verdict("the work of a document's check is that of its signers", 0 < one == four and asked == [7, 7], (one, four, asked))
 
 
 def threads(opgp):
@@ -909,12 +1365,71 @@ def work(number):
         except ValueError:
             pass
 """,
+    "different documents": """
+def work(number):
+    for turn in range(10):
+        piece = bytes([number]) * (1 + 997 * turn)
+        with opgp.Document(signature * 3) as it:
+            for _ in range(20):
+                it.push(piece)
+            it.end()
+            wanted = hashlib.sha256(piece * 20 + it.behind(0)).digest()
+            assert [row.digest for row in it.signatures()] == [wanted] * 3
+""",
+    "one document": """
+document = opgp.Document(signature)
+ring, piece = opgp.read(octets), bytes(1 << 17)
+
+def work(number):
+    for turn in range(20):
+        try:
+            document.signatures(ring)
+            raise AssertionError
+        except ValueError as it:
+            assert str(it) == "the document hasn't ended"
+        document.push(piece)
+        assert document.front(0) == b""
+
+def ended():
+    document.end()
+    wanted = hashlib.sha256(piece * 160 + document.behind(0)).digest()
+    them = [threading.Thread(target=lambda: found.extend(document.check(ring))) for _ in range(8)]
+    found = []
+    for it in them:
+        it.start()
+    for it in them:
+        it.join()
+    assert [row.digest for row, _ in found] == [wanted] * 8
+""",
+    "closing a document that is in use": """
+documents = [opgp.Document(signature) for _ in range(40)]
+rings = [opgp.read(octets) for _ in range(40)]
+
+def work(number):
+    for turn in range(40):
+        it, ring = documents[turn], rings[turn]
+        try:
+            if number % 4 == 0:
+                time.sleep(0.001)
+                it.close()
+                ring.close()
+            elif number % 4 == 1:
+                it.__init__(signature)
+            else:
+                it.push(octets)
+                it.end()
+                assert [row.row for row, _ in it.check(ring)] == [0] == [row.row for row in it.signatures()]
+        except ValueError:
+            pass
+""",
     "what ends with the process": """
 class Cycle:
     pass
 
 it = Cycle()
 it.me, it.keyring, it.reader, it.certificate = it, opgp.read(octets), opgp.Reader(), opgp.read(octets).certificates()[0]
+it.document = opgp.Document(signature)
+it.document.push(octets)
 it.reader.push(octets)
 sys.modules["opgp"].kept = sys.kept = it
 
@@ -935,10 +1450,10 @@ def work(number):
 """,
 }
 AROUND = """
-import faulthandler, sys, threading, time
+import faulthandler, hashlib, sys, threading, time
 import opgp
 faulthandler.enable()
-octets = open({path!r}, "rb").read()
+octets, signature = open({path!r}, "rb").read(), {signature!r}
 ended = lambda: None
 {work}
 wrong = []
@@ -960,18 +1475,18 @@ print(wrong[0] if wrong else "done")
 
 
 def at_once(_, env):
-    """Threads that use the same keyring and the same reader at once, and close them, get what they asked for, or a ValueError."""
+    """Threads that use the same keyring, reader and document at once, and close them, get what they asked for, or a ValueError."""
     for what, it in AT_ONCE.items():
         path = f"{HERE}/tests/vectors/real/debian-archive-bookworm-automatic.gpg"
-        ended = run(sys.executable, "-c", AROUND.format(path=path, work=it), env=env)
+        ended = run(sys.executable, "-c", AROUND.format(path=path, signature=SIGNATURE, work=it), env=env)
         verdict(what, (ended.returncode, ended.stdout, ended.stderr) == (0, b"done\n", b""), ended)
 
 
 ROUNDS = """
-import sys
+import io, sys
 import opgp
-octets, bad = open({path!r}, "rb").read(), bytes.fromhex("c60103")
-again, begun = opgp.read(octets), opgp.Reader()
+octets, signature, bad = open({path!r}, "rb").read(), {signature!r}, bytes.fromhex("c60103")
+again, begun, document = opgp.read(octets), opgp.Reader(), opgp.Document(signature)
 
 def once():
     keyring = opgp.read(octets)
@@ -982,7 +1497,11 @@ def once():
         reader.end()
         [*reader.taken()]
     again.__init__(octets), begun.push(octets), begun.__init__(), opgp.Reader().push(octets)
-    for wrong in (lambda: opgp.read(bad), lambda: opgp.read(5), lambda: keyring.octets(7), lambda: keyring.joined(5)):
+    with opgp.document(signature * 3, io.BytesIO(octets)) as hashed:
+        hashed.signatures(), hashed.check(keyring), hashed.front(0), hashed.behind(2)
+    document.push(octets), document.__init__(signature), opgp.Document(signature).push(octets)
+    for wrong in (lambda: opgp.read(bad), lambda: opgp.read(5), lambda: keyring.octets(7), lambda: keyring.joined(5), document.signatures,
+                  lambda: document.behind(1), lambda: document.__init__(bad), lambda: opgp.Document(signature * 65), hashed.end):
         try:
             wrong()
         except (ValueError, TypeError, IndexError):
@@ -1000,7 +1519,7 @@ print((held(3000) - first) * {page} // 1024)
 
 def memory(_, env):
     """What is made is freed: many more rounds hold no more, in a process that holds little else."""
-    program_of = ROUNDS.format(path=A3, page=resource.getpagesize())
+    program_of = ROUNDS.format(path=A3, signature=packet(2, over(6, 0, 8, named(bytes(32)))), page=resource.getpagesize())
     ended = run(sys.executable, "-c", program_of, env=env)
     more = int(ended.stdout) if ended.returncode == 0 else None
     verdict("memory of 3,000 rounds", more is not None and more < 1024, ended)
@@ -1081,6 +1600,12 @@ def without_library(_, env, room):
         ended = run(sys.executable, "-c", told, env={**env, "OPGP_LIBRARY": path})
         said = ended.stdout.decode()
         verdict(f"the library {path}", said.startswith("ImportError ") and "OPGP_LIBRARY" in said and ended.stderr == b"", ended)
+    for name, abi, part in (("older", 3, "is older than this module"), ("other", 2, "has version 2 of libopgp's structs, and not 3")):
+        source = f"unsigned opgp_abi(void);unsigned opgp_abi(void){{return {abi};}}"
+        made = run("cc", "-shared", "-fPIC", "-x", "c", "-", "-o", f"{room}/{name}.so", input=source.encode())
+        ended = run(sys.executable, "-c", told, env={**env, "OPGP_LIBRARY": f"{room}/{name}.so"})
+        holds = made.returncode == 0 and ended.stdout.decode().startswith(f"ImportError {room}/{name}.so {part}")
+        verdict(f"an {name} library", holds, (made, ended))
 
 
 def packed(_, room):
@@ -1256,6 +1781,82 @@ def expiry_rules(opgp, env):
     verdict("expiry.py: a certificate that is there twice", expires_by(opgp, env, once * 2) == wanted * 2)
 
 
+# The secret key of the certificate in RFC 9580, A.3 (A.4).
+SECRET = "1972817b12be707e8d5f586ce61361201d344eb266a2c82fde6835762b65b0b7"
+
+
+def signed_by(secret, body, document):
+    """The same version 6 signature by Ed25519, made over a document by this secret key."""
+    body = stating(body, document)
+    return body[:-64] + secret.sign(said_over(body, document)[2])
+
+
+def verified(opgp, env, room):
+    """document.py finds good what the standard's key and gpg signed, bad what was changed since, and nothing of other keys."""
+    if not importlib.util.find_spec("cryptography"):
+        return
+    from cryptography.hazmat.primitives.asymmetric.ed25519 import Ed25519PrivateKey
+
+    def says(what, ring, signatures, document, status, lines, said=""):
+        for name, octets in (("ring", ring), ("signatures", signatures)):
+            with open(f"{room}/{name}", "wb") as it:
+                it.write(octets)
+        words = (f"{HERE}/python/examples/document.py", f"{room}/ring", f"{room}/signatures")
+        ended = run(sys.executable, *words, input=document, env=env)
+        told = (ended.returncode, lines_of(ended), ended.stderr.decode())
+        verdict(f"document.py of {what}", told == (status, lines, said), ended)
+
+    ring, secret, text = octets_of(A3), Ed25519PrivateKey.from_private_bytes(bytes.fromhex(SECRET)), b"a text\nof lines\r\n"
+    name = opgp.read(ring).keys()[0].fingerprint
+    made = [signed_by(secret, over(6, kind, algorithm, named(name)), text) for kind, algorithm in ((0, 8), (1, 8), (0, 10), (1, 9))]
+    octets, issuer = b"".join(packet(2, it) for it in made), f"issuer {name.hex().upper()}"
+    says("four signatures", ring, model.armor(octets, b"SIGNATURE"), text, 0, [f"signature {it} : good {issuer}" for it in range(4)])
+    other = [f"signature {it} : {found} {issuer}" for it, found in enumerate(("bad", "good", "bad", "good"))]
+    says("other line ends", ring, octets, text.replace(b"\n", b"\r\n").replace(b"\r\r", b"\r"), 0, other)
+    says("a document that was changed", ring, octets, text + b"x", 1, [f"signature {it} : bad {issuer}" for it in range(4)])
+    says("a stray return", ring, packet(2, made[1]), text + b"\rx", 1, [f"signature 0 : line-ends {issuer}"])
+    says("a signature that was changed", ring, packet(2, made[0][:-1] + b"\0"), text, 1, [f"signature 0 : bad {issuer}"])
+    says("another keyring", octets_of(A1), packet(2, made[0]), text, 1, [f"signature 0 : undecided {issuer}"])
+    nameless = packet(2, over(6, 0, 8)) + packet(2, over(4, 2, 8))
+    says("signatures without an issuer", ring, nameless, b"", 1, ["signature 0 : bad issuer -", "signature 1 : kind issuer -"])
+    says("a refused keyring", b"\xc6\1\3", octets, text, 1, [], "body: KeyVersion block 0 at 0 inner 0\n")
+    says("refused signatures", ring, ring, text, 1, [], "composition: BlockLabel block 0 at 0 inner 0\n")
+    says("too many signatures", ring, octets * 17, text, 1, [], "there are more than 64 signatures\n")
+    ended = run(sys.executable, f"{HERE}/python/examples/document.py", "/nothing/here", A3, env=env)
+    verdict("document.py of no file", ended.returncode == 1 and ended.stdout == b"" and b"No such file" in ended.stderr, ended)
+    verified_beside_gpg(opgp, says, room)
+
+
+def verified_beside_gpg(opgp, says, room):
+    """The same of what gpg signs by EdDSALegacy and RSA."""
+    if not shutil.which("gpg"):
+        return
+    home = f"{room}/gpg-signs"
+    os.mkdir(home, 0o700)
+    gpg = ("gpg", "--homedir", home, "--batch", "--quiet", "--yes", "--no-options", "--pinentry-mode", "loopback", "--passphrase", "")
+    for algorithm in ("ed25519", "rsa2048"):
+        if run(*gpg, "--quick-generate-key", f"{algorithm}@example.org", algorithm, "sign", "0").returncode:
+            left_out(f"a key of gpg's, {algorithm}")
+            return
+    ring = run(*gpg, "--export").stdout
+    with open(f"{room}/document", "wb") as it:
+        it.write(b"a text \nof lines\r\n" * 9)
+    made, lines, wanted = b"", [], []
+    for key in opgp.read(ring).keys():
+        for digest, more in (("SHA256", ()), ("SHA384", ("--textmode",)), ("SHA512", ())):
+            words = ("--local-user", key.fingerprint.hex(), "--digest-algo", digest, *more, "--output", "-", "--detach-sign")
+            made += run(*gpg, *words, f"{room}/document").stdout
+            lines.append(f"issuer {key.fingerprint.hex().upper()}")
+            wanted.append((False, len(more), key.row, key.algorithm, f"SHA2-{digest[3:]}"))
+    run("gpgconf", "--homedir", home, "--kill", "all")
+    document = octets_of(f"{room}/document")
+    says("gpg's signatures", ring, made, document, 0, [f"signature {at} : good {it}" for at, it in enumerate(lines)])
+    says("gpg's signatures of another", ring, made, document[1:], 1, [f"signature {at} : bad {it}" for at, it in enumerate(lines)])
+    rows = hashed_in_pieces(opgp, made, [document]).signatures(opgp.read(ring))
+    told = [(it.is_bad, it.kind, it.signer, it.algorithm, it.hash_name) for it in rows]
+    verdict("gpg's signatures", told == wanted and len(told) == 6, (told, wanted))
+
+
 KEYRINGS = "/usr/share/keyrings"
 ARCHIVE = ("debian-archive-keyring", "debian-archive-removed-keys")
 LARGE = ("debian-keyring", "debian-maintainers", "debian-nonupload", "debian-role-keys", "archlinux")
@@ -1366,9 +1967,9 @@ def documented(opgp, env, room):
         thing = getattr(opgp, name)
         verdict(f"{name} has a docstring", inspect.getdoc(thing))
         for part, it in vars(thing).items():
-            if inspect.isfunction(it) and not part.startswith("_") and name == "Keyring":
+            if inspect.isfunction(it) and not part.startswith("_") and name in ("Keyring", "Reader", "Document"):
                 verdict(f"{name}.{part} has a docstring", inspect.getdoc(it))
-                verdict(f"{name}.{part} is on the page", f"`{part}" in page)
+                verdict(f"{name}.{part} is on the page", f"`{part}" in page or name == "Reader")
 
 
 def typed():
@@ -1402,10 +2003,11 @@ def main():
                 rows_fit(opgp, source)
             for test in (examples, answered, expiry_rules, strangers, at_once, memory):
                 test(opgp, env)
-            for test in (sent, little_memory, documented, expiry_beside_gpg, stated_beside_gpg, without_library):
+            for test in (sent, little_memory, documented, verified, expiry_beside_gpg, stated_beside_gpg, without_library):
                 test(opgp, env, room)
             for test in (names, faults, keyrings_made, pieces, short_reads, moments, limits, limits_in_pieces, policies, errors, large, inputs,
-                         modes, searches, rows_refused, closed, copies, verifiers, flags, stated, named_signers, work, each_octets, threads):
+                         modes, long_octets, searches, rows_refused, closed, copies, verifiers, flags, stated, named_signers, documents,
+                         document_pieces, document_refused, document_uses, document_files, document_signers, work, each_octets, threads):
                 test(opgp)
             packed(opgp, room)
             typed()

@@ -14,6 +14,7 @@ right one or `memory`, or the program ends without one because it has no memory.
 
 import argparse
 import base64
+import hashlib
 import itertools
 import os
 import re
@@ -541,6 +542,71 @@ def errors():
     yield "errors", "read failed write failed out of memory read failed out of memory framing: Short block 1 at 2 inner 3"
 
 
+# Signatures over a document.
+
+HASHES = {2: "sha1", 8: "sha256", 9: "sha384", 10: "sha512", 11: "sha224"}
+SALTS = {8: 16, 9: 24, 10: 32, 11: 16, 12: 16, 14: 32}
+
+
+def text_of(document):
+    """The canonical text of a document (5.2.1.2), or the place of its first stray carriage return."""
+    place = document.replace(b"\r\n", b"..").find(b"\r")
+    return document.replace(b"\r\n", b"\n").replace(b"\n", b"\r\n") if place < 0 else place
+
+
+def over(version, kind, algorithm, document, size=0):
+    """A signature with so many octets in its hashed area: its packet, the answer over a document, and what is hashed around that (5.2.4)."""
+    if version not in (4, 6):
+        return new5(2, bytes([version]) + letters(size)), "opaque", "none"
+    area = b"\xff" + number(4, size + 1) + b"\x64" + letters(size) if size else b""
+    front = bytes([version, kind, 27, algorithm]) + number(2 if version == 4 else 4, len(area)) + area
+    salt = letters(SALTS.get(algorithm, 7)) if version == 6 else b""
+    behind = front + bytes([version, 255]) + number(4, len(front))
+    body = front + bytes(2 if version == 4 else 4) + b"\xab\xcd" + (bytes([len(salt)]) + salt if version == 6 else b"") + bytes(64)
+    shown_text = text_of(document) if kind == 1 else document
+    if kind > 1:
+        answer = "kind"
+    elif algorithm not in HASHES or (version, algorithm) == (6, 2):
+        answer = "hash"
+    else:
+        answer = "line-ends" if isinstance(shown_text, int) else hashlib.new(HASHES[algorithm], salt + shown_text + behind).digest()
+    return new5(2, body), answer, words(salt, behind)
+
+
+def digests_row(signatures, document, size, armored=False):
+    packets = b"".join(it[0] for it in signatures)
+    answers = [it[1] for it in signatures] if len(signatures) <= 64 else ["many"]
+    given = armor(packets, b"SIGNATURE") if armored else packets
+    return words("digests auto", *USUAL, size, octets(given), octets(document)), words(packets, *answers, *(it[2] for it in signatures))
+
+
+def documents():
+    """Documents of each size, in pieces, under signatures of each kind; signatures of each size, and many of them; and canonical text."""
+    kinds = [(version, kind, algorithm) for version in (4, 6) for kind in (0, 1, 2) for algorithm in (1, 2, 8, 9, 10, 11, 12)] + [(5, 0, 8)]
+    line, long_line = letters(40) + b"\n", letters(9999) + b"\n"
+    texts_of_sizes = [(line * 3)[:size] for size in range(100)] + [(long_line * (size // 10_000 + 1))[:size] for size in SIZES[4:]]
+    stray = [b"\r", b"a\rb", b"\r\r\n", b"\r\n\r", long_line * 7 + b"\r" + line]
+    for document in texts_of_sizes + stray:
+        for size in (1, 7, 41, 65_536) if len(document) < 200 else (4099, 65_536, 1 << 22):
+            text = text_of(document)
+            yield words("canonical", size, octets(document)), (
+                f"no line feed follows the carriage return at {text}" if isinstance(text, int) else shown(text))
+        yield digests_row([over(*it, document) for it in kinds], document, 41 if len(document) < 200 else 65_536, len(document) % 2)
+        sizes = [65_536] * (len(document) // 65_536) + [len(document) % 65_536] * (len(document) % 65_536 > 0)
+        yield words("incoming", *USUAL, octets(document)), words(*sizes, "end")
+    for limit in (0, 1, 65_535, 65_536, 70_000):
+        came = [min(65_536, limit + 1 - at) for at in range(0, limit + 1, 65_536)]
+        yield words("incoming", *USUAL[:3], limit, USUAL[4], octets(letters(limit + 7))), words(*came, f"fault input InputTooLong 0 {limit} 0")
+    for size in (*SMALL, *SIZES[4:]):
+        for version in (4, 5, 6):
+            if version == 6 or size < 65_000:
+                yield digests_row([over(version, 0, 8, b"a\n", size)], b"a\n", 1)
+    for count in (*range(1, 70), 300):
+        yield digests_row([over(4 + 2 * (it % 2), it % 2, 8 + it % 4, b"a\n") for it in range(count)], b"a\n", 1)
+    for given, fault in ((b"", "composition NotASignature 0 0 0"), (KEY, "composition NotASignature 0 0 0"), (new5(2, b"\4"), "body Short 0 0 1")):
+        yield words("digests auto", *USUAL, 1, octets(given), "-"), f"fault {fault}"
+
+
 # Each call once, in which each allocation fails in turn.
 
 
@@ -569,6 +635,10 @@ def refused():
         words("read_signed auto", *USUAL, message),
         words("signed fits", octets(ONE_PASS + DOCUMENT + SIGNED_LITERAL), "fits", octets(FILLER)),
         *(words(call, "auto", *USUAL, 30, octets(it)) for call in ("part_reader", "packet_reader") for it in (SMALL_RING + KEY, armor(SMALL_RING + KEY))),
+        digests_row([over(4, 0, 8, b"a", 20), over(6, 1, 10, b"a"), over(5, 0, 8, b"a")], b"a", 1)[0],
+        digests_row([over(4, 0, 8, b"a", 20), over(6, 1, 10, b"a")], b"a", 1, True)[0],
+        words("canonical 1", octets(b"a\nb\n")),
+        words("incoming", *USUAL, octets(b"a")),
         words("check", reported),
         words("question_at 1", reported, octets(b"so far")),
         words("first_by_key_id", reported, octets(model.key_id(KEY[2:]))),
@@ -577,7 +647,7 @@ def refused():
 
 TABLES = (
     registered_numbers, materials, bodies, octets_written, header_lines, texts, packets_pushed, keyrings_of_sizes, keyrings_of_many,
-    keys_by_name, signed_literals, errors,
+    keys_by_name, signed_literals, errors, documents,
 )  # fmt: skip
 
 

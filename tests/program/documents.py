@@ -1,12 +1,22 @@
 #!/usr/bin/env python3
 """Runs `signatures`, `digest` and `canonical` over documents and their detached signatures.
 
-The signatures are built here, of both versions, all types and hash algorithms, and what they hash is worked out with Python's hashlib
-(RFC 9580, 5.2.1.1, 5.2.1.2, 5.2.4). Where gpg is installed it signs some documents: the digest must begin with the 16 bits that it
-wrote down. A file of signatures that is none, or isn't there, is refused. The last line counts the tests."""
+Usage: tests/program/documents.py [--program FILE]
 
+The signatures are built here, of both versions, all types and hash algorithms, and what they hash is worked out with Python's hashlib
+(RFC 9580, 5.2.1.1, 5.2.1.2, 5.2.4). Those of tests/vectors/documents were made by other programs: the program must give the digest that
+they signed, and so must hashlib over the parts that it writes. Of gpg, rnp, sqop, gosop and rsop those that are installed sign some
+documents anew: the digest must begin with the 16 bits that they wrote down. A document in pieces of any size has the same lines. A file
+of signatures that is none, or isn't there, is refused. The last line counts the tests."""
+
+import argparse
+import ast
+import fcntl
+import glob
 import hashlib
+import itertools
 import os
+import random
 import shutil
 import subprocess
 import sys
@@ -15,14 +25,18 @@ import tempfile
 sys.dont_write_bytecode = True
 sys.path.insert(0, f"{sys.path[0]}/../lib")
 
-from running import HERE, built  # noqa: E402
+from running import HERE, Runner, built  # noqa: E402
 
-PROGRAM = built("tests/program/documents.py")
+parser = argparse.ArgumentParser(prog="tests/program/documents.py", description=__doc__.split("\n\n", maxsplit=1)[0])
+parser.add_argument("--program", help="the program that is run, in place of that of this repository")
+PROGRAM = parser.parse_args().program or built("tests/program/documents.py")
+VECTORS = f"{HERE}/tests/vectors/documents"
 HASHES = {2: "sha1", 8: "sha256", 9: "sha384", 10: "sha512", 11: "sha224"}
 SALTS = {8: 16, 9: 24, 10: 32, 11: 16, 12: 16, 14: 32}
 DOCUMENTS = (
     b"", b"\n", b"\r\n", b"a", b"a\n", b"a\nb", b"a\nb\n", b"a\r\nb\r\n", b"a\nb\r\n", b"a \nb\t\n", b"a\n\nb\n\n", b"\0\n\xff", b"\n" * 9,
-    b"a\rb", b"a\r", b"\r", b"a\rb\n", b"a\r\r\nb\n", b"a\n\rb\n", b"a\rb\r", b"\r\n\r", b"x" * 70000, b"x\n" * 40000, b"x" * 65535 + b"\r\n", b"x" * 65535 + b"\rx",
+    b"a\rb", b"a\r", b"\r", b"a\rb\n", b"a\r\r\nb\n", b"a\n\rb\n", b"a\rb\r", b"\r\n\r",
+    b"x" * 70000, b"x\n" * 40000, b"x" * 65535 + b"\r\n", b"x" * 65535 + b"\rx",
     b"x" * 65536 + b"\n", b"x" * 131071 + b"\r", b"line of a text\n" * 9000 + b"\r",
 )
 passed = failed = 0
@@ -58,6 +72,11 @@ def canonical(document):
     """The text of a document, or the place of its first stray carriage return."""
     text, place = document.replace(b"\r\n", b"\n"), document.replace(b"\r\n", b"..").find(b"\r")
     return text.replace(b"\n", b"\r\n") if place < 0 else place
+
+
+def refusal(place):
+    """How a run ends that wants the text of a document with a stray carriage return here."""
+    return 1, b"", f"text: StrayReturn block 0 at {place} inner 0\n"
 
 
 def digest_of(version, kind, algorithm, salt, behind, document):
@@ -109,7 +128,7 @@ def texts():
     for document in DOCUMENTS:
         text = canonical(document)
         said = run("canonical", "--quiet", given=document)
-        wanted = (1, b"", f"text: StrayReturn block 0 at {text} inner 0\n") if isinstance(text, int) else (0, text, "")
+        wanted = refusal(text) if isinstance(text, int) else (0, text, "")
         verdict(f"text of {document[:20]}", said == wanted, said)
         spooled = run("canonical", "--quiet", "--spool", ROOM, given=document)
         verdict(f"text of {document[:20]}, in a spool", spooled == wanted, spooled)
@@ -146,36 +165,213 @@ def refused(room):
         it.write(packet(b"\4\0\x16\x08\0\1"))
     said = run("digest", "--malformed", "keep", "--signatures", f"{room}/other", given=b"x")
     verdict("malformed signature that is kept", said == (0, b"signature 0 : none opaque\n", ""), said)
+    for name in ("-", "/dev/stdin", "/dev/fd/0", "/proc/self/fd/0"):
+        said = run("digest", "--signatures", name, given=one)
+        wanted = (2, b"", "opgp: standard input is the document; the signatures are in a file\n")
+        verdict(f"signatures and document in {name}", said == wanted, said)
+    said = run("digest", "--signatures", "/dev/stdin", "--octets", "0", given=one)
+    verdict("signatures on standard input, and no document", said == (0, signature(4, 0, 8)[2], ""), said)
     said = run("digest", "--signatures", f"{room}/none", given=b"x")
     verdict("no file", said == (3, b"", f"opgp: read failed\nopgp: {room}/none can't be opened\n"), said)
     said = run("digest", "--signatures", room, "--quiet", given=b"x")
     verdict("a directory", said[:2] == (3, b"") and said[2] == "opgp: read failed\n", said)
 
 
+# Signatures of other programs.
+
+
+def lines_of(name):
+    with open(f"{VECTORS}/{name}", encoding="ascii") as it:
+        return [line for line in it.read().replace("\n  ", " ").splitlines() if not line.startswith("#")]
+
+
+def octets_of(how):
+    """The octets of a document: those of a file, or of a literal, once or so many times."""
+    if not how.startswith("b"):
+        with open(f"{VECTORS}/{how}", "rb") as it:
+            return it.read()
+    octets, _, times = how.partition(" * ")
+    return ast.literal_eval(octets) * int(times or 1)
+
+
+def vectors():
+    """Signatures that other programs made, by the tables of tests/vectors/documents."""
+    rows = [line.split(" ", 2) for line in lines_of("documents.txt")]
+    documents = {name: octets_of(how) for kind, name, how in rows if kind == "document"}
+    signers = {name: octets for kind, name, octets in rows if kind == "signer"}
+    rows = [(path, kind, *rest.split(" ")) for kind, path, rest in rows if kind in ("signature", "bad")]
+    kept = {it for ending in ("asc", "sig") for it in glob.glob(f"*/*.{ending}", root_dir=VECTORS)}
+    verdict("each file of signatures has a line", kept and kept == {row[0] for row in rows}, kept ^ {row[0] for row in rows})
+    for path, group in itertools.groupby(rows, key=lambda row: row[0]):
+        group = list(group)
+        document, wanted = documents[group[0][4]], ""
+        for _, found, place, signer, _, kind, algorithm, digest in group:
+            said = "undecided" if found == "signature" else "bad"
+            asked = f"asked type {kind} hash {algorithm} signer {signers[signer]} digest {digest[:4]} verdict {said}"
+            wanted += f"signature {place} : {asked if int(algorithm) in HASHES else 'none hash'}\n"
+        said = run("digest", "--quiet", "--signatures", f"{VECTORS}/{path}", given=document)
+        verdict(path, said == (0, wanted.encode(), ""), said)
+        for _, _, place, _, _, kind, algorithm, digest in group:
+            words = ("digest", "--quiet", "--signatures", f"{VECTORS}/{path}", "--octets", place)
+            behind, front = run(*words), run(*words, "--salt")
+            shown = canonical(document) if kind == "01" else document
+            made = hashlib.new({**HASHES, 12: "sha3_256"}[int(algorithm)], front[1] + shown + behind[1]).hexdigest().upper()
+            verdict(f"parts of {path} {place}", (behind[0], front[0], made) == (0, 0, digest), (behind, front))
+
+
+def line_ends(room):
+    """Rows of documents and their texts, and what other programs take for these."""
+    for line in lines_of("line_ends.txt"):
+        document, text, *theirs = [it if it.startswith("stray ") else ast.literal_eval(f"b{it}") for it in line.split(" | ")]
+        stray = isinstance(text, str)
+        verdict(f"others agree on {document}", len(set(theirs)) > 1 if stray else set(theirs) == {text}, theirs)
+        verdict(f"the model's text of {document}", canonical(document) == (int(text[6:]) if stray else text), canonical(document))
+        said = run("canonical", "--quiet", given=document)
+        verdict(f"text of {document}, a row", said == (refusal(text[6:]) if stray else (0, text, "")), said)
+        bodies, lines = [], ""
+        for number, (version, algorithm) in enumerate(itertools.product((4, 6), (8, 9, 10))):
+            _, salt, behind = signature(version, 1, algorithm)
+            found = "line-ends" if stray else hashlib.new(HASHES[algorithm], salt + text + behind).digest()
+            left = b"\0\0" if stray else found[:2]
+            bodies.append(packet(signature(version, 1, algorithm, left=left)[0]))
+            lines += line_of(number, 1, algorithm, found, left)
+        with open(f"{room}/signatures", "wb") as it:
+            it.write(b"".join(bodies))
+        said = run("digest", "--quiet", "--signatures", f"{room}/signatures", given=document)
+        verdict(f"digests of {document}, a row", said == (0, lines.encode(), ""), said)
+
+
+def fits(program, kind, document, path):
+    """Holds the program to a signature that another one has just made over a document."""
+    status, out, err = run("digest", "--quiet", "--signatures", path, given=document)
+    words, stray = out.decode().split(), kind and isinstance(canonical(document), int)
+    holds = words[3:] == ["none", "line-ends"] if stray else words[3:6] == ["asked", "type", f"{kind:02}"] and words[-1] == "undecided"
+    name = f"{program}'s signature of type {kind:02} over {document[:20]}, {len(document)} octets"
+    verdict(name, (status, err) == (0, "") and holds, (status, out, err))
+
+
+def written_by(*words, given=b""):
+    """What another program writes, or None where it fails."""
+    ended = subprocess.run(words, input=given, capture_output=True, check=False, timeout=60)
+    return None if ended.returncode else ended.stdout
+
+
+def left_out(what):
+    print(f"tests/program/documents.py: {what}", file=sys.stderr)
+
+
 def by_gpg(room):
     """Signatures of gpg, types 00 and 01."""
-    if not shutil.which("gpg"):
-        print("tests/program/documents.py: no gpg here: none of its signatures", file=sys.stderr)
-        return
     os.makedirs(f"{room}/home", mode=0o700)
     gpg = ["gpg", "--homedir", f"{room}/home", "--batch", "--quiet", "--yes", "--pinentry-mode", "loopback", "--passphrase", ""]
-    made = subprocess.run([*gpg, "--quick-generate-key", "Test <test@example.org>", "ed25519", "sign", "0"], capture_output=True, check=False)
-    if made.returncode:
-        print("tests/program/documents.py: gpg makes no key here: none of its signatures", file=sys.stderr)
+    if written_by(*gpg, "--quick-generate-key", "Test <test@example.org>", "ed25519", "sign", "0") is None:
+        left_out("gpg makes no key here: none of its signatures")
+        return
+    for document, kind in itertools.product(DOCUMENTS, (0, 1)):
+        # gpg refuses a text with a line past 19,993 octets, and drops the NUL octets before a line end.
+        if kind and (max(map(len, document.split(b"\n"))) > 19000 or b"\0\n" in document):
+            continue
+        with open(f"{room}/document", "wb") as it:
+            it.write(document)
+        words = [*gpg, *(["--textmode"] if kind else []), "--armor", "--output", f"{room}/document.asc"]
+        subprocess.run([*words, "--detach-sign", f"{room}/document"], capture_output=True, check=True)
+        fits("gpg", kind, document, f"{room}/document.asc")
+    written_by("gpgconf", "--homedir", f"{room}/home", "--kill", "all")
+
+
+def by_rnp(room):
+    """Signatures of rnp, type 00: it makes none of type 01 that stands alone."""
+    os.makedirs(f"{room}/rnp")
+    if written_by("rnpkeys", "--homedir", f"{room}/rnp", "--generate-key", "--userid", "test", "--password", "") is None:
+        left_out("rnp makes no key here: none of its signatures")
         return
     for document in DOCUMENTS:
-        for words, kind in (((), "00"), (("--textmode",), "01")):
-            # gpg cuts lines of a text past 19,995 octets, and drops the NUL octets before a line end.
-            if words and (max(map(len, document.split(b"\n"))) > 19000 or b"\0\n" in document):
+        with open(f"{room}/document", "wb") as it:
+            it.write(document)
+        words = ["rnp", "--homedir", f"{room}/rnp", "--password", "", "--overwrite", "--output", f"{room}/document.sig"]
+        subprocess.run([*words, "--detach", "--sign", f"{room}/document"], capture_output=True, check=True)
+        fits("rnp", 0, document, f"{room}/document.sig")
+
+
+def by_stateless(room, program):
+    """Signatures of a program with the stateless interface, types 00 and 01, by its usual key, and one of version 6 if it makes any."""
+    for profile in ((), ("--profile=rfc9580",)):
+        key = written_by(program, "generate-key", *profile, "Test <test@example.org>")
+        if key is None:
+            left_out(f"{program} makes no key {' '.join(profile)} here: none of its signatures")
+            continue
+        with open(f"{room}/key", "wb") as it:
+            it.write(key)
+        for document, kind in itertools.product(DOCUMENTS, (0, 1)):
+            octets = written_by(program, "sign", f"--as={'text' if kind else 'binary'}", f"{room}/key", given=document)
+            if octets is None:  # some take no text that isn't UTF-8
+                left_out(f"{program} doesn't sign {document[:20]}, type {kind:02}")
                 continue
-            with open(f"{room}/document", "wb") as it:
-                it.write(document)
-            subprocess.run([*gpg, *words, "--armor", "--output", f"{room}/document.asc", "--detach-sign", f"{room}/document"], capture_output=True, check=True)
-            status, out, err = run("digest", "--quiet", "--signatures", f"{room}/document.asc", given=document)
-            text = kind == "01" and isinstance(canonical(document), int)
-            words = out.decode().split()
-            holds = words[3:] == ["none", "line-ends"] if text else words[3:6] == ["asked", "type", kind] and words[-1] == "undecided"
-            verdict(f"gpg's signature of type {kind} over {document[:20]}", (status, err) == (0, "") and holds, (status, out, err))
+            with open(f"{room}/document.asc", "wb") as it:
+                it.write(octets)
+            fits(program, kind, document, f"{room}/document.asc")
+
+
+def by_others(room):
+    """Signatures that programs on this machine make now."""
+    for program in ("gpg", "rnp", "sqop", "gosop", "rsop"):
+        if not shutil.which(program):
+            left_out(f"no {program} here: none of its signatures but those of tests/vectors/documents")
+        elif program in ("gpg", "rnp"):
+            {"gpg": by_gpg, "rnp": by_rnp}[program](room)
+        else:
+            by_stateless(room, program)
+
+
+# Documents in pieces.
+
+
+def through_a_pipe(words, document, size):
+    """A run that is given a document by writes of so many octets."""
+    with tempfile.TemporaryFile() as out, tempfile.TemporaryFile() as err:
+        with subprocess.Popen([PROGRAM, *words], stdin=subprocess.PIPE, stdout=out, stderr=err) as child:
+            fcntl.fcntl(child.stdin, fcntl.F_SETPIPE_SZ, 1 << 20)
+            try:
+                for at in range(0, len(document), size):
+                    piece = memoryview(document)[at : at + size]
+                    while piece:
+                        piece = piece[os.write(child.stdin.fileno(), piece) :]
+            except BrokenPipeError:  # it has refused the document
+                pass
+            child.stdin.close()
+            status = child.wait(60)
+        return status, *(os.pread(it.fileno(), os.fstat(it.fileno()).st_size, 0) for it in (out, err))
+
+
+def pieces(room):
+    """Documents in pieces: of 1 to 70 octets, one a read, and through a pipe; and of 1 MiB through a pipe."""
+    made = [(version, kind, algorithm) for version in (4, 6) for kind in (0, 1) for algorithm in (8, 9, 10)]
+    chance = random.Random(1)
+    mixed = bytes(chance.choice(b"ab\0 \n") for _ in range(150)).replace(b"b", b"\r\n")
+    small = [b"a\r\nbc\n\r\n" * 17, mixed, b"x" * 139 + b"\r", b"a\n" * 35 + b"\r\r\n" + b"b\r\n" * 20]
+    end = b"y" * ((1 << 20) - 1) + b"\r"
+    large = [b"x" * 5_000_000, b"line of a text\r\n" * 300_000, (end + b"\n") * 4, end + b"y" + b"\n" * 99]
+    runner = Runner(PROGRAM, quiet=False)
+    for document in (*small, *large):
+        bodies, lines = [], ""
+        for number, (version, kind, algorithm) in enumerate(made):
+            body, salt, behind = signature(version, kind, algorithm)
+            bodies.append(packet(body))
+            lines += line_of(number, kind, algorithm, digest_of(version, kind, algorithm, salt, behind, document), b"\0\0")
+        with open(f"{room}/signatures", "wb") as it:
+            it.write(b"".join(bodies))
+        text = canonical(document)
+        shown = refusal(text) if isinstance(text, int) else (0, text, "")
+        digest = ["digest", "--quiet", "--signatures", f"{room}/signatures"]
+        for words, wanted in ((digest, (0, lines.encode(), "")), (["canonical", "--quiet"], shown)):
+            name = f"{words[0]} of {document[:20]}, {len(document)} octets, in pieces of"
+            for size in range(1, 71) if document in small else ():
+                status, out, err, _ = runner.run_in_pieces(words, [document[at : at + size] for at in range(0, len(document), size)])
+                verdict(f"{name} {size}", (status, out, err.decode()) == wanted, (status, out[:99], err))
+            for size in (1, 2, 63, 64, 65) if document in small else (65537, 1 << 20):
+                status, out, err = through_a_pipe(words, document, size)
+                verdict(f"{name} {size} in a pipe", (status, out, err.decode()) == wanted, (status, out[:99], err))
+    runner.close()
 
 
 with tempfile.TemporaryDirectory() as ROOM:
@@ -183,6 +379,9 @@ with tempfile.TemporaryDirectory() as ROOM:
     texts()
     many(ROOM)
     refused(ROOM)
-    by_gpg(ROOM)
+    vectors()
+    line_ends(ROOM)
+    pieces(ROOM)
+    by_others(ROOM)
 print(f"{passed} passed, {failed} failed")
 sys.exit(failed != 0)

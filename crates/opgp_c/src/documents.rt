@@ -183,7 +183,8 @@ pub extern "C" fn opgp_document_subpackets(
 /// was given so much of the document.
 ///
 /// Beside the statuses of `opgp_ring_packets` there is one for a row that isn't there, or whose
-/// signature is malformed, or of another version than 4 and 6.
+/// signature is malformed, or of another version than 4 and 6. Where nothing says how much there
+/// is, the size is unchanged.
 #[unsafe(no_mangle)]
 pub extern "C" fn opgp_document_octets(
     alloc: Global,
@@ -206,6 +207,7 @@ pub extern "C" fn opgp_document_octets(
     ensures none { result ≡ 6
         → signed_by (slice_get (signed_in (bodies_in document.old.slot.held)) row) ≡ None }
     ensures kept { result ≢ 0 → octets.new ≡ octets.old }
+    ensures size { (result ≡ 3) ⊎ ((result ≡ 5) ⊎ (result ≡ 6)) → size.new ≡ size.old }
     ensures closed { (result ≡ 5) ↔ (document.old.is_open ≡ false) }
     ensures holds { KeepsItsOwn document.old document.new }
     ensures status { (result ≡ 0) ⊎ ((result ≡ 2) ⊎ ((result ≡ 3) ⊎ ((result ≡ 5)

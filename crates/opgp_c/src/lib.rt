@@ -52,6 +52,7 @@ mod slot;
 mod status;
 mod tables;
 mod text;
+pub mod texts;
 
 use crate::calls::{mode_by, put_octets, put_text, read_ring};
 use crate::making::{Making, joined, keep, keep_found, keep_made};

@@ -193,6 +193,7 @@ fn put_side(
     ensures room { result ≡ 2 → (length octets.old < length (side_of behind (own_value own.entry)))
         × (size.new ≡ length (side_of behind (own_value own.entry))) }
     ensures kept { result ≢ 0 → octets.new ≡ octets.old }
+    ensures size { result ≡ 3 → size.new ≡ size.old }
     ensures status { (result ≡ 0) ⊎ ((result ≡ 2) ⊎ (result ≡ 3)) }
 {
     if behind == 0 {
@@ -226,6 +227,7 @@ pub(crate) fn put_row_side(
     ensures none { result ≡ 6
         → signed_by (slice_get (signed_in (bodies_in held.now)) row) ≡ None }
     ensures kept { result ≢ 0 → octets.new ≡ octets.old }
+    ensures size { (result ≡ 3) ⊎ (result ≡ 6) → size.new ≡ size.old }
     ensures status { (result ≡ 0) ⊎ ((result ≡ 2) ⊎ ((result ≡ 3) ⊎ (result ≡ 6))) }
 {
     let views = match signatures_in(held).views(alloc) {

@@ -6,6 +6,7 @@ mod answer;
 mod armor;
 mod codec;
 mod composer;
+mod document;
 mod end;
 mod frame;
 mod given;
@@ -84,6 +85,7 @@ fn called(alloc: Global, name: &str, given: &Given, answer: &mut Answer) -> bool
         || packet::answered(alloc, name, given, answer)
         || ring::answered(alloc, name, given, answer)
         || codec::answered(alloc, name, given, answer)
+        || document::answered(alloc, name, given, answer)
         || reading::answered(alloc, name, given, answer)
         || pieces::answered(alloc, name, given, answer)
         || report::answered(alloc, name, given, answer)

@@ -71,7 +71,7 @@ fn signed(alloc: Global, given: &Given, answer: &mut Answer) {
 }
 
 /// Adds why nothing was read.
-fn add_error(error: ReadError, answer: &mut Answer) {
+pub(crate) fn add_error(error: ReadError, answer: &mut Answer) {
     match error {
         ReadError::Refused(fault) => answer.fault(&fault),
         ReadError::Read => answer.refuse(End::Bad("a source that can be read")),

@@ -1,5 +1,6 @@
 pub mod Closing
 pub mod Feeding
+pub mod Filling
 pub mod Given
 pub mod OneAnswer
 pub mod OneDocument

@@ -7,6 +7,7 @@ pub mod OpenFault
 pub mod OwnOctets
 pub mod Place
 pub mod Sha1Hasher
+pub mod ShortTable
 pub mod SignatureHasher
 pub mod SignedDocument
 pub mod StrayReturn

@@ -43,6 +43,33 @@ pub(crate) fn put_text(after_cr: bool, octets: &[u8], text: &mut Vec<u8>)
     put(&octets[start..], text);
 }
 
+/// Puts the text of the next octets at the front of a table, which has room for it.
+pub(crate) fn fill_text(after_cr: bool, octets: &[u8], table: &mut [u8])
+    requires { length (to_text after_cr octets.now) ≤ length table.old }
+    ensures { table.new ≡ to_text after_cr octets.now
+        ++ drop (length (to_text after_cr octets.now)) table.old }
+{
+    let mut start = 0;
+    let mut at = 0;
+    'lines: while let Some(end) = lone_feed(after_cr, octets, start) {
+        put_at(table, at, &octets[start..end]);
+        put_at(table, at + (end - start), b"\r\n");
+        at += end - start + 2;
+        start = end + 1;
+    }
+    put_at(table, at, &octets[start..]);
+}
+
+/// Puts octets behind the first `at` of a table.
+#[tactic(auto, using(crate::proofs::Filling::put_is))]
+fn put_at(table: &mut [u8], at: usize, octets: &[u8])
+    requires { at + length octets.now ≤ length table.old }
+    ensures { table.new ≡ take at table.old
+        ++ (octets.now ++ drop (at + length octets.now) table.old) }
+{
+    table[at..at + octets.len()].copy_from_slice(octets);
+}
+
 /// How many octets the text of the next octets has.
 pub(crate) fn text_len(after_cr: bool, octets: &[u8]) -> usize
     ensures { result ≡ length (to_text after_cr octets.now) }

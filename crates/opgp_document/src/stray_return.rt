@@ -1,8 +1,9 @@
 //! A carriage return that no line feed follows.
 
-ghost use Rattle.std.specs.Prelude.{Some};
-ghost use Rattle.opgp_document.specs.StrayReturn.{stray_return_text};
+ghost use Rattle.std.specs.Prelude.{◌≡◌, Some};
+ghost use Rattle.opgp_document.specs.StrayReturn.{stray_return_text, text_fault};
 
+use opgp_octets::{Fault, Layer, Reason};
 use std::error::Error;
 use std::fmt;
 
@@ -12,6 +13,21 @@ use std::fmt;
 pub struct StrayReturn {
     /// Its place in the whole document, from 0. One behind 2^64 - 1 is told as that.
     pub pos: u64,
+}
+
+impl StrayReturn {
+    /// The fault of the document, of the layer `text`.
+    pub fn fault(&self) -> Fault
+        ensures { result ≡ text_fault self.now.pos }
+    {
+        Fault {
+            layer: Layer::Text,
+            reason: Reason::StrayReturn,
+            block: 0,
+            pos: self.pos,
+            inner: 0,
+        }
+    }
 }
 
 /// `no line feed follows the carriage return at N`

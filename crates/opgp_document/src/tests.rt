@@ -2,7 +2,7 @@
 //! each states.
 
 use crate::{
-    CanonicalText, DocumentAnswers, DocumentWhy, OpenFault, OwnOctets, SignatureHasher,
+    CanonicalText, DocumentAnswers, DocumentWhy, OpenFault, OwnOctets, ShortTable, SignatureHasher,
     SignedDocument, StrayReturn,
 };
 use opgp_octets::BodyFault;
@@ -234,6 +234,62 @@ fn a_stray_carriage_return_has_a_place(rt: HostRuntime) {
     assert!(rt; is_stray_at(rt, b"a\r", 1));
     assert!(rt; is_stray_at(rt, b"\r\r\n", 0));
     assert!(rt; is_stray_at(rt, b"a\nb\r\nc\rd\r", 6));
+}
+
+/// Whether a table gets the octets that a vector gets, however the document is cut.
+fn fills_as_pushed(rt: HostRuntime, document: &[u8]) -> bool {
+    for cut in 0..=document.len() {
+        let mut text = Vec::new(rt.alloc());
+        let mut pushed = CanonicalText::new();
+        let mut filled = CanonicalText::new();
+        for piece in [&document[..cut], &document[cut..]] {
+            text.clear();
+            let mut table = [0xEE; 64];
+            filled = CanonicalText::resumed(filled.given(), filled.last_return());
+            match (
+                pushed.push(piece, &mut text),
+                filled.fill(piece, &mut table),
+            ) {
+                (Ok(Ok(())), Ok(Ok(size))) => {
+                    if table.get(..size) != Some(text.as_slice())
+                        || table.get(size) != Some(&0xEE)
+                    {
+                        return false;
+                    }
+                }
+                (Ok(Err(one)), Ok(Err(other))) => {
+                    if one != other {
+                        return false;
+                    }
+                }
+                _ => return false,
+            }
+            if pushed != filled {
+                return false;
+            }
+        }
+    }
+    true
+}
+
+#[test]
+fn a_table_gets_the_text_that_a_vector_gets(rt: HostRuntime) {
+    assert!(rt; fills_as_pushed(rt, b""));
+    assert!(rt; fills_as_pushed(rt, b"\n"));
+    assert!(rt; fills_as_pushed(rt, b"a\nb"));
+    assert!(rt; fills_as_pushed(rt, b"\n\r\n\n\r\na\r\n"));
+    assert!(rt; fills_as_pushed(rt, b"a\nb\r\nc\rd\r"));
+}
+
+#[test]
+fn a_short_table_is_told_how_much_is_wanted(rt: HostRuntime) {
+    let mut text = CanonicalText::new();
+    let mut table = [0xEE; 2];
+    assert!(rt; text.fill(b"a\n", &mut table) == Err(ShortTable { wanted: 3 }));
+    assert!(rt; table == [0xEE; 2] && text == CanonicalText::new());
+    assert!(rt; text.fill(b"a\n", &mut table[..0]) == Err(ShortTable { wanted: 3 }));
+    assert!(rt; text.fill(b"\n", &mut table) == Ok(Ok(2)));
+    assert!(rt; table == *b"\r\n" && text.given() == 1 && text.last_return() == None);
 }
 
 #[test]

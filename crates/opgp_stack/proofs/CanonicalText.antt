@@ -9,7 +9,8 @@ use Rattle.opgp_document.proofs.Text.{text_append}
 use Rattle.opgp_codec.specs.Pulled.{OfAll, Pulls}
 use Rattle.opgp_codec.specs.Reading.{too_long}
 use Rattle.opgp_codec.specs.declared.draft.Draft.{Draft}
-use Rattle.opgp_stack.specs.Canonical.{IsEndOf, IsTextBy, IsTextOf, OfText, text_fault}
+use Rattle.opgp_document.specs.StrayReturn.{text_fault}
+use Rattle.opgp_stack.specs.Canonical.{IsEndOf, IsTextBy, IsTextOf, OfText}
 use Rattle.opgp_stack.specs.Running.{ReadsFor, Refused}
 use Rattle.opgp_stack.specs.declared.run_fault.RunFault.{RunFault}
 use Rattle.opgp_stack.specs.declared.run_fault.RunFault.TheVariants as run

@@ -2,11 +2,9 @@
 use Rattle.std.specs.Prelude.{◌≡◌, ℕ, ◌<◌, ◌≤◌, ◌⊎◌, false, List, ◌++◌, length, Option, Some, None}
 use Rattle.std.specs.Prelude.{Result, Ok, Err}
 use Rattle.opgp_octets.specs.Limits.{input_limit}
-use Rattle.opgp_octets.specs.declared.fault.Fault.{Fault}
-use Rattle.opgp_octets.specs.declared.fault.Layer.TheVariants as layer
-use Rattle.opgp_octets.specs.declared.fault.Reason.TheVariants as reason
 use Rattle.opgp_octets.specs.declared.limits.Limits.{Limits}
 use Rattle.opgp_document.specs.CanonicalText.{IsRead, TellsStray}
+use Rattle.opgp_document.specs.StrayReturn.{text_fault}
 use Rattle.opgp_document.specs.Text.{HasText, IsStrayAt, to_text}
 use Rattle.opgp_codec.specs.Reading.{Outcome, too_long}
 use Rattle.opgp_codec.specs.declared.draft.Draft.{Draft}
@@ -14,16 +12,6 @@ use Rattle.opgp_stack.specs.Running.{Made, Text, Refused}
 use Rattle.opgp_stack.specs.declared.canonical.TextDraft.{TextDraft}
 use Rattle.opgp_stack.specs.declared.run_fault.RunFault.{RunFault}
 use Rattle.opgp_stack.specs.declared.run_fault.RunFault.TheVariants as run
-
--- a carriage return at this place isn't followed by a line feed
-abbrev pub text_fault : ℕ → Fault
-text_fault pos = record {
-  layer = layer.Text;
-  reason = reason.StrayReturn;
-  block = 0;
-  pos = pos;
-  inner = 0;
-}
 
 -- The canonical text of the document; or the fault of the first stray carriage return, or of a
 -- document that is too long.

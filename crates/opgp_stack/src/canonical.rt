@@ -3,16 +3,16 @@
 ghost use Rattle.std.specs.Prelude.{◌≡◌, ◌⊎◌, ◌++◌, [], ℕ, List, true, false, IfOk, IfSome, OnOk};
 ghost use Rattle.opgp_codec.specs.Draft.{DraftHas};
 ghost use Rattle.opgp_codec.specs.Pulled.{OfAll};
-ghost use Rattle.opgp_stack.specs.Canonical.{HasTextOf, IsEndOf, IsTextOf, OfText, text_fault};
+ghost use Rattle.opgp_stack.specs.Canonical.{HasTextOf, IsEndOf, IsTextOf, OfText};
 ghost use Rattle.opgp_stack.specs.Running.{IsMade, IsSpooled, ReadsFor, RunsOf};
 
 use crate::hashing::OctetsText;
 use crate::made::write_draft;
 use crate::run_fault::RunFault;
 use opgp_codec::{Draft, IncomingOctets, Out, Spool};
-use opgp_document::CanonicalText;
+use opgp_document::{CanonicalText, StrayReturn};
 use opgp_io::{Sink, Source};
-use opgp_octets::{Fault, Layer, Limits, OutOfMemory, Reason};
+use opgp_octets::{Limits, OutOfMemory};
 use std::alloc::Global;
 
 /// Reads a document, and writes its canonical text (RFC 9580, 5.2.1.2): what signatures of type 01
@@ -132,24 +132,11 @@ impl<S: Spool + Drop> TextDraft<S> {
             stray,
         } = self;
         if let Some(pos) = stray {
-            return Err(RunFault::Refused(text_fault(pos)));
+            return Err(RunFault::Refused(StrayReturn { pos }.fault()));
         }
         match canonical.finish() {
             Ok(()) => Ok(draft),
-            Err(stray) => Err(RunFault::Refused(text_fault(stray.pos))),
+            Err(stray) => Err(RunFault::Refused(stray.fault())),
         }
-    }
-}
-
-/// The fault of a document with a carriage return at this place that no line feed follows.
-fn text_fault(pos: u64) -> Fault
-    ensures { result ≡ text_fault pos }
-{
-    Fault {
-        layer: Layer::Text,
-        reason: Reason::StrayReturn,
-        block: 0,
-        pos,
-        inner: 0,
     }
 }

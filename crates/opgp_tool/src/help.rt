@@ -3,9 +3,9 @@
 /// After the commands: where input and output are, and the exit statuses.
 pub const PROGRAM_HELP: &str = "Each command reads standard input and writes standard output: \
 opgp list < KEYRING
-Exit statuses: 0 success; 1 the input is refused, or has no such row or certificate;
-2 invalid command line, or this help, which goes to standard error; 3 reading, writing,
-memory or the spool failed; 4 the launcher couldn't build the program.";
+Exit statuses: 0 success; 1 the input is refused, has no such row or certificate, or more than
+64 signatures for a document; 2 invalid command line, or this help, which goes to standard
+error; 3 reading, writing, memory or the spool failed; 4 the launcher couldn't build the program.";
 
 pub const SHOW_HELP: &str = "The input may be any packets, of a keyring or a message. Each \
 packet has a line with its

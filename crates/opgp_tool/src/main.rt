@@ -128,6 +128,10 @@ fn list_signatures(rt: &HostRuntime, request: &Request, task: &DocumentTask) -> 
 
 /// Lists the signatures in a file, over the document on standard input.
 fn list_digests(rt: &HostRuntime, request: &Request, task: &DocumentTask, file: &str) -> u8 {
+    if is_input(file) {
+        let _ = eprintln!(rt; "opgp: standard input is the document; the signatures are in a file");
+        return USAGE;
+    }
     let mut source = match open_signatures(rt, file) {
         Ok(source) => source,
         Err(_) => return unopened(rt, request, file),
@@ -149,7 +153,7 @@ fn list_digests(rt: &HostRuntime, request: &Request, task: &DocumentTask, file: 
         &mut writer,
     );
     reader.end();
-    finish(rt, request, task.mode, &outcome, &reader)
+    finish_document(rt, request, task.mode, &outcome, &reader)
 }
 
 /// Writes what the signature of this number in a file hashes around its document.
@@ -197,7 +201,12 @@ fn write_canonical(rt: &HostRuntime, request: &Request, task: &DocumentTask) -> 
         },
     };
     reader.end();
-    finish(rt, request, task.mode, &outcome, &reader)
+    finish_document(rt, request, task.mode, &outcome, &reader)
+}
+
+/// Whether a file's name stands for standard input.
+fn is_input(file: &str) -> bool {
+    matches!(file, "-" | "/dev/stdin" | "/dev/fd/0" | "/proc/self/fd/0")
 }
 
 /// Opens the file of signatures, beside the standard streams.
@@ -237,6 +246,21 @@ fn finish<R: Source, W: Write + Drop>(
         explain(rt, hint);
     }
     status
+}
+
+/// Prints the last lines of a run that read this document. Where it succeeds nothing is told of the
+/// document: an empty one is one, too.
+fn finish_document<R: Source, W: Write + Drop>(
+    rt: &HostRuntime,
+    request: &Request,
+    mode: Mode,
+    outcome: &Result<(), RunFault>,
+    document: &Progress<R, W>,
+) -> u8 {
+    match outcome {
+        Ok(()) => end(rt, outcome),
+        Err(_) => finish(rt, request, mode, outcome, document),
+    }
 }
 
 /// Prints what is told of the input beside the fault, if there is something to tell.

@@ -1,0 +1,748 @@
+#!/usr/bin/env python3
+"""Tries opgp-verify --signature, which verifies detached signatures over a document, and says what a run must write to the octet.
+
+Usage: tests/bindings/verify.py [--program FILE]
+
+The program is built as `make verifier` builds it, unless one is named. It verifies what RFC 9580 and sq signed, and where gpg is
+installed what that signs here: by keys of each algorithm that it makes, of types 00 and 01, over documents of many forms. Each
+signature is then held against a document, a signature or a keyring that was changed. The digests that the lines show are worked out
+with Python's hashlib, by tests/lib/model.py. Signatures that nobody made, whose digest begins as they state, say what is undecided and
+why. Command lines, files that are refused or missing, full devices, memory that is refused and how much of it is taken are tried too.
+What isn't here is said on standard error. The last line counts what was tried.
+"""
+
+import argparse
+import hashlib
+import os
+import re
+import resource
+import shlex
+import shutil
+import subprocess
+import sys
+import tempfile
+
+sys.dont_write_bytecode = True
+sys.path.insert(0, f"{sys.path[0]}/../lib")
+
+import model  # noqa: E402
+from running import HERE  # noqa: E402
+
+SECONDS = 300  # for one run
+USAGE = "\n\nUsage: opgp-verify [OPTIONS] --signature <SIG> --keyring <FILE>... [DOCUMENT]\n"
+MORE = "\nFor more information, try '--help'.\n"
+NOT_JUDGED = "ood is arithmetic: whether a key has expired, is revoked or may sign isn't judged yet"
+OF_SQ = b"OpenPGP\r\nin two lines\n"  # what sq signed (tests/vectors/sq/make.sh)
+MARKER = b"\xca\x03PGP"
+# A critical subpacket of an unknown kind, a critical notation, one that isn't critical, and a critical one that is known.
+SUBPACKETS = {"kind": b"\2\xe5x", "notation": b"\x0b\x94" + bytes(4) + b"\0\1\0\1ab", "usual": b"\2\x65x", "known": b"\2\x87\1"}
+passed = failed = 0
+PROGRAM = ROOM = None
+
+
+def verdict(name, holds, why=""):
+    global passed, failed
+    passed, failed = passed + bool(holds), failed + (not holds)
+    if not holds:
+        print(f"tests/bindings/verify.py: {name}: FAILED {why}"[:2000], file=sys.stderr)
+
+
+def left_out(what):
+    print(f"tests/bindings/verify.py: left out, since it isn't here: {what}", file=sys.stderr)
+
+
+def octets_of(path):
+    with open(path, "rb") as it:
+        return it.read()
+
+
+def kept(name, octets):
+    """A file of this name that has these octets."""
+    with open(f"{ROOM}/{name}", "wb") as it:
+        it.write(octets)
+    return f"{ROOM}/{name}"
+
+
+def run(*words, given=b"", **how):
+    ended = subprocess.run([PROGRAM, *words], input=given, capture_output=True, check=False, timeout=SECONDS, **how)
+    return ended.returncode, ended.stdout.decode(), ended.stderr.decode()
+
+
+# ---- Packets, and what a run must write of them
+
+
+def packets_in(octets):
+    blocks = model.dearmored(octets, model.USUAL) if b"" < octets[:1] < b"\x80" else [(None, octets)]
+    return [(kind, body) for _, _, kind, _, body, _ in model.framed(blocks, model.USUAL)]
+
+
+def bodies_in(octets):
+    return [body for kind, body in packets_in(octets) if kind == 2]
+
+
+def packet(body, kind=2):
+    return bytes([0xC0 | kind, 255]) + model.sized(4, body)
+
+
+def signature(version, kind, algorithm, number_of_hash, hashed=b"", unhashed=b""):
+    """The body of a signature that nobody made."""
+    wide = 4 if version == 6 else 2
+    five = b"\0\3\5"
+    material = {1: five, 17: 2 * five, 19: 2 * five, 22: 2 * five, 27: bytes(64), 28: bytes(114)}.get(algorithm, b"m")
+    salt = model.sized(1, bytes({8: 16, 9: 24, 10: 32, 11: 16}[number_of_hash])) if version == 6 else b""
+    areas = model.sized(wide, hashed) + model.sized(wide, unhashed)
+    return bytes([version, kind, algorithm, number_of_hash]) + areas + b"\0\0" + salt + material
+
+
+def issuer(key, *, by_id=False):
+    """The subpacket that names a key: by its fingerprint, or by its ID."""
+    if by_id:
+        return b"\x09\x10" + model.key_id(key)
+    return bytes([len(model.fingerprint(key)) + 2, 33, key[0]]) + model.fingerprint(key)
+
+
+def digest_of(it, document):
+    """The digest of what a signature hashes; no octets where it hashes nothing."""
+    if it.version not in (4, 6) or it.kind > 1 or it.hash not in model.HASHES or (it.kind == 1 and re.search(rb"\r(?!\n)", document)):
+        return b""
+    shown = re.sub(rb"\r?\n", b"\r\n", document) if it.kind == 1 else document
+    behind = it.front + bytes([it.version, 255]) + len(it.front).to_bytes(4, "big")
+    return hashlib.new(model.HASHES[it.hash], it.salt + shown + behind).digest()
+
+
+def place_of_left(body):
+    """Where a signature states how its digest begins: behind the area that isn't hashed."""
+    it, wide = model.Signature(body), 4 if body[0] == 6 else 2
+    return len(it.front) + wide + model.number(body[len(it.front) : len(it.front) + wide])
+
+
+def fitting(body, document):
+    """The signature, which states of its digest what it is."""
+    at, left = place_of_left(body), digest_of(model.Signature(body), document)[:2] or b"\0\0"
+    return body[:at] + left + body[at + 2 :]
+
+
+def with_unhashed(body, subpacket):
+    """The signature with one more subpacket at the front of the area that isn't hashed."""
+    at, wide = len(model.Signature(body).front), 4 if body[0] == 6 else 2
+    size = model.number(body[at : at + wide]) + len(subpacket)
+    return body[:at] + size.to_bytes(wide, "big") + subpacket + body[at + wide :]
+
+
+def flipped(octets, at, bit=1):
+    return octets[:at] + bytes([octets[at] ^ bit]) + octets[at + 1 :]
+
+
+def counts_of(found):
+    """The exit status and standard error of a run that finds this of its signatures."""
+    good, bad, undecided = (sum(it.startswith(word) for it in found) for word in ("good", "bad", "undecided"))
+    told = f"opgp-verify: {good} good, {bad} bad, {undecided} undecided, {len(found) - good - bad - undecided} not hashed\n"
+    return int(bad > 0 or good == 0), f"{told}opgp-verify: g{NOT_JUDGED}\n"
+
+
+def wanted(octets, keyrings, document, found):
+    """What a run must end with that finds this of each signature: a verdict, or why it isn't hashed."""
+    keys, lines = [body for it in keyrings for kind, body in packets_in(it) if kind in (6, 14)], []
+    for number, (body, said) in enumerate(zip(bodies_in(octets), found, strict=True)):
+        it = model.kept_signature(body)
+        digest, signer = digest_of(it, document)[:2].hex().upper(), model.signer_of(it, keys) if it.version in (4, 6) else None
+        name = model.key_id(signer).hex().upper() if signer else "-"
+        asked = f"asked type {it.kind:02X} hash {it.hash} signer {name} digest {digest} verdict {said}"
+        lines.append(f"signature {number} : {asked if digest else f'none {said}'}\n")
+    status, told = counts_of(found)
+    return status, "".join(lines), told
+
+
+def holds(name, octets, keyrings, document, found, *words):
+    """Whether a run over these signatures, keyrings and document finds that of each signature, and writes no more."""
+    given = [f"--keyring={kept(f'keyring{number}', it)}" for number, it in enumerate(keyrings)]
+    ended = run("--signature", kept("signature", octets), *given, *words, given=document)
+    hoped = wanted(octets, keyrings, document, found)
+    verdict(name, ended == hoped, (ended, hoped))
+
+
+# ---- Signatures of others, which are in the repository
+
+
+class Signed:
+    """A document, its signatures with their types, and the keyring of their signers."""
+
+    def __init__(self, name, document, octets, keyring):
+        self.name, self.document, self.octets, self.keyring = name, document, octets, keyring
+        self.kinds = [body[1] for body in bodies_in(octets)]
+
+
+def examples():
+    """Of both versions and types, by EdDSALegacy, Ed25519 and RSA."""
+    a1, a2, a3 = (octets_of(f"{HERE}/examples/rfc9580-{it}.asc") for it in ("a1", "a2", "a3"))
+    yield Signed("A.2", b"OpenPGP", a2, a1)
+    message = octets_of(f"{HERE}/tests/vectors/standard/a7.asc")
+    literal = next(body for kind, body in packets_in(message) if kind == 11)
+    yield Signed("A.7", literal[6 + literal[1] :], b"".join(map(packet, bodies_in(message))), a3)
+    for version in (4, 6):
+        folder = f"{HERE}/tests/vectors/sq"
+        suites = octets_of(f"{folder}/suites_{version}.gpg")
+        yield Signed(f"sq's of version {version}", OF_SQ, octets_of(f"{folder}/signature_{version}.asc"), suites)
+        bodies = bodies_in(octets_of(f"{folder}/signed_by_two_{version}.asc"))
+        yield Signed(f"sq's two of version {version}", OF_SQ, b"".join(map(packet, bodies)), suites)
+
+
+def of_others():
+    """What RFC 9580 and sq signed is good, armored and not; and not where an octet of it was changed."""
+    for it in examples():
+        good, bad = ["good"] * len(it.kinds), ["bad"] * len(it.kinds)
+        binary = b"".join(map(packet, bodies_in(it.octets)))
+        between = MARKER.join([b"", *map(packet, bodies_in(binary)), b""])
+        for octets in (it.octets, binary, model.armor(binary, b"SIGNATURE"), between, model.armor(between, b"SIGNATURE")):
+            holds(it.name, octets, [it.keyring], it.document, good)
+        holds(f"{it.name}, by any policy", binary, [it.keyring], it.document, good, "--policy", "any")
+        holds(f"{it.name}, a good one required", binary, [it.keyring], it.document, good, "--require=good")
+        for keyrings in ([octets_of(f"{HERE}/tests/vectors/algorithms/rsa_2048.gpg")], [b""]):
+            holds(f"{it.name} without a signer", binary, keyrings, it.document, ["undecided absent"] * len(good))
+        lines = it.document.replace(b"\r\n", b"\n")
+        for document in (lines, lines.replace(b"\n", b"\r\n")):
+            found = ["good" if kind == 1 or document == it.document else "bad" for kind in it.kinds]
+            holds(f"{it.name} with other line ends", binary, [it.keyring], document, found)
+        for at, octet in enumerate(it.document):
+            if octet not in b"\r\n":
+                holds(f"{it.name}, octet {at} changed", binary, [it.keyring], flipped(it.document, at), bad)
+                holds(f"{it.name}, cut at {at}", binary, [it.keyring], it.document[:at], bad)
+        document = flipped(it.document, 1)
+        octets = b"".join(packet(fitting(body, document)) for body in bodies_in(binary))
+        holds(f"{it.name} with left octets that fit another document", octets, [it.keyring], document, bad)
+        stray = it.document[:2] + b"\r" + it.document[2:]
+        found = ["line-ends" if kind == 1 else "bad" for kind in it.kinds]
+        holds(f"{it.name} with a carriage return", binary, [it.keyring], stray, found)
+
+
+def changed_signatures():
+    """No signature with a bit changed is good, but in the area that isn't hashed and in the counts of bits."""
+    for it in examples():
+        body = bodies_in(it.octets)[0]
+        keyring = kept("keyring", it.keyring)
+        begin = place_of_left(body)
+        free = {*range(len(model.Signature(body).front), begin)}
+        material = len(body) - len(model.Signature(body).material)
+        if body[2] in (1, 22):  # the counts of bits of integers, which may be off in version 4
+            first = (model.number(body[material : material + 2]) + 7) // 8
+            free |= {material, material + 1} | ({material + 2 + first, material + 3 + first} if body[2] == 22 else set())
+        found = {"good": 0}
+        for at in range(len(body)):
+            path = kept("signature", packet(flipped(body, at, 1 << at % 8)))
+            status, out, told = run("--signature", path, "--keyring", keyring, given=it.document)
+            is_good = out.endswith(" good\n")
+            fits = (at in free or not is_good) and status == int(not is_good)
+            verdict(f"{it.name} with octet {at} changed", fits, (status, out, told))
+            found["good"] += is_good
+        verdict(f"{it.name} with octets changed", found["good"] <= len(free), found)
+
+
+# ---- Signatures that nobody made
+
+
+def several():
+    """The verdict of each of several signatures is its own, in order; also with more packets between them."""
+    key = octets_of(f"{HERE}/examples/rfc9580-a1.asc")
+    good = bodies_in(octets_of(f"{HERE}/examples/rfc9580-a2.asc"))[0]
+    nameless = good[:12] + b"\0\0" + good[24:]  # names no issuer, as its second area is empty
+    old = b"\3\5\0\1\2\3\4" + b"IDENTITY" + b"\x11\x08\xab\xcd\0\1\1\0\1\1"
+    bodies = {
+        "good": good, "undecided critical": with_unhashed(good, SUBPACKETS["kind"]), "bad": flipped(good, len(good) - 1), "opaque": old,
+        "undecided absent": nameless, "kind": signature(4, 0x10, 22, 8), "hash": signature(4, 0, 22, 1),
+    }  # fmt: skip
+    names = [*bodies]
+    for turn in range(len(names)):
+        order = names[turn:] + names[:turn]
+        for between in (b"", MARKER):
+            holds(f"several from {order[0]} on", between.join(packet(bodies[it]) for it in order), [key], b"OpenPGP", order)
+        blocks = b"".join(model.armor(packet(bodies[it]), b"SIGNATURE") for it in order)
+        holds(f"several blocks from {order[0]} on", blocks, [key], b"OpenPGP", order)
+    for order in (names[:2], names[1::-1], ["good", "undecided absent", "opaque", "kind", "hash"], names[3:], [names[1]] * 3 + ["good"]):
+        holds(f"several: {order}", b"".join(packet(bodies[it]) for it in order), [key], b"OpenPGP", order)
+    for count in (1, 2, 63, 64):
+        holds(f"{count} signatures", packet(good) * count, [key], b"OpenPGP", ["good"] * count)
+    path, keyring = kept("signature", packet(good) * 65), kept("keyring", key)
+    ended = run("--signature", path, "--keyring", keyring, given=b"OpenPGP")
+    verdict("65 signatures", ended == (1, "", f"opgp-verify: '{path}': more than 64 signatures\n"), ended)
+
+
+def critical():
+    """A critical subpacket that isn't known, in the area that isn't hashed; gpg makes the others."""
+    for it in examples():
+        for what, subpacket in SUBPACKETS.items():
+            bodies = [with_unhashed(body, subpacket) for body in bodies_in(it.octets)]
+            found = ["undecided critical" if what in ("kind", "notation") else "good"] * len(bodies)
+            for policy in ("usual", "any"):
+                octets = b"".join(map(packet, bodies))
+                holds(f"{it.name} with a subpacket, {what}", octets, [it.keyring], it.document, found, "--policy", policy)
+
+
+def undecided():
+    """Signatures that nobody made by keys of each algorithm, whose digests begin as they state; under each policy."""
+    def key_in(name):
+        octets = octets_of(name if name.startswith("/") else f"{HERE}/tests/vectors/algorithms/{name}.gpg")
+        return octets, next(body for kind, body in packets_in(octets) if kind == 6)
+
+    a1, a3 = f"{HERE}/examples/rfc9580-a1.asc", f"{HERE}/examples/rfc9580-a3.asc"
+    for name, algorithm, number_of_hash, *found in (
+        ("rsa_2048", 1, 8, "bad", "bad"), ("rsa_2048", 1, 2, "undecided weak-hash", "bad"), ("dsa_2048", 17, 9, "bad", "bad"),
+        ("rsa_1024", 1, 8, "undecided small-key", "bad"), ("dsa_1024", 17, 8, "undecided small-key", "bad"),
+        ("ecdsa_p256", 19, 10, "bad", "bad"), ("ecdsa_brainpool", 19, 11, "bad", "bad"), ("eddsa_legacy", 22, 8, "bad", "bad"),
+        ("ecdsa_secp256k1", 19, 8, *["undecided curve"] * 2), (a1, 22, 2, "undecided weak-hash", "bad"), ("ed448", 28, 10, "bad", "bad"),
+        (a3, 27, 8, "bad", "bad"), *[(it, 99, 8, *["undecided algorithm"] * 2) for it in ("rsa_2048", a1, a3)],
+    ):  # fmt: skip
+        keyring, key = key_in(name)
+        for kind in (0, 1):
+            for areas in ((issuer(key), b""), (b"", issuer(key, by_id=True))):
+                for document in (b"", b"x" * 65535, b"x" * 65536, b"x" * 65535 + b"\r\n" + b"y" * 65534 + b"\r\n"):
+                    octets = packet(fitting(signature(key[0], kind, algorithm, number_of_hash, *areas), document))
+                    for policy, said in zip(("usual", "any"), found):
+                        what = f"nobody's by {os.path.basename(name)}, {policy}"
+                        holds(what, octets, [keyring], document, [said], "--policy", policy)
+    for name, version, algorithm in ((a3, 4, 27), (a3, 4, 22), (a1, 6, 22), (a1, 6, 27)):  # a key ID is of no version
+        keyring, key = key_in(name)
+        body = fitting(signature(version, 0, algorithm, 8, b"", issuer(key, by_id=True)), b"text")
+        holds(f"nobody's of version {version} by a key of the other", packet(body), [keyring], b"text", ["undecided version"])
+    key = b"\4" + bytes(4) + b"\x63" + b"unknown"
+    body = fitting(signature(4, 0, 0x63, 8, issuer(key)), b"text")
+    holds("nobody's of an unknown algorithm", packet(body), [packet(key, 6)], b"text", ["undecided unknown"])
+    key = b"\4" + bytes(4) + b"\1" + b"\0\0\0\1\1"
+    body = fitting(signature(4, 0, 1, 8, issuer(key)), b"text")
+    holds("nobody's by a key of modulus 0", packet(body), [packet(key, 6)], b"text", ["undecided key"])
+
+
+# ---- Inputs
+
+
+def keyrings():
+    """Several keyrings are one."""
+    first, second = (next(it for it in examples() if it.name == name) for name in ("sq's two of version 4", "A.2"))
+    none = octets_of(f"{HERE}/tests/vectors/algorithms/dsa_2048.gpg")
+    its = first.keyring
+    for them in ([none, its], [its, none], [b"", none, b"", its, b""], [its, its], [none] * 9 + [its], [none] * 4 + [its] + [none] * 2):
+        holds(f"{len(them)} keyrings", first.octets, them, first.document, ["good"] * 2)
+    armored = model.armor(its)
+    holds("an armored keyring and others", first.octets, [second.keyring, armored, none], first.document, ["good"] * 2)
+    holds("keyrings of one signer alone", second.octets, [none, second.keyring], second.document, ["good"])
+
+
+def streams():
+    """Each input in turn is standard input; no two are."""
+    it = next(examples())
+    signatures, keyring, document = kept("signature", it.octets), kept("keyring", it.keyring), kept("document", it.document)
+    good = wanted(it.octets, [it.keyring], it.document, ["good"])
+    for words, given in (
+        (["--signature", signatures, "--keyring", keyring, document], b"no document"),
+        (["--signature", signatures, "--keyring", keyring], it.document),
+        (["--signature", signatures, "--keyring", keyring, "-"], it.document),
+        (["--keyring", keyring, "-", "--signature", signatures], it.document),
+        (["--signature", "-", "--keyring", keyring, document], it.octets),
+        (["--signature=-", document, "--keyring", keyring], it.octets),
+        (["--signature", signatures, "--keyring", "-", document], it.keyring),
+        ([document, "--keyring=-", f"--signature={signatures}"], it.keyring),
+        (["--signature", signatures, "--keyring", keyring, "--keyring", "-", "--", document], it.keyring),
+        (["--signature", signatures, f"--keyring={keyring}", "--policy=any", "--require", "good", "--", "-"], it.document),
+    ):
+        ended = run(*words, given=given)
+        verdict(f"inputs of {words}", ended == good, (ended, good))
+    words = [PROGRAM, "--signature", signatures, "--keyring", keyring]
+    with open(signatures, "rb") as source:
+        ended = subprocess.run([*words, document], stdin=source, capture_output=True, check=False)
+        verdict("standard input that isn't read", (ended.returncode, source.tell()) == (0, 0), ended)
+    ended = subprocess.run(words, stdin=subprocess.DEVNULL, capture_output=True, check=False)
+    none = wanted(it.octets, [it.keyring], b"", ["bad"])
+    verdict("an empty standard input", (ended.returncode, ended.stdout.decode(), ended.stderr.decode()) == none, ended)
+    where = kept("-", it.document)
+    ended = run("--signature", signatures, "--keyring", keyring, "./-", given=b"", cwd=os.path.dirname(where))
+    verdict("a document in a file of the name -", ended == good, ended)
+
+
+def command_lines():
+    """What is no command line for a document."""
+    multiple = "error: standard input '-' cannot be used multiple times: it is the document if there is no other"
+    wanting = "error: the following required arguments were not provided:\n  "
+    twice = "error: the argument '--signature <SIG>' cannot be used multiple times"
+    for words, said in (
+        ("--signature x", f"{wanting}--keyring <FILE>"), ("--signature x y", f"{wanting}--keyring <FILE>"),
+        ("--keyring x", f"{wanting}--signature <SIG>"), ("--keyring x --keyring y z --policy any", f"{wanting}--signature <SIG>"),
+        ("--signature - --keyring x", multiple), ("--signature - --keyring x -", multiple), ("--signature - --keyring - x", multiple),
+        ("--signature x --keyring -", multiple), ("--signature x --keyring y --keyring - -", multiple),
+        ("--signature x --keyring - --keyring - y", multiple), ("--signature - --keyring - -", multiple),
+        ("--signature /dev/stdin --keyring x", multiple), ("--signature x --keyring /dev/fd/0 /proc/self/fd/0", multiple),
+        ("--signature x --keyring y -- - z", "error: unexpected argument 'z' found"), ("--signature x --signature", twice),
+        ("--signature x --signature y --keyring z", twice), ("--signature x --keyring y a b", "error: unexpected argument 'b' found"),
+        ("--keyring x --keyrings", "error: unexpected argument '--keyrings' found"),
+        ("--signature x --keyring y --require good --require=good", twice.replace("signature <SIG>", "require <WHAT>")),
+    ):
+        ended = run(*words.split())
+        verdict(f"words {words}", ended == (2, "", said + USAGE + MORE), ended)
+    for words, name in (
+        ("--signature", "signature <SIG>"), ("--signature=", "signature <SIG>"), ("--signature --keyring x", "signature <SIG>"),
+        ("--keyring", "keyring <FILE>"), ("--keyring=", "keyring <FILE>"), ("--signature x --keyring", "keyring <FILE>"),
+        ("--signature x --keyring y --keyring=", "keyring <FILE>"), ("--signature x --keyring -- y", "keyring <FILE>"),
+    ):  # fmt: skip
+        ended = run(*words.split())
+        verdict(f"words {words}", ended == (2, "", f"error: a value is required for '--{name}' but none was supplied\n{MORE}"), ended)
+    ended = run("--signature", "", "--keyring", "x")
+    verdict("an empty name", ended == (2, "", f"error: a value is required for '--signature <SIG>' but none was supplied\n{MORE}"), ended)
+    ended = run("--signature", "x", "--keyring", "y", "--policy", "some")
+    said = f"error: invalid value 'some' for '--policy <POLICY>'\n  [possible values: usual, any]\n{MORE}"
+    verdict("no such policy", ended == (2, "", said), ended)
+    status, out, told = run("--help")
+    usage = USAGE.replace("Usage:", "      ").strip("\n")
+    verdict("the help", (status, out) == (2, "") and f"G{NOT_JUDGED}." in told and f"[FILE]\n{usage}\n" in told, told)
+    verdict("the help of --signature", run("--signature", "x", "-h") == (2, "", told))
+    shown = re.findall(r"^ +(?:-\w, )?--(\w+)(?: <\w+>)?  +\w", told, re.M)
+    verdict("the options in the help", shown == ["signature", "keyring", "policy", "require", "version", "help"], shown)
+
+
+def refused():
+    """Files that aren't there, can't be read, or aren't signatures or keyrings; the first of them is told."""
+    it = next(examples())
+    names = {"signature": kept("signature", it.octets), "keyring": kept("keyring", it.keyring), "document": kept("document", it.document)}
+    for which in names:
+        other = f"{names[which]}/x"
+        for path, why in ((f"{ROOM}/none", "No such file or directory"), (ROOM, "Is a directory"), (other, "Not a directory")):
+            now = {**names, which: path}
+            ended = run("--signature", now["signature"], "--keyring", now["keyring"], now["document"])
+            verdict(f"a {which} that is none: {why}", ended == (3, "", f"opgp-verify: can't read '{path}': {why}\n"), ended)
+    ended = run("--signature", names["signature"], "--keyring", names["keyring"], "--keyring", f"{ROOM}/none", f"{ROOM}/neither")
+    verdict("a second keyring that is none", ended == (3, "", f"opgp-verify: can't read '{ROOM}/none': No such file or directory\n"), ended)
+    binary = packet(bodies_in(it.octets)[0])
+    faults = [
+        (b"", "composition: NotASignature block 0 at 0 inner 0"), (it.document, "armor: NoBlock block 0 at 7 inner 0"),
+        (it.keyring, "composition: BlockLabel block 0 at 0 inner 0"),
+        (packet(it.document, 13), "composition: NotASignature block 0 at 0 inner 0"),
+        (binary + packet(b"b\0\0\0\0\0", 11), f"composition: NotASignature block 0 at {len(binary)} inner 0"),
+        (packet(b"\4\0\x16\x08\0\1"), "body: AreaShort block 0 at 0 inner 4"),
+        (it.octets[:-9], "armor: EndLabel block 0 at 161 inner 0"),
+    ]  # fmt: skip
+    for octets, fault in faults:
+        path = kept("other", octets)
+        ended = run("--signature", path, "--keyring", names["keyring"], names["document"])
+        verdict(f"no signature: {fault}", ended == (1, "", f"opgp-verify: '{path}': {fault}\n"), ended)
+        ended = run("--signature", "-", "--keyring", f"{ROOM}/none", names["document"], given=octets)
+        verdict(f"no signature on standard input: {fault}", ended == (1, "", f"opgp-verify: '-': {fault}\n"), ended)
+    for end in range(len(binary)):
+        status, out, told = run("--signature", kept("other", binary[:end]), "--keyring", names["keyring"], given=it.document)
+        is_told = told.startswith(f"opgp-verify: '{ROOM}/other': ")
+        verdict(f"a signature cut at {end}", (status, out) == (1, "") and is_told, (status, out, told))
+    for octets, fault in ((it.octets, "composition: BlockLabel block 0 at 0 inner 0"), (it.document, "armor: NoBlock block 0 at 7 inner 0"),
+                          (binary, "composition: NoPrimary block 0 at 0 inner 0"), (b"\xc6\1\3", "body: KeyVersion block 0 at 0 inner 0")):
+        path = kept("other", octets)
+        for them in ([path], [names["keyring"], path], [path, names["keyring"]]):
+            ended = run("--signature", names["signature"], *(f"--keyring={it}" for it in them), names["document"])
+            verdict(f"no keyring: {fault}", ended == (1, "", f"opgp-verify: '{path}': {fault}\n"), ended)
+
+
+def devices():
+    """A full or closed standard output; a closed standard input; a full or closed standard error, which changes nothing."""
+    it = next(examples())
+    signatures, keyring, document = kept("signature", it.octets), kept("keyring", it.keyring), kept("document", it.document)
+    words = [PROGRAM, "--signature", signatures, "--keyring", keyring]
+    with open("/dev/full", "wb") as full:
+        ended = subprocess.run([*words, document], stdout=full, stderr=subprocess.PIPE, check=False)
+        verdict("a full standard output", (ended.returncode, ended.stderr) == (3, b"opgp-verify: write failed\n"), ended)
+        ended = subprocess.run([*words, document], stdout=subprocess.PIPE, stderr=full, check=False)
+        verdict("a full standard error", ended.returncode == 0 and ended.stdout.endswith(b" good\n"), ended)
+    shell = shlex.join(words)
+    for ends, status, out, told in (
+        (f"{document} >&-", 3, False, "write failed"), (f"{document} 2>&-", 0, True, ""), (f"{document} <&-", 0, True, " 1 good, 0 bad, "),
+        ("<&-", 3, False, "can't read '-': Bad file descriptor"), (f"{document} <&- >&- 2>&-", 3, False, ""),
+    ):
+        ended = subprocess.run(["sh", "-c", f"{shell} {ends}"], stdin=subprocess.DEVNULL, capture_output=True, check=False)
+        fits = ended.returncode == status and ended.stdout.endswith(b" good\n") == out and told in ended.stderr.decode()
+        verdict(f"standard streams {ends.replace(document, '')}", fits and bool(ended.stdout) == out, ended)
+    for path, octets in ((signatures, it.octets), (keyring, it.keyring), (document, it.document)):
+        verdict(f"{os.path.basename(path)} is as it was", octets_of(path) == octets)
+
+
+# ---- Memory
+
+
+def most_memory(*words):
+    """The status of a run, and the most memory that it took, in KiB."""
+    with subprocess.Popen([PROGRAM, *words], stdout=subprocess.DEVNULL, stderr=subprocess.DEVNULL, stdin=subprocess.DEVNULL) as it:
+        _, status, used = os.wait4(it.pid, 0)
+        it.returncode = os.waitstatus_to_exitcode(status)
+        return it.returncode, used.ru_maxrss
+
+
+def memory():
+    """A document takes no memory, whatever its size."""
+    it = next(examples())
+    words = ["--signature", kept("signature", it.octets), "--keyring", kept("keyring", it.keyring)]
+    path, told = kept("document", b""), []
+    for size in (1, 128 << 20):
+        os.truncate(path, size)
+        told.append(most_memory(*words, path))
+    os.truncate(path, 0)
+    verdict("memory over a large document", told[1][0] == told[0][0] == 1 and told[1][1] <= told[0][1] + 1024, told)
+
+
+def memory_wanting():
+    """Where an allocation fails, the program says that memory ran out, and writes no line; or all is as ever."""
+    library = f"{ROOM}/refuse.so"
+    made = subprocess.run(["cc", "-O1", "-shared", "-fPIC", "-o", library, f"{HERE}/tests/lib/refuse.c"], capture_output=True, check=False)
+    verdict("tests/lib/refuse.c", made.returncode == 0, made.stderr)
+    it = next(it for it in examples() if it.name == "sq's two of version 4")
+    bodies = bodies_in(it.octets)
+    path = kept("signature", b"".join(map(packet, [*bodies, with_unhashed(bodies[0], SUBPACKETS["notation"])])))
+    a1, found = f"{HERE}/examples/rfc9580-a1.asc", ["good", "good", "undecided critical"]
+    words = ["--signature", path, "--keyring", a1, "--keyring", kept("keyring", it.keyring), kept("document", it.document)]
+    usual = run(*words)
+    verdict("a run over a document", usual == wanted(octets_of(path), [octets_of(a1), it.keyring], it.document, found), usual)
+    all_refused("a document", library, words, usual)
+    # Also of a keyring: without memory for its subpackets no signature with a critical one is good.
+    packets = packets_in(octets_of(f"{HERE}/tests/vectors/algorithms/rsa_2048.gpg"))
+    octets = b"".join(packet(with_unhashed(body, SUBPACKETS["kind"]) if kind == 2 else body, kind) for kind, body in packets)
+    words = [kept("critical", octets)]
+    usual = run(*words)
+    verdict("a run over a keyring", usual[0] == 0 and usual[1].count(" undecided critical\n") == 2, usual)
+    all_refused("a keyring", library, words, usual)
+
+
+def all_refused(what, library, words, usual):
+    """Fails each allocation near the begin and the end of a run in turn, and of those between, which are libcrypto's, some."""
+    count = refusing(library, 0, words)[1]
+    verdict(f"allocations over {what}", count > 100, count)
+    for number in sorted({*range(1, 300), *range(300, count, max(1, count // 200)), *range(max(1, count - 300), count + 2)}):
+        ended, _ = refusing(library, number, words)
+        is_told = re.fullmatch("opgp-verify: (out of memory|can't read '.*': Cannot allocate memory)\n", ended[2])
+        verdict(f"{what}, allocation {number} refused", ended == usual or (ended[:2] == (3, "") and is_told), ended)
+
+
+def refusing(library, number, words):
+    """The end of a run where the allocation of this number fails, and how many it makes."""
+    with tempfile.TemporaryFile() as told:
+        os.dup2(told.fileno(), 9)
+        ended = run(*words, env={**os.environ, "LD_PRELOAD": library, "REFUSE": str(number)}, pass_fds=(9,))
+        os.close(9)
+        told.seek(0)
+        return ended, int(told.read() or 0)
+
+
+def by_valgrind():
+    """No run takes memory that isn't its own, or leaves some behind."""
+    if not shutil.which("valgrind"):
+        left_out("valgrind")
+        return
+    it = next(it for it in examples() if it.name == "sq's two of version 4")
+    signatures, keyring, document = kept("signature", it.octets), kept("keyring", it.keyring), kept("document", it.document * 9000)
+    other, many = f"{HERE}/examples/rfc9580-a1.asc", kept("many", it.octets * 33)
+    words = ["valgrind", "-q", "--error-exitcode=9", "--leak-check=full", "--errors-for-leak-kinds=definite", PROGRAM]
+    for given, status in (
+        ([signatures, kept("text", it.document), keyring], 0), ([signatures, document, other], 1), ([many, document, other], 1),
+        ([signatures, document, other, keyring, other], 1), ([other, document, other], 1), ([signatures, document, other, signatures], 1),
+        ([signatures, ROOM, other], 3), ([signatures, "-", "-", "-"], 2),
+    ):
+        given = ["--signature", *given[:2], *(f"--keyring={it}" for it in given[2:])]
+        ended = subprocess.run([*words, *given], capture_output=True, check=False, timeout=SECONDS)
+        verdict(f"by valgrind: {given}", ended.returncode == status and b"==" not in ended.stderr, ended)
+
+
+# ---- Signatures that gpg makes
+
+DOCUMENTS = {
+    "empty": b"", "no last line end": b"a line\nand another", "CR LF": b"one\r\ntwo\r\n\r\nthree", "one line": b"x" * 5_000_000,
+    "NUL octets": b"\0some\0 zeros\nand \0\0more\n", "blanks": b"blanks  \nand tabs\t\t\n \nat line ends \t",
+    "lines": b"".join(b"line %d of a longer text\n" % it for it in range(8000)),
+}  # fmt: skip
+ALGORITHMS = ("rsa2048", "ed25519", "nistp256", "dsa2048")
+
+
+class Gpg:
+    """A gpg with a home of its own."""
+
+    def __init__(self):
+        self.home, self.keys = f"{ROOM}/home", {}
+        os.mkdir(self.home, 0o700)
+
+    def run(self, *words, given=b""):
+        usual = ["--homedir", self.home, "--batch", "--quiet", "--yes", "--no-tty", "--pinentry-mode", "loopback", "--passphrase", ""]
+        return subprocess.run(["gpg", *usual, *words], input=given, capture_output=True, check=False, timeout=SECONDS)
+
+    def make(self, name, algorithm, use="sign", signs_by=None):
+        """Makes a key, or one with a subkey that signs, and keeps its keyring."""
+        made = self.run("--quick-generate-key", f"{name} <{name}@example.org>", algorithm, use, "0")
+        if signs_by and made.returncode == 0:
+            listed = self.run("--with-colons", "--list-keys", f"{name}@example.org").stdout
+            fingerprint = re.search(rb"^fpr:+(\w+):", listed, re.M)[1]
+            made = self.run("--quick-add-key", fingerprint.decode(), signs_by, "sign", "0")
+        if made.returncode:
+            left_out(f"gpg's {algorithm} {signs_by or ''}: {made.stderr.decode(errors='replace').strip()}")
+            return
+        self.keys[name] = self.run("--export", f"{name}@example.org").stdout
+
+    def sign(self, document, *names, words=()):
+        users = [word for it in names for word in ("--local-user", f"{it}@example.org")]
+        ended = self.run(*users, *words, "--output", "-", "--detach-sign", given=document)
+        verdict(f"gpg signs by {names} {words}", ended.returncode == 0 and ended.stdout, ended.stderr)
+        return ended.stdout
+
+    def close(self):
+        subprocess.run(["gpgconf", "--homedir", self.home, "--kill", "gpg-agent"], capture_output=True, check=False, timeout=SECONDS)
+
+
+def fits_textmode(document):
+    """Whether gpg signs all of a text: it cuts lines of more than 19,995 octets, and drops the NUL octets before a line end."""
+    return max(map(len, document.split(b"\n"))) < 19_000 and not re.search(rb"\0\r?\n|\0\Z", document)
+
+
+def changed(document):
+    """The document with one octet changed, near its middle, which is no line end before or then; with one more if it has none."""
+    at = next((it for it in range(len(document) // 2, len(document)) if document[it] > 0x20), None)
+    return document + b"x" if at is None else flipped(document, at)
+
+
+def of_gpg(gpg, name, document, kind, armored):
+    """A signature that gpg makes over a document; and over others than that."""
+    words = ["--textmode"] * kind + ["--armor"] * armored
+    octets, keyring = gpg.sign(document, name, words=words), [gpg.keys[name]]
+    what = f"gpg's by {name} of type 0{kind} over {len(document)} octets"
+    body = bodies_in(octets)[0]
+    verdict(f"{what}: its form", body[1] == kind and octets.startswith(b"-----BEGIN") == armored, octets[:200])
+    holds(what, octets, keyring, document, ["good"])
+    other = changed(document)
+    holds(f"{what}, one changed", octets, keyring, other, ["bad"])
+    holds(f"{what}, one changed, its left octets fit", packet(fitting(body, other)), keyring, other, ["bad"])
+    holds(f"{what}, one octet of it changed", packet(flipped(body, len(body) - 2)), keyring, document, ["bad"])
+    holds(f"{what}, other keyrings", octets, [it for its, it in gpg.keys.items() if its != name][:2], document, ["undecided absent"])
+    at = len(document) // 2 + (document[len(document) // 2 : len(document) // 2 + 1] == b"\n")
+    holds(f"{what}, a carriage return in it", octets, keyring, document[:at] + b"\rx" + document[at:], ["line-ends" if kind else "bad"])
+    lines = document.replace(b"\r\n", b"\n")
+    for ends in (b"\n", b"\r\n"):
+        text = lines.replace(b"\n", ends)
+        holds(f"{what}, its line ends {ends}", octets, keyring, text, ["good" if kind or text == document else "bad"])
+
+
+def several_of_gpg(gpg):
+    """Two signatures in one file, and their keyrings in two."""
+    names = [it for it in ALGORITHMS if it in gpg.keys][:2]
+    if len(names) < 2:
+        left_out("two keys of gpg")
+        return
+    document, (one, two) = DOCUMENTS["lines"], (gpg.keys[it] for it in names)
+    for armored in (False, True):
+        octets = gpg.sign(document, *names, words=["--armor"] * armored)
+        key = [body for kind, body in packets_in(one) if kind == 6]
+        ids = [model.signer_of(model.Signature(body), key) for body in bodies_in(octets)]
+        holds("gpg's two signatures, two keyrings", octets, [one, two], document, ["good", "good"])
+        holds("gpg's two signatures, two keyrings in the other order", octets, [two, one], document, ["good", "good"])
+        holds("gpg's two signatures, one keyring", octets, [one + two], document, ["good", "good"])
+        holds("gpg's two signatures, one signer", octets, [one], document, ["good" if it else "undecided absent" for it in ids])
+        holds("gpg's two signatures, no signer", octets, [b""], document, ["undecided absent"] * 2)
+        holds("gpg's two signatures over another document", octets, [one, two], changed(document), ["bad", "bad"])
+    first, second = (b"".join(map(packet, bodies_in(gpg.sign(it, names[0])))) for it in (document, b"another"))
+    holds("gpg's two signatures, each over another document", first + second, [one], document, ["good", "bad"])
+    holds("gpg's two signatures, the second good", second + first, [one], document, ["bad", "good"])
+    mixed = first + packet(bodies_in(gpg.sign(document, names[1], words=["--textmode"]))[0])
+    stray = document[:100] + b"\r" + document[100:]
+    holds("gpg's two signatures of both types", mixed, [one, two], document, ["good", "good"])
+    holds("gpg's two signatures of both types over CR LF", mixed, [one, two], document.replace(b"\n", b"\r\n"), ["bad", "good"])
+    over = packet(bodies_in(gpg.sign(stray, names[0]))[0]) + mixed
+    holds("gpg's signatures over a text that has no canonical form", over, [one, two], stray, ["good", "bad", "line-ends"])
+
+
+def policies_of_gpg(gpg):
+    """By SHA-1, by a small key, and with critical notations in the hashed area."""
+    document = DOCUMENTS["no last line end"]
+    if "rsa2048" in gpg.keys:
+        for number, name in ((2, "SHA1"), (8, "SHA256"), (9, "SHA384"), (10, "SHA512"), (11, "SHA224")):
+            octets = gpg.sign(document, "rsa2048", words=["--digest-algo", name, "--allow-weak-digest-algos"])
+            verdict(f"gpg signs by {name}", bodies_in(octets)[0][3] == number)
+            for policy in ("usual", "any"):
+                found = "undecided weak-hash" if (number, policy) == (2, "usual") else "good"
+                holds(f"gpg's by {name}, {policy}", octets, [gpg.keys["rsa2048"]], document, [found], "--policy", policy)
+    gpg.make("small", "rsa1024")
+    if "small" in gpg.keys:
+        octets = gpg.sign(document, "small")
+        for policy, found in (("usual", "undecided small-key"), ("any", "good")):
+            holds(f"gpg's by RSA of 1024 bits, {policy}", octets, [gpg.keys["small"]], document, [found], "--policy", policy)
+    for name in gpg.keys.keys() & {"rsa2048", "ed25519"}:
+        for notation, found in (("!name@example.org=value", "undecided critical"), ("name@example.org=value", "good")):
+            octets = gpg.sign(document, name, words=["--sig-notation", notation])
+            for over, said in ((document, found), (changed(document), "bad")):
+                for policy in ("usual", "any"):
+                    what = f"gpg's by {name} with a notation {notation}"
+                    holds(what, octets, [gpg.keys[name]], over, [said], "--policy", policy)
+
+
+def others_of_gpg(gpg):
+    """By a subkey, by other curves, and by a key that has expired, which isn't judged."""
+    document = DOCUMENTS["CR LF"]
+    gpg.make("sub", "rsa2048", "cert", "ed25519")
+    for name, found in (("nistp521", "good"), ("brainpoolP256r1", "good"), ("secp256k1", "undecided curve")):
+        gpg.make(name, name)
+        if name in gpg.keys:
+            holds(f"gpg's by {name}", gpg.sign(document, name), [gpg.keys[name]], document, [found])
+    if "sub" in gpg.keys:
+        octets = gpg.sign(document, "sub")
+        keys = [body for kind, body in packets_in(gpg.keys["sub"]) if kind in (6, 14)]
+        verdict("gpg signs by a subkey", model.signer_of(model.Signature(bodies_in(octets)[0]), keys) == keys[1])
+        holds("gpg's by a subkey", octets, [gpg.keys["sub"]], document, ["good"])
+        bare = packet(keys[0], 6)
+        holds("gpg's by a subkey that isn't there", octets, [bare], document, ["undecided absent"])
+    then = ["--faked-system-time", "20200101T000000!"]
+    made = gpg.run(*then, "--quick-generate-key", "old <old@example.org>", "ed25519", "sign", "1d")
+    if made.returncode:
+        left_out(f"gpg's key that has expired: {made.stderr.decode(errors='replace').strip()}")
+    else:
+        keyring = gpg.run("--export", "old@example.org").stdout
+        holds("gpg's by a key that has expired", gpg.sign(document, "old", words=then), [keyring], document, ["good"])
+
+
+def with_gpg():
+    if not shutil.which("gpg"):
+        left_out("gpg, and so all of its signatures")
+        return
+    gpg = Gpg()
+    try:
+        for name in ALGORITHMS:
+            gpg.make(name, name)
+        for name in [*gpg.keys]:
+            for document in DOCUMENTS.values():
+                for kind in (0, 1):
+                    if kind == 0 or fits_textmode(document):
+                        for armored in (False, True):
+                            of_gpg(gpg, name, document, kind, armored)
+        several_of_gpg(gpg)
+        policies_of_gpg(gpg)
+        others_of_gpg(gpg)
+    finally:
+        gpg.close()
+
+
+# ---- The program
+
+
+def built():
+    """opgp-verify, as `make verifier` builds it; None where it can't be, which is told."""
+    if subprocess.run(["cc", "-E", "-include", "openssl/core_names.h", "-x", "c", os.devnull], capture_output=True, check=False).returncode:
+        left_out("libcrypto's headers, and so opgp-verify")
+        return None
+    words = ["make", "-C", HERE, f"{ROOM}/made/opgp-verify", f"made={ROOM}/made"]
+    made = subprocess.run(words, capture_output=True, text=True, check=False)
+    verdict("make opgp-verify", made.returncode == 0, made.stderr)
+    return f"{ROOM}/made/opgp-verify" if made.returncode == 0 else None
+
+
+def main():
+    global PROGRAM, ROOM
+    words = argparse.ArgumentParser(prog="tests/bindings/verify.py", description=__doc__.split("\n\n", maxsplit=1)[0])
+    words.add_argument("--program")
+    words = words.parse_args()
+    resource.setrlimit(resource.RLIMIT_CORE, (0, 0))
+    with tempfile.TemporaryDirectory() as room:
+        ROOM = room
+        PROGRAM = os.path.abspath(words.program) if words.program else built()
+        if PROGRAM:
+            for part in (of_others, changed_signatures, several, critical, undecided, keyrings, streams, command_lines, refused, devices,
+                         memory, memory_wanting, by_valgrind, with_gpg):
+                part()
+    print(f"{passed} passed, {failed} failed")
+    return int(failed > 0)
+
+
+if __name__ == "__main__":
+    sys.exit(main())

@@ -40,6 +40,7 @@ ghost use Rattle.opgp_ring.specs.Composed.{PartValue};
 mod calls;
 mod document;
 pub mod documents;
+pub mod laws;
 mod making;
 mod parts;
 mod reader;

@@ -6,7 +6,7 @@ ghost use Rattle.opgp_document.specs.StrayReturn.{text_fault};
 ghost use Rattle.opgp_document.specs.Text.{HasText, ends_cr, to_text};
 ghost use Rattle.opgp_tables.specs.FaultRow.{fault_row};
 ghost use Rattle.opgp_c.specs.Calls.{IsFilled};
-ghost use Rattle.opgp_c.specs.Texts.{text_of};
+ghost use Rattle.opgp_c.specs.Texts.{state_of, text_of};
 
 use crate::status::{DONE, REFUSED, ROOM};
 use opgp_document::CanonicalText;
@@ -25,7 +25,8 @@ pub struct TextState {
 impl TextState {
     /// That of a text.
     fn of(text: CanonicalText) -> TextState
-        ensures { text_of result ≡ text }
+        ensures text { text_of result ≡ text }
+        ensures state { result ≡ state_of text }
     {
         let (last_return, is_behind_return) = match text.last_return() {
             Some(place) => (place, 1),
@@ -72,6 +73,7 @@ pub extern "C" fn opgp_canonical(
     ensures done { result ≡ 0 → IsRead (text_of state.new) (so_far ++ piece.now)
         × IsFilled (to_text (ends_cr false so_far) piece.now) octets.old octets.new
         × (size.new ≡ length (to_text (ends_cr false so_far) piece.now)) }
+    ensures state { result ≡ 0 → state.new ≡ state_of (text_of state.new) }
     // Whatever comes behind the piece.
     ensures refused { result ≡ 1 → (pos : ℕ) × (fault.new ≡ fault_row (text_fault pos))
         × ((more : List ℕ) → TellsStray (so_far ++ piece.now ++ more) pos) }

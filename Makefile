@@ -56,8 +56,8 @@ $(made)/libopgp.so.$(abi): $(made)/libopgp.a c/opgp.map
 	$(CC) -shared $(LDFLAGS) -Wl,-soname,libopgp.so.$(abi) -Wl,--version-script=c/opgp.map -Wl,-z,defs -Wl,-z,relro -Wl,-z,now -o $@ \
 		-Wl,--whole-archive $(made)/libopgp.a -Wl,--no-whole-archive
 
-$(made)/opgp-verify: c/opgp-verify.c c/examples/open.h c/opgp.h $(made)/libopgp.a
-	$(CC) $(strict) $(CFLAGS) $(LDFLAGS) c/opgp-verify.c $(made)/libopgp.a -lcrypto -o $@
+$(made)/opgp-verify: c/opgp-verify.c c/verify-arithmetic.c c/verify-arithmetic.h c/examples/open.h c/opgp.h $(made)/libopgp.a
+	$(CC) $(strict) $(CFLAGS) $(LDFLAGS) -pthread c/opgp-verify.c c/verify-arithmetic.c $(made)/libopgp.a -lcrypto -o $@
 
 verifier: $(made)/libopgp.a
 	@if $(CC) $(CFLAGS) -E -include openssl/core_names.h -x c /dev/null > /dev/null 2>&1; then \

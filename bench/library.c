@@ -1,4 +1,4 @@
-/* What bench/library measures over libopgp and c/opgp-verify.c, whose verifier it takes. Words, and the least of so many runs in
+/* What bench/library measures over libopgp and c/verify-arithmetic.c, whose answers it takes. Words, and the least of so many runs in
  * microseconds of processor time that each prints:
  *
  *     call RUNS FILE     opens the keyring of the file 10,000 times, takes the fingerprint of its first key, and closes it: of one time
@@ -43,9 +43,8 @@ static int timed_digest_verify(EVP_MD_CTX *context, const unsigned char *made, s
 
 #define EVP_PKEY_verify timed_verify
 #define EVP_DigestVerify timed_digest_verify
-#define main main_of_opgp_verify
-#include "../c/opgp-verify.c"
-#undef main
+#include "../c/examples/open.h"
+#include "../c/verify-arithmetic.c"
 
 enum { TIMES = 10000, PIECE = 1 << 16 };
 
@@ -214,6 +213,13 @@ static int pass(void *context, size_t row, const opgp_job *job, opgp_verdict ver
     return 0;
 }
 
+/* Of which signer first, as opgp-verify asks. */
+static int by_signer(const void *one, const void *other)
+{
+    const opgp_question *a = one, *b = other;
+    return a->signer != b->signer ? (a->signer > b->signer) - (a->signer < b->signer) : (a->row > b->row) - (a->row < b->row);
+}
+
 static void verify_all(unsigned long runs)
 {
     opgp_keyring *keyring;
@@ -221,14 +227,17 @@ static void verify_all(unsigned long runs)
     size_t good = 0;
     wanted(opgp_open(in, size, NULL, &keyring, NULL) == OPGP_DONE, "opgp_open");
     opgp_check(keyring, collect, pass, NULL);
-    struct run run = {.keyring = keyring, .is_usual = false};
+    qsort(questions, asked, sizeof *questions, by_signer);
     for (unsigned long i = 0; i < runs; i++) {
         in_libcrypto = 0;
         good = 0;
         double begin = now();
+        struct arithmetic *arithmetic = arithmetic_new();
+        wanted(arithmetic != NULL, "arithmetic_new");
         for (size_t n = 0; n < asked; n++) {
-            good += verify(&run, &questions[n]) == OPGP_GOOD;
+            good += arithmetic_of(arithmetic, &questions[n], 0, 0).verdict == OPGP_GOOD;
         }
+        arithmetic_free(arithmetic);
         double spent = now() - begin;
         least = i == 0 || spent < least ? spent : least;
         least_in_libcrypto = i == 0 || in_libcrypto < least_in_libcrypto ? in_libcrypto : least_in_libcrypto;

@@ -3,36 +3,26 @@
  * keyrings: a line for each, as `opgp digest` writes it. Section numbers are those of RFC 9580.
  *
  * `good` says that the issuer's key made the signature over what `opgp octets` writes, or over the document, and nothing of whether
- * the signature, the key or what it certifies is valid: expiries, revocations and key flags aren't looked at. */
+ * the signature, the key or what it certifies is valid: expiries, revocations and key flags aren't looked at.
+ *
+ * verify-arithmetic.c asks libcrypto. Here are the rows, the threads that go over them, lines, files and the command line. */
+#define _GNU_SOURCE /* for sched_getaffinity */
 #include <opgp.h>
 
 #include "examples/open.h"
-
-#include <openssl/bn.h>
-#include <openssl/core_names.h>
-#include <openssl/crypto.h>
-#include <openssl/dsa.h>
-#include <openssl/ecdsa.h>
-#include <openssl/err.h>
-#include <openssl/evp.h>
-#include <openssl/param_build.h>
-#include <openssl/rsa.h>
+#include "verify-arithmetic.h"
 
 #include <errno.h>
 #include <inttypes.h>
+#include <pthread.h>
+#include <sched.h>
+#include <stdatomic.h>
 #include <string.h>
+#include <unistd.h>
 
-/* The octets of a point, and of each half of a signature, on an Edwards curve. */
-enum { SIZE_25519 = 32, SIZE_448 = 57 };
-
-/* The least bits of an RSA key, and of the strength of any other one, that the usual policy relies on. */
-enum { LEAST_RSA = 2048, LEAST_STRENGTH = 112 };
-
-/* What is found of a row; of an undecided one also why. */
-struct finding {
-    opgp_verdict verdict;
-    const char *why;
-};
+/* The most threads that verify, and of how many rows a key is asked for each of them, so that starting it takes less time than it
+ * saves; and how many of those rows a thread takes at a time, so that all of them end together. */
+enum { MOST_JOBS = 64, OF_THREAD = 64, PORTION = 16 };
 
 struct run {
     const opgp_keyring *keyring;
@@ -43,411 +33,156 @@ struct run {
     const uint8_t *made;              /* what the algorithms of those made */
     const opgp_subpacket *subpackets; /* all of those, in order */
     size_t subpacket_count;
-    bool is_usual;                    /* the policy */
-    bool is_out_of_memory;
-    const char *why;                  /* of what the verifier answered last */
-    struct finding *findings;         /* of each row so far */
+    unsigned decisive;                /* the doubts that leave a signature undecided */
+    struct finding *findings;         /* of each row */
+    size_t *asked;                    /* the rows of which a key is asked, those of one key together */
+    size_t asked_count;
+    atomic_size_t taken;              /* how many of those a thread has taken */
 };
 
-/* Whether libcrypto was refused memory. It doesn't always say so, and then a good signature is bad to it. It is known where
- * libcrypto takes memory from here; where not, what it says is believed, though it says so of an allocation of no octets, too. */
-static bool was_refused, is_asked_here;
+/* ---- Rows */
 
-static void *get(size_t size, const char *file, int line)
+/* The key that is asked of a row; NULL if there is nothing to ask. */
+static const opgp_key *asked_key(const struct run *run, size_t row)
 {
-    (void)file, (void)line;
-    void *room = size > 0 ? malloc(size) : NULL;
-    was_refused = was_refused || (!room && size > 0);
-    return room;
+    const opgp_job *job = &run->jobs[row];
+    const opgp_key *signer = job->signer == OPGP_NONE ? NULL : &run->keys[job->signer];
+    return signer && !job->is_bad && job->why == OPGP_WHY_HASHED && signer->version == job->version ? signer : NULL;
 }
 
-static void let_go(void *room, const char *file, int line)
+/* What is found of a row of which no key is asked: as opgp_check finds it, and why. */
+static struct finding found_without(const opgp_job *job)
 {
-    (void)file, (void)line;
-    free(room);
+    return (struct finding){job->is_bad ? OPGP_BAD : OPGP_UNDECIDED, job->signer == OPGP_NONE ? "absent" : "version", 0};
 }
 
-static void *get_more(void *room, size_t size, const char *file, int line)
+/* Finds the subpackets of the signature in a row; false where there is no memory for them. */
+static bool find_subpackets(const struct run *run, size_t row, const opgp_subpacket **subpackets, size_t *count)
 {
-    if (size == 0) {
-        let_go(room, file, line);
-        return NULL;
+    if (!run->is_over_document) {
+        return opgp_subpackets_of(run->keyring, row, subpackets, count) == OPGP_DONE;
     }
-    void *more = realloc(room, size);
-    was_refused = was_refused || !more;
-    return more;
-}
-
-static opgp_verdict undecided(struct run *run, const char *why)
-{
-    run->why = why;
-    return OPGP_UNDECIDED;
-}
-
-/* Whether an error of libcrypto is about the key and not about the signature. */
-static bool is_about_key(unsigned long error)
-{
-    int reason = ERR_GET_REASON(error);
-    switch (ERR_GET_LIB(error)) {
-    case ERR_LIB_RSA: return reason == RSA_R_MODULUS_TOO_LARGE || reason == RSA_R_BAD_E_VALUE;
-    case ERR_LIB_DSA:
-        return reason == DSA_R_MISSING_PARAMETERS || reason == DSA_R_BAD_Q_VALUE || reason == DSA_R_MODULUS_TOO_LARGE
-               || reason == DSA_R_INVALID_PARAMETERS;
-    case ERR_LIB_BN: return true;
-    default: return false;
+    size_t begin = 0;
+    while (begin < run->subpacket_count && run->subpackets[begin].hang < row) {
+        begin++;
     }
-}
-
-/* Why a call of libcrypto failed: out of memory ends the run, else it doesn't take the key; else this is the verdict. */
-static opgp_verdict failed(struct run *run, opgp_verdict verdict)
-{
-    for (unsigned long error = ERR_get_error(); error != 0; error = ERR_get_error()) {
-        run->is_out_of_memory = run->is_out_of_memory || (!is_asked_here && ERR_GET_REASON(error) == ERR_R_MALLOC_FAILURE);
-        if (is_about_key(error)) {
-            verdict = undecided(run, "key");
-        }
+    size_t end = begin;
+    while (end < run->subpacket_count && run->subpackets[end].hang == row) {
+        end++;
     }
-    return verdict;
-}
-
-/* Whether octets are these. */
-static bool is_same(opgp_span span, const uint8_t *octets, size_t size)
-{
-    return span.size == size && memcmp(span.octets, octets, size) == 0;
-}
-
-/* Puts an integer at the end of room[0 .. size), which is zeros; false if it is too large. */
-static bool put_integer(uint8_t *room, size_t size, opgp_span integer)
-{
-    while (integer.size > 0 && integer.octets[0] == 0) {
-        integer.octets++;
-        integer.size--;
-    }
-    if (integer.size > size) {
-        return false;
-    }
-    memcpy(room + size - integer.size, integer.octets, integer.size);
+    *subpackets = begin < end ? &run->subpackets[begin] : NULL;
+    *count = end - begin;
     return true;
 }
 
-static BIGNUM *integer_of(opgp_span span)
+/* Finds what there is to find of each row without its key, and counts the rows of which one is asked: in all, and those of each key, by
+ * its row. False if memory ran out. */
+static bool find_doubts(struct run *run, size_t *counts)
 {
-    return BN_bin2bn(span.octets, (int)span.size, NULL);
-}
-
-/* ---- Keys: NULL where libcrypto doesn't take them. */
-
-static EVP_PKEY *key_of(const char *type, OSSL_PARAM_BLD *build)
-{
-    EVP_PKEY *key = NULL;
-    OSSL_PARAM *parameters = OSSL_PARAM_BLD_to_param(build);
-    EVP_PKEY_CTX *context = EVP_PKEY_CTX_new_from_name(NULL, type, NULL);
-    if (context && parameters && EVP_PKEY_fromdata_init(context) == 1) {
-        EVP_PKEY_fromdata(context, &key, EVP_PKEY_PUBLIC_KEY, parameters);
-    }
-    EVP_PKEY_CTX_free(context);
-    OSSL_PARAM_free(parameters);
-    return key;
-}
-
-/* A key of integers with these names, four at most. */
-static EVP_PKEY *key_of_integers(const char *type, const char *const names[], const opgp_span spans[], size_t count)
-{
-    OSSL_PARAM_BLD *build = OSSL_PARAM_BLD_new();
-    BIGNUM *integers[4] = {NULL};
-    bool is_whole = build != NULL;
-    for (size_t i = 0; i < count; i++) {
-        integers[i] = integer_of(spans[i]);
-        is_whole = is_whole && integers[i] && OSSL_PARAM_BLD_push_BN(build, names[i], integers[i]) == 1;
-    }
-    EVP_PKEY *key = is_whole ? key_of(type, build) : NULL;
-    for (size_t i = 0; i < count; i++) {
-        BN_free(integers[i]);
-    }
-    OSSL_PARAM_BLD_free(build);
-    return key;
-}
-
-/* The name that libcrypto has for the curve of an object identifier (9.2); NULL if it isn't one for ECDSA. */
-static const char *curve_name(opgp_span identifier)
-{
-    static const struct {
-        const char *name;
-        size_t size;
-        uint8_t octets[9];
-    } curves[] = {
-        {"P-256", 8, {0x2A, 0x86, 0x48, 0xCE, 0x3D, 0x03, 0x01, 0x07}},
-        {"P-384", 5, {0x2B, 0x81, 0x04, 0x00, 0x22}},
-        {"P-521", 5, {0x2B, 0x81, 0x04, 0x00, 0x23}},
-        {"brainpoolP256r1", 9, {0x2B, 0x24, 0x03, 0x03, 0x02, 0x08, 0x01, 0x01, 0x07}},
-        {"brainpoolP384r1", 9, {0x2B, 0x24, 0x03, 0x03, 0x02, 0x08, 0x01, 0x01, 0x0B}},
-        {"brainpoolP512r1", 9, {0x2B, 0x24, 0x03, 0x03, 0x02, 0x08, 0x01, 0x01, 0x0D}},
-    };
-    for (size_t i = 0; i < sizeof curves / sizeof *curves; i++) {
-        if (is_same(identifier, curves[i].octets, curves[i].size)) {
-            return curves[i].name;
+    for (size_t row = 0; row < run->job_count; row++) {
+        const opgp_subpacket *subpackets;
+        size_t count;
+        run->findings[row] = found_without(&run->jobs[row]);
+        if (asked_key(run, row)) {
+            if (!find_subpackets(run, row, &subpackets, &count)) {
+                return false;
+            }
+            run->findings[row].doubts = doubts_of(&run->jobs[row], subpackets, count);
+            counts[run->jobs[row].signer]++;
+            run->asked_count++;
         }
     }
-    return NULL;
+    return true;
 }
 
-static EVP_PKEY *key_on_curve(const char *name, opgp_span point)
+/* Puts the rows of which a key is asked in the order of these keys, so that each is made once and then asked all that it is asked;
+ * false if memory ran out. */
+static bool order_rows(struct run *run)
 {
-    OSSL_PARAM_BLD *build = OSSL_PARAM_BLD_new();
-    bool is_whole = build && OSSL_PARAM_BLD_push_utf8_string(build, OSSL_PKEY_PARAM_GROUP_NAME, name, 0) == 1
-                    && OSSL_PARAM_BLD_push_octet_string(build, OSSL_PKEY_PARAM_PUB_KEY, point.octets, point.size) == 1;
-    EVP_PKEY *key = is_whole ? key_of("EC", build) : NULL;
-    OSSL_PARAM_BLD_free(build);
-    return key;
-}
-
-/* ---- Signatures. Each of these frees the key, which may be NULL. */
-
-static const EVP_MD *hash_of(uint8_t number)
-{
-    switch (number) {
-    case OPGP_HASH_SHA1: return EVP_sha1();
-    case OPGP_HASH_SHA256: return EVP_sha256();
-    case OPGP_HASH_SHA384: return EVP_sha384();
-    case OPGP_HASH_SHA512: return EVP_sha512();
-    case OPGP_HASH_SHA224: return EVP_sha224();
-    default: return NULL;
+    size_t *places = calloc(run->key_count + 1, sizeof *places), place = 0;
+    if (places && find_doubts(run, places)) {
+        run->asked = calloc(run->asked_count + 1, sizeof *run->asked);
     }
-}
-
-static bool is_small(EVP_PKEY *key)
-{
-    return EVP_PKEY_get_base_id(key) == EVP_PKEY_RSA ? EVP_PKEY_get_bits(key) < LEAST_RSA
-                                                     : EVP_PKEY_get_security_bits(key) < LEAST_STRENGTH;
-}
-
-/* By RSA, DSA or ECDSA, in libcrypto's form: a signature over a digest. */
-static opgp_verdict over_digest(struct run *run, EVP_PKEY *key, const opgp_job *job, const uint8_t *made, size_t size)
-{
-    EVP_PKEY_CTX *context = EVP_PKEY_CTX_new(key, NULL);
-    bool is_rsa = EVP_PKEY_get_base_id(key) == EVP_PKEY_RSA;
-    opgp_verdict verdict;
-    if (run->is_usual && is_small(key)) {
-        verdict = undecided(run, "small-key");
-    } else if (!context || EVP_PKEY_verify_init(context) != 1
-               || (is_rsa && EVP_PKEY_CTX_set_rsa_padding(context, RSA_PKCS1_PADDING) != 1)
-               || EVP_PKEY_CTX_set_signature_md(context, hash_of(job->hash)) != 1) {
-        verdict = failed(run, undecided(run, "refused"));
-    } else if (EVP_PKEY_verify(context, made, size, job->digest, job->digest_size) == 1) {
-        verdict = OPGP_GOOD;
-    } else {
-        verdict = failed(run, OPGP_BAD);
+    for (size_t key = 0; run->asked && key < run->key_count; key++) {
+        size_t count = places[key];
+        places[key] = place;
+        place += count;
     }
-    EVP_PKEY_CTX_free(context);
-    EVP_PKEY_free(key);
-    return verdict;
-}
-
-/* By RSA (5.2.3.1), whose signature libcrypto wants as long as the modulus. */
-static opgp_verdict by_rsa(struct run *run, const opgp_question *question)
-{
-    static const char *const names[] = {OSSL_PKEY_PARAM_RSA_N, OSSL_PKEY_PARAM_RSA_E};
-    EVP_PKEY *key = key_of_integers("RSA", names, question->key, 2);
-    int size_of_key = key ? EVP_PKEY_get_size(key) : 0;
-    if (size_of_key <= 0) { /* such as that of the modulus 0 */
-        EVP_PKEY_free(key);
-        return failed(run, undecided(run, "key"));
-    }
-    size_t size = (size_t)size_of_key;
-    uint8_t *made = calloc(1, size);
-    opgp_verdict verdict = OPGP_BAD;
-    if (!made) {
-        run->is_out_of_memory = true;
-    } else if (put_integer(made, size, question->made[0])) {
-        verdict = over_digest(run, key, question->job, made, size);
-        key = NULL;
-    }
-    free(made);
-    EVP_PKEY_free(key);
-    return verdict;
-}
-
-/* By DSA or ECDSA (5.2.3.2): r and s, which have the same form in libcrypto for both. */
-static opgp_verdict by_pair(struct run *run, const opgp_question *question, EVP_PKEY *key)
-{
-    if (!key) {
-        return failed(run, undecided(run, "key"));
-    }
-    uint8_t *made = NULL;
-    int size = -1;
-    ECDSA_SIG *pair = ECDSA_SIG_new();
-    BIGNUM *r = integer_of(question->made[0]), *s = integer_of(question->made[1]);
-    if (pair && r && s && ECDSA_SIG_set0(pair, r, s) == 1) {
-        size = i2d_ECDSA_SIG(pair, &made);
-    } else {
-        BN_free(r);
-        BN_free(s);
-    }
-    opgp_verdict verdict = OPGP_UNDECIDED;
-    if (size > 0) {
-        verdict = over_digest(run, key, question->job, made, (size_t)size);
-        key = NULL;
-    } else {
-        run->is_out_of_memory = true;
-    }
-    OPENSSL_free(made);
-    ECDSA_SIG_free(pair);
-    EVP_PKEY_free(key);
-    return verdict;
-}
-
-static opgp_verdict by_ecdsa(struct run *run, const opgp_question *question)
-{
-    const char *name = curve_name(question->key[0]);
-    return name ? by_pair(run, question, key_on_curve(name, question->key[1])) : undecided(run, "curve");
-}
-
-/* By Ed25519 or Ed448, whose message is the digest (5.2.3.4, 5.2.3.5). */
-static opgp_verdict by_edwards(struct run *run, int type, const opgp_job *job, opgp_span point, opgp_span made)
-{
-    EVP_PKEY *key = EVP_PKEY_new_raw_public_key(type, NULL, point.octets, point.size);
-    EVP_MD_CTX *context = EVP_MD_CTX_new();
-    opgp_verdict verdict;
-    if (!key || !context || EVP_DigestVerifyInit(context, NULL, NULL, NULL, key) != 1) {
-        verdict = failed(run, undecided(run, "key"));
-    } else if (EVP_DigestVerify(context, made.octets, made.size, job->digest, job->digest_size) == 1) {
-        verdict = OPGP_GOOD;
-    } else {
-        verdict = failed(run, OPGP_BAD);
-    }
-    EVP_MD_CTX_free(context);
-    EVP_PKEY_free(key);
-    return verdict;
-}
-
-/* By EdDSALegacy (5.2.3.3): a point after 0x40, and both halves of the signature as integers. */
-static opgp_verdict by_eddsa_legacy(struct run *run, const opgp_question *question)
-{
-    static const uint8_t ed25519[] = {0x2B, 0x06, 0x01, 0x04, 0x01, 0xDA, 0x47, 0x0F, 0x01};
-    uint8_t made[2 * SIZE_25519] = {0};
-    opgp_span point = question->key[1];
-    if (!is_same(question->key[0], ed25519, sizeof ed25519)) {
-        return undecided(run, "curve");
-    }
-    if (point.size != SIZE_25519 + 1 || point.octets[0] != 0x40) {
-        return undecided(run, "key");
-    }
-    if (!put_integer(made, SIZE_25519, question->made[0]) || !put_integer(made + SIZE_25519, SIZE_25519, question->made[1])) {
-        return OPGP_BAD;
-    }
-    return by_edwards(run, EVP_PKEY_ED25519, question->job, (opgp_span){point.octets + 1, SIZE_25519},
-                      (opgp_span){made, sizeof made});
-}
-
-/* By Ed25519 or Ed448 as they are: a point, and both halves in one field. */
-static opgp_verdict by_native(struct run *run, const opgp_question *question, int type, size_t size)
-{
-    if (question->key[0].size != size) {
-        return undecided(run, "key");
-    }
-    if (question->made[0].size != 2 * size) {
-        return OPGP_BAD;
-    }
-    return by_edwards(run, type, question->job, question->key[0], question->made[0]);
-}
-
-static bool is_rsa_number(uint8_t algorithm)
-{
-    return algorithm == OPGP_KEY_RSA || algorithm == OPGP_KEY_RSA_SIGN_ONLY;
-}
-
-/* Whether the signature has a critical subpacket (5.2.3.7) of an unknown kind or form, or a critical notation (5.2.3.24), of which
- * none is known here. Where there is no memory for its subpackets the run ends. */
-static bool has_unknown_critical(struct run *run, size_t row)
-{
-    size_t count = run->subpacket_count;
-    const opgp_subpacket *subpackets = run->subpackets;
-    if (!run->is_over_document && opgp_subpackets_of(run->keyring, row, &subpackets, &count) != OPGP_DONE) {
-        run->is_out_of_memory = true;
-    }
-    for (size_t i = 0; i < count; i++) {
-        bool is_here = !run->is_over_document || subpackets[i].hang == row;
-        if (is_here && subpackets[i].is_critical
-            && (subpackets[i].meaning != 0 || subpackets[i].kind == OPGP_SUBPACKET_NOTATION_DATA)) {
-            return true;
+    for (size_t row = 0; run->asked && row < run->job_count; row++) {
+        if (asked_key(run, row)) {
+            run->asked[places[run->jobs[row].signer]++] = row;
         }
     }
-    return false;
+    free(places);
+    return run->asked;
 }
 
-/* What the key says of the signature. */
-static opgp_verdict verify(void *context, const opgp_question *question)
-{
-    static const char *const dsa[] = {OSSL_PKEY_PARAM_FFC_P, OSSL_PKEY_PARAM_FFC_Q, OSSL_PKEY_PARAM_FFC_G,
-                                      OSSL_PKEY_PARAM_PUB_KEY};
-    struct run *run = context;
-    uint8_t algorithm = question->job->algorithm, key = question->signer->algorithm;
-    if (algorithm != key && !(is_rsa_number(algorithm) && is_rsa_number(key))) {
-        return undecided(run, "algorithm");
-    }
-    if (has_unknown_critical(run, question->row)) {
-        return undecided(run, "critical");
-    }
-    if (run->is_usual && question->job->hash == OPGP_HASH_SHA1) {
-        return undecided(run, "weak-hash");
-    }
-    ERR_clear_error();
-    switch (algorithm) {
-    case OPGP_KEY_RSA:
-    case OPGP_KEY_RSA_SIGN_ONLY: return by_rsa(run, question);
-    case OPGP_KEY_DSA: return by_pair(run, question, key_of_integers("DSA", dsa, question->key, 4));
-    case OPGP_KEY_ECDSA: return by_ecdsa(run, question);
-    case OPGP_KEY_EDDSA_LEGACY: return by_eddsa_legacy(run, question);
-    case OPGP_KEY_ED25519: return by_native(run, question, EVP_PKEY_ED25519, SIZE_25519);
-    case OPGP_KEY_ED448: return by_native(run, question, EVP_PKEY_ED448, SIZE_448);
-    default: return undecided(run, "unknown");
-    }
-}
-
-/* Keeps what was found. Of a signature of which the verifier isn't asked it is why. */
-static int keep(void *context, size_t row, const opgp_job *job, opgp_verdict verdict)
-{
-    struct run *run = context;
-    const opgp_key *signer = job->signer == OPGP_NONE ? NULL : &run->keys[job->signer];
-    const char *why = !signer ? "absent" : signer->version != job->version ? "version" : run->why;
-    run->findings[row] = (struct finding){verdict, why};
-    return run->is_out_of_memory || was_refused;
-}
-
-/* The verdict on a signature over a document, as opgp_check gives it on one of a keyring. */
-static opgp_verdict verdict_of(struct run *run, size_t row)
+/* Asks the key of a row. No call is made on a handle, and none on the keyring that would make a table. */
+static void ask(struct run *run, size_t row, struct arithmetic *arithmetic)
 {
     const opgp_job *job = &run->jobs[row];
-    if (job->is_bad) {
-        return OPGP_BAD;
-    }
-    if (job->why != OPGP_WHY_HASHED || job->signer == OPGP_NONE) {
-        return OPGP_UNDECIDED;
-    }
-    opgp_question question = {.row = row, .job = job, .signer = &run->keys[job->signer]};
-    if (question.signer->version != job->version) {
-        return OPGP_UNDECIDED;
-    }
-    question.made[0] = (opgp_span){run->made + job->at, (size_t)job->sizes[0]};
-    question.made[1] = (opgp_span){question.made[0].octets + job->sizes[0], (size_t)job->sizes[1]};
+    struct finding *finding = &run->findings[row];
+    opgp_question question = {.row = row, .job = job, .signer = asked_key(run, row)};
     for (unsigned k = 0; k < 4; k++) {
         question.key[k] = opgp_key_field(run->keyring, question.signer, k);
     }
-    return verify(run, &question);
+    if (run->is_over_document) {
+        question.made[0] = (opgp_span){run->made + job->at, (size_t)job->sizes[0]};
+        question.made[1] = (opgp_span){question.made[0].octets + job->sizes[0], (size_t)job->sizes[1]};
+    } else {
+        question.made[0] = opgp_job_field(run->keyring, job, 0);
+        question.made[1] = opgp_job_field(run->keyring, job, 1);
+    }
+    *finding = arithmetic_of(arithmetic, &question, finding->doubts, run->decisive);
 }
 
-/* Finds what is to be found of each row; false if memory ran out. */
-static bool is_checked(struct run *run)
+/* ---- Threads */
+
+/* What each thread does: takes a portion of the rows, as long as there are some, and asks their keys. */
+static void *work(void *context)
 {
-    if (!run->is_over_document) {
-        return opgp_check(run->keyring, verify, keep, run) == OPGP_DONE;
-    }
-    for (size_t row = 0; row < run->job_count; row++) {
-        if (keep(run, row, &run->jobs[row], verdict_of(run, row)) != 0) {
-            return false;
+    struct run *run = context;
+    struct arithmetic *arithmetic = arithmetic_new();
+    size_t begin = 0;
+    while (arithmetic && !memory_ran_out() && (begin = atomic_fetch_add(&run->taken, PORTION)) < run->asked_count) {
+        size_t end = run->asked_count - begin < PORTION ? run->asked_count : begin + PORTION;
+        for (size_t i = begin; i < end && !memory_ran_out(); i++) {
+            ask(run, run->asked[i], arithmetic);
         }
     }
-    return true;
+    arithmetic_free(arithmetic);
+    return NULL;
+}
+
+/* How many processors this process may use. */
+static size_t processors(void)
+{
+    cpu_set_t set;
+    long count = sched_getaffinity(0, sizeof set, &set) == 0 ? CPU_COUNT(&set) : sysconf(_SC_NPROCESSORS_ONLN);
+    return count < 1 ? 1 : (size_t)count;
+}
+
+/* Finds what is to be found of each row, by this many threads at most, of which this one is one; false if memory ran out. Where a
+ * thread can't be started, those that are there do its work. */
+static bool is_checked(struct run *run, size_t jobs)
+{
+    pthread_t others[MOST_JOBS];
+    size_t started = 0;
+    if (!order_rows(run)) {
+        return false;
+    }
+    size_t wanted = run->asked_count / OF_THREAD < jobs ? run->asked_count / OF_THREAD : jobs;
+    if (wanted > 1) {
+        arithmetic_for_threads();
+    }
+    while (started + 1 < wanted && pthread_create(&others[started], NULL, work, run) == 0) {
+        started++;
+    }
+    work(run);
+    while (started > 0) {
+        pthread_join(others[--started], NULL);
+    }
+    return !memory_ran_out();
 }
 
 /* ---- Lines */
@@ -522,11 +257,26 @@ static int said(int status, const char *text)
 /* What the command line asks for. */
 struct task {
     const char *name; /* of the keyring, or of the document; NULL or -: standard input */
-    const char *policy, *require;
+    const char *policy, *require, *jobs;
     const char *signature; /* the file of the signatures over the document; NULL: those of the keyring */
     const char **keyrings; /* the files of the keyrings that have their signers */
     size_t keyring_count;
 };
+
+/* The number of jobs that a word is; 0 if it is none. */
+static size_t jobs_in(const char *word)
+{
+    size_t digits = strspn(word, "0123456789");
+    unsigned long number = digits > 0 && word[digits] == 0 ? strtoul(word, NULL, 10) : 0;
+    return number <= MOST_JOBS ? (size_t)number : 0;
+}
+
+/* How many threads verify. */
+static size_t jobs_of(const struct task *task)
+{
+    size_t usual = processors();
+    return task->jobs ? jobs_in(task->jobs) : usual < MOST_JOBS ? usual : MOST_JOBS;
+}
 
 /* Writes the lines, and on standard error how many signatures are good and so on; the exit status. */
 static int told(const struct run *run, const struct task *task)
@@ -554,17 +304,19 @@ static int told(const struct run *run, const struct task *task)
 static int verified(struct run *run, const struct task *task)
 {
     int status = 3;
-    run->is_usual = !task->policy || strcmp(task->policy, "usual") == 0;
+    bool is_usual = !task->policy || strcmp(task->policy, "usual") == 0;
+    run->decisive = DOUBT_CRITICAL | (is_usual ? DOUBT_WEAK_HASH | DOUBT_SMALL_KEY : 0);
     if (opgp_keys(run->keyring, &run->keys, &run->key_count) == OPGP_DONE
         && (run->is_over_document || opgp_jobs(run->keyring, &run->jobs, &run->job_count) == OPGP_DONE)) {
         run->findings = calloc(run->job_count + 1, sizeof *run->findings);
     }
-    if (!run->findings || !is_checked(run)) {
+    if (!run->findings || !is_checked(run, jobs_of(task))) {
         said(status, "out of memory");
     } else {
         status = told(run, task);
     }
     free(run->findings);
+    free(run->asked);
     return status;
 }
 
@@ -801,6 +553,7 @@ static const char help[] =
     "                         112 bits of strength are undecided; any: they are verified too\n"
     "                         [default: usual] [possible values: usual, any]\n"
     "      --require <WHAT>   good: end with 1 where no signature is good [possible values: good]\n"
+    "      --jobs <N>         how many threads verify, 1 to 64 [default: as many as there are processors]\n"
     "  -V, --version          Print the version\n"
     "  -h, --help             Print this help\n"
     "\n"
@@ -824,9 +577,11 @@ static int wrong(const struct task *task, const char *front, const char *word, c
     return 2;
 }
 
-/* An option that has a value: its name, as the help shows it, the values that it takes, if not any, and where its value goes. */
+/* An option that has a value: its name, as the help shows it, the values that it takes, if not any, whether it takes a number of jobs,
+ * and where its value goes. */
 struct option {
     const char *name, *shown, *values[2];
+    bool is_number;
     const char **value;
 };
 
@@ -841,7 +596,9 @@ static bool is_option_word(const struct option *option, const char *word)
 static int wrong_value(const struct option *option, const char *value)
 {
     const char *const more = option->values[1] ? ", " : "";
-    if (value) {
+    if (value && option->is_number) {
+        fprintf(stderr, "error: invalid value '%s' for '%s': %s is not in 1..=%d\n", value, option->shown, value, MOST_JOBS);
+    } else if (value) {
         fprintf(stderr, "error: invalid value '%s' for '%s'\n", value, option->shown);
     } else {
         fprintf(stderr, "error: a value is required for '%s' but none was supplied\n", option->shown);
@@ -858,7 +615,7 @@ static int take_value(const struct task *task, const struct option *option, char
 {
     size_t size = strlen(option->name);
     const char *word = **words, *next = (*words)[1], *value = word[size] == '=' ? word + size + 1 : NULL;
-    bool takes_any = !option->values[0];
+    bool takes_any = !option->values[0] && !option->is_number;
     if (!value && next && (next[0] != '-' || (takes_any && is_input(next)))) {
         value = *++*words;
     }
@@ -868,7 +625,7 @@ static int take_value(const struct task *task, const struct option *option, char
     if (!value || !value[0]) {
         return wrong_value(option, NULL);
     }
-    bool is_taken = takes_any;
+    bool is_taken = takes_any || (option->is_number && jobs_in(value) > 0);
     for (size_t i = 0; i < 2; i++) {
         is_taken = is_taken || (option->values[i] && strcmp(value, option->values[i]) == 0);
     }
@@ -883,10 +640,11 @@ static int take_value(const struct task *task, const struct option *option, char
 static int take_option(struct task *task, char ***words)
 {
     const struct option options[] = {
-        {"--policy", "--policy <POLICY>", {"usual", "any"}, &task->policy},
-        {"--require", "--require <WHAT>", {"good", NULL}, &task->require},
-        {"--signature", "--signature <SIG>", {NULL, NULL}, &task->signature},
-        {"--keyring", "--keyring <FILE>", {NULL, NULL}, &task->keyrings[task->keyring_count]},
+        {"--policy", "--policy <POLICY>", {"usual", "any"}, false, &task->policy},
+        {"--require", "--require <WHAT>", {"good", NULL}, false, &task->require},
+        {"--jobs", "--jobs <N>", {NULL, NULL}, true, &task->jobs},
+        {"--signature", "--signature <SIG>", {NULL, NULL}, false, &task->signature},
+        {"--keyring", "--keyring <FILE>", {NULL, NULL}, false, &task->keyrings[task->keyring_count]},
     };
     for (size_t i = 0; i < sizeof options / sizeof *options; i++) {
         if (is_option_word(&options[i], **words)) {
@@ -957,8 +715,7 @@ static int done(struct task *task, char **words)
     if (status != 0) {
         return status;
     }
-    /* What libcrypto keeps for all its calls is made here, since it doesn't stand without. */
-    if (!OSSL_LIB_CTX_get0_global_default() || was_refused) {
+    if (!arithmetic_stands()) {
         return said(3, "out of memory");
     }
     const char *name = task->name ? task->name : "-";
@@ -971,14 +728,13 @@ int main(int argc, char **argv)
     if (opgp_abi() != OPGP_ABI) {
         return said(3, "the library is of another version");
     }
-    /* A libcrypto that took memory when it was loaded keeps its own functions; then it must say itself what was refused. */
-    is_asked_here = CRYPTO_set_mem_functions(get, get_more, let_go) == 1;
+    arithmetic_begin();
     if (has_word(words, "-h", "--help")) {
         fputs(help, stderr);
         return 2;
     }
     if (has_word(words, "-V", "--version")) {
-        printf("opgp-verify %s, by %s\n", OPGP_VERSION, OpenSSL_version(OPENSSL_VERSION));
+        printf("opgp-verify %s, by %s\n", OPGP_VERSION, arithmetic_version());
         return fflush(stdout) ? said(3, "write failed") : 0;
     }
     struct task task = {.keyrings = calloc((size_t)argc + 1, sizeof(char *))};

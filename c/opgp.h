@@ -475,6 +475,55 @@ OPGP_API uint32_t opgp_ring_octets(opgp_ring *ring, uint64_t row, uint8_t *octet
 OPGP_API uint32_t opgp_ring_hashed(opgp_ring *ring, uint64_t first, uint64_t count, uint64_t most, opgp_hashed *rows,
                                    size_t row_room, uint8_t *bytes, size_t byte_room, opgp_sizes *sizes);
 
+/* Which hash algorithms and keys opgp_ring_standing relies on. The numbers never change. */
+enum {
+    OPGP_POLICY_USUAL = 0, /* not SHA-1, RSA below 2048 bits, DSA below 2048 and 224 bits, ECDSA below 224 bits */
+    OPGP_POLICY_ANY = 1    /* all */
+};
+
+/* Whether a key may be believed: the first reason why not. docs/VALIDITY.md has the rule. The numbers never change. */
+enum {
+    OPGP_BELIEVED = 0,    /* it may be */
+    OPGP_IN_FUTURE = 1,   /* the signature was made after the time at which it is read */
+    OPGP_REVOKED = 2,     /* the key is revoked, or its primary key is */
+    OPGP_EARLY = 3,       /* the signature is older than the key, or than its primary key */
+    OPGP_UNBOUND = 4,     /* nothing that counts binds the key to its certificate, or speaks for the primary key */
+    OPGP_EXPIRED = 5,     /* the key has expired, or its primary key has */
+    OPGP_NOT_SIGNING = 6, /* the key isn't said to be one that signs */
+    OPGP_UNBACKED = 7     /* a binding of the subkey has no good signature by the subkey that counts */
+};
+
+/* Says in *why whether a key may be believed for a signature that was made at one time and is read at another, in seconds since 1970.
+ * The key is a component of a certificate, by their numbers, or its primary key for OPGP_NONE. verdicts[0 .. count) are those on the
+ * rows of the jobs, in order: OPGP_GOOD, OPGP_BAD or OPGP_UNDECIDED. A row without one is undecided. For a key revocation whose why
+ * is OPGP_WHY_MISPLACED it is the verdict over the primary key alone: see opgp_ring_revocation.
+ *
+ * OPGP_DONE; OPGP_NO_ROW: there is no such key; OPGP_LIMITS: there is no such policy; OPGP_MEMORY; OPGP_CLOSED.
+ *
+ * Proved:
+ *
+ * - OPGP_DONE: *why is OPGP_BELIEVED if and only if the key is believed by the rule, else the first reason why not.
+ * - OPGP_NO_ROW is returned only if there is no such key.
+ * - With any status but OPGP_DONE *why is unchanged.
+ * - The handle holds what it held. */
+OPGP_API uint32_t opgp_ring_standing(opgp_ring *ring, const uint8_t *verdicts, size_t count, uint32_t policy, uint64_t certificate,
+                                     uint64_t component, uint64_t made, uint64_t now, uint8_t *why);
+
+/* Writes the digest of what the revocation of a primary key in a row of the jobs hashes to digest[0 .. room): that key alone, wherever
+ * in its certificate the revocation is (5.2.1.11). *size is how much that is, 64 octets at most. So it can be verified where the
+ * row's why is OPGP_WHY_MISPLACED, since somebody put it behind the whole certificate.
+ *
+ * OPGP_DONE, OPGP_ROOM, OPGP_CLOSED; OPGP_NO_ROW: the row has no such signature, or it isn't hashed. With the last two *size means
+ * nothing.
+ *
+ * Proved:
+ *
+ * - OPGP_DONE: the table begins with the digest of the octets that the standard says, and is otherwise as it was.
+ * - OPGP_NO_ROW is returned only if the row has no such signature, or it isn't hashed.
+ * - With any status but OPGP_DONE the table is unchanged.
+ * - The handle holds what it held. */
+OPGP_API uint32_t opgp_ring_revocation(opgp_ring *ring, uint64_t row, uint8_t *digest, size_t room, uint64_t *size);
+
 /* Writes the keyring's packets to text[0 .. room): bare if armor is 0, else as one block of armor. *size is how much that is.
  *
  * OPGP_DONE, OPGP_ROOM, OPGP_MEMORY, OPGP_CLOSED. With the last two *size means nothing.

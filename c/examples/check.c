@@ -1,5 +1,5 @@
 /* Verifies the Ed25519 signatures (RFC 9580, 5.2.3.4) of the keyring on standard input by OpenSSL's libcrypto. It prints the
- * number of each row and its verdict. opgp-verify.c has a verifier for more algorithms.
+ * number of each row and its verdict. verify-arithmetic.c asks for more algorithms.
  *
  *     cc check.c $(pkg-config --cflags --libs opgp libcrypto) -o check && ./check < keyring.asc */
 #include <opgp.h>

@@ -875,6 +875,54 @@ static void wrong_limits(void)
     holds(held == 0, "limits that are looked at hold nothing");
 }
 
+/* The digests of key revocations: where one is in its place, that of its job. */
+static void revocations(opgp_ring *ring, uint64_t count)
+{
+    opgp_ring none = {false, NULL};
+    opgp_sizes sizes = {0, 0};
+    uint8_t digest[64];
+    uint64_t n = 0;
+    opgp_ring_jobs(ring, NULL, 0, NULL, 0, &sizes);
+    opgp_job *jobs = calloc((size_t)count + 1, sizeof *jobs);
+    uint8_t *bytes = malloc((size_t)sizes.bytes + 1);
+    holds(opgp_ring_jobs(ring, jobs, (size_t)count, bytes, (size_t)sizes.bytes, &sizes) == OPGP_DONE, "jobs");
+    for (uint64_t row = 0; row < count; row++) {
+        const opgp_job *job = &jobs[row];
+        bool is_one = job->kind == OPGP_SIGNATURE_KEY_REVOCATION && job->nested == OPGP_NONE && job->version > 3;
+        uint32_t status = opgp_ring_revocation(ring, row, digest, sizeof digest, &n);
+        holds(status == OPGP_DONE || status == OPGP_NO_ROW, "a revocation");
+        holds(status == OPGP_NO_ROW || is_one, "a revocation of a primary key alone");
+        bool is_hashed = is_one && job->why == OPGP_WHY_HASHED;
+        holds(!is_hashed || (status == OPGP_DONE && n == job->digest_size && memcmp(digest, job->digest, n) == 0), "the digest of its job");
+        if (status == OPGP_DONE) {
+            TRY_OCTETS(opgp_ring_revocation(ring, row, octets, b, &again), "the digest of a revocation");
+        }
+    }
+    free(jobs);
+    free(bytes);
+    holds(opgp_ring_revocation(ring, count, digest, sizeof digest, &n) == OPGP_NO_ROW, "a revocation past the last row");
+    holds(opgp_ring_revocation(ring, UINT64_MAX, digest, sizeof digest, &n) == OPGP_NO_ROW, "a revocation of no row");
+    holds(opgp_ring_revocation(&none, 0, digest, sizeof digest, &n) == OPGP_CLOSED, "a revocation of a closed handle");
+}
+
+/* Of keys that nobody signed: there is no verdict. */
+static void standings(opgp_ring *ring)
+{
+    opgp_ring none = {false, NULL};
+    uint8_t why = 0xA5;
+    opgp_sizes sizes = {0, 0};
+    opgp_ring_keys(ring, NULL, 0, NULL, 0, &sizes);
+    const uint32_t wanted = sizes.rows > 0 ? OPGP_DONE : OPGP_NO_ROW;
+    holds(opgp_ring_standing(ring, NULL, 0, 2, 0, OPGP_NONE, 0, 0, &why) == OPGP_LIMITS && why == 0xA5, "no such policy");
+    holds(opgp_ring_standing(ring, NULL, 0, UINT32_MAX, UINT64_MAX, 0, 0, 0, &why) == OPGP_LIMITS && why == 0xA5, "no such policy or key");
+    holds(opgp_ring_standing(ring, NULL, 0, 0, UINT64_MAX, OPGP_NONE, 0, 0, &why) == OPGP_NO_ROW && why == 0xA5, "no such certificate");
+    holds(opgp_ring_standing(ring, NULL, 0, 0, 0, OPGP_NONE - 1, 0, 0, &why) == OPGP_NO_ROW && why == 0xA5, "no such component");
+    holds(opgp_ring_standing(&none, NULL, 0, 2, 0, OPGP_NONE, 0, 0, &why) == OPGP_CLOSED && why == 0xA5, "a key of a closed handle");
+    holds(opgp_ring_standing(ring, NULL, 0, 0, 0, OPGP_NONE, 1, 0, &why) == wanted && (wanted || why == OPGP_IN_FUTURE), "in future");
+    holds(opgp_ring_standing(ring, NULL, 0, 1, 0, OPGP_NONE, UINT64_MAX, UINT64_MAX, &why) == wanted && (wanted || why == OPGP_UNBOUND),
+          "a key that nobody signed");
+}
+
 static void rooms(void)
 {
     opgp_limits limits;
@@ -907,8 +955,10 @@ static void rooms(void)
             TRY_OCTETS(opgp_ring_octets(&ring, number, octets, b, &again), "octets");
         }
     }
+    revocations(&ring, sizes.rows);
     holds(opgp_ring_octets(&ring, sizes.rows, &byte, 0, &wanted) == OPGP_NO_ROW, "octets past the last row");
     holds(opgp_ring_octets(&ring, UINT64_MAX, &byte, 0, &wanted) == OPGP_NO_ROW, "octets of no row");
+    standings(&ring);
     try_limit(&ring, offsetof(opgp_limits, line), 128, UINT64_C(1) << 20);
     try_limit(&ring, offsetof(opgp_limits, body), 512, UINT32_MAX);
     try_limit(&ring, offsetof(opgp_limits, cert), 512, UINT64_C(1) << 40);
@@ -1322,10 +1372,33 @@ static void documents_wanting(void)
     wants_memory(document_everything);
 }
 
+/* Whether each primary key may be believed, until memory runs out. Then what was said stays, and so does what the handle holds. */
+static bool judge_everything(void)
+{
+    static const uint8_t verdicts[] = {OPGP_GOOD, OPGP_GOOD, OPGP_BAD, OPGP_UNDECIDED, 255, OPGP_GOOD};
+    const uint64_t now = UINT64_C(1) << 33;
+    opgp_limits limits;
+    opgp_ring ring = {false, NULL};
+    opgp_fault fault;
+    uint32_t status = OPGP_DONE;
+    opgp_usual_limits(&limits);
+    bool is_done = opgp_ring_open(in, size, &limits, &ring, &fault) == OPGP_DONE;
+    for (uint64_t certificate = 0; is_done && status != OPGP_NO_ROW; certificate++) {
+        uint8_t why = 0xA5;
+        status = opgp_ring_standing(&ring, verdicts, sizeof verdicts, OPGP_POLICY_USUAL, certificate, OPGP_NONE, now, now, &why);
+        is_done = status != OPGP_MEMORY;
+        holds(status == OPGP_DONE ? why <= OPGP_UNBACKED : (why == 0xA5 && (status == OPGP_MEMORY || status == OPGP_NO_ROW)) && ring.is_open,
+              "whether a key may be believed");
+    }
+    opgp_ring_close(ring);
+    return is_done;
+}
+
 static void memory(void)
 {
     wants_memory(everything);
     wants_memory(take_everything);
+    wants_memory(judge_everything);
     take_patiently();
     wants_memory(take_patiently);
 }
@@ -1614,6 +1687,7 @@ static void held_by_calls(void)
     opgp_ring_octets(&ring, 0, &byte, 0, &wanted);
     opgp_ring_write(&ring, 0, &byte, 0, &wanted);
     opgp_ring_write(&ring, 1, &byte, 0, &wanted);
+    opgp_ring_standing(&ring, NULL, 0, OPGP_POLICY_ANY, 0, OPGP_NONE, 0, 0, &byte);
     holds(opgp_ring_certificate(&ring, UINT64_MAX, &into) == OPGP_NO_ROW && !into.is_open, "no certificate");
     holds(held_octets == before, "calls that ask hold nothing more");
     holds(opgp_ring_open(octets, n - 1, &limits, &ring, &fault) == OPGP_REFUSED, "a refused input");

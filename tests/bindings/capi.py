@@ -177,7 +177,7 @@ def compiled(room):
     sources = [*glob.glob(f"{HERE}/c/*.c"), *glob.glob(f"{HERE}/c/examples/*.c")]
     if not has_libcrypto():
         left_out("libcrypto's headers")
-        sources = [it for it in sources if os.path.basename(it) not in ("opgp-verify.c", "check.c")]
+        sources = [it for it in sources if os.path.basename(it) not in ("opgp-verify.c", "verify-arithmetic.c", "check.c")]
     for compiler in compilers():
         for file in sources:
             ended = run(compiler, *STRICT, "-O2", "-c", file, "-o", f"{room}/object.o")

@@ -1,17 +1,20 @@
 #!/usr/bin/env python3
 """Tries opgp-verify --signature, which verifies detached signatures over a document, and says what a run must write to the octet.
 
-Usage: tests/bindings/verify.py [--program FILE]
+Usage: tests/bindings/verify.py [--program FILE --library FILE]
 
-The program is built as `make verifier` builds it, unless one is named. It verifies what RFC 9580 and sq signed, and where gpg is
+The program is built as `make verifier` builds it, unless one is named; so is libopgp.a, with which it is compiled for sanitizers too. It verifies what RFC 9580 and sq signed, and where gpg is
 installed what that signs here: by keys of each algorithm that it makes, of types 00 and 01, over documents of many forms. Each
 signature is then held against a document, a signature or a keyring that was changed. The digests that the lines show are worked out
 with Python's hashlib, by tests/lib/model.py. Signatures that nobody made, whose digest begins as they state, say what is undecided and
 why. Command lines, files that are refused or missing, full devices, memory that is refused and how much of it is taken are tried too.
+So are large keyrings, over which several threads go: what is written is the same with any number of them, also where some can't be
+started.
 What isn't here is said on standard error. The last line counts what was tried.
 """
 
 import argparse
+import functools
 import hashlib
 import os
 import re
@@ -388,12 +391,27 @@ def command_lines():
     ended = run("--signature", "x", "--keyring", "y", "--policy", "some")
     said = f"error: invalid value 'some' for '--policy <POLICY>'\n  [possible values: usual, any]\n{MORE}"
     verdict("no such policy", ended == (2, "", said), ended)
+    for value in ("0", "65", "00", "065", "+4", "-1", "4x", "x", "0x4", "1.5", " 4", "4 ", "18446744073709551617", "9" * 40):
+        ended = run(f"--jobs={value}", "--signature", "x", "--keyring", "y")
+        said = f"error: invalid value '{value}' for '--jobs <N>': {value} is not in 1..=64\n{MORE}"
+        verdict(f"{value} jobs", ended == (2, "", said), ended)
+    for value in ("1", "9", "10", "64", "01", "064"):
+        ended = run("--jobs", value, "--signature", f"{ROOM}/none", "--keyring", "y")
+        verdict(f"{value} jobs", ended == (3, "", f"opgp-verify: can't read '{ROOM}/none': No such file or directory\n"), ended)
+    for words, said in (
+        ("--jobs", "a value is required for '--jobs <N>' but none was supplied"), ("--jobs=", "a value is required for '--jobs <N>'"),
+        ("--jobs -1", "a value is required for '--jobs <N>' but none was supplied"), ("--jobs --jobs", "a value is required for '--jobs"),
+        ("--jobs 4 --jobs 4", "the argument '--jobs <N>' cannot be used multiple times"), ("--job 4", "unexpected argument '--job' found"),
+        ("--jobs4", "unexpected argument '--jobs4' found"), ("-j 4", "unexpected argument '-j' found"),
+    ):
+        ended = run(*words.split())
+        verdict(f"words {words}", ended[:2] == (2, "") and f"error: {said}" in ended[2], ended)
     status, out, told = run("--help")
     usage = USAGE.replace("Usage:", "      ").strip("\n")
     verdict("the help", (status, out) == (2, "") and f"G{NOT_JUDGED}." in told and f"[FILE]\n{usage}\n" in told, told)
     verdict("the help of --signature", run("--signature", "x", "-h") == (2, "", told))
     shown = re.findall(r"^ +(?:-\w, )?--(\w+)(?: <\w+>)?  +\w", told, re.M)
-    verdict("the options in the help", shown == ["signature", "keyring", "policy", "require", "version", "help"], shown)
+    verdict("the options in the help", shown == ["signature", "keyring", "policy", "require", "jobs", "version", "help"], shown)
 
 
 def refused():
@@ -500,13 +518,18 @@ def memory_wanting():
     usual = run(*words)
     verdict("a run over a keyring", usual[0] == 0 and usual[1].count(" undecided critical\n") == 2, usual)
     all_refused("a keyring", library, words, usual)
+    # And where several threads take memory at once.
+    words = ["--jobs=4", "--policy=any", kept("copies", copies(12)[0])]
+    usual = run(*words)
+    verdict("a run over copies of keyrings", usual[0] == 1 and len(usual[1].split(" verdict ")) > 256, usual[2])
+    all_refused("copies of keyrings", library, words, usual, 100)
 
 
-def all_refused(what, library, words, usual):
+def all_refused(what, library, words, usual, near=300):
     """Fails each allocation near the begin and the end of a run in turn, and of those between, which are libcrypto's, some."""
     count = refusing(library, 0, words)[1]
     verdict(f"allocations over {what}", count > 100, count)
-    for number in sorted({*range(1, 300), *range(300, count, max(1, count // 200)), *range(max(1, count - 300), count + 2)}):
+    for number in sorted({*range(1, near), *range(near, count, max(1, count // 200)), *range(max(1, count - near), count + 2)}):
         ended, _ = refusing(library, number, words)
         is_told = re.fullmatch("opgp-verify: (out of memory|can't read '.*': Cannot allocate memory)\n", ended[2])
         verdict(f"{what}, allocation {number} refused", ended == usual or (ended[:2] == (3, "") and is_told), ended)
@@ -520,6 +543,124 @@ def refusing(library, number, words):
         os.close(9)
         told.seek(0)
         return ended, int(told.read() or 0)
+
+
+# ---- Threads
+
+JOBS = (1, 2, 3, 4, 64)
+DEBIAN = ("/usr/share/keyrings/debian-keyring.gpg", "/usr/share/keyrings/debian-keyring.pgp")
+
+
+@functools.cache
+def of_algorithms():
+    """Certificates of each algorithm: the packets of each, and what is found of its rows by either policy."""
+    with open(f"{HERE}/tests/vectors/algorithms/verdicts.txt", encoding="ascii") as it:
+        told = [re.split(r" *\| *", line.strip()) for line in it if line[0] != "#"]
+    return [(packets_in(octets_of(f"{HERE}/tests/vectors/algorithms/{name}.gpg")), [it.split(" ; ") for it in found]) for name, *found in told]
+
+
+def copies(count):
+    """A keyring that has those certificates so many times, what is found of its rows by either policy, and of how many rows a key is asked.
+    The first signature in one of three copies was changed; in another it states of its digest what isn't so, and no key is asked."""
+    octets, found, asked = b"", {"usual": [], "any": []}, 0
+    for number in range(count):
+        for packets, rows in of_algorithms():
+            packets = [*packets]
+            at = next(at for at, (kind, _) in enumerate(packets) if kind == 2)
+            body = packets[at][1]
+            packets[at] = 2, (body, flipped(body, len(body) - 1), flipped(body, place_of_left(body)))[number % 3]
+            octets += b"".join(packet(body, kind) for kind, body in packets)
+            for policy, (first, *others) in zip(found, rows):
+                found[policy] += ["bad" if number % 3 == 2 or (number % 3 == 1 and first == "good") else first, *others]
+            asked += len(rows[0]) - (number % 3 == 2)
+    return octets, found, asked
+
+
+def threads():
+    """With any number of threads the same is written, octet for octet."""
+    for count in (1, 5, 12, 30):
+        octets, found, _ = copies(count)
+        path = kept("copies", octets)
+        for policy, wanted_rows in found.items():
+            usual = run("--policy", policy, "--jobs=1", path)
+            verdict(f"{count} copies, {policy}", re.findall(r" verdict (.*)\n", usual[1]) == wanted_rows, usual)
+            for jobs in (*JOBS, None):
+                ended = run("--policy", policy, *([f"--jobs={jobs}"] if jobs else []), path)
+                verdict(f"{count} copies, {policy}, by {jobs or 'the usual'} jobs", ended == usual, (ended[0], ended[2]))
+    for octets in (b"", packet(b"text", 13), octets_of(f"{HERE}/examples/rfc9580-a1.asc"), b"\xcd\1a", b"\xc6\1\3"):
+        path = kept("other", octets)
+        told = {run("--jobs", str(jobs), path) for jobs in JOBS}
+        verdict(f"{octets[:20]} by any number of jobs", len(told) == 1, told)
+    it = next(examples())
+    good = bodies_in(it.octets)[0]
+    them, found = (packet(good) + packet(flipped(good, len(good) - 1))) * 32, ["good", "bad"] * 32
+    for jobs in JOBS:
+        holds(f"64 signatures, {jobs} jobs", them, [it.keyring], it.document, found, "--jobs", str(jobs))
+
+
+def debian_keyring():
+    """Debian's keyring by any number of threads."""
+    path = next(filter(os.path.exists, DEBIAN), None)
+    if not path:
+        left_out("Debian's keyring (debian-keyring)")
+        return
+    for policy, several_jobs in (("usual", (4,)), ("any", JOBS[1:])):
+        usual = run("--policy", policy, "--jobs=1", path)
+        verdict(f"Debian's keyring, {policy}", usual[0] in (0, 1) and usual[1].count(" good\n") > 10_000, usual[2])
+        for jobs in several_jobs:
+            ended = run("--policy", policy, f"--jobs={jobs}", path)
+            verdict(f"Debian's keyring, {policy}, by {jobs} jobs", ended == usual, (ended[0], ended[2]))
+
+
+def threads_refused():
+    """How many threads are started; and where fewer can be, those that there are do the work."""
+    library = f"{ROOM}/threads.so"
+    made = subprocess.run(["cc", "-O1", "-shared", "-fPIC", "-o", library, f"{HERE}/tests/lib/threads.c", "-ldl"], capture_output=True,
+                          check=False)
+    verdict("tests/lib/threads.c", made.returncode == 0, made.stderr)
+    here = len(os.sched_getaffinity(0))
+    for count in (1, 6, 20):
+        octets, _, asked = copies(count)
+        most = max(1, asked // 64)
+        path = kept("copies", octets)
+        usual = run("--jobs=1", path)
+        for jobs in (*JOBS, None):
+            wanted_ones = min(jobs or min(here, 64), most) - 1
+            for allowed in (64, 0, 2):
+                ended, asked_for = threaded(library, allowed, [*([f"--jobs={jobs}"] if jobs else []), path])
+                verdict(f"{count} copies, {jobs} jobs, {allowed} threads allowed", ended == usual and asked_for == min(wanted_ones, allowed + 1),
+                        (ended[0], ended[2], asked_for, wanted_ones))
+    ended, asked_for = threaded(library, 64, [path], preexec_fn=lambda: os.sched_setaffinity(0, [min(os.sched_getaffinity(0))]))
+    verdict("threads on one processor", ended == usual and asked_for == 0, (ended[0], ended[2], asked_for))
+
+
+def threaded(library, allowed, words, **how):
+    """The end of a run that may start so many threads, and how many it asks for."""
+    with tempfile.TemporaryFile() as told:
+        os.dup2(told.fileno(), 9)
+        ended = run(*words, env={**os.environ, "LD_PRELOAD": library, "THREADS": str(allowed)}, pass_fds=(9,), **how)
+        os.close(9)
+        told.seek(0)
+        return ended, int(told.read() or 0)
+
+
+def by_sanitizers(archive):
+    """No thread uses memory that another one does at the same time, or that isn't its own; and none is left behind."""
+    octets, _, _ = copies(14)
+    path = kept("copies", octets)
+    for kind in ("thread", "address,undefined"):
+        program = f"{ROOM}/opgp-verify.{kind}"
+        sources = [f"{HERE}/c/{it}" for it in ("opgp-verify.c", "verify-arithmetic.c")]
+        words = ["cc", "-std=c11", "-O1", "-g", "-pthread", f"-fsanitize={kind}", "-fno-sanitize-recover=all", f"-I{HERE}/c", *sources, archive]
+        made = subprocess.run([*words, "-lcrypto", "-o", program], capture_output=True, check=False)
+        if made.returncode or subprocess.run([program, "-V"], capture_output=True, check=False).returncode:
+            left_out(f"the sanitizer {kind}: {made.stderr.decode()[-200:]}")
+            continue
+        for policy in ("usual", "any"):
+            for jobs in (1, 4, 64):
+                words = ["--policy", policy, "--jobs", str(jobs), path]
+                ended, usual = subprocess.run([program, *words], capture_output=True, text=True, check=False, timeout=SECONDS), run(*words)
+                verdict(f"sanitizer {kind}, {policy}, {jobs} jobs", (ended.returncode, ended.stdout, ended.stderr) == usual, ended.stderr)
 
 
 def by_valgrind():
@@ -717,29 +858,32 @@ def with_gpg():
 
 
 def built():
-    """opgp-verify, as `make verifier` builds it; None where it can't be, which is told."""
+    """opgp-verify, as `make verifier` builds it, and libopgp.a beside it; None where they can't be, which is told."""
     if subprocess.run(["cc", "-E", "-include", "openssl/core_names.h", "-x", "c", os.devnull], capture_output=True, check=False).returncode:
         left_out("libcrypto's headers, and so opgp-verify")
-        return None
+        return None, None
     words = ["make", "-C", HERE, f"{ROOM}/made/opgp-verify", f"made={ROOM}/made"]
     made = subprocess.run(words, capture_output=True, text=True, check=False)
     verdict("make opgp-verify", made.returncode == 0, made.stderr)
-    return f"{ROOM}/made/opgp-verify" if made.returncode == 0 else None
+    return (f"{ROOM}/made/opgp-verify", f"{ROOM}/made/libopgp.a") if made.returncode == 0 else (None, None)
 
 
 def main():
     global PROGRAM, ROOM
     words = argparse.ArgumentParser(prog="tests/bindings/verify.py", description=__doc__.split("\n\n", maxsplit=1)[0])
     words.add_argument("--program")
+    words.add_argument("--library")
     words = words.parse_args()
     resource.setrlimit(resource.RLIMIT_CORE, (0, 0))
     with tempfile.TemporaryDirectory() as room:
         ROOM = room
-        PROGRAM = os.path.abspath(words.program) if words.program else built()
+        PROGRAM, archive = (os.path.abspath(words.program), words.library) if words.program else built()
         if PROGRAM:
             for part in (of_others, changed_signatures, several, critical, undecided, keyrings, streams, command_lines, refused, devices,
-                         memory, memory_wanting, by_valgrind, with_gpg):
+                         memory, memory_wanting, threads, debian_keyring, threads_refused, by_valgrind, with_gpg):
                 part()
+        if archive:
+            by_sanitizers(os.path.abspath(archive))
     print(f"{passed} passed, {failed} failed")
     return int(failed > 0)
 

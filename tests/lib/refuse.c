@@ -12,7 +12,7 @@ static long refused, growths;
 static int counts;
 
 static int refuses(void) {
-    if (!counts || ++growths != refused) return 0;
+    if (!counts || __atomic_add_fetch(&growths, 1, __ATOMIC_RELAXED) != refused) return 0;
     errno = ENOMEM;
     return 1;
 }

@@ -50,6 +50,7 @@ mod signed;
 mod signed_tables;
 mod sizes;
 mod slot;
+pub mod standings;
 mod status;
 mod tables;
 mod text;

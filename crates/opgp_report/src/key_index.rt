@@ -157,7 +157,7 @@ impl KeyIndex {
     }
 
     /// The fingerprint of the first key that has this name.
-    pub(crate) fn print_named(&self, name: IssuerName) -> Option<Fingerprint>
+    pub fn print_named(&self, name: IssuerName) -> Option<Fingerprint>
         ensures { result ≡ print_named (prints_shown self.now) (name_value name) }
     {
         match self.find(name) {

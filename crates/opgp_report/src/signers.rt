@@ -125,8 +125,8 @@ pub fn index_keys(alloc: Global, keyring: &Keyring) -> Result<KeyIndex, OutOfMem
     Ok(names)
 }
 
-/// The fingerprint of a key.
-pub(crate) fn print_of(key: &KeyView<'_>) -> Fingerprint
+/// The fingerprint of a key (RFC 9580, 5.5.4). Hashes the key.
+pub fn print_of(key: &KeyView<'_>) -> Fingerprint
     ensures { result ≡ print_of (body_octets key.now) }
 {
     // Called for their contracts, which tie the version that is hashed to the body's first octet.

@@ -214,8 +214,11 @@ fn visit_components<'a, V: Visitor<'a>>(
     Ok(())
 }
 
-/// Visits the signatures of the certificate of this number.
-pub(crate) fn visit_certificate<'a, V: Visitor<'a>>(
+/// Visits the signatures of one certificate, which gets this number in their places. Allocates
+/// nothing itself, and hashes nothing that the visitor doesn't ask for.
+///
+/// The error is what stops the visitor.
+pub fn visit_certificate<'a, V: Visitor<'a>>(
     visitor: &mut V,
     number: usize,
     certificate: &'a Certificate,

@@ -1,0 +1,13 @@
+pub mod Alike
+pub mod Among
+pub mod Areas
+pub mod Asked
+pub mod Changing
+pub mod Finding
+pub mod FoundKeys
+pub mod Members
+pub mod Newest
+pub mod Orders
+pub mod Rule
+pub mod Sayings
+pub mod Verdicts

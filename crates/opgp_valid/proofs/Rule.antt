@@ -1,0 +1,184 @@
+-- The rule, by the facts that it says.
+use Rattle.std.proofs.Common.{◌≡◌, ◌∙◌, ◌↔◌, inl, inr, ℕ, ◌+◌, ◌==◌, nat_lt, List, [], ◌∷◌, Bool, true, false, not, cond, Option, Some, None, refl, sym, ap}
+use Rattle.std.specs.List.{Contains}
+use Rattle.std.proofs.lemmas.Bool.{eq-eqb, eqb-true, false≢true, le-ltb, leb-false, lt-leb, ltb-false, or_from, or_parts, true≢false}
+use Rattle.std.proofs.lemmas.List.Elements.{Contains-append_cases, Contains-append_left, Contains-append_right}
+use Rattle.opgp_octets.specs.declared.signature_type.SignatureType.{SignatureType}
+use Rattle.opgp_octets.specs.declared.signature_type.SignatureType.TheVariants as types
+use Rattle.opgp_valid.specs.Saying.{is_nonempty}
+use Rattle.opgp_valid.specs.Speaking.{end_in, newest, uses_in}
+use Rattle.opgp_valid.specs.Standing.{applies, created_of, has_ended, is_expired_at, is_revocation_of, is_revoked, is_unbacked_at, is_unbound_at, may_not_sign_at, own_speakers, primary_speakers, revokes, standing_of}
+use Rattle.opgp_valid.specs.Statement.{end_of, has_back}
+use Rattle.opgp_valid.specs.Stands.{IsBacked, IsHeard, IsNewest, Lasts, Revokes, Stands, StandsAt}
+use Rattle.opgp_valid.specs.Facts.{FactsValue}
+use Rattle.opgp_valid.specs.declared.facts.Key.{Key}
+use Rattle.opgp_valid.specs.declared.facts.Key.TheVariants as key
+use Rattle.opgp_valid.specs.declared.group.Group.TheVariants.{Direct, Certifications, Bindings}
+use Rattle.opgp_valid.specs.declared.statement.Statement.{Statement}
+use Rattle.opgp_valid.specs.declared.why.Why.TheVariants.{Future, Revoked, Early, Unbound, Expired, Flags, Back}
+use Rattle.opgp_valid.proofs.Alike.{ended_some, not_all, not_signing}
+use Rattle.opgp_valid.proofs.Members.{member_here, none_in, none_passes, passes_none}
+use Rattle.opgp_valid.proofs.Newest.{from_force, in_force, is_the_one, newest_is_newest, the_is}
+
+-- ---- what revokes a key
+revokes_is : (k : Key) (t : SignatureType) (component : Option ℕ) (s : Statement) → s.kind ≡ t → s.component ≡ component → is_revocation_of k t component ≡ true → Revokes k s
+revokes_is key.Primary types.KeyRevocation component s e o h = e
+revokes_is (key.Subkey n created) types.KeyRevocation component s e o h = inl e
+revokes_is key.Primary types.SubkeyRevocation component s e o h = absurd (false≢true h)
+revokes_is (key.Subkey n created) types.SubkeyRevocation component s e o h = inr (e, o ∙ the_is n component h)
+revokes_is k other component s e o h = absurd (false≢true h)
+
+is_revokes : (k : Key) (s : Statement) → Revokes k s → revokes k s ≡ true
+is_revokes key.Primary s e = ap (λ t. is_revocation_of key.Primary t s.component) e
+is_revokes (key.Subkey n created) s (inl e) = ap (λ t. is_revocation_of (key.Subkey n created) t s.component) e
+is_revokes (key.Subkey n created) s (inr (e, o)) = ap (λ t. is_revocation_of (key.Subkey n created) t s.component) e ∙ is_the_one n s.component o
+
+unrevoked : (f : FactsValue) (k : Key) → is_revoked f k ≡ false → (s : Statement) → Contains f.statements s → Revokes k s → ⊥
+unrevoked f k e s h r = true≢false (sym (is_revokes k s r) ∙ none_passes (revokes k) f.statements e s h)
+
+is_unrevoked : (f : FactsValue) (k : Key) → ((s : Statement) → Contains f.statements s → Revokes k s → ⊥) → is_revoked f k ≡ false
+is_unrevoked f k h = passes_none (revokes k) f.statements (λ s c. other s c (revokes k s) refl) where
+  other : (s : Statement) → Contains f.statements s → (t : Bool) → revokes k s ≡ t → t ≡ false
+  other s c true e = absurd (h s c (revokes_is k s.kind s.component s refl refl e))
+  other s c false e = refl
+
+-- ---- who is heard
+module _ (f : FactsValue) (at : ℕ) (s : Statement) where
+  heard_primary : Contains (primary_speakers f at) s → IsHeard f key.Primary at s
+  heard_primary h = elim (Contains-append_cases (newest Direct at f.statements) _ s h) [ inl a ↦ inl ((newest_is_newest Direct at f.statements s).0 a) | inr b ↦ inr (certified (f.version == 4) refl b) ] where
+    certified : (t : Bool) → (f.version == 4) ≡ t → Contains (cond t (newest Certifications at f.statements) []) s → (f.version ≡ 4) × IsNewest Certifications at f.statements s
+    certified true e c = (eqb-true f.version 4 e, (newest_is_newest Certifications at f.statements s).0 c)
+    certified false e c = absurd (none_in s c)
+
+  primary_heard : IsHeard f key.Primary at s → Contains (primary_speakers f at) s
+  primary_heard (inl h) = Contains-append_left (newest Direct at f.statements) _ s ((newest_is_newest Direct at f.statements s).1 h)
+  primary_heard (inr h) = Contains-append_right (newest Direct at f.statements) _ s (rw (eq-eqb f.version 4 h.0) ((newest_is_newest Certifications at f.statements s).1 h.1))
+
+  heard : (k : Key) → Contains (own_speakers f k at) s → IsHeard f k at s
+  heard key.Primary h = heard_primary h
+  heard (key.Subkey n created) h = (newest_is_newest (Bindings n) at f.statements s).0 h
+
+  is_heard : (k : Key) → IsHeard f k at s → Contains (own_speakers f k at) s
+  is_heard key.Primary h = primary_heard h
+  is_heard (key.Subkey n created) h = (newest_is_newest (Bindings n) at f.statements s).1 h
+
+-- ---- what they say
+some_said : (ss : List Statement) → not (is_nonempty ss) ≡ false → (s : Statement) × Contains ss s
+some_said [] e = absurd (true≢false e)
+some_said (s ∷ ss) e = (s, member_here s ss)
+
+said_some : (ss : List Statement) (s : Statement) → Contains ss s → not (is_nonempty ss) ≡ false
+said_some [] s h = absurd (none_in s h)
+said_some (r ∷ ss) s h = refl
+
+lasts_is : (at created : ℕ) (s : Statement) → has_ended at (end_of created s) ≡ false → Lasts created at s
+lasts_is at created s = step (s.key_lasts == 0) refl where
+  step : (t : Bool) → (s.key_lasts == 0) ≡ t → has_ended at (cond t None (Some (created + s.key_lasts))) ≡ false → Lasts created at s
+  step true e h = inl (eqb-true s.key_lasts 0 e)
+  step false e h = inr (leb-false (created + s.key_lasts) at h)
+
+is_lasts : (at created : ℕ) (s : Statement) → Lasts created at s → has_ended at (end_of created s) ≡ false
+is_lasts at created s (inl e) = rw (eq-eqb s.key_lasts 0 e) refl
+is_lasts at created s (inr l) = step (s.key_lasts == 0) where
+  step : (t : Bool) → has_ended at (cond t None (Some (created + s.key_lasts))) ≡ false
+  step true = refl
+  step false = lt-leb (created + s.key_lasts) at l
+
+signs_is : (b : Bool) → not b ≡ false → b ≡ true
+signs_is true e = refl
+signs_is false e = absurd (true≢false e)
+
+each_lasts : (at created : ℕ) (ss : List Statement) → has_ended at (end_in created ss) ≡ false → (s : Statement) → Contains ss s → Lasts created at s
+each_lasts at created ss e s h = lasts_is at created s (none_passes (λ r. has_ended at (end_of created r)) ss (sym (ended_some at created ss) ∙ e) s h)
+
+lasts_each : (at created : ℕ) (ss : List Statement) → ((s : Statement) → Contains ss s → Lasts created at s) → has_ended at (end_in created ss) ≡ false
+lasts_each at created ss h = ended_some at created ss ∙ passes_none (λ r. has_ended at (end_of created r)) ss (λ s c. is_lasts at created s (h s c))
+
+each_signs : (ss : List Statement) → not (uses_in ss).sign ≡ false → (s : Statement) → Contains ss s → s.uses.sign ≡ true
+each_signs ss e s h = signs_is s.uses.sign (none_passes (λ r. not r.uses.sign) ss (sym (not_signing ss) ∙ e) s h)
+
+signs_each : (ss : List Statement) → ((s : Statement) → Contains ss s → s.uses.sign ≡ true) → not (uses_in ss).sign ≡ false
+signs_each ss h = not_signing ss ∙ passes_none (λ r. not r.uses.sign) ss (λ s c. ap not (h s c))
+
+module _ (f : FactsValue) (at : ℕ) where
+  each_backed : (k : Key) → is_unbacked_at f k at ≡ false → (s : Statement) → IsHeard f k at s → IsBacked k at s
+  each_backed key.Primary e s h = tt
+  each_backed (key.Subkey n created) e s h =
+      let ss : List Statement = own_speakers f (key.Subkey n created) at in
+      in_force at s.back (signs_is (has_back at s) (none_passes (λ r. not (has_back at r)) ss (sym (not_all (has_back at) ss) ∙ e) s (is_heard f at s (key.Subkey n created) h)))
+
+  backed_each : (k : Key) → ((s : Statement) → IsHeard f k at s → IsBacked k at s) → is_unbacked_at f k at ≡ false
+  backed_each key.Primary h = refl
+  backed_each (key.Subkey n created) h =
+      let ss : List Statement = own_speakers f (key.Subkey n created) at in
+      not_all (has_back at) ss ∙ passes_none (λ r. not (has_back at r)) ss (λ s c. ap not (from_force at s.back (h s (heard f at s (key.Subkey n created) c))))
+
+  module _ (k : Key) where
+    stands_at : is_unbound_at f k at ≡ false → is_expired_at f k at ≡ false → may_not_sign_at f k at ≡ false → is_unbacked_at f k at ≡ false → StandsAt f k at
+    stands_at u e g b =
+        let said = or_parts (not (is_nonempty (primary_speakers f at))) (not (is_nonempty (own_speakers f k at))) u in
+        let last = or_parts (has_ended at (end_in f.created (primary_speakers f at))) (has_ended at (end_in (created_of f k) (own_speakers f k at))) e in
+        let p = some_said (primary_speakers f at) said.0 in
+        let o = some_said (own_speakers f k at) said.1 in
+        record {
+          primary_said = (p.0, heard_primary f at p.0 p.1);
+          said = (o.0, heard f at o.0 k o.1);
+          primary_lasts = λ s h. each_lasts at f.created (primary_speakers f at) last.0 s (primary_heard f at s h);
+          lasts = λ s h. each_lasts at (created_of f k) (own_speakers f k at) last.1 s (is_heard f at s k h);
+          signs = λ s h. each_signs (own_speakers f k at) g s (is_heard f at s k h);
+          backed = each_backed k b;
+        }
+
+    unbound : StandsAt f k at → is_unbound_at f k at ≡ false
+    unbound h = or_from _ _ (said_some (primary_speakers f at) h.primary_said.0 (primary_heard f at h.primary_said.0 h.primary_said.1)) (said_some (own_speakers f k at) h.said.0 (is_heard f at h.said.0 k h.said.1))
+
+    unexpired : StandsAt f k at → is_expired_at f k at ≡ false
+    unexpired h = or_from _ _ (lasts_each at f.created (primary_speakers f at) (λ s c. h.primary_lasts s (heard_primary f at s c))) (lasts_each at (created_of f k) (own_speakers f k at) (λ s c. h.lasts s (heard f at s k c)))
+
+    may_sign : StandsAt f k at → may_not_sign_at f k at ≡ false
+    may_sign h = signs_each (own_speakers f k at) (λ s c. h.signs s (heard f at s k c))
+
+-- ---- the first reason
+first_none : {A : Type 0} (b : Bool) (x : A) (o : Option A) → cond b (Some x) o ≡ None → (b ≡ false) × (o ≡ None)
+first_none true x o e = absurd (cc)
+first_none false x o e = (refl, e)
+
+none_first : {A : Type 0} (b : Bool) (x : A) (o : Option A) → b ≡ false → o ≡ None → cond b (Some x) o ≡ None
+none_first b x o e n = rw e n
+
+module _ (f : FactsValue) (k : Key) (made now : ℕ) where
+  none_stands : standing_of f k made now ≡ None → Stands f k made now
+  none_stands h =
+      let a = first_none (applies f k made now Future) Future _ h in
+      let b = first_none (applies f k made now Revoked) Revoked _ a.1 in
+      let c = first_none (applies f k made now Early) Early _ b.1 in
+      let d = first_none (applies f k made now Unbound) Unbound _ c.1 in
+      let e = first_none (applies f k made now Expired) Expired _ d.1 in
+      let g = first_none (applies f k made now Flags) Flags _ e.1 in
+      let i = first_none (applies f k made now Back) Back None g.1 in
+      let early = or_parts (nat_lt made f.created) (nat_lt made (created_of f k)) c.0 in
+      let u = or_parts (is_unbound_at f k made) (is_unbound_at f k now) d.0 in
+      let x = or_parts (is_expired_at f k made) (is_expired_at f k now) e.0 in
+      let m = or_parts (may_not_sign_at f k made) (may_not_sign_at f k now) g.0 in
+      let n = or_parts (is_unbacked_at f k made) (is_unbacked_at f k now) i.0 in
+      record {
+        past = ltb-false now made a.0;
+        unrevoked = unrevoked f k b.0;
+        primary_created = ltb-false made f.created early.0;
+        created = ltb-false made (created_of f k) early.1;
+        stood = stands_at f made k u.0 x.0 m.0 n.0;
+        stands = stands_at f now k u.1 x.1 m.1 n.1;
+      }
+
+  stands_none : Stands f k made now → standing_of f k made now ≡ None
+  stands_none h =
+      none_first _ _ _ (le-ltb now made h.past)
+      (none_first _ _ _ (is_unrevoked f k h.unrevoked)
+      (none_first _ _ _ (or_from _ _ (le-ltb made f.created h.primary_created) (le-ltb made (created_of f k) h.created))
+      (none_first _ _ _ (or_from _ _ (unbound f made k h.stood) (unbound f now k h.stands))
+      (none_first _ _ _ (or_from _ _ (unexpired f made k h.stood) (unexpired f now k h.stands))
+      (none_first _ _ _ (or_from _ _ (may_sign f made k h.stood) (may_sign f now k h.stands))
+      (none_first _ _ _ (or_from _ _ (backed_each f made k h.stood.backed) (backed_each f now k h.stands.backed)) refl))))))
+
+pub standing_is_stands : (f : FactsValue) (k : Key) (made now : ℕ) → (standing_of f k made now ≡ None) ↔ Stands f k made now
+standing_is_stands f k made now = (none_stands f k made now, stands_none f k made now)

@@ -1,0 +1,244 @@
+-- What the signatures of a certificate say, by the verdicts on them.
+use Rattle.std.specs.Prelude.{ℕ, Bool, true, false, ◌&&◌, ◌||◌, ◌==◌, if◌then◌else◌, List, [], ◌∷◌}
+use Rattle.std.specs.Prelude.{◌++◌, map, Option, Some, None, is_some, is_none, is_ok, not}
+use Rattle.std.specs.Prelude.{Result, Ok, Err}
+use Rattle.std.specs.List.{flat_map, fold}
+use Rattle.std.specs.Option.{option_map}
+use Rattle.opgp_octets.specs.SignatureType.{signature_type_of}
+use Rattle.opgp_octets.specs.declared.fault.BodyFault.{BodyFault}
+use Rattle.opgp_octets.specs.declared.signature_type.SignatureType.{SignatureType}
+use Rattle.opgp_octets.specs.declared.signature_type.SignatureType.TheVariants as types
+use Rattle.opgp_octets.specs.declared.subpacket_kind.SubpacketKind.TheVariants as kind
+use Rattle.opgp_packet.specs.Areas.{hashed_subs, unhashed_subs}
+use Rattle.opgp_packet.specs.SignatureBody.{SignatureValue, signature_at}
+use Rattle.opgp_packet.specs.Subpackets.{Sub}
+use Rattle.opgp_hash.specs.Asking.{ask_at_of}
+use Rattle.opgp_hash.specs.Fingerprint.{print_octets, print_version}
+use Rattle.opgp_hash.specs.SignedValue.{SignedValue, signed_of}
+use Rattle.opgp_hash.specs.SubjectValue.{SubjectValue, one, two}
+use Rattle.opgp_hash.specs.SubjectValue.{first_key}
+use Rattle.opgp_hash.specs.declared.fingerprints.Fingerprint.{Fingerprint}
+use Rattle.opgp_hash.specs.declared.fingerprints.Fingerprint.TheVariants.{Four}
+use Rattle.opgp_hash.specs.declared.site.Site.{Site}
+use Rattle.opgp_hash.specs.declared.site.Site.TheVariants.{Hung}
+use Rattle.opgp_ring.specs.Keyring.{CertificateValue}
+use Rattle.opgp_report.specs.First.{first_by_print, has_print, print_of}
+use Rattle.opgp_report.specs.Standing.{Standing, certificate_standing}
+use Rattle.opgp_report.specs.declared.place.Place.{Place}
+use Rattle.opgp_report.specs.declared.verifier.Verdict.{Verdict}
+use Rattle.opgp_report.specs.declared.verifier.Verdict.TheVariants as verdict
+use Rattle.opgp_valid.specs.Group.{certifies, is_direct}
+use Rattle.opgp_valid.specs.KnownKeys.{issuer_among}
+use Rattle.opgp_valid.specs.Policy.{relies_on}
+use Rattle.opgp_valid.specs.Subpackets.{at_most_one, has_unknown_critical, lasts_in, made_in}
+use Rattle.opgp_valid.specs.Subpackets.{reason_in, revokers_in, uses_in_area}
+use Rattle.opgp_valid.specs.declared.known_keys.Known.{Known}
+use Rattle.opgp_valid.specs.declared.policy.Policy.{Policy}
+use Rattle.opgp_valid.specs.declared.statement.Author.{Author}
+use Rattle.opgp_valid.specs.declared.statement.Author.TheVariants as author
+use Rattle.opgp_valid.specs.declared.statement.Life.{Life}
+use Rattle.opgp_valid.specs.declared.statement.Statement.{Statement}
+
+-- ---- what a signature is
+-- its type and its hash algorithm, in versions 4 and 6 (RFC 9580, 5.2.3)
+abbrev pub type_by : Option SignedValue → SignatureType
+type_by None = types.Other 0
+type_by (Some s) = signature_type_of s.kind
+
+abbrev pub type_in : SignatureValue → SignatureType
+type_in v = type_by (signed_of v)
+
+abbrev pub hash_by : Option SignedValue → ℕ
+hash_by None = 0
+hash_by (Some s) = s.hash
+
+abbrev pub hash_in : SignatureValue → ℕ
+hash_in v = hash_by (signed_of v)
+
+-- from when it counts, and how long (5.2.3.11, 5.2.3.18)
+abbrev pub life_by : ℕ → ℕ → Life
+life_by lasts made = record { made = made; lasts = lasts }
+
+abbrev pub life_of : List Sub → Option Life
+life_of subs = option_map (life_by (lasts_in kind.Expires subs)) (made_in subs)
+
+abbrev pub life_in : SignatureValue → Option Life
+life_in v = life_of (hashed_subs v)
+
+-- ---- what it is made over
+abbrev pub revokes_key : SignatureType → Bool
+revokes_key types.KeyRevocation = true
+revokes_key other = false
+
+abbrev pub is_asked_alone : Option (List ℕ) → SignatureValue → Bool
+is_asked_alone None v = false
+is_asked_alone (Some primary) v = is_ok (ask_at_of Hung v (one primary))
+
+-- it is hashed where it is; or it is a revocation of the primary key on a component, and hashes the
+-- primary key alone all the same (5.2.1.11, 5.2.4)
+abbrev pub is_asked : Site → Place → SubjectValue → SignatureValue → Bool
+is_asked site place subject v = is_ok (ask_at_of site v subject)
+    || ((is_none place.nested && revokes_key (type_in v)) && is_asked_alone (first_key subject) v)
+
+abbrev pub is_good_verdict : Verdict → Bool
+is_good_verdict verdict.Good = true
+is_good_verdict verdict.Bad = false
+is_good_verdict verdict.Undecided = false
+
+-- it is good by arithmetic, over what it is made over
+abbrev pub is_right : Site → Place → SubjectValue → Verdict → SignatureValue → Bool
+is_right site place subject found v = is_good_verdict found && is_asked site place subject v
+
+abbrev pub is_genuine : Standing → Verdict → SignatureValue → Bool
+is_genuine s found v = is_right s.site s.place s.subject found v
+
+-- ---- who made it
+abbrev pub is_print : Fingerprint → Option Known → Bool
+is_print print None = false
+is_print print (Some k) = has_print (print_version print) (print_octets print) k.print
+
+abbrev pub is_print_among : List Fingerprint → Option Known → Bool
+is_print_among prints None = false
+is_print_among prints (Some k) =
+    is_some (first_by_print (print_version k.print) (print_octets k.print) prints)
+
+abbrev pub relies_with : Policy → ℕ → Option Known → Bool
+relies_with policy hash None = false
+relies_with policy hash (Some k) = relies_on policy hash k.is_strong
+
+-- signatures that may name keys which may revoke (5.2.3.23)
+abbrev pub names_revokers : SignatureType → Bool
+names_revokers t = is_direct t || certifies t
+
+abbrev pub second_key : SubjectValue → Option (List ℕ)
+second_key (two primary subkey) = Some subkey
+second_key other = None
+
+abbrev pub is_by_subkey : Option (List ℕ) → Option Known → Bool
+is_by_subkey None k = false
+is_by_subkey (Some subkey) k = is_print (print_of subkey) k
+
+-- ---- with verdicts
+-- each signature with its verdict, in order; where there is none it is undecided
+abbrev pub first_verdict : List Verdict → Verdict
+first_verdict [] = verdict.Undecided
+first_verdict (found ∷ founds) = found
+
+abbrev pub rest_of : {A : Type 0} → List A → List A
+rest_of [] = []
+rest_of (x ∷ xs) = xs
+
+abbrev pub with_verdicts : List Verdict → List Standing → List (Standing × Verdict)
+with_verdicts founds [] = []
+with_verdicts founds (s ∷ ss) = (s, first_verdict founds) ∷ with_verdicts (rest_of founds) ss
+
+-- the last item, changed
+abbrev pub change_last : {A : Type 0} → (A → A) → List A → List A
+change_last f [] = []
+change_last f (x ∷ []) = f x ∷ []
+change_last f (x ∷ y ∷ ys) = x ∷ change_last f (y ∷ ys)
+
+abbrev pub is_same_number : Option ℕ → Option ℕ → Bool
+is_same_number None None = true
+is_same_number (Some a) (Some b) = a == b
+is_same_number a b = false
+
+-- it is the signature in which the one at this place is embedded
+abbrev pub holds : Place → Statement → Bool
+holds place st = is_same_number st.component place.component && (st.hang == place.hang)
+
+-- of the good signatures by the subkey that are embedded, the first counts that states when it was
+-- made (5.2.1.9)
+abbrev pub with_back : Place → Option Life → Statement → Statement
+with_back place life st = if holds place st && is_none st.back then record {
+  kind = st.kind;
+  component = st.component;
+  hang = st.hang;
+  author = st.author;
+  is_good = st.is_good;
+  life = st.life;
+  key_lasts = st.key_lasts;
+  uses = st.uses;
+  back = life;
+  reason = st.reason;
+} else st
+
+-- ---- keys that may revoke
+module _ (known : List Known) (primary : Fingerprint) where
+  -- the fingerprints that a genuine signature names, if it is by the primary key
+  abbrev pub named_by : SignatureValue → List Fingerprint
+  named_by v = if names_revokers (type_in v) && is_print primary (issuer_among known v)
+      then map Four (revokers_in (hashed_subs v)) else []
+
+  abbrev pub revokers_by : Standing → Verdict → Result SignatureValue BodyFault → List Fingerprint
+  revokers_by s found (Err fault) = []
+  revokers_by s found (Ok v) =
+      if is_none s.place.nested && is_genuine s found v then named_by v else []
+
+  abbrev pub revokers_at : Standing × Verdict → List Fingerprint
+  revokers_at x = revokers_by x.0 x.1 (signature_at x.0.body)
+
+-- ---- what they say
+module _ (known : List Known) (policy : Policy) (primary : Fingerprint) where
+  abbrev pub issuer : SignatureValue → Option Known
+  issuer v = issuer_among known v
+
+  -- the policy relies on it, and nothing critical in it is unknown (5.2.3.7)
+  abbrev pub is_good : SignatureValue → Bool
+  is_good v = relies_with policy (hash_in v) (issuer v)
+      && not (has_unknown_critical (hashed_subs v) || has_unknown_critical (unhashed_subs v))
+
+  module _ (revokers : List Fingerprint) where
+    -- whose it is, if what they say counts
+    abbrev pub author_of : Option Known → Option Author
+    author_of k = if is_print primary k then Some author.Primary
+        else (if is_print_among revokers k then Some author.Revoker else None)
+
+    abbrev pub statement_of : Place → SignatureValue → Author → Statement
+    statement_of place v by = record {
+      kind = type_in v;
+      component = place.component;
+      hang = place.hang;
+      author = by;
+      is_good = is_good v;
+      life = life_in v;
+      key_lasts = lasts_in kind.KeyExpires (hashed_subs v);
+      uses = uses_in_area (hashed_subs v);
+      back = None;
+      reason = reason_in (hashed_subs v);
+    }
+
+    -- a signature packet adds what it says
+    abbrev pub stated : Place → SignatureValue → List Statement
+    stated place v = if is_some (signed_of v)
+        then at_most_one (option_map (statement_of place v) (author_of (issuer v))) else []
+
+    -- one that is embedded adds its life to the one that it is embedded in, if it is good, and by
+    -- the subkey
+    abbrev pub with_embedded : Place → Option (List ℕ) → SignatureValue → List Statement
+        → List Statement
+    with_embedded place subkey v told =
+        if is_some (signed_of v) && (is_by_subkey subkey (issuer v) && is_good v)
+        then change_last (with_back place (life_in v)) told else told
+
+    abbrev pub told_by : Standing → SignatureValue → List Statement → List Statement
+    told_by s v told =
+        if is_none s.place.nested then told ++ stated s.place v else with_embedded s.place (second_key s.subject) v told
+
+    abbrev pub told_with : List Statement → Standing → Verdict → Result SignatureValue BodyFault
+        → List Statement
+    told_with told s found (Err fault) = told
+    told_with told s found (Ok v) = if is_genuine s found v then told_by s v told else told
+
+    abbrev pub told : List Statement → Standing × Verdict → List Statement
+    told before x = told_with before x.0 x.1 (signature_at x.0.body)
+
+-- what the signatures of a certificate say, by these verdicts on its rows in a report
+abbrev pub revokers_of : List Known → CertificateValue → List Verdict → List Fingerprint
+revokers_of known c founds = flat_map (revokers_at known (print_of c.primary.body))
+    (with_verdicts founds (certificate_standing 0 c))
+
+abbrev pub statements_of : List Known → Policy → CertificateValue → List Verdict → List Statement
+statements_of known policy c founds =
+    fold (told known policy (print_of c.primary.body) (revokers_of known c founds)) []
+    (with_verdicts founds (certificate_standing 0 c))

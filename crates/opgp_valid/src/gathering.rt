@@ -1,0 +1,203 @@
+//! What the signatures of a certificate say, gathered.
+
+ghost use Rattle.std.specs.Prelude.{◌≡◌, ◌++◌, IfOk, OnOk};
+ghost use Rattle.std.specs.Option.{option_map};
+ghost use Rattle.opgp_packet.specs.SigView.{sig_view_value};
+ghost use Rattle.opgp_hash.specs.Subject.{subject_value};
+ghost use Rattle.opgp_hash.specs.SubjectValue.{is_within};
+ghost use Rattle.opgp_report.specs.First.{print_of};
+ghost use Rattle.opgp_report.specs.KeyIndex.{prints_shown};
+ghost use Rattle.opgp_valid.specs.KnownKeys.{knowns};
+ghost use Rattle.opgp_valid.specs.Gathering.{Gathers};
+ghost use Rattle.opgp_valid.specs.Told.{change_last, holds, is_by_subkey, second_key, stated};
+ghost use Rattle.opgp_valid.specs.Told.{statements_of, with_back, with_embedded};
+
+use crate::asking::{is_genuine, next_verdict};
+use crate::context::{Context, is_print, life_in, parts_of};
+use crate::known_keys::Known;
+use crate::naming::revokers_of;
+use crate::statement::{Life, Statement};
+use crate::subpackets::{key_lasts, reason_in, uses_in_area};
+use opgp_hash::{CertificateHasher, Subject};
+use opgp_octets::OutOfMemory;
+use opgp_packet::SigView;
+use opgp_report::{KeyIndex, Met, Place, Verdict, Visitor, print_of, visit_certificate};
+use opgp_ring::Certificate;
+use std::alloc::Global;
+
+/// Adds what genuine signatures say, if it counts.
+#[derive(Drop)]
+pub(crate) struct Gatherer<'v> {
+    pub(crate) context: Context<'v>,
+    pub(crate) revokers: &'v KeyIndex,
+    pub(crate) verdicts: &'v [Verdict],
+    pub(crate) statements: Vec<Statement>,
+}
+
+/// Whether a statement is that of the signature in which the one at this place is embedded.
+fn holds(place: Place, statement: &Statement) -> bool
+    ensures { result ≡ holds place statement.now }
+{
+    let is_same = match (statement.component, place.component) {
+        (None, None) => true,
+        (Some(a), Some(b)) => a == b,
+        _ => false,
+    };
+    is_same && statement.hang == place.hang
+}
+
+/// A statement with the life of the signature at this place, if it is embedded in its signature,
+/// and is the first.
+fn with_back(place: Place, life: Option<Life>, statement: Statement) -> Statement
+    ensures { result ≡ with_back place life statement }
+{
+    if holds(place, &statement) && statement.back.is_none() {
+        Statement {
+            back: life,
+            ..statement
+        }
+    } else {
+        statement
+    }
+}
+
+/// Whether a key is the subkey of a subject.
+fn is_by_subkey(subject: Subject<'_>, issuer: Option<Known>) -> bool
+    ensures { result ≡ is_by_subkey (second_key (subject_value subject.entry)) issuer }
+{
+    match subject {
+        Subject::Two(_, subkey) => is_print(print_of(&subkey), issuer),
+        _ => false,
+    }
+}
+
+impl<'v> Gatherer<'v> {
+    /// Adds what a signature at this place says, if it counts. Fails only when out of memory.
+    fn add(&mut self, place: Place, signature: SigView<'_>) -> Result<(), OutOfMemory>
+        ensures told { OnOk result (self.new.statements.items ≡ self.old.statements.items
+            ++ stated (knowns self.old.context.known.now) self.old.context.policy
+            self.old.context.primary (prints_shown self.old.revokers.now) place
+            (sig_view_value signature.entry)) }
+        ensures context { self.new.context ≡ self.old.context }
+        ensures revokers { self.new.revokers ≡ self.old.revokers }
+        ensures verdicts { self.new.verdicts ≡ self.old.verdicts }
+    {
+        let context = self.context;
+        let issuer = context.known.issuer(signature);
+        let Some(author) = context.author_of(self.revokers, issuer) else {
+            return Ok(());
+        };
+        let Some(parts) = parts_of(signature) else {
+            return Ok(());
+        };
+        self.statements.push(Statement {
+            kind: parts.kind,
+            component: place.component,
+            hang: place.hang,
+            author,
+            is_good: context.is_good(&parts, issuer),
+            life: life_in(parts.hashed),
+            key_lasts: key_lasts(parts.hashed),
+            uses: uses_in_area(parts.hashed),
+            back: None,
+            reason: reason_in(parts.hashed),
+        })?;
+        Ok(())
+    }
+}
+
+impl Gatherer<'_> {
+    /// Adds the life of a signature at this place over a subject to what the one says that it is
+    /// embedded in, if it is good, and by the subkey. Fails only when out of memory.
+    fn add_embedded(
+        &mut self,
+        place: Place,
+        subject: Subject<'_>,
+        signature: SigView<'_>,
+    ) -> Result<(), OutOfMemory>
+        ensures told { OnOk result (self.new.statements.items
+            ≡ with_embedded (knowns self.old.context.known.now) self.old.context.policy
+            self.old.context.primary (prints_shown self.old.revokers.now) place
+            (second_key (subject_value subject.entry)) (sig_view_value signature.entry)
+            self.old.statements.items) }
+        ensures context { self.new.context ≡ self.old.context }
+        ensures revokers { self.new.revokers ≡ self.old.revokers }
+        ensures verdicts { self.new.verdicts ≡ self.old.verdicts }
+    {
+        let context = self.context;
+        let Some(parts) = parts_of(signature) else {
+            return Ok(());
+        };
+        let issuer = context.known.issuer(signature);
+        if is_by_subkey(subject, issuer) && context.is_good(&parts, issuer) {
+            change_last(&mut self.statements, place, life_in(parts.hashed))?;
+        }
+        Ok(())
+    }
+}
+
+/// Adds a life to the last statement, if it is that of the signature in which the one at this place
+/// is embedded, and it is the first. Fails only when out of memory.
+fn change_last(
+    statements: &mut Vec<Statement>,
+    place: Place,
+    life: Option<Life>,
+) -> Result<(), OutOfMemory>
+    ensures { OnOk result (statements.new.items
+        ≡ change_last (with_back place life) statements.old.items) }
+{
+    if let Some(last) = statements.pop() {
+        statements.push(with_back(place, life, last))?;
+    }
+    Ok(())
+}
+
+impl<'a> Visitor<'a> for Gatherer<'_> {
+    type Stop = OutOfMemory;
+
+    ghost becomes = { Gathers };
+
+    fn meet(
+        &mut self,
+        hasher: &mut CertificateHasher<'a>,
+        met: &Met<'a>,
+    ) -> Result<(), OutOfMemory> {
+        let (verdict, rest) = next_verdict(self.verdicts);
+        self.verdicts = rest;
+        let Some(signature) = met.signature else {
+            return Ok(());
+        };
+        if !is_genuine(hasher, met, verdict) {
+            return Ok(());
+        }
+        if met.place.nested.is_none() {
+            self.add(met.place, signature)
+        } else {
+            self.add_embedded(met.place, hasher.subject(), signature)
+        }
+    }
+}
+
+/// What the signatures of a certificate say, by these verdicts on its rows in a report. Fails only
+/// when out of memory.
+pub(crate) fn statements_of(
+    alloc: Global,
+    context: Context<'_>,
+    certificate: &Certificate,
+    verdicts: &[Verdict],
+) -> Result<Vec<Statement>, OutOfMemory>
+    requires { context.primary ≡ print_of certificate.now.primary.body }
+    ensures { IfOk result (λ v. v.items ≡ statements_of (knowns context.entry.known.now)
+        context.entry.policy certificate.now verdicts.now) }
+{
+    let revokers = revokers_of(alloc, context, certificate, verdicts)?;
+    let mut gatherer = Gatherer {
+        context,
+        revokers: &revokers,
+        verdicts,
+        statements: Vec::new(alloc),
+    };
+    visit_certificate(&mut gatherer, 0, certificate)?;
+    let Gatherer { statements, .. } = gatherer;
+    Ok(statements)
+}

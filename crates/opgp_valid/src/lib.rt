@@ -1,0 +1,39 @@
+//! Which keys of a certificate may be believed, by what its own signatures say at a time, and by
+//! the verdicts that a verifier gave on them.
+#![tactic(auto)]
+
+mod asking;
+mod certified;
+mod context;
+mod facts;
+mod gathering;
+mod group;
+mod judgement;
+mod judging;
+mod known_keys;
+pub mod laws;
+mod moment;
+mod naming;
+mod policy;
+mod revocation;
+mod saying;
+mod speaking;
+mod state;
+mod statement;
+mod strength;
+pub mod subpackets;
+mod uses;
+mod why;
+
+pub use certified::Certified;
+pub use facts::{Facts, Key};
+pub use judgement::{Judgement, KeyPlace, judge};
+pub use judging::standing;
+pub use known_keys::{Known, KnownKeys};
+pub use policy::Policy;
+pub use revocation::revocation_at;
+pub use state::{IdentityState, KeyState, identity_state, key_state};
+pub use statement::{Author, Life, Statement};
+pub use strength::is_strong;
+pub use uses::Uses;
+pub use why::Why;

@@ -1,0 +1,99 @@
+//! What a signature of a certificate says, and what was found of it.
+
+ghost use Rattle.std.specs.Prelude.{◌≡◌};
+
+use crate::uses::Uses;
+use opgp_octets::SignatureType;
+
+/// Whose key made a signature of a certificate. What other keys say doesn't count.
+#[derive(Clone, Copy, Debug, PartialEq, Eq)]
+pub enum Author {
+    /// The primary key of the certificate.
+    Primary,
+    /// A key that the certificate names as one that may revoke its keys (RFC 9580, 5.2.3.23).
+    Revoker,
+}
+
+/// From when a signature counts, and how long.
+#[derive(Clone, Copy, Debug, PartialEq, Eq)]
+pub struct Life {
+    /// When it was made, in seconds since 1970: its one creation time (RFC 9580, 5.2.3.11).
+    pub made: u32,
+    /// After how many seconds it expires; 0 for never (5.2.3.18).
+    pub lasts: u32,
+}
+
+impl Life {
+    ghost use Rattle.opgp_valid.specs.Statement.{lives};
+
+    /// Whether it has begun at this time, and hasn't ended.
+    pub fn lives(&self, at: u64) -> bool
+        ensures { result ≡ lives at self.now }
+    {
+        let made = u64::from(self.made);
+        made <= at && (self.lasts == 0 || at < made + u64::from(self.lasts))
+    }
+}
+
+/// A signature of a certificate that is good by arithmetic, over what signatures of its type are
+/// made over: where it is, who made it, and what its hashed area says.
+#[derive(Clone, Copy)]
+pub struct Statement {
+    /// Its type (RFC 9580, 5.2.1).
+    pub kind: SignatureType,
+    /// The number of the component that it is on; None for the primary key.
+    pub component: Option<usize>,
+    /// Its number among all packets that follow the key or component, fillers included.
+    pub hang: usize,
+    /// Whose key made it.
+    pub author: Author,
+    /// The policy relies on its hash algorithm and on its key, and nothing critical in it is unknown
+    /// (5.2.3.7).
+    pub is_good: bool,
+    /// From when it counts, and how long; None if it doesn't state one time when it was made.
+    pub life: Option<Life>,
+    /// After how many seconds from its creation the key expires; 0 for never (5.2.3.13).
+    pub key_lasts: u32,
+    /// What the key may be used for.
+    pub uses: Uses,
+    /// The life of the good signature by the subkey that is embedded in it: of several, the first
+    /// that states when it was made (5.2.1.9, 5.2.3.34).
+    pub back: Option<Life>,
+    /// The code of the reason for a revocation (5.2.3.31).
+    pub reason: Option<u8>,
+}
+
+impl Statement {
+    ghost use Rattle.opgp_valid.specs.Statement.{end_of, has_back, is_alive};
+
+    /// Whether it counts at this time.
+    pub fn is_alive(&self, at: u64) -> bool
+        ensures { result ≡ is_alive at self.now }
+    {
+        match self.life {
+            Some(life) => life.lives(at),
+            None => false,
+        }
+    }
+
+    /// Whether a good signature by the subkey is embedded in it that counts at this time.
+    pub fn has_back(&self, at: u64) -> bool
+        ensures { result ≡ has_back at self.now }
+    {
+        match self.back {
+            Some(life) => life.lives(at),
+            None => false,
+        }
+    }
+
+    /// When it lets a key expire that was created then, in seconds since 1970; None for never.
+    pub fn end_of(&self, created: u32) -> Option<u64>
+        ensures { result ≡ end_of created self.now }
+    {
+        if self.key_lasts == 0 {
+            None
+        } else {
+            Some(u64::from(created) + u64::from(self.key_lasts))
+        }
+    }
+}

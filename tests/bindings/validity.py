@@ -1,0 +1,175 @@
+#!/usr/bin/env python3
+"""Compares what the library for C says of keys with tests/lib/standing.py, which works the same rule out in its own way: over generated
+certificates (--cases, from --seed), whose signatures come with verdicts, so that nothing is signed; and over those of
+tests/vectors/validity, of which other programs were asked.
+
+Usage: tests/bindings/validity.py [--cases N] [--seed N] [--library FILE]
+"""
+
+import argparse
+import ctypes
+import hashlib
+import os
+import subprocess
+import sys
+import tempfile
+
+HERE = os.path.dirname(os.path.dirname(os.path.dirname(os.path.realpath(__file__))))
+sys.path[:0] = [f"{HERE}/tests/lib", f"{HERE}/tests/vectors/validity"]
+
+import model  # noqa: E402
+import standing  # noqa: E402
+import standing_cases  # noqa: E402
+
+WHYS = (None, "future", "revoked", "early", "unbound", "expired", "flags", "back")
+DONE, ROOM, LIMITS, CLOSED, NO_ROW = 0, 2, 4, 5, 6
+NONE = 2**64 - 1
+READ = 1795132800  # when the vectors are read: 2026-11-20
+KEEP_MALFORMED = 2  # such signatures say nothing, and have a row
+POLICIES = {"usual": 0, "any": 1}
+NUMBERS = {standing.UNDECIDED: 0, standing.GOOD: 1, standing.BAD: 2}
+SHOWN = 5  # of what differs
+
+passed, failed = 0, 0
+
+
+class Handle(ctypes.Structure):
+    _fields_ = [("is_open", ctypes.c_bool), ("at", ctypes.c_void_p)]
+
+
+class Limits(ctypes.Structure):
+    _fields_ = [(name, ctypes.c_uint64) for name in ("line", "body", "cert", "input", "pieces", "policies")]
+
+
+class Fault(ctypes.Structure):
+    _fields_ = [("places", ctypes.c_uint64 * 3), ("layer", ctypes.c_uint8), ("reason", ctypes.c_uint8), ("reserved", ctypes.c_uint8 * 6)]
+
+
+def verdict(title, holds, told=""):
+    """Counts a test, and says what is wrong."""
+    global passed, failed
+    passed, failed = passed + bool(holds), failed + (not holds)
+    if not holds and failed <= SHOWN:
+        print(f"FAILED: {title}: {told}")
+
+
+class Library:
+    def __init__(self, path):
+        self.calls = ctypes.CDLL(path)
+        wide, octet = ctypes.c_uint64, ctypes.POINTER(ctypes.c_uint8)
+        self.calls.opgp_ring_open.argtypes = [ctypes.c_char_p, ctypes.c_size_t] + [ctypes.c_void_p] * 3
+        self.calls.opgp_ring_standing.argtypes = [ctypes.c_void_p, ctypes.c_char_p, ctypes.c_size_t, ctypes.c_uint32, wide, wide, wide, wide, octet]
+        self.calls.opgp_ring_revocation.argtypes = [ctypes.c_void_p, wide, octet, ctypes.c_size_t, ctypes.POINTER(wide)]
+        self.calls.opgp_ring_close.argtypes = [Handle]
+        self.calls.opgp_ring_close.restype = None
+        self.limits = Limits()
+        self.calls.opgp_usual_limits(ctypes.byref(self.limits))
+        self.limits.policies = KEEP_MALFORMED
+
+    def opened(self, octets):
+        """A handle of this keyring."""
+        handle, fault = Handle(), Fault()
+        status = self.calls.opgp_ring_open(octets, len(octets), *map(ctypes.byref, (self.limits, handle, fault)))
+        if status != DONE:
+            raise ValueError(f"status {status}, layer {fault.layer}, reason {fault.reason}")
+        return handle
+
+    def standing(self, handle, verdicts, policy, certificate, component, made, now):
+        """The status, and why the key isn't to be believed."""
+        why = ctypes.c_uint8(255)
+        place = NONE if component is None else component
+        status = self.calls.opgp_ring_standing(ctypes.byref(handle), verdicts, len(verdicts), policy, certificate, place, made, now, why)
+        return status, why.value
+
+
+    def revocation(self, handle, row):
+        """The digest of what the key revocation in a row hashes, or None."""
+        octets, size = (ctypes.c_uint8 * 64)(), ctypes.c_uint64()
+        status = self.calls.opgp_ring_revocation(ctypes.byref(handle), row, octets, 64, size)
+        return bytes(octets)[: size.value] if status == DONE else None
+
+
+def revocation(certificate, it, is_embedded):
+    """The same, worked out here: whatever it follows, it is over the primary key (5.2.1.11)."""
+    _, octets = model.asked_there(it.body, None, certificate[0].body, None)
+    is_one = not is_embedded and it.version in (4, 6) and it.kind == standing.REVOCATION and isinstance(octets, bytes)
+    return hashlib.new(model.HASHES[it.hash], octets).digest() if is_one else None
+
+
+def numbers(verdicts):
+    return bytes(NUMBERS[it] for it in verdicts)
+
+
+def compare(library, case, looks_closely):
+    """Whether library and model say the same of each question of a case; and that there is no key where there is none. Of few cases also
+    what key revocations hash."""
+    keyring = standing.Keyring(case.octets, case.verdicts, case.policy)
+    handle, found, policy = library.opened(case.octets), numbers(case.verdicts), POLICIES[case.policy]
+    for question in case.questions:
+        status, why = library.standing(handle, found, policy, *question)
+        wanted = keyring.standing(*question)
+        verdict(f"{question}", (status, why) == (DONE, WHYS.index(wanted)), f"{status} {why}, not {wanted}: {case.octets.hex()} {found.hex()} {case.policy}")
+    keys = {place for place, _ in keyring.table()}
+    for c, certificate in enumerate(keyring.certificates):
+        others = [n for n in range(len(certificate.components) + 1) if (c, n) not in keys]
+        verdict("no key", all(library.standing(handle, found, policy, c, n, 0, 0) == (NO_ROW, 255) for n in others), case.octets.hex())
+    for row, (certificate, _, it, is_embedded) in enumerate(standing.rows(standing.read(case.octets)) if looks_closely else ()):
+        verdict("a revocation", library.revocation(handle, row) == revocation(certificate, it, is_embedded), f"{row} {case.octets.hex()}")
+    library.calls.opgp_ring_close(handle)
+
+
+def compare_vectors(library):
+    """Whether library and model say the same of each key of the vectors, when a document was signed; and the model what is written down."""
+    for it in standing_cases.vectors():
+        keyring = standing.Keyring(it.octets, it.verdicts)
+        handle, found = library.opened(it.octets), numbers(it.verdicts)
+        whys = [keyring.believed(body, own, READ) for body, own in it.documents]
+        is_refused = it.expected == ["refused"] and not it.documents  # what isn't a list of signatures
+        verdict(it.title, whys == it.expected or is_refused, f"{whys}, not {it.expected}")
+        for place, key in keyring.table():
+            for made in {READ, key.created, key.created - 1, READ - 100 * 86400}:
+                question = (*place, made, READ)
+                wanted = (DONE, WHYS.index(keyring.standing(*question)))
+                verdict(it.title, library.standing(handle, found, POLICIES["usual"], *question) == wanted, f"{question}: not {wanted}")
+        library.calls.opgp_ring_close(handle)
+
+
+def made():
+    """The shared library, made in a room of its own."""
+    room = tempfile.mkdtemp(prefix="opgp-validity-")
+    run = subprocess.run(["make", "-C", HERE, f"{room}/libopgp.so.3", f"made={room}"], capture_output=True, check=False)
+    verdict("make the library", run.returncode == 0, run.stderr.decode())
+    return f"{room}/libopgp.so.3"
+
+
+def edges(library, case):
+    """What is given beside the rule: an unknown policy, a closed handle, too few verdicts, places past the last."""
+    handle = library.opened(case.octets)
+    verdict("an unknown policy", library.standing(handle, b"", 2, 0, None, 0, 0) == (LIMITS, 255))
+    verdict("a certificate past the last", library.standing(handle, b"", 0, NONE, None, 0, 0) == (NO_ROW, 255))
+    verdict("a component past the last", library.standing(handle, b"", 0, 0, NONE - 1, 0, 0) == (NO_ROW, 255))
+    verdict("without verdicts", library.standing(handle, b"", 0, 0, None, 2**40, 2**40) == (DONE, WHYS.index("unbound")))
+    verdict("read before it was made", library.standing(handle, b"", 0, 0, None, 1, 0) == (DONE, WHYS.index("future")))
+    verdict("a closed handle", library.standing(Handle(), b"", 0, 0, None, 0, 0) == (CLOSED, 255))
+    library.calls.opgp_ring_close(handle)
+
+
+def main():
+    words = argparse.ArgumentParser(prog="tests/bindings/validity.py", description=__doc__.split("\n\n", maxsplit=1)[0])
+    words.add_argument("--cases", type=int, default=20000)
+    words.add_argument("--seed", type=int, default=1)
+    words.add_argument("--library")
+    told = words.parse_args()
+    path = told.library or made()
+    if os.path.exists(path):
+        library = Library(path)
+        for number, case in enumerate(standing_cases.cases(told.seed, told.cases, is_honest=True)):
+            if number == 0:
+                edges(library, case)
+            compare(library, case, number % 20 == 0)
+        compare_vectors(library)
+    print(f"{passed} passed, {failed} failed")
+    return failed != 0
+
+
+sys.exit(main())

@@ -1,0 +1,291 @@
+"""Whether a key may be believed for a signature that was made at one time and is read at another, worked out as plainly as it goes: an
+answer to hold the program's against.
+
+It does no arithmetic: a keyring comes with a verdict for each row of `opgp check`, which is GOOD, BAD or UNDECIDED. A key has a place:
+the numbers of its certificate and of its component, as in those rows; None is the primary key. Sections are those of RFC 9580."""
+
+import collections
+import functools
+
+import model
+
+GOOD, BAD, UNDECIDED = "good", "bad", "undecided"
+DIRECT, REVOCATION, BINDING, BACK, SUBKEY_REVOCATION, IDENTITY_REVOCATION = 0x1F, 0x20, 0x18, 0x19, 0x28, 0x30
+CERTIFICATIONS = (0x10, 0x11, 0x12, 0x13)
+PRIMARY, SUBKEY, USER_ID, ATTRIBUTE = 6, 14, 13, 17
+NOTATION, SHA1 = 20, 2
+# What a signature of these types is made over is what it hangs on (5.2.1). A key revocation counts wherever it hangs.
+PLACES = {
+    PRIMARY: (DIRECT, REVOCATION),
+    USER_ID: (*CERTIFICATIONS, IDENTITY_REVOCATION, REVOCATION),
+    ATTRIBUTE: (*CERTIFICATIONS, IDENTITY_REVOCATION, REVOCATION),
+    SUBKEY: (BINDING, SUBKEY_REVOCATION, REVOCATION),
+}
+# The bits of key flags (5.2.3.29) that allow a use: one of them is enough.
+USES = {"certify": 0x01, "sign": 0x02, "encrypt": 0x0C, "authenticate": 0x20}
+
+Key = collections.namedtuple("Key", "version created fingerprint key_id is_strong")
+Part = collections.namedtuple("Part", "kind body key hangs")
+
+
+# What is read.
+
+
+def is_strong(body):
+    """Whether the usual policy relies on the key of this body."""
+    material = model.key_material(body)
+    if body[5] in (1, 2, 3):
+        return model.number(material[0]).bit_length() >= 2048
+    if body[5] == 17:
+        return model.number(material[0]).bit_length() >= 2048 and model.number(material[1]).bit_length() >= 224
+    return body[5] != 19 or len(material[1]) >= 57
+
+
+def key_of(body):
+    name = model.fingerprint(body)
+    return Key(body[0], model.number(body[1:5]), name, name[:8] if body[0] == 6 else name[-8:], is_strong(body))
+
+
+@functools.lru_cache(maxsize=1)
+def read(octets):
+    """The certificates of a binary keyring: each its parts, the primary key first, with the signatures that hang on each."""
+    block = (b"PUBLIC KEY BLOCK", octets)
+    packets = model.framed([block], model.USUAL)
+    certificates = []
+    for parts in model.compose([block], packets, model.USUAL)[1]:
+        certificates.append([])
+        for head, hangs in parts:
+            kind, body = packets[head][2], packets[head][4]
+            signatures = [model.kept_signature(packets[it][4]) for it in hangs if packets[it][2] == 2]
+            certificates[-1].append(Part(kind, body, key_of(body) if kind in (PRIMARY, SUBKEY) else None, signatures))
+    return certificates
+
+
+def rows(certificates):
+    """Each signature in the order of the rows: its certificate, its part, itself, and whether it is embedded in the one before."""
+    for certificate in certificates:
+        for part in certificate:
+            for it in part.hangs:
+                yield certificate, part, it, False
+                if part.kind == SUBKEY and it.version in (4, 6) and it.kind == BINDING:
+                    for octet, _, octets in (*it.hashed, *it.unhashed):
+                        if octet & 127 == 32:
+                            yield certificate, part, model.kept_signature(octets), True
+
+
+# What a signature says.
+
+
+def is_critical(it):
+    """Whether it has a critical subpacket that isn't understood (5.2.3.7): an unknown kind, an unfit one, any notation (5.2.3.24)."""
+    for octet, _, octets in (*it.hashed, *it.unhashed):
+        if octet & 128 and (octet & 127 == NOTATION or model.meaning(octet & 127, octets) != "typed"):
+            return True
+    return False
+
+
+class Said:
+    """What a signature says in its hashed area, and what was found of it."""
+
+    def __init__(self, it, signer, policy, verdict, is_in_place):
+        self.kind, self.by = it.kind, signer.fingerprint if signer else None
+        self.is_genuine = verdict == GOOD and is_in_place
+        self.is_understood = not is_critical(it)
+        self.is_relied_on = policy == "any" or (it.hash != SHA1 and signer is not None and signer.is_strong)
+        self.is_good = self.is_genuine and self.is_understood and self.is_relied_on
+        said = {kind: [] for kind in (2, 3, 9, 12, 27)}
+        for octet, _, octets in it.hashed:
+            if octet & 127 in said and model.meaning(octet & 127, octets) == "typed":
+                said[octet & 127].append(octets)
+        times = said[2]
+        self.made = model.number(times[0]) if len(times) == 1 else None
+        self.lasts, self.key_lasts = (min(filter(None, map(model.number, said[kind])), default=0) for kind in (3, 9))
+        flags = [octets[0] if octets else 0 for octets in said[27]]
+        self.uses = {use for use, bits in USES.items() if flags and all(it & bits for it in flags)}
+        self.revokers = {octets[2:] for octets in said[12] if octets[0] & 0x80}
+        self.back = None
+
+    def lives(self, t):
+        return self.made is not None and self.made <= t and not self.has_lapsed(t)
+
+    def has_lapsed(self, t):
+        return self.lasts != 0 and t >= self.made + self.lasts
+
+
+class Component:
+    """A part of a certificate, with what its signatures say."""
+
+    def __init__(self, part):
+        self.kind, self.key, self.said = part.kind, part.key, []
+
+
+def newest(group, t):
+    """Those of a group that live and were made last (5.2.3.10)."""
+    alive = [it for it in group if it.lives(t)]
+    last = max((it.made for it in alive), default=None)
+    return [it for it in alive if it.made == last]
+
+
+def end(key, speakers):
+    """When the key expires by these (5.2.3.13), or None."""
+    return min((key.created + it.key_lasts for it in speakers if it.key_lasts), default=None)
+
+
+class Certificate:
+    def __init__(self, components):
+        self.primary, *self.components = components
+        self.fingerprint = self.primary.key.fingerprint
+        genuine = [it for component in components for it in component.said if it.is_genuine]
+        # The fingerprints of 20 octets of the revokers that the primary key names (5.2.3.23).
+        named = [it.revokers for it in genuine if it.by == self.fingerprint and it.kind in (DIRECT, *CERTIFICATIONS)]
+        self.revokers = set().union(*named)
+        self.is_revoked = any(it.kind == REVOCATION and self.may_revoke(it) for it in genuine)
+
+    def may_revoke(self, it):
+        return it.by == self.fingerprint or it.by in self.revokers
+
+    def component(self, number):
+        return self.primary if number is None else self.components[number]
+
+    def speaking(self, component, kinds):
+        """Its good signatures of these types by the primary key."""
+        return [it for it in component.said if it.is_good and it.kind in kinds and it.by == self.fingerprint]
+
+    def speakers(self, component, t):
+        """Those that speak for a key at a time: for a subkey the newest bindings; for the primary key (10.1) the newest direct key
+        signatures, and in version 4 also the newest of all certifications."""
+        if component is not self.primary:
+            return newest(self.speaking(component, (BINDING,)), t)
+        found = newest(self.speaking(component, (DIRECT,)), t)
+        if component.key.version == 4:
+            identities = (it for it in self.components if it.kind in (USER_ID, ATTRIBUTE))
+            found = found + newest([s for it in identities for s in self.speaking(it, CERTIFICATIONS)], t)
+        return found
+
+    def revokes(self, component):
+        """Whether something revokes this key: whatever else it says, arithmetic is enough."""
+        own = (it for it in component.said if it.is_genuine and it.kind == SUBKEY_REVOCATION)
+        return self.is_revoked or any(map(self.may_revoke, own))
+
+    def until(self, component, t):
+        """The end of the key and of the primary key, whichever is first, by those that speak at a time; or None."""
+        ends = [end(it.key, self.speakers(it, t)) for it in (self.primary, component)]
+        return min((it for it in ends if it is not None), default=None)
+
+    def why(self, component, made, now):
+        """The first reason why the key is none to believe at these times, whatever it is used for; or None."""
+        if now < made:
+            return "future"
+        if self.revokes(component):
+            return "revoked"
+        if made < max(component.key.created, self.primary.key.created):
+            return "early"
+        times = (made, now)
+        if not all(self.speakers(it, t) for it in (self.primary, component) for t in times):
+            return "unbound"
+        ends = [(t, self.until(component, t)) for t in times]
+        return "expired" if any(end is not None and t >= end for t, end in ends) else None
+
+    def standing(self, component, made, now):
+        """The first reason why the key isn't one to believe for a document's signature; or None."""
+        why = self.why(component, made, now)
+        if why:
+            return why
+        speakers = [(t, it) for t in (made, now) for it in self.speakers(component, t)]
+        if any("sign" not in it.uses for _, it in speakers):
+            return "flags"
+        if component is not self.primary and any(not it.back or not it.back.lives(t) for t, it in speakers):
+            return "back"
+        return None
+
+    def state_of_key(self, component, at):
+        """Why it is none to believe, what all that speak for it allow, from when, and until when (None: for ever)."""
+        allowed = [it.uses for it in self.speakers(component, at)]
+        uses = [use for use in USES if allowed and all(use in it for it in allowed)]
+        begin = max(component.key.created, self.primary.key.created)
+        return self.why(component, at, at), uses, begin, self.until(component, at)
+
+    def state_of_identity(self, component, at):
+        own = [it for it in component.said if it.is_genuine and it.by == self.fingerprint]
+        if any(it.kind == IDENTITY_REVOCATION for it in own):
+            return "revoked"
+        return "fine" if newest(self.speaking(component, CERTIFICATIONS), at) else "unbound"
+
+
+class Keyring:
+    """A binary keyring, with a verdict for each of its rows."""
+
+    def __init__(self, octets, verdicts, policy="usual"):
+        self.policy = policy
+        certificates = read(octets)
+        keys = [part.key for certificate in certificates for part in certificate if part.key]
+        # The first key of each name counts.
+        self.names = {key.key_id: key for key in reversed(keys)}
+        self.names.update((bytes([key.version]) + key.fingerprint, key) for key in reversed(keys))
+        components = [[Component(part) for part in certificate] for certificate in certificates]
+        places = {id(part): one for c, some in zip(certificates, components) for part, one in zip(c, some)}
+        found = list(rows(certificates))
+        if len(found) != len(verdicts):
+            raise ValueError(f"{len(verdicts)} verdicts for {len(found)} rows")
+        outer = None
+        for (certificate, part, it, is_embedded), verdict in zip(found, verdicts):
+            if is_embedded:
+                self.embed(outer, it, verdict, part)
+            else:
+                outer = self.said(it, verdict, it.kind in PLACES[part.kind])
+                if it.version == certificate[0].key.version:
+                    places[id(part)].said.append(outer)
+        self.certificates = [Certificate(it) for it in components]
+
+    def signer(self, it):
+        """The first key that the signature names; what it names first decides, there or not."""
+        named = [octets for octet, _, octets in it.hashed if octet & 127 == 33 and model.meaning(33, octets) == "typed"]
+        named += [octets for octet, _, octets in (*it.hashed, *it.unhashed) if octet & 127 == 16 and len(octets) == 8]
+        return self.names.get(named[0]) if named else None
+
+    def said(self, it, verdict, is_in_place):
+        return Said(it, self.signer(it), self.policy, verdict, is_in_place)
+
+    def embed(self, binding, it, verdict, part):
+        """Gives a binding what is embedded in it: the first good and dated one by the subkey is its back signature (5.2.1.9)."""
+        back = self.said(it, verdict, it.kind == BACK)
+        if binding.back is None and back.is_good and back.made is not None and back.by == part.key.fingerprint:
+            binding.back = back
+
+    def standing(self, certificate, component, made, now):
+        """Why the key isn't one to believe for a document's signature of that time, read now; or None."""
+        it = self.certificates[certificate]
+        return it.standing(it.component(component), made, now)
+
+    def table(self):
+        """The place of each key, and the key, in order."""
+        for c, certificate in enumerate(self.certificates):
+            for number, it in [(None, certificate.primary), *enumerate(certificate.components)]:
+                if it.key:
+                    yield (c, number), it.key
+
+    def believed(self, body, verdict, now):
+        """Why a document's signature of this body, on which there is this verdict, isn't to be believed; or None."""
+        it = model.kept_signature(body)
+        signer = self.signer(it) if it.version in (4, 6) else None
+        if verdict == BAD:
+            return "bad"
+        if verdict != GOOD or it.kind not in (0x00, 0x01) or signer is None or it.version != signer.version:
+            return "undecided"
+        said = Said(it, signer, self.policy, verdict, True)
+        if not said.is_understood:
+            return "critical"
+        if not said.is_relied_on:
+            return "policy"
+        if said.made is None:
+            return "time"
+        if said.has_lapsed(now):
+            return "lapsed"
+        places = [place for place, key in self.table() if key.fingerprint == signer.fingerprint]
+        whys = [self.standing(*place, said.made, now) for place in places]
+        return None if None in whys else whys[0]
+
+    def state(self, certificate, at):
+        """Of each part, in order: of a key why it is none to believe, its uses, from when and until when; of another one a word."""
+        it = self.certificates[certificate]
+        return [it.state_of_key(one, at) if one.key else it.state_of_identity(one, at) for one in (it.primary, *it.components)]

@@ -1,11 +1,13 @@
 /* Verifies the signatures of a keyring by OpenSSL's libcrypto: a line for each, as `opgp check` writes it, with the verdict good,
- * bad or undecided, and after undecided why. With --signature it verifies detached signatures over a document (10.4) by the keys of
- * keyrings: a line for each, as `opgp digest` writes it. Section numbers are those of RFC 9580.
+ * bad or undecided, and after undecided why. With --signature it judges detached signatures over a document (10.4) by the keys of
+ * keyrings: a line for each, as `opgp digest` writes it, and after good why it isn't to be believed, if it isn't. Section numbers
+ * are those of RFC 9580.
  *
- * `good` says that the issuer's key made the signature over what `opgp octets` writes, or over the document, and nothing of whether
- * the signature, the key or what it certifies is valid: expiries, revocations and key flags aren't looked at.
+ * Of a keyring `good` says that the issuer's key made the signature over what `opgp octets` writes, and nothing of whether the
+ * signature, the key or what it certifies is valid: expiries, revocations and key flags aren't looked at.
  *
- * verify-arithmetic.c asks libcrypto. Here are the rows, the threads that go over them, lines, files and the command line. */
+ * verify-arithmetic.c asks libcrypto, and opgp_judge judges. Here are the rows of a keyring, the threads that go over them, lines,
+ * files and the command line. */
 #define _GNU_SOURCE /* for sched_getaffinity */
 #include <opgp.h>
 
@@ -18,6 +20,7 @@
 #include <sched.h>
 #include <stdatomic.h>
 #include <string.h>
+#include <time.h>
 #include <unistd.h>
 
 /* The most threads that verify, and of how many rows a key is asked for each of them, so that starting it takes less time than it
@@ -29,50 +32,31 @@ struct run {
     const opgp_key *keys;
     const opgp_job *jobs;
     size_t key_count, job_count;
-    bool is_over_document;            /* the rows are signatures over a document, and not the keyring's */
-    const uint8_t *made;              /* what the algorithms of those made */
-    const opgp_subpacket *subpackets; /* all of those, in order */
-    size_t subpacket_count;
-    unsigned decisive;                /* the doubts that leave a signature undecided */
-    struct finding *findings;         /* of each row */
-    size_t *asked;                    /* the rows of which a key is asked, those of one key together */
+    unsigned decisive;        /* the doubts that leave a signature undecided */
+    struct finding *findings; /* of each row */
+    size_t *asked;            /* the rows of which a key is asked, those of one key together */
     size_t asked_count;
-    atomic_size_t taken;              /* how many of those a thread has taken */
+    atomic_size_t taken;      /* how many of those a thread has taken */
 };
 
 /* ---- Rows */
 
-/* The key that is asked of a row; NULL if there is nothing to ask. */
-static const opgp_key *asked_key(const struct run *run, size_t row)
+/* Whether there is something to ask the issuer's key of a signature, which is NULL if it isn't there. */
+static bool is_asked(const opgp_job *job, const opgp_key *signer)
 {
-    const opgp_job *job = &run->jobs[row];
-    const opgp_key *signer = job->signer == OPGP_NONE ? NULL : &run->keys[job->signer];
-    return signer && !job->is_bad && job->why == OPGP_WHY_HASHED && signer->version == job->version ? signer : NULL;
+    return signer && !job->is_bad && job->why == OPGP_WHY_HASHED && signer->version == job->version;
+}
+
+/* The issuer's key of a row; NULL if it isn't there. */
+static const opgp_key *signer_of(const struct run *run, size_t row)
+{
+    return run->jobs[row].signer == OPGP_NONE ? NULL : &run->keys[run->jobs[row].signer];
 }
 
 /* What is found of a row of which no key is asked: as opgp_check finds it, and why. */
 static struct finding found_without(const opgp_job *job)
 {
     return (struct finding){job->is_bad ? OPGP_BAD : OPGP_UNDECIDED, job->signer == OPGP_NONE ? "absent" : "version", 0};
-}
-
-/* Finds the subpackets of the signature in a row; false where there is no memory for them. */
-static bool find_subpackets(const struct run *run, size_t row, const opgp_subpacket **subpackets, size_t *count)
-{
-    if (!run->is_over_document) {
-        return opgp_subpackets_of(run->keyring, row, subpackets, count) == OPGP_DONE;
-    }
-    size_t begin = 0;
-    while (begin < run->subpacket_count && run->subpackets[begin].hang < row) {
-        begin++;
-    }
-    size_t end = begin;
-    while (end < run->subpacket_count && run->subpackets[end].hang == row) {
-        end++;
-    }
-    *subpackets = begin < end ? &run->subpackets[begin] : NULL;
-    *count = end - begin;
-    return true;
 }
 
 /* Finds what there is to find of each row without its key, and counts the rows of which one is asked: in all, and those of each key, by
@@ -83,8 +67,8 @@ static bool find_doubts(struct run *run, size_t *counts)
         const opgp_subpacket *subpackets;
         size_t count;
         run->findings[row] = found_without(&run->jobs[row]);
-        if (asked_key(run, row)) {
-            if (!find_subpackets(run, row, &subpackets, &count)) {
+        if (is_asked(&run->jobs[row], signer_of(run, row))) {
+            if (opgp_subpackets_of(run->keyring, row, &subpackets, &count) != OPGP_DONE) {
                 return false;
             }
             run->findings[row].doubts = doubts_of(&run->jobs[row], subpackets, count);
@@ -109,7 +93,7 @@ static bool order_rows(struct run *run)
         place += count;
     }
     for (size_t row = 0; run->asked && row < run->job_count; row++) {
-        if (asked_key(run, row)) {
+        if (is_asked(&run->jobs[row], signer_of(run, row))) {
             run->asked[places[run->jobs[row].signer]++] = row;
         }
     }
@@ -122,16 +106,12 @@ static void ask(struct run *run, size_t row, struct arithmetic *arithmetic)
 {
     const opgp_job *job = &run->jobs[row];
     struct finding *finding = &run->findings[row];
-    opgp_question question = {.row = row, .job = job, .signer = asked_key(run, row)};
+    opgp_question question = {.row = row, .job = job, .signer = signer_of(run, row)};
     for (unsigned k = 0; k < 4; k++) {
         question.key[k] = opgp_key_field(run->keyring, question.signer, k);
     }
-    if (run->is_over_document) {
-        question.made[0] = (opgp_span){run->made + job->at, (size_t)job->sizes[0]};
-        question.made[1] = (opgp_span){question.made[0].octets + job->sizes[0], (size_t)job->sizes[1]};
-    } else {
-        question.made[0] = opgp_job_field(run->keyring, job, 0);
-        question.made[1] = opgp_job_field(run->keyring, job, 1);
+    for (unsigned k = 0; k < 2; k++) {
+        question.made[k] = opgp_job_field(run->keyring, job, k);
     }
     *finding = arithmetic_of(arithmetic, &question, finding->doubts, run->decisive);
 }
@@ -204,11 +184,10 @@ static void print_digits(const uint8_t *octets, size_t size)
     }
 }
 
-/* Where a row's signature is. */
-static void print_place(const struct run *run, size_t row)
+/* Where the signature in a row is. */
+static void print_place(const opgp_job *job, size_t row)
 {
-    const opgp_job *job = &run->jobs[row];
-    if (run->is_over_document) {
+    if (job->certificate == OPGP_NONE) {
         printf("signature %zu", row);
         return;
     }
@@ -218,22 +197,21 @@ static void print_place(const struct run *run, size_t row)
     print_number("nested", job->nested);
 }
 
-static void print_row(const struct run *run, size_t row)
+/* Writes all of the line of the signature in a row but its end. Its signer is NULL if it isn't there. */
+static void print_row(const opgp_job *job, size_t row, const opgp_key *signer, const struct finding *finding)
 {
     static const char *const words[] = {"undecided", "good", "bad"};
-    const opgp_job *job = &run->jobs[row];
-    const struct finding *finding = &run->findings[row];
     char why[OPGP_NAME_ROOM];
-    print_place(run, row);
+    print_place(job, row);
     if (job->why != OPGP_WHY_HASHED) {
-        printf(" : none %s\n", opgp_name_text(OPGP_WHYS, job->why, why));
+        printf(" : none %s", opgp_name_text(OPGP_WHYS, job->why, why));
         return;
     }
     printf(" : asked type %02X hash %u signer ", job->kind, job->hash);
-    if (job->signer == OPGP_NONE) {
-        putchar('-');
+    if (signer) {
+        print_digits(signer->key_id, 8);
     } else {
-        print_digits(run->keys[job->signer].key_id, 8);
+        putchar('-');
     }
     printf(" digest ");
     print_digits(job->digest, 2);
@@ -241,7 +219,6 @@ static void print_row(const struct run *run, size_t row)
     if (finding->verdict == OPGP_UNDECIDED) {
         printf(" %s", finding->why);
     }
-    putchar('\n');
 }
 
 /* ---- The program */
@@ -252,12 +229,10 @@ static int said(int status, const char *text)
     return status;
 }
 
-#define NOT_JUDGED "whether a key has expired, is revoked or may sign isn't judged yet"
-
 /* What the command line asks for. */
 struct task {
     const char *name; /* of the keyring, or of the document; NULL or -: standard input */
-    const char *policy, *require, *jobs;
+    const char *policy, *require, *jobs, *at;
     const char *signature; /* the file of the signatures over the document; NULL: those of the keyring */
     const char **keyrings; /* the files of the keyrings that have their signers */
     size_t keyring_count;
@@ -271,11 +246,60 @@ static size_t jobs_in(const char *word)
     return number <= MOST_JOBS ? (size_t)number : 0;
 }
 
+static bool is_jobs(const char *word)
+{
+    return jobs_in(word) > 0;
+}
+
+/* The time that a word is, in seconds since 1970: so many of them, or a UTC date, which is a time if it is written again as it is;
+ * OPGP_NONE if it is none. */
+static uint64_t time_in(const char *word)
+{
+    static const char *const forms[] = {"%Y-%m-%d", "%Y-%m-%dT%H:%M:%SZ"};
+    size_t digits = strspn(word, "0123456789");
+    if (digits > 0 && word[digits] == 0) {
+        return digits < 19 ? strtoull(word, NULL, 10) : OPGP_NONE;
+    }
+    for (size_t i = 0; i < sizeof forms / sizeof *forms; i++) {
+        struct tm date = {.tm_mday = 1};
+        char again[sizeof "9999-12-31T23:59:59Z"];
+        const char *end = strptime(word, forms[i], &date);
+        time_t found = end && *end == 0 ? timegm(&date) : -1;
+        if (found >= 0 && strftime(again, sizeof again, forms[i], gmtime_r(&found, &date)) > 0 && strcmp(again, word) == 0) {
+            return (uint64_t)found;
+        }
+    }
+    return OPGP_NONE;
+}
+
+static bool is_time(const char *word)
+{
+    return time_in(word) != OPGP_NONE;
+}
+
+/* The present time; where the clock has none, the first one, at which nothing is believed. */
+static uint64_t now_of(const struct task *task)
+{
+    time_t clock = task->at ? 0 : time(NULL);
+    return task->at ? time_in(task->at) : clock < 0 ? 0 : (uint64_t)clock;
+}
+
 /* How many threads verify. */
 static size_t jobs_of(const struct task *task)
 {
     size_t usual = processors();
     return task->jobs ? jobs_in(task->jobs) : usual < MOST_JOBS ? usual : MOST_JOBS;
+}
+
+static bool has_usual_policy(const struct task *task)
+{
+    return !task->policy || strcmp(task->policy, "usual") == 0;
+}
+
+/* The doubts that leave a signature undecided. */
+static unsigned decisive_for(const struct task *task)
+{
+    return DOUBT_CRITICAL | (has_usual_policy(task) ? DOUBT_WEAK_HASH | DOUBT_SMALL_KEY : 0);
 }
 
 /* Writes the lines, and on standard error how many signatures are good and so on; the exit status. */
@@ -284,7 +308,8 @@ static int told(const struct run *run, const struct task *task)
     size_t counts[3] = {0, 0, 0}, unhashed = 0;
     for (size_t row = 0; row < run->job_count; row++) {
         bool is_hashed = run->jobs[row].why == OPGP_WHY_HASHED;
-        print_row(run, row);
+        print_row(&run->jobs[row], row, signer_of(run, row), &run->findings[row]);
+        putchar('\n');
         unhashed += !is_hashed;
         counts[run->findings[row].verdict] += is_hashed;
     }
@@ -293,21 +318,16 @@ static int told(const struct run *run, const struct task *task)
     }
     fprintf(stderr, "opgp-verify: %zu good, %zu bad, %zu undecided, %zu not hashed\n", counts[OPGP_GOOD], counts[OPGP_BAD],
             counts[OPGP_UNDECIDED], unhashed);
-    if (run->is_over_document) {
-        said(0, "good is arithmetic: " NOT_JUDGED);
-    }
-    bool is_good_wanted = task->require || run->is_over_document;
-    return counts[OPGP_BAD] > 0 || (is_good_wanted && counts[OPGP_GOOD] == 0) ? 1 : 0;
+    return counts[OPGP_BAD] > 0 || (task->require && counts[OPGP_GOOD] == 0) ? 1 : 0;
 }
 
-/* Verifies the rows, which are those of the keyring unless they are over a document, and writes all lines if nothing failed. */
+/* Verifies the rows, and writes all lines if nothing failed. */
 static int verified(struct run *run, const struct task *task)
 {
     int status = 3;
-    bool is_usual = !task->policy || strcmp(task->policy, "usual") == 0;
-    run->decisive = DOUBT_CRITICAL | (is_usual ? DOUBT_WEAK_HASH | DOUBT_SMALL_KEY : 0);
+    run->decisive = decisive_for(task);
     if (opgp_keys(run->keyring, &run->keys, &run->key_count) == OPGP_DONE
-        && (run->is_over_document || opgp_jobs(run->keyring, &run->jobs, &run->job_count) == OPGP_DONE)) {
+        && opgp_jobs(run->keyring, &run->jobs, &run->job_count) == OPGP_DONE) {
         run->findings = calloc(run->job_count + 1, sizeof *run->findings);
     }
     if (!run->findings || !is_checked(run, jobs_of(task))) {
@@ -497,26 +517,102 @@ static uint32_t make_subpackets(opgp_document *document, opgp_subpacket **rows, 
     return status;
 }
 
-/* Verifies the signatures over a document that has ended. */
+/* What judging takes and finds. */
+struct judging {
+    struct arithmetic *arithmetic;
+    unsigned decisive;
+    const opgp_subpacket *subpackets; /* of the document's signatures, in order */
+    size_t subpacket_count;
+    struct finding findings[OPGP_MOST_SIGNATURES]; /* of those whose key was asked */
+    size_t counts[3], unhashed, unbelieved;        /* of the lines */
+};
+
+/* The doubts about a signature over the document that need no arithmetic. */
+static unsigned doubts_in(const struct judging *it, const opgp_question *question)
+{
+    size_t begin = 0;
+    while (begin < it->subpacket_count && it->subpackets[begin].hang < question->row) {
+        begin++;
+    }
+    size_t end = begin;
+    while (end < it->subpacket_count && it->subpackets[end].hang == question->row) {
+        end++;
+    }
+    return doubts_of(question->job, begin < end ? &it->subpackets[begin] : NULL, end - begin);
+}
+
+/* Asks the key of a signature. Doubts decide over the document's alone: the rule has its own about those of the keyring. */
+static opgp_verdict verify(void *context, const opgp_question *question)
+{
+    struct judging *it = context;
+    if (memory_ran_out()) {
+        return OPGP_UNDECIDED;
+    }
+    if (question->job->certificate != OPGP_NONE) {
+        return arithmetic_of(it->arithmetic, question, 0, 0).verdict;
+    }
+    it->findings[question->row] = arithmetic_of(it->arithmetic, question, doubts_in(it, question), it->decisive);
+    return it->findings[question->row].verdict;
+}
+
+/* Writes the line of a signature over the document, and counts it; not 0 if memory ran out, and nothing that was found holds. */
+static int tell(void *context, const opgp_question *question, opgp_verdict verdict, uint8_t why)
+{
+    static const char *const whys[] = {
+        [OPGP_IN_FUTURE] = "future",   [OPGP_REVOKED] = "revoked",    [OPGP_EARLY] = "early",
+        [OPGP_UNBOUND] = "unbound",    [OPGP_EXPIRED] = "expired",    [OPGP_NOT_SIGNING] = "flags",
+        [OPGP_UNBACKED] = "back",      [OPGP_NO_DOCUMENT] = "type",   [OPGP_CRITICAL] = "critical",
+        [OPGP_WEAK] = "weak",          [OPGP_UNDATED] = "time",       [OPGP_LAPSED] = "lapsed",
+        [OPGP_NOT_BY_KEY] = "issuer",
+    };
+    struct judging *it = context;
+    const opgp_job *job = question->job;
+    if (memory_ran_out()) {
+        return 1;
+    }
+    bool is_unbelieved = verdict == OPGP_GOOD && why != OPGP_BELIEVED, is_hashed = job->why == OPGP_WHY_HASHED;
+    struct finding found = is_asked(job, question->signer) ? it->findings[question->row] : found_without(job);
+    print_row(job, question->row, question->signer, &found);
+    if (is_unbelieved) {
+        printf(" unbelieved %s", why < sizeof whys / sizeof *whys ? whys[why] : "unknown");
+    }
+    putchar('\n');
+    it->unhashed += !is_hashed;
+    it->unbelieved += is_unbelieved;
+    it->counts[verdict] += is_hashed && !is_unbelieved;
+    return 0;
+}
+
+/* Judges the signatures over a document that has ended. */
+static int judged(opgp_document *document, const opgp_keyring *keyring, struct judging *it, const struct task *task)
+{
+    uint32_t policy = has_usual_policy(task) ? OPGP_POLICY_USUAL : OPGP_POLICY_ANY;
+    uint32_t status = opgp_judge(document, keyring, policy, now_of(task), verify, tell, it);
+    if (status != OPGP_DONE) {
+        return said(3, status == OPGP_ENDED ? "out of memory" : opgp_status_text(status));
+    }
+    if (fflush(stdout) || ferror(stdout)) {
+        return said(3, "write failed");
+    }
+    fprintf(stderr, "opgp-verify: %zu good, %zu unbelieved, %zu bad, %zu undecided, %zu not hashed\n", it->counts[OPGP_GOOD],
+            it->unbelieved, it->counts[OPGP_BAD], it->counts[OPGP_UNDECIDED], it->unhashed);
+    return it->counts[OPGP_BAD] > 0 || it->counts[OPGP_GOOD] == 0 ? 1 : 0;
+}
+
+/* The same, with all that it takes. */
 static int verified_over(opgp_document *document, const opgp_keyring *keyring, const struct task *task)
 {
-    struct run run = {.keyring = keyring, .is_over_document = true};
-    opgp_job *jobs;
+    struct judging it = {.arithmetic = arithmetic_new(), .decisive = decisive_for(task)};
     opgp_subpacket *subpackets = NULL;
-    uint8_t *made;
-    uint32_t status = opgp_signatures(document, keyring, &jobs, &run.job_count, &made);
-    status = status == OPGP_DONE ? make_subpackets(document, &subpackets, &run.subpacket_count) : status;
-    run.jobs = jobs;
-    run.made = made;
-    run.subpackets = subpackets;
-    int exit_status = status == OPGP_DONE ? verified(&run, task) : said(3, opgp_status_text(status));
-    free(jobs);
-    free(made);
+    uint32_t status = it.arithmetic ? make_subpackets(document, &subpackets, &it.subpacket_count) : OPGP_MEMORY;
+    it.subpackets = subpackets;
+    int exit_status = status == OPGP_DONE ? judged(document, keyring, &it, task) : said(3, opgp_status_text(status));
+    arithmetic_free(it.arithmetic);
     free(subpackets);
     return exit_status;
 }
 
-/* Reads the signatures, then the keyrings, then the document, and verifies. */
+/* Reads the signatures, then the keyrings, then the document, and judges. */
 static int verified_document(const char *name, const struct task *task)
 {
     opgp_document document = {false, NULL};
@@ -544,30 +640,34 @@ static int verified_document(const char *name, const struct task *task)
 
 static const char help[] =
     "Verifies the signatures of the keyring in FILE, or on standard input, by OpenSSL's libcrypto; or with\n"
-    "--signature detached signatures over the DOCUMENT, or standard input, by the keys of keyrings\n"
+    "--signature judges detached signatures over the DOCUMENT, or standard input, by the keys of keyrings\n"
     "\n" USAGE "       " OF_DOCUMENTS "\n"
     "Options:\n"
     "      --signature <SIG>  the file of the signatures, 64 at most; '-' is standard input\n"
     "      --keyring <FILE>   a keyring with the signers, one for each time that this is given; or '-'\n"
+    "      --at <TIME>        the present time for --signature: seconds since 1970, or a date in UTC, such\n"
+    "                         as 2026-11-20 or 2026-11-20T08:30:00Z [default: that of the clock]\n"
     "      --policy <POLICY>  usual: SHA-1, RSA keys of fewer than 2048 bits and other keys of less than\n"
-    "                         112 bits of strength are undecided; any: they are verified too\n"
-    "                         [default: usual] [possible values: usual, any]\n"
+    "                         112 bits of strength are undecided, and bind no key with --signature; any:\n"
+    "                         they are verified too [default: usual] [possible values: usual, any]\n"
     "      --require <WHAT>   good: end with 1 where no signature is good [possible values: good]\n"
-    "      --jobs <N>         how many threads verify, 1 to 64 [default: as many as there are processors]\n"
+    "      --jobs <N>         how many threads verify a keyring, 1 to 64 [default: as many as there are\n"
+    "                         processors]\n"
     "  -V, --version          Print the version\n"
     "  -h, --help             Print this help\n"
     "\n"
     "A line for each signature, as 'opgp check' writes it, or 'opgp digest' of one over a document, with\n"
     "its verdict: good, bad, or undecided and why; and on standard error how many are good and so on.\n"
-    "Good is arithmetic: " NOT_JUDGED ".\n"
+    "Of a keyring good is arithmetic: whether a key has expired, is revoked or may sign isn't judged. With\n"
+    "--signature it is: a good one whose key isn't to be believed is 'good unbelieved' and why.\n"
     "Exit status: 0 no signature is bad, of no signatures too; 1 one is bad, or none is good where that is\n"
-    "required, as it always is with --signature, or an input is refused; 2 the command line is invalid, or\n"
-    "help was asked for; 3 reading, writing or memory failed.\n";
+    "required, or with --signature none is good and believed, or an input is refused; 2 the command line\n"
+    "is invalid, or help was asked for; 3 reading, writing or memory failed.\n";
 
 /* How to use the program for what the words name so far. */
 static const char *usage_of(const struct task *task)
 {
-    return task->signature || task->keyring_count > 0 ? "Usage: " OF_DOCUMENTS : USAGE;
+    return task->signature || task->at || task->keyring_count > 0 ? "Usage: " OF_DOCUMENTS : USAGE;
 }
 
 /* Says what is wrong with a word, between two texts. */
@@ -577,12 +677,12 @@ static int wrong(const struct task *task, const char *front, const char *word, c
     return 2;
 }
 
-/* An option that has a value: its name, as the help shows it, the values that it takes, if not any, whether it takes a number of jobs,
- * and where its value goes. */
+/* An option that has a value: its name, as the help shows it, the values that it takes, or whether it takes one and what it says of
+ * another, if not any; and where its value goes. */
 struct option {
     const char *name, *shown, *values[2];
-    bool is_number;
-    const char **value;
+    bool (*takes)(const char *value);
+    const char *otherwise, **value;
 };
 
 /* Whether a word is this option, alone or with its value behind a sign of equality. */
@@ -596,8 +696,8 @@ static bool is_option_word(const struct option *option, const char *word)
 static int wrong_value(const struct option *option, const char *value)
 {
     const char *const more = option->values[1] ? ", " : "";
-    if (value && option->is_number) {
-        fprintf(stderr, "error: invalid value '%s' for '%s': %s is not in 1..=%d\n", value, option->shown, value, MOST_JOBS);
+    if (value && option->takes) {
+        fprintf(stderr, "error: invalid value '%s' for '%s': %s %s\n", value, option->shown, value, option->otherwise);
     } else if (value) {
         fprintf(stderr, "error: invalid value '%s' for '%s'\n", value, option->shown);
     } else {
@@ -615,7 +715,7 @@ static int take_value(const struct task *task, const struct option *option, char
 {
     size_t size = strlen(option->name);
     const char *word = **words, *next = (*words)[1], *value = word[size] == '=' ? word + size + 1 : NULL;
-    bool takes_any = !option->values[0] && !option->is_number;
+    bool takes_any = !option->values[0] && !option->takes;
     if (!value && next && (next[0] != '-' || (takes_any && is_input(next)))) {
         value = *++*words;
     }
@@ -625,7 +725,7 @@ static int take_value(const struct task *task, const struct option *option, char
     if (!value || !value[0]) {
         return wrong_value(option, NULL);
     }
-    bool is_taken = takes_any || (option->is_number && jobs_in(value) > 0);
+    bool is_taken = takes_any || (option->takes && option->takes(value));
     for (size_t i = 0; i < 2; i++) {
         is_taken = is_taken || (option->values[i] && strcmp(value, option->values[i]) == 0);
     }
@@ -640,11 +740,12 @@ static int take_value(const struct task *task, const struct option *option, char
 static int take_option(struct task *task, char ***words)
 {
     const struct option options[] = {
-        {"--policy", "--policy <POLICY>", {"usual", "any"}, false, &task->policy},
-        {"--require", "--require <WHAT>", {"good", NULL}, false, &task->require},
-        {"--jobs", "--jobs <N>", {NULL, NULL}, true, &task->jobs},
-        {"--signature", "--signature <SIG>", {NULL, NULL}, false, &task->signature},
-        {"--keyring", "--keyring <FILE>", {NULL, NULL}, false, &task->keyrings[task->keyring_count]},
+        {"--policy", "--policy <POLICY>", {"usual", "any"}, NULL, NULL, &task->policy},
+        {"--require", "--require <WHAT>", {"good", NULL}, NULL, NULL, &task->require},
+        {"--jobs", "--jobs <N>", {NULL, NULL}, is_jobs, "is not in 1..=64", &task->jobs},
+        {"--at", "--at <TIME>", {NULL, NULL}, is_time, "is no time: seconds since 1970 or a date, 2026-11-20T08:30:00Z", &task->at},
+        {"--signature", "--signature <SIG>", {NULL, NULL}, NULL, NULL, &task->signature},
+        {"--keyring", "--keyring <FILE>", {NULL, NULL}, NULL, NULL, &task->keyrings[task->keyring_count]},
     };
     for (size_t i = 0; i < sizeof options / sizeof *options; i++) {
         if (is_option_word(&options[i], **words)) {
@@ -660,6 +761,9 @@ static int take_option(struct task *task, char ***words)
 static int wrong_task(const struct task *task)
 {
     size_t inputs = !task->name || is_input(task->name) ? 1 : 0;
+    if (task->at && !task->signature) {
+        return wrong(task, "the argument ", "--at <TIME>", " cannot be used without '--signature <SIG>'");
+    }
     if (!task->signature && task->keyring_count == 0) {
         return 0;
     }

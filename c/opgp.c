@@ -94,6 +94,24 @@ IS_AT(opgp_hashed, row, 0);
 IS_AT(opgp_hashed, at, 8);
 IS_AT(opgp_hashed, size, 16);
 
+_Static_assert(sizeof(opgp_state) == 40, "opgp_state");
+IS_AT(opgp_state, certificate, 0);
+IS_AT(opgp_state, component, 8);
+IS_AT(opgp_state, end, 16);
+IS_AT(opgp_state, begin, 24);
+IS_AT(opgp_state, why, 28);
+IS_AT(opgp_state, is_key, 29);
+IS_AT(opgp_state, uses, 30);
+IS_AT(opgp_state, has_reason, 31);
+IS_AT(opgp_state, reason, 32);
+IS_AT(opgp_state, reserved, 33);
+
+_Static_assert(sizeof(opgp_revocation) == 80, "opgp_revocation");
+IS_AT(opgp_revocation, row, 0);
+IS_AT(opgp_revocation, digest_size, 8);
+IS_AT(opgp_revocation, digest, 9);
+IS_AT(opgp_revocation, reserved, 73);
+
 _Static_assert(sizeof(opgp_ring) == 2 * sizeof(void *), "opgp_ring");
 IS_AT(opgp_ring, is_open, 0);
 IS_AT(opgp_ring, at, sizeof(void *));
@@ -731,32 +749,31 @@ uint32_t opgp_signatures(opgp_document *document, const opgp_keyring *keyring, o
 
 /* ---- Verifying */
 
-/* What the verifier answers about the signature in a row by this key. */
-static opgp_verdict answer(const opgp_keyring *keyring, size_t row, const opgp_key *signer, opgp_verifier *verify, void *context)
+/* The question about the signature in a row, which has this job and what its algorithm made. Its signer is of this keyring. */
+static opgp_question question_of(const opgp_keyring *keyring, size_t row, const opgp_job *job, const uint8_t *made)
 {
-    opgp_question question = {.row = row, .job = &keyring->jobs[row], .signer = signer};
+    opgp_question question = {.row = row, .job = job, .signer = job->signer == OPGP_NONE ? NULL : &keyring->keys[job->signer]};
     for (unsigned k = 0; k < 2; k++) {
-        question.made[k] = opgp_job_field(keyring, question.job, k);
+        question.made[k] = field(made, job->at, job->sizes, 2, k);
     }
-    for (unsigned k = 0; k < 4; k++) {
-        question.key[k] = opgp_key_field(keyring, signer, k);
+    for (unsigned k = 0; question.signer && k < 4; k++) {
+        question.key[k] = opgp_key_field(keyring, question.signer, k);
     }
-    opgp_verdict verdict = verify(context, &question);
-    return verdict == OPGP_GOOD || verdict == OPGP_BAD ? verdict : OPGP_UNDECIDED;
+    return question;
 }
 
-/* What is found of the signature in a row. */
-static opgp_verdict verdict_of(const opgp_keyring *keyring, size_t row, opgp_verifier *verify, void *context)
+/* What is found of the signature of a question. */
+static opgp_verdict verdict_of(const opgp_question *question, opgp_verifier *verify, void *context)
 {
-    const opgp_job *job = &keyring->jobs[row];
+    const opgp_job *job = question->job;
     if (job->is_bad) {
         return OPGP_BAD;
     }
-    if (!verify || job->why != OPGP_WHY_HASHED || job->signer == OPGP_NONE) {
+    if (!verify || job->why != OPGP_WHY_HASHED || !question->signer || question->signer->version != job->version) {
         return OPGP_UNDECIDED;
     }
-    const opgp_key *signer = &keyring->keys[job->signer];
-    return signer->version == job->version ? answer(keyring, row, signer, verify, context) : OPGP_UNDECIDED;
+    opgp_verdict verdict = verify(context, question);
+    return verdict == OPGP_GOOD || verdict == OPGP_BAD ? verdict : OPGP_UNDECIDED;
 }
 
 /* The tables that are gone through are made, so they don't change any more, and no lock is held while others are called. */
@@ -768,8 +785,142 @@ uint32_t opgp_check(const opgp_keyring *keyring, opgp_verifier *verify, opgp_rep
     uint32_t status = opgp_keys(keyring, &keys, &count);
     status = status == OPGP_DONE ? opgp_jobs(keyring, &jobs, &count) : status;
     for (size_t row = 0; status == OPGP_DONE && row < count; row++) {
-        status = report(context, row, &jobs[row], verdict_of(keyring, row, verify, context)) == 0 ? OPGP_DONE : OPGP_ENDED;
+        opgp_question question = question_of(keyring, row, &jobs[row], keyring->made);
+        status = report(context, row, &jobs[row], verdict_of(&question, verify, context)) == 0 ? OPGP_DONE : OPGP_ENDED;
     }
+    return status;
+}
+
+/* ---- Judging */
+
+/* The signatures over a document, and what is found of them by a keyring that is merged, and nobody else's. */
+struct judging {
+    opgp_keyring *keyring;
+    opgp_job *jobs; /* of the document */
+    uint8_t *made;
+    size_t count, good;
+    opgp_verdict found[OPGP_MOST_SIGNATURES];
+    uint8_t whys[OPGP_MOST_SIGNATURES]; /* why each isn't believed */
+    bool *has_signer;                   /* of each certificate, whether the key of a good one is in it */
+    uint8_t *verdicts;                  /* on the rows of the keyring, but only of those certificates */
+};
+
+/* Whether the key in this row is the one that made a signature over the document. */
+static bool is_signer(const struct judging *it, size_t row, size_t key)
+{
+    const opgp_key *one = &it->keyring->keys[key], *other = &it->keyring->keys[it->jobs[row].signer];
+    return one->version == other->version && memcmp(one->print, other->print, sizeof one->print) == 0;
+}
+
+/* Finds the verdicts on the document's signatures, and in which certificates the signers of good ones are. */
+static uint32_t find_signers(struct judging *it, opgp_verifier *verify, void *context)
+{
+    size_t keys = (size_t)it->keyring->key_sizes.rows;
+    it->has_signer = room_for(keys ? it->keyring->keys[keys - 1].certificate + 1 : 0, sizeof *it->has_signer);
+    for (size_t row = 0; it->has_signer && row < it->count; row++) {
+        opgp_question question = question_of(it->keyring, row, &it->jobs[row], it->made);
+        it->found[row] = verdict_of(&question, verify, context);
+        it->whys[row] = OPGP_NOT_GOOD;
+        it->good += it->found[row] == OPGP_GOOD;
+        for (size_t key = 0; it->found[row] == OPGP_GOOD && key < keys; key++) {
+            it->has_signer[it->keyring->keys[key].certificate] |= is_signer(it, row, key);
+        }
+    }
+    return it->has_signer ? OPGP_DONE : OPGP_MEMORY;
+}
+
+/* The verdict on the signature in a row of a keyring. A key revocation is over the primary key alone, wherever it is (5.2.1.11): so
+ * what it hashes is given, where it is one. */
+static opgp_verdict verdict_in(const opgp_keyring *it, size_t row, const opgp_revocation *revocation, opgp_verifier *verify,
+                               void *context)
+{
+    opgp_job job = it->jobs[row];
+    if (job.why == OPGP_WHY_MISPLACED && revocation) {
+        job.why = OPGP_WHY_HASHED;
+        job.digest_size = revocation->digest_size;
+        memcpy(job.digest, revocation->digest, sizeof job.digest);
+        job.is_bad = memcmp(job.digest, job.left, sizeof job.left) != 0;
+    }
+    opgp_question question = question_of(it, row, &job, it->made);
+    return verdict_of(&question, verify, context);
+}
+
+/* Makes the table of what the key revocations of a keyring hash, for free(). */
+static uint32_t make_revocations(opgp_keyring *it, opgp_revocation **rows, uint64_t *count)
+{
+    uint32_t status = opgp_ring_revocations(&it->ring, NULL, 0, count);
+    *rows = status == OPGP_DONE || status == OPGP_ROOM ? room_for(*count, sizeof **rows) : NULL;
+    if (status == OPGP_ROOM) {
+        status = *rows ? opgp_ring_revocations(&it->ring, *rows, (size_t)*count, count) : OPGP_MEMORY;
+    }
+    return status;
+}
+
+/* Finds the verdicts on the rows of the certificates that have a signer. */
+static uint32_t find_verdicts(struct judging *it, opgp_verifier *verify, void *context)
+{
+    opgp_keyring *keyring = it->keyring;
+    opgp_revocation *revocations = NULL;
+    uint64_t count = 0, next = 0;
+    uint32_t status = want_jobs(keyring);
+    status = status == OPGP_DONE ? make_revocations(keyring, &revocations, &count) : status;
+    it->verdicts = status == OPGP_DONE ? room_for(keyring->job_sizes.rows, sizeof *it->verdicts) : NULL;
+    for (size_t row = 0; it->verdicts && row < keyring->job_sizes.rows; row++) {
+        bool is_one = next < count && revocations[next].row == row;
+        if (it->has_signer[keyring->jobs[row].certificate]) {
+            it->verdicts[row] = (uint8_t)verdict_in(keyring, row, is_one ? &revocations[next] : NULL, verify, context);
+        }
+        next += is_one;
+    }
+    free(revocations);
+    return it->verdicts ? OPGP_DONE : OPGP_MEMORY;
+}
+
+/* Finds why a good signature isn't believed: at no place of its key, and then what is so at the first one. */
+static uint32_t find_why(struct judging *it, opgp_document *document, size_t row, uint32_t policy, uint64_t now)
+{
+    opgp_keyring *keyring = it->keyring;
+    uint32_t status = OPGP_DONE;
+    for (size_t key = 0; status == OPGP_DONE && key < keyring->key_sizes.rows && it->whys[row] != OPGP_BELIEVED; key++) {
+        uint8_t why = OPGP_NOT_GOOD;
+        if (is_signer(it, row, key)) {
+            status = opgp_document_standing(document, &keyring->ring, it->verdicts, (size_t)keyring->job_sizes.rows, policy, row,
+                                            keyring->keys[key].certificate, keyring->keys[key].component, now, &why);
+        }
+        it->whys[row] = why == OPGP_BELIEVED || it->whys[row] == OPGP_NOT_GOOD ? why : it->whys[row];
+    }
+    return status;
+}
+
+/* Finds all of that. */
+static uint32_t judge(struct judging *it, opgp_document *document, uint32_t policy, uint64_t now, opgp_verifier *verify,
+                      void *context)
+{
+    uint32_t status = want_keys(it->keyring);
+    status = status == OPGP_DONE ? opgp_signatures(document, it->keyring, &it->jobs, &it->count, &it->made) : status;
+    status = status == OPGP_DONE ? find_signers(it, verify, context) : status;
+    status = status == OPGP_DONE && it->good > 0 ? find_verdicts(it, verify, context) : status;
+    for (size_t row = 0; status == OPGP_DONE && row < it->count; row++) {
+        status = it->found[row] == OPGP_GOOD ? find_why(it, document, row, policy, now) : OPGP_DONE;
+    }
+    return status;
+}
+
+uint32_t opgp_judge(opgp_document *document, const opgp_keyring *keyring, uint32_t policy, uint64_t now,
+                    opgp_verifier *verify, opgp_judge_reporter *report, void *context)
+{
+    struct judging it = {.count = 0};
+    uint32_t status = policy > OPGP_POLICY_ANY ? OPGP_LIMITS : opgp_merge(keyring, &it.keyring);
+    status = status == OPGP_DONE ? judge(&it, document, policy, now, verify, context) : status;
+    for (size_t row = 0; status == OPGP_DONE && row < it.count; row++) {
+        opgp_question question = question_of(it.keyring, row, &it.jobs[row], it.made);
+        status = report(context, &question, it.found[row], it.whys[row]) == 0 ? OPGP_DONE : OPGP_ENDED;
+    }
+    free(it.jobs);
+    free(it.made);
+    free(it.has_signer);
+    free(it.verdicts);
+    opgp_close(it.keyring);
     return status;
 }
 

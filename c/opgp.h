@@ -40,7 +40,9 @@ extern "C" {
 #endif
 
 /* The version of the structs and calls below. opgp_abi() of the library must return it. It changes where one of them does, not where
- * one is added. New in 3: opgp_document and its calls, opgp_signatures, opgp_canonical; the statuses 8 and 9; and the why 6. */
+ * one is added. New in 3: opgp_document and its calls, opgp_signatures, opgp_canonical, opgp_state and opgp_ring_states,
+ * opgp_revocation and opgp_ring_revocations, opgp_ring_standing, opgp_document_standing and opgp_judge; the statuses 8 and 9; and the
+ * why 6. */
 #define OPGP_ABI 3
 
 /* The version of the library, for people. */
@@ -337,6 +339,23 @@ typedef struct opgp_hashed {
     uint64_t size;
 } opgp_hashed;
 
+/* How a key, user ID or user attribute stands at a time. */
+typedef struct opgp_state {
+    uint64_t certificate;
+    uint64_t component; /* the number of the component that it is; OPGP_NONE for a primary key */
+    uint64_t end;       /* of a key: when it expires, or its primary key does, in seconds since 1970; else OPGP_NONE: never */
+    uint32_t begin;     /* of a key: since when both it and its primary key are there, in seconds since 1970; else 0 */
+    uint8_t why;        /* of a key: OPGP_BELIEVED if it is of use; else OPGP_REVOKED, OPGP_EARLY, OPGP_UNBOUND or OPGP_EXPIRED, the first
+                           that applies. Of a user ID or attribute: OPGP_BELIEVED if it is certified; OPGP_REVOKED if the primary key
+                           revoked a certification of it, whenever; OPGP_UNBOUND if neither */
+    uint8_t is_key;     /* 1: a key; 0: a user ID or attribute */
+    uint8_t uses;       /* of a key: what all that is heard for it lets it be used for, as flags (5.2.3.29): 1 to certify, 2 to sign, 4
+                           to encrypt, 32 to authenticate; else 0 */
+    uint8_t has_reason; /* 1: a key is revoked, and the first of its revocations states a reason */
+    uint8_t reason;     /* the code of that reason (5.2.3.31); else 0 */
+    uint8_t reserved[7];
+} opgp_state;
+
 /* A handle of a keyring. Begin with all zeros; only the proved calls may change it. */
 typedef struct opgp_ring {
     bool is_open;
@@ -477,7 +496,8 @@ OPGP_API uint32_t opgp_ring_hashed(opgp_ring *ring, uint64_t first, uint64_t cou
 
 /* Which hash algorithms and keys opgp_ring_standing relies on. The numbers never change. */
 enum {
-    OPGP_POLICY_USUAL = 0, /* not SHA-1, RSA below 2048 bits, DSA below 2048 and 224 bits, ECDSA below 224 bits */
+    OPGP_POLICY_USUAL = 0, /* not MD5, SHA-1, RIPEMD-160, nor a digest that is shorter than the key asks for (5.2.3.2 to 5.2.3.5);
+                            * not RSA below 2048 bits, DSA below 2048 and 224 bits, ECDSA below 224 bits */
     OPGP_POLICY_ANY = 1    /* all */
 };
 
@@ -490,7 +510,15 @@ enum {
     OPGP_UNBOUND = 4,     /* nothing that counts binds the key to its certificate, or speaks for the primary key */
     OPGP_EXPIRED = 5,     /* the key has expired, or its primary key has */
     OPGP_NOT_SIGNING = 6, /* the key isn't said to be one that signs */
-    OPGP_UNBACKED = 7     /* a binding of the subkey has no good signature by the subkey that counts */
+    OPGP_UNBACKED = 7,    /* a binding of the subkey has no good signature by the subkey that counts */
+
+    /* Of opgp_document_standing alone: what is wrong with the signature itself. */
+    OPGP_NO_DOCUMENT = 8, /* it isn't one over a document (types 00 and 01), or not of version 4 or 6 */
+    OPGP_CRITICAL = 9,    /* something critical in it is unknown, or a hashed subpacket hasn't the form of its kind */
+    OPGP_WEAK = 10,       /* the policy doesn't rely on its hash algorithm, or on its key */
+    OPGP_UNDATED = 11,    /* it states no creation time in its hashed area, or several */
+    OPGP_LAPSED = 12,     /* it has expired */
+    OPGP_NOT_BY_KEY = 13  /* it names another key first */
 };
 
 /* Says in *why whether a key may be believed for a signature that was made at one time and is read at another, in seconds since 1970.
@@ -509,6 +537,24 @@ enum {
 OPGP_API uint32_t opgp_ring_standing(opgp_ring *ring, const uint8_t *verdicts, size_t count, uint32_t policy, uint64_t certificate,
                                      uint64_t component, uint64_t made, uint64_t now, uint8_t *why);
 
+/* Fills rows[0 .. row_room) with how each key, user ID and user attribute of the keyring stands at a time, in seconds since 1970: the
+ * primary key of each certificate, and then its components in order. *size is how many these are. The verdicts and the policy are
+ * those of opgp_ring_standing. To learn the size, call with room for nothing; that takes as long as the call that fills.
+ *
+ * OPGP_DONE; OPGP_ROOM: the table is too short; OPGP_LIMITS: there is no such policy; OPGP_MEMORY; OPGP_CLOSED. With the last three
+ * *size means nothing.
+ *
+ * Proved:
+ *
+ * - OPGP_DONE: the table begins with these rows, which crates/opgp_c/specs/States.antt defines, and is otherwise as it was.
+ * - OPGP_ROOM: it has less room than *size says, and *size is how many they are.
+ * - OPGP_LIMITS is returned only if there is no such policy.
+ * - OPGP_CLOSED is returned if and only if the handle holds nothing.
+ * - With any status but OPGP_DONE the table is unchanged.
+ * - The handle holds what it held. */
+OPGP_API uint32_t opgp_ring_states(opgp_ring *ring, const uint8_t *verdicts, size_t count, uint32_t policy, uint64_t at,
+                                   opgp_state *rows, size_t row_room, uint64_t *size);
+
 /* Writes the digest of what the revocation of a primary key in a row of the jobs hashes to digest[0 .. room): that key alone, wherever
  * in its certificate the revocation is (5.2.1.11). *size is how much that is, 64 octets at most. So it can be verified where the
  * row's why is OPGP_WHY_MISPLACED, since somebody put it behind the whole certificate.
@@ -523,6 +569,29 @@ OPGP_API uint32_t opgp_ring_standing(opgp_ring *ring, const uint8_t *verdicts, s
  * - With any status but OPGP_DONE the table is unchanged.
  * - The handle holds what it held. */
 OPGP_API uint32_t opgp_ring_revocation(opgp_ring *ring, uint64_t row, uint8_t *digest, size_t room, uint64_t *size);
+
+/* A revocation of a primary key, and the digest that opgp_ring_revocation has for its row. */
+typedef struct opgp_revocation {
+    uint64_t row;        /* the number of its job */
+    uint8_t digest_size; /* 20 to 64 */
+    uint8_t digest[64];  /* the digest of what it hashes over the primary key alone, and zeros after it */
+    uint8_t reserved[7];
+} opgp_revocation;
+
+/* Fills the caller's table, rows[0 .. room), with all revocations of primary keys for which opgp_ring_revocation has a digest, in the
+ * order of the jobs. *size is how many there are. It takes one walk, so who verifies those whose why is OPGP_WHY_MISPLACED needn't
+ * call that for each, which takes a walk every time.
+ *
+ * OPGP_DONE, OPGP_ROOM, OPGP_MEMORY, OPGP_CLOSED. With the last two *size means nothing.
+ *
+ * Proved:
+ *
+ * - OPGP_DONE: the table begins with these rows, and is otherwise as it was. Their digests are of the octets that the standard says.
+ * - OPGP_ROOM: the table has less room than *size says, and *size is how many there are.
+ * - OPGP_CLOSED is returned if and only if the handle holds nothing.
+ * - With any status but OPGP_DONE the table is unchanged.
+ * - The handle holds what it held. */
+OPGP_API uint32_t opgp_ring_revocations(opgp_ring *ring, opgp_revocation *rows, size_t room, uint64_t *size);
 
 /* Writes the keyring's packets to text[0 .. room): bare if armor is 0, else as one block of armor. *size is how much that is.
  *
@@ -655,6 +724,26 @@ OPGP_API uint32_t opgp_document_subpackets(opgp_document *document, opgp_subpack
                                            size_t byte_room, opgp_sizes *sizes);
 OPGP_API uint32_t opgp_document_octets(opgp_document *document, uint64_t row, uint32_t behind, uint8_t *octets, size_t room,
                                        uint64_t *size);
+
+/* Says in *why whether the signature in a row of opgp_document_jobs may be believed as one by a key of the keyring, where a verifier
+ * finds it good, and it is read now, in seconds since 1970. The other arguments are those of opgp_ring_standing, and made is when the
+ * signature says that it was made. Ask for each place where the issuer's key is: it is believed if it is at one of them. Nothing of the
+ * document counts, nor whether it has ended.
+ *
+ * OPGP_DONE; OPGP_NO_ROW: there is no such key or row, or the signature is malformed; OPGP_LIMITS: there is no such policy;
+ * OPGP_MEMORY; OPGP_CLOSED.
+ *
+ * Proved:
+ *
+ * - OPGP_DONE: *why is OPGP_BELIEVED if and only if the signature is believed by the rule, else the first reason why not, of those of
+ *   the signature and then of those of the key.
+ * - OPGP_NO_ROW is returned only if there is no such key or row, or the signature is malformed.
+ * - With any status but OPGP_DONE *why is unchanged.
+ * - The handles hold what they held. */
+OPGP_API uint32_t opgp_document_standing(opgp_document *document, opgp_ring *ring, const uint8_t *verdicts, size_t count,
+                                         uint32_t policy, uint64_t row, uint64_t certificate, uint64_t component, uint64_t now,
+                                         uint8_t *why);
+
 OPGP_API void opgp_document_close(opgp_document document);
 OPGP_API void opgp_document_clear(opgp_document *document);
 
@@ -837,6 +926,34 @@ typedef int opgp_reporter(void *context, size_t row, const opgp_job *job, opgp_v
  * OPGP_DONE; OPGP_ENDED: the reporter ended it; OPGP_MEMORY: the reporter wasn't called. OPGP_GOOD is arithmetic and no more.
  * Expiries, revocations, key flags and critical subpackets aren't looked at: whether to rely on a signature is up to you. */
 OPGP_API uint32_t opgp_check(const opgp_keyring *keyring, opgp_verifier *verify, opgp_reporter *report, void *context);
+
+/* In place of a reason why a signature isn't believed: it isn't good. */
+#define OPGP_NOT_GOOD 255
+
+/* Gets the question about a signature over a document, the verdict on it, and why it isn't to be believed: OPGP_BELIEVED if it is,
+ * else the first reason, as opgp_document_standing gives it; OPGP_NOT_GOOD if the verdict isn't OPGP_GOOD. The signer of the
+ * question is NULL if the issuer's key isn't in the keyring. A number other than 0 ends opgp_judge. */
+typedef int opgp_judge_reporter(void *context, const opgp_question *question, opgp_verdict verdict, uint8_t why);
+
+/* Judges the signatures over a document that has ended, by a policy (OPGP_POLICY_USUAL ..) and at a present time in seconds since
+ * 1970. docs/VALIDITY.md has the rule. The keyring is merged first, as opgp_merge does it, since each certificate is judged alone.
+ *
+ * The verifier is called as opgp_check calls it:
+ *
+ * - for each signature over the document, whose job has OPGP_NONE as certificate;
+ * - if one of them is good, for those in the certificates that have its signer. There only arithmetic is asked for, since the rule
+ *   looks at the policy itself. What isn't found good counts for nothing, revocations too.
+ *
+ * Then the reporter is called for each signature over the document, in order. Where a key is in several places, one at which it is
+ * believed is enough; else the reason is that of the first.
+ *
+ * Both get the context. They may make calls on the keyring and the document, but not close them. What a question points to lives
+ * until opgp_judge returns.
+ *
+ * OPGP_DONE; OPGP_ENDED: the reporter ended it. Of these the reporter wasn't called: OPGP_LIMITS: there is no such policy;
+ * OPGP_GOING, OPGP_MEMORY, OPGP_CLOSED. */
+OPGP_API uint32_t opgp_judge(opgp_document *document, const opgp_keyring *keyring, uint32_t policy, uint64_t now,
+                             opgp_verifier *verify, opgp_judge_reporter *report, void *context);
 
 /* What a status means, in a few words, or "unknown". The text is static. */
 OPGP_API const char *opgp_status_text(uint32_t status);

@@ -11,14 +11,15 @@ refused. This module reads no octet of it itself. It needs the shared library (`
 path in the environment's OPGP_LIBRARY, else as libopgp.so.3 where the system looks for libraries.
 
 `document` hashes a document in a file for the detached signatures over it (10.4); a `Document` is given it in pieces.
+`Document.judge` says which of them may be believed, by a verifier of yours and the library's proved rule.
 
 Sizes and places are in octets, and count from 0. Sections are those of RFC 9580. Rows outlive their keyring. Any number of
 threads may use a keyring, a reader or a document at once. Exceptions are
 
 - Fault, a ValueError: the input is refused;
-- ValueError: a limit is out of its range, or what is used is closed or has ended; of a document also that it hasn't ended, or has
-  more than 64 signatures;
-- IndexError: there is no such row or certificate;
+- ValueError: a limit or a time is out of its range, or what is used is closed or has ended; of a document also that it hasn't
+  ended, or has more than 64 signatures;
+- IndexError: there is no such row, key or certificate;
 - TypeError: a value has a wrong type;
 - MemoryError: memory ran out.
 """
@@ -35,8 +36,8 @@ import os
 import threading
 from typing import Any, BinaryIO, Callable, Iterable, Iterator, NamedTuple, Optional, TypeVar, Union
 
-__all__ = ["Certificate", "Document", "Fault", "Key", "KeyFlags", "Keyring", "Limits", "Packet", "Question", "Reader", "Signature"]
-__all__ += ["Subpacket", "Verdict", "document", "parts", "read"]
+__all__ = ["Certificate", "Document", "Fault", "Judgement", "Key", "KeyFlags", "Keyring", "Limits", "Packet", "Question", "Reader"]
+__all__ += ["Signature", "Subpacket", "Verdict", "Why", "document", "parts", "read"]
 
 _ABI = 3
 _NONE = 2**64 - 1
@@ -138,6 +139,14 @@ class _Question(ctypes.Structure):
     ]
 
 
+class _Ring(ctypes.Structure):
+    _fields_ = [("is_open", ctypes.c_bool), ("at", ctypes.c_void_p)]
+
+
+class _Revocation(ctypes.Structure):
+    _fields_ = [("row", ctypes.c_uint64), ("digest_size", ctypes.c_uint8), ("digest", ctypes.c_uint8 * 64), ("reserved", ctypes.c_uint8 * 7)]
+
+
 class _Reader(ctypes.Structure):
     _fields_ = [("is_open", ctypes.c_bool), ("at", ctypes.c_void_p)]
 
@@ -163,6 +172,7 @@ def _load() -> ctypes.CDLL:
     keyring, octets = ctypes.c_void_p, ctypes.POINTER(ctypes.c_uint8)
     status, size, number, pointer = ctypes.c_uint32, ctypes.c_size_t, ctypes.c_uint64, ctypes.POINTER
     table = {row: (pointer(pointer(row)), pointer(size)) for row in (_Packet, _Key, _Job, _Subpacket)}
+    verdicts = ctypes.c_char_p, size, status  # and the policy
     for name, gives, *takes in (
         ("wrong_limit", ctypes.c_uint, pointer(_Limits)),
         ("open_mode", status, ctypes.c_char_p, size, status, pointer(_Limits), pointer(keyring), pointer(_Fault)),
@@ -181,6 +191,7 @@ def _load() -> ctypes.CDLL:
         ("key_field", _Span, keyring, pointer(_Key), ctypes.c_uint),
         ("job_field", _Span, keyring, pointer(_Job), ctypes.c_uint),
         ("issuer", _Span, keyring, pointer(_Job)),
+        ("find_key", status, keyring, ctypes.c_char_p, size, size, pointer(size)),
         ("octets", status, keyring, number, pointer(octets), pointer(size)),
         ("write", status, keyring, ctypes.c_bool, pointer(octets), pointer(size)),
         ("normalise", status, keyring, pointer(keyring)),
@@ -199,6 +210,11 @@ def _load() -> ctypes.CDLL:
         ("document_octets", status, pointer(_Document), number, status, octets, size, pointer(number)),
         ("document_clear", None, pointer(_Document)),
         ("signatures", status, pointer(_Document), keyring, *table[_Job], pointer(octets)),
+        ("ring_open_mode", status, ctypes.c_char_p, size, status, pointer(_Limits), pointer(_Ring), pointer(_Fault)),
+        ("ring_clear", None, pointer(_Ring)),
+        ("ring_revocations", status, pointer(_Ring), pointer(_Revocation), size, pointer(number)),
+        ("ring_standing", status, pointer(_Ring), *verdicts, *[number] * 4, octets),
+        ("document_standing", status, pointer(_Document), pointer(_Ring), *verdicts, *[number] * 4, octets),
         ("check", status, keyring, _Verifier, _Reporter, ctypes.c_void_p),
         ("status_text", ctypes.c_char_p, status),
         ("name", status, status, ctypes.c_uint8, octets, size, pointer(number)),
@@ -218,13 +234,49 @@ _free.restype, _free.argtypes = None, [ctypes.c_void_p]
 
 class _Handle:
     """A keyring of the library. It is freed when nothing refers to it any more: no Keyring, no Certificate, and no call in any
-    thread."""
+    thread.
+
+    What says whether a key may be believed takes a handle of another kind, which is for one call at a time. It holds the same
+    keyring, and so the same rows: its packets, read by limits that refuse none of them. The first call that wants it makes it."""
 
     def __init__(self) -> None:
-        self._as_parameter_ = ctypes.c_void_p()
+        self._as_parameter_, self._ring, self._lock = ctypes.c_void_p(), _Ring(), threading.Lock()
+        self._is_merged = False
+        self._merged: Optional[_Handle] = None
 
-    def __del__(self, close: Any = _library.opgp_close) -> None:
+    def __del__(self, close: Any = _library.opgp_close, clear: Any = _library.opgp_ring_clear) -> None:
         close(self._as_parameter_)
+        clear(self._ring)
+
+    def by_ring(self, call: Callable[[Any], Any]) -> Any:
+        """The status of a call that takes the other handle."""
+        with self._lock:
+            if not self._ring.is_open:
+                octets, fault = _written(self), _Fault()
+                status = _library.opgp_ring_open_mode(octets, len(octets), _MODES.index("binary"), _WIDEST, self._ring, fault)
+                _raise_if_refused(status, fault)
+            return call(self._ring)
+
+    def merged(self) -> _Handle:
+        """The merged keyring, which is this one if nothing has to be merged. The first call makes it."""
+        with self._lock:
+            if not self._is_merged and self._merged is None:
+                made = _Handle()
+                _raise_but_for_done(_library.opgp_merge(self, ctypes.byref(made._as_parameter_)))
+                self._is_merged = _written(made) == _written(self)
+                self._merged = None if self._is_merged else made
+            return self._merged or self
+
+
+class _Hashed:
+    """A document of the library, with its signatures. It is freed when nothing refers to it any more: no Document, and no call in
+    any thread."""
+
+    def __init__(self) -> None:
+        self._as_parameter_ = ctypes.pointer(_Document())
+
+    def __del__(self, clear: Any = _library.opgp_document_clear) -> None:
+        clear(self._as_parameter_)
 
 
 def _number(number: int) -> Optional[int]:
@@ -249,6 +301,21 @@ def _octets_at(at: int, size: int) -> bytes:
 
 def _octets(span: Any) -> bytes:
     return _octets_at(span.octets, span.size) if span.size else b""
+
+
+def _given(call: Callable[[Any, Any], Any]) -> bytes:
+    """The octets that this call makes, and frees here."""
+    octets, size = ctypes.POINTER(ctypes.c_uint8)(), ctypes.c_size_t()
+    _raise_but_for_done(call(ctypes.byref(octets), ctypes.byref(size)))
+    try:
+        return _octets_at(ctypes.addressof(octets.contents), size.value)
+    finally:
+        _free(octets)
+
+
+def _written(handle: _Handle, armor: bool = False) -> bytes:
+    """The packets of this keyring, bare or in armor."""
+    return _given(lambda octets, size: _library.opgp_write(handle, armor, octets, size))
 
 
 def _filled(fields: Iterable[bytes]) -> tuple[bytes, ...]:
@@ -533,6 +600,51 @@ class Question(NamedTuple):
 Verifier = Callable[[Question], Verdict]
 
 
+class Why(enum.Enum):
+    """Why a key, or a signature over a document, isn't believed: the first reason. docs/VALIDITY.md has the rule."""
+
+    FUTURE = 1
+    """The signature was made after the present time."""
+    REVOKED = 2
+    """The key is revoked, or its primary key is (5.2.1.11, 5.2.1.12)."""
+    EARLY = 3
+    """The signature is older than the key, or than its primary key."""
+    UNBOUND = 4
+    """Nothing that counts binds the key to its certificate (5.2.1.8), or speaks for the primary key (10.1)."""
+    EXPIRED = 5
+    """The key has expired, or its primary key has (5.2.3.13)."""
+    FLAGS = 6
+    """The key isn't said to be one that signs (5.2.3.29)."""
+    BACK = 7
+    """A binding of the subkey has no good signature by the subkey that counts (5.2.1.9)."""
+    TYPE = 8
+    """The signature isn't one over a document (types 00 and 01, 5.2.1), or is of another version than 4 and 6."""
+    CRITICAL = 9
+    """Something critical in the signature isn't understood, or a hashed subpacket hasn't the form of its kind (5.2.3.7)."""
+    WEAK = 10
+    """The policy doesn't rely on the signature's hash algorithm, or on its key."""
+    TIME = 11
+    """The signature states no creation time in its hashed area, or several (5.2.3.11)."""
+    LAPSED = 12
+    """The signature has expired (5.2.3.18)."""
+    ISSUER = 13
+    """The signature names another key first."""
+    BAD = -1
+    """The verdict on the signature is BAD."""
+    UNDECIDED = -2
+    """The verdict on the signature is UNDECIDED."""
+
+
+class Judgement(NamedTuple):
+    """Whether a signature over a document is believed."""
+
+    signature: Signature
+    verdict: Verdict
+    """What `Document.check` says of it."""
+    why: Optional[Why]
+    """Why it isn't believed; None: it is."""
+
+
 # ---- Rows of the library's tables
 
 
@@ -635,6 +747,114 @@ _MEANINGS = ("typed", "unfit", "unknown")
 def _subpacket(it: Any, data: bytes, fields: tuple[bytes, bytes]) -> Subpacket:
     one, other = it.numbers
     return Subpacket(it.kind, bool(it.is_critical), bool(it.is_hashed), _MEANINGS[it.meaning], data, it.form, (one, other), fields)
+
+
+# ---- Whether a key may be believed
+
+
+_WIDEST = _Limits(2**20, 2**32 - 1, 2**40, 2**62, 2**24, 2)  # what was read is read again, malformed signatures too
+_POLICIES = ("usual", "any")
+
+
+def _verdict(signature: Signature, handle: _Handle, verify: Optional[Verifier]) -> Verdict:
+    """The verdict on a signature whose signer is in this keyring: that of `opgp_check`."""
+    if signature.is_bad:
+        return Verdict.BAD
+    if not verify or signature.why_not or signature.signer is None:
+        return Verdict.UNDECIDED
+    signer = _key_at(handle, signature.signer)
+    return Verdict(verify(Question(signature, signer))) if signer.version == signature.version else Verdict.UNDECIDED
+
+
+def _revocations(handle: _Handle) -> dict[int, bytes]:
+    """What the key revocations of a keyring hash, over the primary key alone, by their rows: the digests."""
+    size = ctypes.c_uint64()
+    status = handle.by_ring(lambda ring: _library.opgp_ring_revocations(ring, None, 0, size))
+    rows = (_Revocation * size.value)()
+    if status == _ROOM:
+        status = handle.by_ring(lambda ring: _library.opgp_ring_revocations(ring, rows, len(rows), size))
+    _raise_but_for_done(status)
+    return {it.row: bytes(it.digest[: it.digest_size]) for it in rows}
+
+
+def _over_the_key(it: Signature, revocations: dict[int, bytes]) -> Signature:
+    """The same signature. A key revocation that is misplaced has its digest."""
+    digest = revocations.get(it.row)
+    if it.why_not != "misplaced" or digest is None:
+        return it
+    return dataclasses.replace(it, why_not=None, is_bad=digest[: len(it.left)] != it.left, digest=digest)
+
+
+def _verdicts(handle: _Handle, certificate: int, verify: Optional[Verifier], revocations: dict[int, bytes]) -> bytes:
+    """The numbers of the verdicts on the keyring's rows, up to the last one of this certificate. Only its own are verified."""
+    rows = _signatures(handle, certificate)
+    found = [_verdict(_over_the_key(it, revocations), handle, verify) for it in rows]
+    return bytes(rows[0].row if rows else 0) + bytes(it.value for it in found)
+
+
+def _known(handle: _Handle, key: Key) -> Key:
+    """The key, if it is one of this keyring."""
+    if not isinstance(key, Key):
+        raise TypeError(f"a Key is wanted, and not a {type(key).__name__}")
+    rows, count = _table(_library.opgp_keys, _Key, handle)
+    if not 0 <= key.row < count or _key(handle, key.row, rows[key.row]) != key:
+        raise IndexError("the keyring has no such key")
+    return key
+
+
+def _rows_of(handle: _Handle, fingerprint: bytes) -> Iterator[int]:
+    """The rows of the keys with this fingerprint, in order."""
+    row, at = ctypes.c_size_t(), 0
+    while (status := _library.opgp_find_key(handle, fingerprint, len(fingerprint), at, row)) == _DONE:
+        yield row.value
+        at = row.value + 1
+    if status != _NO_ROW:
+        _raise_but_for_done(status)
+
+
+class _Rule:
+    """Asks the library whether keys of a keyring may be believed. The rows of a certificate are verified when one of its keys is
+    first asked about."""
+
+    def __init__(self, handle: _Handle, verify: Optional[Verifier], policy: int) -> None:
+        self.handle, self._verify, self._policy = handle, verify, policy
+        self._verdicts: dict[int, bytes] = {}
+        self._revocations: Optional[dict[int, bytes]] = None
+
+    def why(self, key: Key, call: Callable[..., Any]) -> Optional[Why]:
+        """Why the key isn't believed in its place; None: it is. The call is given the other handle, the verdicts, their number and
+        the policy, the place's two numbers, and where to write the reason's number."""
+        if self._revocations is None:
+            self._revocations = _revocations(self.handle)
+        if key.certificate not in self._verdicts:
+            self._verdicts[key.certificate] = _verdicts(self.handle, key.certificate, self._verify, self._revocations)
+        verdicts, number = self._verdicts[key.certificate], ctypes.c_uint8()
+        given = verdicts, len(verdicts), self._policy
+        place = key.certificate, _NONE if key.component is None else key.component
+        _raise_but_for_done(self.handle.by_ring(lambda ring: call(ring, given, place, number)))
+        return Why(number.value) if number.value else None
+
+    def why_anywhere(self, key: Key, call: Callable[..., Any]) -> Optional[Why]:
+        """None: the key is believed in one of its places; else why it isn't in the first."""
+        whys: list[Why] = []
+        for row in _rows_of(self.handle, key.fingerprint):
+            why = self.why(_key_at(self.handle, row), call)
+            if why is None:
+                return None
+            whys.append(why)
+        return whys[0]
+
+
+def _policy(policy: str) -> int:
+    """The library's number of this policy."""
+    return _chosen("policy", policy, _POLICIES)
+
+
+def _time(seconds: int) -> int:
+    """A time that the library counts, in seconds since 1970."""
+    if not 0 <= (it := operator.index(seconds)) < 2**64:
+        raise ValueError(f"the time is out of its range: {it}")
+    return it
 
 
 # ---- Keyrings
@@ -769,12 +989,11 @@ class Keyring(_Held):
     def octets(self, row: int) -> bytes:
         """What the signature in this row hashes (5.2.4). Raises IndexError if there is no such row, or it isn't hashed."""
         handle, at = self._open(), _row(row)
-        return self._given(lambda octets, size: _library.opgp_octets(handle, at, octets, size))
+        return _given(lambda octets, size: _library.opgp_octets(handle, at, octets, size))
 
     def write(self, armor: bool = False) -> bytes:
         """The packets of the keyring, octet for octet as they were read: bare, or as one block of armor."""
-        handle = self._open()
-        return self._given(lambda octets, size: _library.opgp_write(handle, armor, octets, size))
+        return _written(self._open(), armor)
 
     def normalised(self) -> Keyring:
         """A keyring of the same packets, each in the current format and its shortest length (4.2.1)."""
@@ -796,16 +1015,6 @@ class Keyring(_Held):
         behind, handle = _opened(other), self._open()
         return self._made(lambda made: _library.opgp_join(handle, behind, made))
 
-    @staticmethod
-    def _given(call: Callable[[Any, Any], Any]) -> bytes:
-        """The octets that this call makes, and frees here."""
-        octets, size = ctypes.POINTER(ctypes.c_uint8)(), ctypes.c_size_t()
-        _raise_but_for_done(call(ctypes.byref(octets), ctypes.byref(size)))
-        try:
-            return _octets_at(ctypes.addressof(octets.contents), size.value)
-        finally:
-            _free(octets)
-
     def check(self, verify: Optional[Verifier] = None) -> list[tuple[Signature, Verdict]]:
         """Each signature, in order, with its verdict:
 
@@ -815,7 +1024,7 @@ class Keyring(_Held):
         - UNDECIDED for all others; without a `verify`, for all that aren't bad.
 
         What `verify` raises ends the check, and is raised here. GOOD is arithmetic and no more. Expiries, revocations, key flags
-        and critical subpackets aren't looked at: whether to rely on a signature is up to you.
+        and critical subpackets aren't looked at: see `standing`.
         """
         handle = self._open()
         signatures, keys = _signatures(handle), _keys(handle)
@@ -844,6 +1053,26 @@ class Keyring(_Held):
             raise raised[0]
         _raise_but_for_done(status)
         return found
+
+    def standing(self, key: Key, made: int, now: int, verify: Verifier, policy: str = "usual") -> Optional[Why]:
+        """Why this key may not be believed for a signature that was made at one time and is read at another, both in seconds since
+        1970. None: it may. docs/VALIDITY.md has the rule, which is proved.
+
+        The key is one of `keys`. Its certificate is judged alone: first merge a keyring that may have one twice (`merged`).
+        `verify` is called as by `check`, at most once for each signature of that certificate, and for no other. It should verify
+        what the policy doesn't rely on too, such as SHA-1: a revocation counts whatever made it. It is also asked about a key
+        revocation that is misplaced, with a digest of the primary key alone (5.2.1.11), and `why_not` is None.
+
+        The policy says which hash algorithms and keys are relied on: `usual` ones, or `any` (9.5, 12.4). docs/VALIDITY.md has the
+        usual ones; SHA-1 and RSA below 2048 bits are none.
+
+        Raises IndexError if the keyring has no such key, ValueError for a time below 0 or from 2**64 on, another policy, or a
+        closed keyring, TypeError for what is no key or no number, and what `verify` raises.
+        """
+        handle, times = self._open(), (_time(made), _time(now))
+        rule = _Rule(handle, verify, _policy(policy))
+        call = _library.opgp_ring_standing
+        return rule.why(_known(handle, key), lambda ring, given, place, why: call(ring, *given, *place, *times, why))
 
 
 class Reader(_Held):
@@ -908,7 +1137,7 @@ class Document(_Held):
     document as it is (5.2.1.1), or as text with canonical line ends (5.2.1.2). No more of the document is kept than the digests
     need, so it may have any size.
 
-    First it reads the signatures, armored or binary. Then push the pieces, end the document, and `check` it by a keyring. It is
+    First it reads the signatures, armored or binary. Then push the pieces, end the document, and `judge` it by a keyring. It is
     closed by `close`, at the end of its `with`, or when nothing refers to it. Calls of several threads wait for one another.
     """
 
@@ -917,21 +1146,19 @@ class Document(_Held):
 
     def __new__(cls, *_: Any, **__: Any) -> Document:
         made = super().__new__(cls)
-        made._lock, made._document = threading.RLock(), _Document()
+        made._lock, made._document = threading.RLock(), _Hashed()
         return made
 
     def __init__(self, signatures: Octets, limits: Optional[Limits] = None, mode: str = "auto") -> None:
         """Reads the signatures, by a mode and within limits, as `read` does a keyring. Raises what `read` raises, and ValueError
         if there are more than 64 signatures."""
-        by, whole, within, fault = _mode(mode), _bytes(signatures), _limits(limits), _Fault()
-        with self._lock:
-            status = _library.opgp_document_open(whole, len(whole), by, within, self._document, fault)
+        by, whole, within, fault, made = _mode(mode), _bytes(signatures), _limits(limits), _Fault(), _Hashed()
+        status = _library.opgp_document_open(whole, len(whole), by, within, made, fault)
         if status == _MANY:
             raise ValueError(f"there are more than {_MOST_SIGNATURES} signatures")
         _raise_if_refused(status, fault)
-
-    def __del__(self, clear: Any = _library.opgp_document_clear) -> None:
-        clear(self._document)
+        with self._lock:
+            self._document = made
 
     def push(self, piece: Octets) -> None:
         """Takes the next piece of the document. Raises ValueError if the document has ended, or is closed."""
@@ -947,15 +1174,15 @@ class Document(_Held):
     def signatures(self, keyring: Optional[Keyring] = None) -> list[Signature]:
         """The signatures over the document, in order, with their digests. Their signers are rows of the keyring's keys; without a
         keyring there are none. Raises ValueError if the document hasn't ended, or what is used is closed."""
-        return self._found(None if keyring is None else _opened(keyring))
+        return self._found(self._document, None if keyring is None else _opened(keyring))
 
-    def _found(self, handle: Optional[_Handle]) -> list[Signature]:
+    def _found(self, document: _Hashed, handle: Optional[_Handle]) -> list[Signature]:
         rows, count, octets = ctypes.POINTER(_Job)(), ctypes.c_size_t(), ctypes.POINTER(ctypes.c_uint8)()
         to = ctypes.byref(rows), ctypes.byref(count), ctypes.byref(octets)
         with self._lock:
-            _raise_but_for_done(_library.opgp_signatures(self._document, handle, *to))
+            _raise_but_for_done(_library.opgp_signatures(document, handle, *to))
             try:
-                subpackets, begin, found = self._subpackets(), ctypes.addressof(octets.contents), []
+                subpackets, begin, found = self._subpackets(document), ctypes.addressof(octets.contents), []
                 for row, it in enumerate(rows[: count.value]):
                     *made, issuer = _cut(begin + it.at, *it.sizes, it.issuer_size)
                     found.append(_signature(row, it, made, issuer, subpackets.get(row, ())))
@@ -964,12 +1191,13 @@ class Document(_Held):
                 _free(rows)
                 _free(octets)
 
-    def _subpackets(self) -> dict[int, list[Subpacket]]:
+    @staticmethod
+    def _subpackets(document: _Hashed) -> dict[int, list[Subpacket]]:
         """The subpackets of each signature that has some, by its row."""
         sizes, status = _Sizes(), _ROOM
         while status == _ROOM:
             rows, octets = (_Subpacket * sizes.rows)(), (ctypes.c_uint8 * sizes.bytes)()
-            status = _library.opgp_document_subpackets(self._document, rows, len(rows), octets, len(octets), sizes)
+            status = _library.opgp_document_subpackets(document, rows, len(rows), octets, len(octets), sizes)
         _raise_but_for_done(status)
         begin = ctypes.addressof(octets)
         found: dict[int, list[Subpacket]] = {}
@@ -987,10 +1215,43 @@ class Document(_Held):
         - UNDECIDED for all others; without a `verify`, for all that aren't bad.
 
         What `verify` raises ends the check, and is raised here. GOOD is arithmetic and no more. Expiries, revocations, key flags
-        and critical subpackets aren't looked at: whether to rely on a signature is up to you.
+        and critical subpackets aren't looked at: see `judge`.
         """
         handle = _opened(keyring)
-        return [(it, _verdict(it, handle, verify)) for it in self._found(handle)]
+        return [(it, _verdict(it, handle, verify)) for it in self._found(self._document, handle)]
+
+    def judge(self, keyring: Keyring, verify: Verifier, now: int, policy: str = "usual") -> list[Judgement]:
+        """Whether each signature over the document, in order, may be believed at this time, in seconds since 1970. The verdict on
+        it is that of `check`. If it is GOOD, the signature is believed if the rule of docs/VALIDITY.md, which is proved, believes
+        it and its signer's key, in one of the key's places in the keyring. Else the first place says why it isn't.
+
+        The rule judges a certificate alone, so this merges the keyring, as `merged` does. Questions have the rows of the merged
+        keyring, but signers in what is returned are rows of this one. A keyring keeps what this makes of it for the next call.
+        `verify` is called at most once for each of the signatures, and for each of a certificate that a signer is in. What it
+        should verify, and the policy, are those of `Keyring.standing`.
+
+        Raises ValueError for a time below 0 or from 2**64 on, another policy, a document that hasn't ended, or if what is used is
+        closed; TypeError for what is no keyring or no number; and what `verify` raises.
+        """
+        handle, at, document = _opened(keyring), _time(now), self._document
+        rule = _Rule(handle.merged(), verify, _policy(policy))
+
+        def ask(row: int, ring: Any, given: Any, place: Any, why: Any) -> Any:
+            with self._lock:
+                return _library.opgp_document_standing(document, ring, *given, row, *place, at, why)
+
+        found = []
+        for it in self._found(document, rule.handle):
+            verdict = _verdict(it, rule.handle, verify)
+            signer = None if it.signer is None else _key_at(rule.handle, it.signer)
+            if signer and verdict is Verdict.GOOD:
+                why = rule.why_anywhere(signer, functools.partial(ask, it.row))
+            else:
+                why = Why[verdict.name]
+            if signer and handle is not rule.handle:
+                it = dataclasses.replace(it, signer=next(_rows_of(handle, signer.fingerprint)))
+            found.append(Judgement(it, verdict, why))
+        return found
 
     def front(self, row: int) -> bytes:
         """What the signature in this row hashes in front of the document (5.2.4): its salt in version 6, and nothing in version
@@ -1011,19 +1272,9 @@ class Document(_Held):
         return bytes(octets)
 
     def close(self) -> None:
-        """Frees what the document keeps. It can't be used again."""
+        """Closes the document: later calls raise ValueError. What it keeps is freed when the calls under way have ended."""
         with self._lock:
-            _library.opgp_document_clear(self._document)
-
-
-def _verdict(signature: Signature, handle: _Handle, verify: Optional[Verifier]) -> Verdict:
-    """The verdict on a signature over a document, whose signer is in this keyring: that of `opgp_check`."""
-    if signature.is_bad:
-        return Verdict.BAD
-    if not verify or signature.why_not or signature.signer is None:
-        return Verdict.UNDECIDED
-    signer = _key_at(handle, signature.signer)
-    return Verdict(verify(Question(signature, signer))) if signer.version == signature.version else Verdict.UNDECIDED
+            self._document = _Hashed()
 
 
 def _opened(keyring: Any) -> _Handle:
@@ -1050,9 +1301,14 @@ _MODES = ("auto", "armor", "binary")
 
 def _mode(mode: str) -> int:
     """The library's number of this mode."""
-    if mode not in _MODES:
-        raise ValueError(f"the mode is {mode!r}, and none of {', '.join(_MODES)}")
-    return _MODES.index(mode)
+    return _chosen("mode", mode, _MODES)
+
+
+def _chosen(what: str, word: str, words: tuple[str, ...]) -> int:
+    """The number of this word among those that there are."""
+    if word not in words:
+        raise ValueError(f"the {what} is {word!r}, and none of {', '.join(words)}")
+    return words.index(word)
 
 
 def _limits(limits: Optional[Limits]) -> Any:

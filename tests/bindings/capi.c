@@ -886,6 +886,16 @@ static void revocations(opgp_ring *ring, uint64_t count)
     opgp_job *jobs = calloc((size_t)count + 1, sizeof *jobs);
     uint8_t *bytes = malloc((size_t)sizes.bytes + 1);
     holds(opgp_ring_jobs(ring, jobs, (size_t)count, bytes, (size_t)sizes.bytes, &sizes) == OPGP_DONE, "jobs");
+    uint64_t wanted = 0, listed = 0;
+    uint32_t without = opgp_ring_revocations(ring, NULL, 0, &wanted);
+    holds(without == (wanted ? OPGP_ROOM : OPGP_DONE) && wanted <= count, "revocations without room");
+    opgp_revocation *rows = block_of((size_t)wanted * sizeof *rows);
+    if (wanted > 0) {
+        holds(opgp_ring_revocations(ring, rows, (size_t)wanted - 1, &n) == OPGP_ROOM && n == wanted
+                  && is_blank(rows, 0, (size_t)wanted * sizeof *rows),
+              "revocations with room for all but one");
+    }
+    holds(opgp_ring_revocations(ring, rows, (size_t)wanted, &n) == OPGP_DONE && n == wanted, "revocations");
     for (uint64_t row = 0; row < count; row++) {
         const opgp_job *job = &jobs[row];
         bool is_one = job->kind == OPGP_SIGNATURE_KEY_REVOCATION && job->nested == OPGP_NONE && job->version > 3;
@@ -895,11 +905,19 @@ static void revocations(opgp_ring *ring, uint64_t count)
         bool is_hashed = is_one && job->why == OPGP_WHY_HASHED;
         holds(!is_hashed || (status == OPGP_DONE && n == job->digest_size && memcmp(digest, job->digest, n) == 0), "the digest of its job");
         if (status == OPGP_DONE) {
+            const opgp_revocation *found = &rows[listed];
+            holds(listed < wanted && found->row == row && found->digest_size == n && memcmp(found->digest, digest, n) == 0
+                      && is_zero(found->digest + n, sizeof found->digest - n) && is_zero(found->reserved, sizeof found->reserved),
+                  "a row of the revocations");
+            listed++;
             TRY_OCTETS(opgp_ring_revocation(ring, row, octets, b, &again), "the digest of a revocation");
         }
     }
+    holds(listed == wanted, "each of the revocations is that of a row");
+    free(rows);
     free(jobs);
     free(bytes);
+    holds(opgp_ring_revocations(&none, NULL, 0, &n) == OPGP_CLOSED, "revocations of a closed handle");
     holds(opgp_ring_revocation(ring, count, digest, sizeof digest, &n) == OPGP_NO_ROW, "a revocation past the last row");
     holds(opgp_ring_revocation(ring, UINT64_MAX, digest, sizeof digest, &n) == OPGP_NO_ROW, "a revocation of no row");
     holds(opgp_ring_revocation(&none, 0, digest, sizeof digest, &n) == OPGP_CLOSED, "a revocation of a closed handle");
@@ -921,6 +939,51 @@ static void standings(opgp_ring *ring)
     holds(opgp_ring_standing(ring, NULL, 0, 0, 0, OPGP_NONE, 1, 0, &why) == wanted && (wanted || why == OPGP_IN_FUTURE), "in future");
     holds(opgp_ring_standing(ring, NULL, 0, 1, 0, OPGP_NONE, UINT64_MAX, UINT64_MAX, &why) == wanted && (wanted || why == OPGP_UNBOUND),
           "a key that nobody signed");
+}
+
+/* How the parts of a keyring stand, in each room: one for each key, user ID and attribute, of which nobody signed one. */
+static void states(opgp_ring *ring)
+{
+    opgp_ring none = {false, NULL};
+    opgp_sizes sizes = {0, 0};
+    uint64_t wanted = 0, n = 0, parts = 0, found = 0;
+    opgp_ring_packets(ring, NULL, 0, NULL, 0, &sizes);
+    opgp_packet *packets = calloc((size_t)sizes.rows + 1, sizeof *packets);
+    uint8_t *bytes = malloc((size_t)sizes.bytes + 1);
+    opgp_ring_packets(ring, packets, (size_t)sizes.rows, bytes, (size_t)sizes.bytes, &sizes);
+    uint32_t status = opgp_ring_states(ring, NULL, 0, OPGP_POLICY_ANY, UINT64_MAX, NULL, 0, &wanted);
+    holds(status == (wanted ? OPGP_ROOM : OPGP_DONE), "states without room");
+    for (size_t r = 0; r <= wanted + 1; r++) {
+        opgp_state *rows = block_of(r * sizeof *rows);
+        bool fits = r >= wanted;
+        status = opgp_ring_states(ring, NULL, 0, OPGP_POLICY_ANY, UINT64_MAX, rows, r, &n);
+        holds(status == (fits ? OPGP_DONE : OPGP_ROOM) && n == wanted
+                  && is_blank(rows, fits ? (size_t)wanted * sizeof *rows : 0, r * sizeof *rows),
+              "states with some room");
+        holds(opgp_ring_states(ring, NULL, 0, 2, 0, rows, r, &n) == OPGP_LIMITS
+                  && opgp_ring_states(&none, NULL, 0, 2, 0, rows, r, &n) == OPGP_CLOSED
+                  && is_blank(rows, fits ? (size_t)wanted * sizeof *rows : 0, r * sizeof *rows),
+              "states by no policy, or of a closed handle");
+        free(rows);
+    }
+    opgp_state *rows = calloc((size_t)wanted + 1, sizeof *rows);
+    holds(opgp_ring_states(ring, NULL, 0, OPGP_POLICY_USUAL, 0, rows, (size_t)wanted, &n) == OPGP_DONE, "states");
+    for (uint64_t i = 0; i < sizes.rows; i++) {
+        bool is_primary = packets[i].kind == OPGP_PACKET_PUBLIC_KEY, is_key = is_primary || packets[i].kind == OPGP_PACKET_PUBLIC_SUBKEY;
+        if (is_key || packets[i].kind == OPGP_PACKET_USER_ID || packets[i].kind == OPGP_PACKET_USER_ATTRIBUTE) {
+            const opgp_state *row = &rows[found < wanted ? found : 0];
+            parts = is_primary ? 0 : parts + 1;
+            holds(found < wanted && row->is_key == is_key && row->component == (is_primary ? OPGP_NONE : parts - 1), "the state of a part");
+            holds(row->why == (is_key ? OPGP_EARLY : OPGP_UNBOUND) && row->uses == 0 && row->has_reason == 0 && row->reason == 0
+                      && is_zero(row->reserved, sizeof row->reserved) && row->end == OPGP_NONE && (is_key || row->begin == 0),
+                  "the state of what nobody signed");
+            found++;
+        }
+    }
+    holds(found == wanted, "as many states as parts");
+    free(rows);
+    free(packets);
+    free(bytes);
 }
 
 static void rooms(void)
@@ -959,6 +1022,7 @@ static void rooms(void)
     holds(opgp_ring_octets(&ring, sizes.rows, &byte, 0, &wanted) == OPGP_NO_ROW, "octets past the last row");
     holds(opgp_ring_octets(&ring, UINT64_MAX, &byte, 0, &wanted) == OPGP_NO_ROW, "octets of no row");
     standings(&ring);
+    states(&ring);
     try_limit(&ring, offsetof(opgp_limits, line), 128, UINT64_C(1) << 20);
     try_limit(&ring, offsetof(opgp_limits, body), 512, UINT32_MAX);
     try_limit(&ring, offsetof(opgp_limits, cert), 512, UINT64_C(1) << 40);
@@ -1111,6 +1175,116 @@ static void orders(const opgp_keyring *keyring, size_t rows)
     }
 }
 
+/* RFC 9580, A.1 and A.2: a key, and its signature over a document. */
+static const char key_of_it[] = "-----BEGIN PGP PUBLIC KEY BLOCK-----\n\n"
+                                "xjMEU/NfCxYJKwYBBAHaRw8BAQdAPwmJlL3ZFu1AUxl5NOSofIBzOhKA1i+AEJku\nQ+47JAY=\n"
+                                "-----END PGP PUBLIC KEY BLOCK-----\n";
+static const char made_by_it[] = "-----BEGIN PGP SIGNATURE-----\n\n"
+                                 "iF4EABYIAAYFAlX5X5UACgkQjP3hIZeWWpr2IgD/VvkMypjiECY3vZg/2xbBMd/S\n"
+                                 "ftgr9N3lYG4NdWrtM2YBANCcT6EVJ/A44PV/IgHYLy6iyQMyZfps60iehUuuYbQE\n-----END PGP SIGNATURE-----\n";
+static const uint64_t made_then = 0x55F95F95;
+
+struct judged {
+    struct count count;
+    opgp_verdict verdict;
+    uint8_t why;
+};
+
+static opgp_verdict judged_question(void *context, const opgp_question *question)
+{
+    struct judged *it = context;
+    holds(it->count.told == 0 && (it->count.asked == 0) == (question->job->certificate == OPGP_NONE), "the document's question is first");
+    return count_question(&it->count, question);
+}
+
+static int take_judgement(void *context, const opgp_question *question, opgp_verdict verdict, uint8_t why)
+{
+    struct judged *it = context;
+    it->verdict = verdict;
+    it->why = why;
+    holds(question->row == it->count.told && question->job->certificate == OPGP_NONE && question->signer && question->made[1].size == 32
+              && question->job->created == made_then,
+          "a judgement");
+    it->count.told++;
+    return it->count.told == it->count.ends_at ? 7 : 0;
+}
+
+/* Reads that signature and its document. */
+static uint32_t read_signed(opgp_document *document)
+{
+    opgp_limits limits;
+    opgp_fault fault;
+    opgp_usual_limits(&limits);
+    uint32_t status = opgp_document_open((const uint8_t *)made_by_it, sizeof made_by_it - 1, OPGP_MODE_AUTO, &limits, document, &fault);
+    return status == OPGP_DONE ? opgp_document_push(document, (const uint8_t *)"OpenPGP", 7) : status;
+}
+
+/* Reads that key, and puts the input in front of it. */
+static uint32_t read_joined(opgp_keyring **keyring)
+{
+    opgp_keyring *front = NULL, *behind = NULL;
+    *keyring = NULL;
+    uint32_t status = opgp_open(in, size, NULL, &front, NULL);
+    status = status == OPGP_DONE ? opgp_open((const uint8_t *)key_of_it, sizeof key_of_it - 1, NULL, &behind, NULL) : status;
+    status = status == OPGP_DONE ? opgp_join(front, behind, keyring) : status;
+    opgp_close(front);
+    opgp_close(behind);
+    return status;
+}
+
+/* Each status of opgp_judge, and what it says by each answer: the key is bare, so nothing binds it. */
+static void judgements(void)
+{
+    opgp_document document = {false, NULL};
+    opgp_keyring *keyring;
+    size_t others;
+    struct judged it = {.count = {.answer = OPGP_GOOD}};
+    holds(read_joined(&keyring) == OPGP_DONE, "the input and a key");
+    jobs_in(keyring, &others);
+    holds(opgp_judge(&document, keyring, 0, made_then, judged_question, take_judgement, &it) == OPGP_CLOSED, "judging a closed document");
+    holds(read_signed(&document) == OPGP_DONE, "a signature over a document");
+    holds(opgp_judge(&document, keyring, 0, made_then, judged_question, take_judgement, &it) == OPGP_GOING, "judging a document that goes on");
+    opgp_document_end(&document);
+    holds(opgp_judge(&document, keyring, 2, made_then, judged_question, take_judgement, &it) == OPGP_LIMITS
+              && opgp_judge(&document, keyring, UINT32_MAX, made_then, NULL, take_judgement, &it) == OPGP_LIMITS,
+          "judging by no policy");
+    holds(it.count.asked == 0 && it.count.told == 0, "nobody is asked or told");
+    holds(opgp_judge(&document, keyring, 0, made_then, NULL, take_judgement, &it) == OPGP_DONE && it.count.told == 1
+              && it.verdict == OPGP_UNDECIDED && it.why == OPGP_NOT_GOOD,
+          "judging without a verifier");
+    for (int answer = -1; answer < 4; answer++) {
+        for (uint64_t now = made_then - 1; now <= made_then + 1; now++) {
+            it = (struct judged){{0, 0, now == made_then ? 1 : 2, answer}, OPGP_UNDECIDED, 0xA5};
+            uint32_t status = opgp_judge(&document, keyring, now % 2, now, judged_question, take_judgement, &it);
+            holds(status == (now == made_then ? OPGP_ENDED : OPGP_DONE) && it.count.told == 1 && it.count.asked >= 1
+                      && it.count.asked <= (answer == OPGP_GOOD ? others + 1 : 1),
+                  "judging");
+            holds(it.verdict == (answer == OPGP_GOOD || answer == OPGP_BAD ? (opgp_verdict)answer : OPGP_UNDECIDED)
+                      && it.why == (answer != OPGP_GOOD ? OPGP_NOT_GOOD : now < made_then ? OPGP_IN_FUTURE : OPGP_UNBOUND),
+                  "a judgement by an answer");
+        }
+    }
+    opgp_close(keyring);
+    opgp_document_close(document);
+}
+
+/* Judges until memory runs out; then nobody is told. */
+static bool judge_document(void)
+{
+    opgp_document document = {false, NULL};
+    opgp_keyring *keyring = NULL;
+    struct judged it = {.count = {.answer = OPGP_GOOD}};
+    uint32_t status = read_joined(&keyring);
+    status = status == OPGP_DONE ? read_signed(&document) : status;
+    status = status == OPGP_DONE ? opgp_document_end(&document) : status;
+    status = status == OPGP_DONE ? opgp_judge(&document, keyring, 0, made_then, judged_question, take_judgement, &it) : status;
+    holds(status == OPGP_DONE ? it.count.told == 1 && it.why == OPGP_UNBOUND : status == OPGP_MEMORY && it.count.told == 0,
+          "judging where memory runs out");
+    opgp_close(keyring);
+    opgp_document_close(document);
+    return status == OPGP_DONE;
+}
+
 static void on_top(void)
 {
     opgp_keyring *keyring = NULL;
@@ -1148,6 +1322,7 @@ static void on_top(void)
     holds(opgp_subpackets_of(keyring, SIZE_MAX, &found, &count) == OPGP_NO_ROW && !found && count == 0, "subpackets past the last row");
     ways(keyring);
     orders(keyring, rows);
+    judgements();
     opgp_keyring *twice = NULL;
     uint8_t *alone = NULL;
     size_t size_of_it = 0;
@@ -1390,6 +1565,15 @@ static bool judge_everything(void)
         holds(status == OPGP_DONE ? why <= OPGP_UNBACKED : (why == 0xA5 && (status == OPGP_MEMORY || status == OPGP_NO_ROW)) && ring.is_open,
               "whether a key may be believed");
     }
+    static opgp_state rows[256];
+    uint64_t n = 0;
+    memset(rows, 0xA5, sizeof rows);
+    if (is_done) {
+        status = opgp_ring_states(&ring, verdicts, sizeof verdicts, OPGP_POLICY_USUAL, now, rows, sizeof rows / sizeof *rows, &n);
+        is_done = status == OPGP_DONE;
+        holds(is_done ? is_blank(rows, (size_t)n * sizeof *rows, sizeof rows) : status == OPGP_MEMORY && is_blank(rows, 0, sizeof rows) && ring.is_open,
+              "how the parts of a keyring stand");
+    }
     opgp_ring_close(ring);
     return is_done;
 }
@@ -1399,6 +1583,7 @@ static void memory(void)
     wants_memory(everything);
     wants_memory(take_everything);
     wants_memory(judge_everything);
+    wants_memory(judge_document);
     take_patiently();
     wants_memory(take_patiently);
 }
@@ -1688,6 +1873,7 @@ static void held_by_calls(void)
     opgp_ring_write(&ring, 0, &byte, 0, &wanted);
     opgp_ring_write(&ring, 1, &byte, 0, &wanted);
     opgp_ring_standing(&ring, NULL, 0, OPGP_POLICY_ANY, 0, OPGP_NONE, 0, 0, &byte);
+    opgp_ring_states(&ring, NULL, 0, OPGP_POLICY_ANY, 0, NULL, 0, &wanted);
     holds(opgp_ring_certificate(&ring, UINT64_MAX, &into) == OPGP_NO_ROW && !into.is_open, "no certificate");
     holds(held_octets == before, "calls that ask hold nothing more");
     holds(opgp_ring_open(octets, n - 1, &limits, &ring, &fault) == OPGP_REFUSED, "a refused input");

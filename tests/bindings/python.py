@@ -1,11 +1,12 @@
 #!/usr/bin/env python3
 """Tries python/opgp.py over the library for C, which OPGP_LIBRARY names or which is made: the rows, faults, hashed octets and packets
-of keyrings beside those that the program prints, signatures over documents beside hashlib, limits, verifiers, closing, copies, threads,
-memory, the examples beside gpg where that and Debian's keyrings are, its wheel, and its types by mypy where that is. The last line
-counts what was tried."""
+of keyrings beside those that the program prints, signatures over documents beside hashlib, whether they are believed beside
+tests/lib/standing.py, limits, verifiers, closing, copies, threads, memory, the examples beside gpg where that and Debian's keyrings are,
+its wheel, and its types by mypy where that is. The last line counts what was tried."""
 
 import array
 import base64
+import contextlib
 import copy
 import ctypes
 import ctypes.util
@@ -28,11 +29,14 @@ import subprocess
 import sys
 import tempfile
 import threading
+import unittest.mock
 
 sys.dont_write_bytecode = True
 sys.path.insert(0, f"{sys.path[0]}/../lib")
 
 import model  # noqa: E402
+import standing  # noqa: E402
+import standing_cases  # noqa: E402
 from running import COMMANDS, HERE, built  # noqa: E402
 
 PROGRAM = built("tests/bindings/python.py")
@@ -571,10 +575,14 @@ def errors(opgp):
 LITTLE = """
 import resource, opgp
 octets = open({path!r}, "rb").read()
+kept, document = opgp.read(octets), opgp.Document({signature!r})
+document.end()
+key = kept.certificates()[0].primary, 0, 0
 taken = int(open("/proc/self/statm").read().split()[0]) * resource.getpagesize()
 resource.setrlimit(resource.RLIMIT_AS, (taken + {more}, resource.RLIM_INFINITY))
 reader = opgp.Reader()
-calls = dict(read=lambda: opgp.read(octets), push=lambda: reader.push(octets), end=reader.end, take=reader.take)
+calls = dict(read=lambda: opgp.read(octets), push=lambda: reader.push(octets), end=reader.end, take=reader.take,
+             standing=lambda: kept.standing(*key, None), judge=lambda: document.judge(kept, None, 0))
 for name, call in calls.items():
     try:
         call()
@@ -614,10 +622,10 @@ def little_memory(opgp, env, room):
     path = f"{room}/octets"
     with open(path, "wb") as it:
         it.write(octets)
-    usual = run(sys.executable, "-c", LITTLE.format(path=path, more=1 << 40), env=env)
-    verdict("where there is memory", lines_of(usual) == ["read done", "push done", "end done", "take done"], usual)
-    little = run(sys.executable, "-c", LITTLE.format(path=path, more=4 << 20), env=env)
-    verdict("where there is little", lines_of(little) == [f"{it} MemoryError" for it in ("read", "push", "end", "take")], little)
+    calls = "read", "push", "end", "take", "standing", "judge"
+    for more, said in ((1 << 40, "done"), (4 << 20, "MemoryError")):
+        ended = run(sys.executable, "-c", LITTLE.format(path=path, signature=SIGNATURE, more=more), env=env)
+        verdict(f"where there are {more} octets more", lines_of(ended) == [f"{it} {said}" for it in calls], ended)
     with open(path, "wb") as it:
         it.write(packet(2, over(6, 0, 8, b"\xff" + ((1 << 23) + 1).to_bytes(4, "big") + b"d" + bytes(1 << 23))))
     env = {**env, "MALLOC_MMAP_THRESHOLD_": "65536"}  # what is freed is given back
@@ -667,7 +675,8 @@ def closed(opgp):
         verdict("the keyring of a with", it is keyring)
     for name, call in (("packets", keyring.packets), ("keys", keyring.keys), ("signatures", keyring.signatures), ("write", keyring.write),
                        ("certificates", keyring.certificates), ("octets", lambda: keyring.octets(0)), ("check", keyring.check),
-                       ("find", lambda: keyring.find(b"")), ("joined", lambda: keyring.joined(keyring))):
+                       ("find", lambda: keyring.find(b"")), ("joined", lambda: keyring.joined(keyring)),
+                       ("standing", lambda: keyring.standing(kept[1][0], 0, 0, lambda _: opgp.Verdict.GOOD))):
         verdict(f"{name} of a closed keyring", raised(ValueError, call))
     verdict("closing twice", raised(BaseException, keyring.close) is None)
     again = opgp.read(octets_of(A3))
@@ -1054,7 +1063,8 @@ def document_uses(opgp):
         return [said_over(it, document)[2] for it in (over(4, 0, 8), over(6, 0, 10))]
 
     def asked(it):
-        return (("signatures", it.signatures), ("signatures by a keyring", lambda: it.signatures(keyring)), ("check", lambda: it.check(keyring)))
+        return (("signatures", it.signatures), ("signatures by a keyring", lambda: it.signatures(keyring)), ("check", lambda: it.check(keyring)),
+                ("judge", lambda: it.judge(keyring, lambda _: opgp.Verdict.GOOD, 0)))
 
     with opgp.Document(two) as it:
         for piece in (b"", b"x", b""):
@@ -1234,6 +1244,403 @@ def document_signers(opgp):
     verdict("they are closed", raised(ValueError, keyring.keys) and raised(ValueError, found.signatures))
 
 
+# Whether keys and signatures are believed, beside tests/lib/standing.py.
+
+READ = 1795132800  # when the vectors are read: 2026-11-20
+TEXT = b"document\n"  # what their signatures are over
+OLD = READ - 100 * 86400  # when most of these were made
+VERDICTS = {"good": "GOOD", "bad": "BAD", "undecided": "UNDECIDED"}  # the model's and the module's
+
+
+def why_of(opgp, word):
+    """The module's reason for the model's."""
+    return None if word is None else opgp.Why[word.upper()]
+
+
+class Arithmetic:
+    """Answers a verifier's questions by verdicts that are written down, those on rows of a keyring and on signatures over a document, and
+    keeps what it was asked."""
+
+    def __init__(self, opgp, rows, own=()):
+        self.opgp, self.rows, self.own, self.asked, self.questions = opgp, rows, own, [], []
+
+    def __call__(self, question):
+        it = question.signature
+        self.asked.append((it.certificate, it.row))
+        self.questions.append(question)
+        return self.opgp.Verdict[VERDICTS[(self.own if it.certificate is None else self.rows)[it.row]]]
+
+    def is_once(self, certificates):
+        """Whether each row was asked about once, and those of these certificates alone; then asks anew."""
+        holds = len({*self.asked}) == len(self.asked) and {it for it, _ in self.asked} <= {None, *certificates}
+        self.asked.clear()
+        return holds
+
+
+def digest_alone(certificate, it):
+    """The digest of what a key revocation hashes, whatever it follows: the primary key alone (5.2.1.11)."""
+    _, octets = model.asked_there(it.body, None, certificate[0].body, None)
+    return hashlib.new(model.HASHES[it.hash], octets).digest()
+
+
+def standings(opgp):
+    """Why keys of the vectors aren't believed is what the model says. A verifier is asked once about a row, of the key's certificate alone;
+    about a misplaced key revocation too."""
+    misplaced, believed, tried = 0, 0, 0
+    for vector in standing_cases.vectors():
+        keyring = opgp.read(vector.octets, opgp.Limits(keep_malformed=True))
+        by_policy = {policy: standing.Keyring(vector.octets, vector.verdicts, policy) for policy in ("usual", "any")}
+        places, keys = dict(by_policy["usual"].table()), keyring.keys()
+        verdict(f"keys of {vector.stem}", [(it.certificate, it.component) for it in keys] == list(places), keys)
+        verify = Arithmetic(opgp, vector.verdicts)
+        for key in keys:
+            times = {READ, key.created, key.created - 1, OLD}
+            for made, now, policy in (*((it, READ, "usual") for it in times), (OLD, READ, "any"), (READ, OLD, "usual")):
+                found = keyring.standing(key, made, now, verify, policy)
+                wanted = why_of(opgp, by_policy[policy].standing(key.certificate, key.component, made, now))
+                verdict(f"{vector.stem}: key {key.row}, {made}, {now}, {policy}", found is wanted, (found, wanted))
+                verdict(f"{vector.stem}: what is asked of key {key.row}", verify.is_once({key.certificate}))
+                believed, tried = believed + (found is None), tried + 1
+        rows = list(standing.rows(standing.read(vector.octets)))
+        asked = {it.signature.row: it for it in verify.questions}
+        for row, (certificate, part, it, is_embedded) in enumerate(rows):
+            if row not in asked:
+                continue
+            question = asked[row]
+            verdict(f"{vector.stem}: row {row} may be good", question.signature.digest[:2] == question.signature.left, question)
+            if it.kind == standing.REVOCATION and part.kind != standing.PRIMARY and not is_embedded:
+                told = question.signature.digest, question.signature.why_not, question.signature.is_bad
+                verdict(f"{vector.stem}: the misplaced revocation", told == (digest_alone(certificate, it), None, False), question)
+                own = keyring.signatures()[row].why_not == "misplaced", question.signer == keys[question.signature.signer]
+                verdict(f"{vector.stem}: its row", all(own), question)
+                misplaced += 1
+            else:
+                verdict(f"{vector.stem}: row {row}", question == (keyring.signatures()[row], keys[question.signature.signer]), question)
+        holds = all(it in asked for it, found in enumerate(vector.verdicts) if found == standing.GOOD)
+        verdict(f"{vector.stem}: each good row is asked about", holds, sorted(asked))
+    verdict("keys of vectors", misplaced > 5 and 500 < believed < tried - 500, (misplaced, believed, tried))
+
+
+def verdicts_of_merged(vector, octets):
+    """The verdict on each row of the merged keyring, which is that on the same signature in the same place before."""
+    rows = [standing.rows(standing.read(it)) for it in (vector.octets, octets)]
+    before, now = ([(c[0].body, part.kind, part.body, it.body, is_embedded) for c, part, it, is_embedded in them] for them in rows)
+    found = dict(zip(before, vector.verdicts))
+    return [found[it] for it in now]
+
+
+def judgements(opgp):
+    """What the vectors' signatures are judged to be is what the model says of them by the merged keyring."""
+    otherwise, reasons, merged_ones = 0, set(), 0
+    for vector in standing_cases.vectors():
+        limits_given = opgp.Limits(keep_malformed=True)
+        keyring = opgp.read(vector.octets, limits_given)
+        octets, bodies = keyring.merged().write(), [it for it, _ in vector.documents]
+        own, found = [it for _, it in vector.documents], verdicts_of_merged(vector, octets)
+        if not bodies:
+            continue
+        document = hashed_in_pieces(opgp, b"".join(packet(2, it) for it in bodies), [TEXT], limits_given)
+        signatures = document.signatures(keyring)
+        for policy in ("usual", "any"):
+            by = standing.Keyring(octets, found, policy)
+            names = {keyring.keys()[it.signer].fingerprint for it in signatures if it.signer is not None}
+            signers = {certificate for (certificate, _), key in by.table() if key.fingerprint in names}
+            for now in (READ, OLD - 1):
+                verify = Arithmetic(opgp, found, own)
+                judged = document.judge(keyring, verify, now, policy)
+                verdict(f"{vector.stem}: what is asked", verify.is_once(signers), verify.questions)
+                checked = document.check(keyring, verify)
+                verdict(f"{vector.stem}: signatures and verdicts", [(it.signature, it.verdict) for it in judged] == checked, judged)
+                verdict(f"{vector.stem}: signatures", [it.signature for it in judged] == signatures, judged)
+                for it, body, of in zip(judged, bodies, own):
+                    wanted = by.believed(body, of, now)
+                    if it.verdict is opgp.Verdict.GOOD:
+                        verdict(f"{vector.stem}: {policy}, {now}", it.why is why_of(opgp, wanted), (it.why, wanted))
+                    else:  # whatever the model calls it
+                        verdict(f"{vector.stem}: no good verdict", it.why is opgp.Why[it.verdict.name] and wanted is not None, (it.why, wanted))
+                    reasons.add(it.why)
+        before = standing.Keyring(vector.octets, vector.verdicts)
+        after = standing.Keyring(octets, found)
+        otherwise += any(before.believed(*it, READ) != after.believed(*it, READ) for it in vector.documents)
+        merged_ones += octets != vector.octets
+        is_one = keyring._open().merged() is keyring._open()
+        verdict(f"{vector.stem}: a second keyring only if need be", is_one == (octets == vector.octets))
+    verdict("vectors that merging changes", merged_ones > 5 and otherwise > 1, (merged_ones, otherwise))
+    verdict("reasons that are seen", len(reasons) >= 13 and None in reasons, reasons)
+
+
+def vector_of(stem):
+    return next(it for it in standing_cases.vectors() if it.stem == stem)
+
+
+def one_judged(opgp, stem="base"):
+    """A vector's keyring, its document, and the verdicts on both."""
+    vector = vector_of(stem)
+    document = hashed_in_pieces(opgp, b"".join(packet(2, it) for it, _ in vector.documents), [TEXT])
+    return opgp.read(vector.octets), document, Arithmetic(opgp, vector.verdicts, [it for _, it in vector.documents])
+
+
+def judgement_refused(opgp):
+    """What is raised of wrong times, keys, policies and keyrings, before anything is verified."""
+    keyring, document, verify = one_judged(opgp)
+    key, other = keyring.keys()[0], opgp.read(octets_of(A1)).keys()[0]
+    good = document.judge(keyring, verify, READ)
+    verdict("it is believed", [it.why for it in good] == [None] and keyring.standing(key, OLD, READ, verify) is not opgp.Why.FUTURE)
+    verify.asked.clear()
+    for time in (-1, -(1 << 70), 1 << 64, 1 << 200):
+        for call in (lambda time=time: keyring.standing(key, time, READ, verify), lambda time=time: keyring.standing(key, OLD, time, verify),
+                     lambda time=time: document.judge(keyring, verify, time)):
+            it = raised(ValueError, call)
+            verdict(f"the time {time}", str(it) == f"the time is out of its range: {time}" and not isinstance(it, opgp.Fault), it)
+    for time in (None, 0.0, "0", datetime.datetime.now()):
+        for call in (lambda time=time: keyring.standing(key, time, READ, verify), lambda time=time: keyring.standing(key, OLD, time, verify),
+                     lambda time=time: document.judge(keyring, verify, time)):
+            verdict(f"no time {time!r}", raised(TypeError, call))
+    for policy in ("", "Usual", "text", None, 0, 1, b"usual", ["usual"]):
+        for call in (lambda policy=policy: keyring.standing(key, OLD, READ, verify, policy),
+                     lambda policy=policy: document.judge(keyring, verify, READ, policy)):
+            it, said = raised(ValueError, call), f"the policy is {policy!r}, and none of usual, any"
+            verdict(f"no policy {policy!r}", str(it) == said, it)
+    places = ("row", (-1, 1, 2, 77, 1 << 64)), ("component", (0, 77, -1, 1 << 64)), ("certificate", (1, -1)), ("created", (7,))
+    for it in (other, *(dataclasses.replace(key, **{name: number}) for name, numbers in places for number in numbers)):
+        found = raised(IndexError, lambda it=it: keyring.standing(it, OLD, READ, verify))
+        verdict(f"no key {it}", str(found) == "the keyring has no such key", found)
+    for it in (None, 0, "text", key.fingerprint, keyring.certificates()[0], keyring.signatures()[0]):
+        verdict(f"no key {it!r}", raised(TypeError, lambda it=it: keyring.standing(it, OLD, READ, verify)))
+        verdict(f"no keyring {it!r}", raised(TypeError, lambda it=it: document.judge(it, verify, READ)))
+    with opgp.Document(SIGNATURE) as going:
+        found = raised(ValueError, lambda: going.judge(keyring, verify, READ))
+        verdict("a document that hasn't ended", str(found) == "the document hasn't ended", found)
+    verdict("a closed document", str(raised(ValueError, lambda: going.judge(keyring, verify, READ))) == "the handle holds nothing")
+    closing = opgp.read(keyring.write())
+    closing.close()
+    for call in (lambda: closing.standing(key, OLD, READ, verify), lambda: document.judge(closing, verify, READ)):
+        verdict("a closed keyring", str(raised(ValueError, call)) == "the keyring is closed")
+    verdict("nothing is asked then", verify.asked == [])
+    for made, now in ((0, 0), (2**64 - 1, 2**64 - 1), (0, 2**64 - 1)):
+        found = keyring.standing(key, made, now, verify), document.judge(keyring, verify, now)[0].why
+        verdict(f"the times {made} and {now}", found[0] is not None and (found[1] is opgp.Why.FUTURE or now), found)
+    verdict("a time that is an index", document.judge(keyring, verify, Number(READ)) == good)
+    found = keyring.standing(key, OLD, READ, None), document.judge(keyring, None, READ)[0].why
+    verdict("no verifier", found == (opgp.Why.UNBOUND, opgp.Why.UNDECIDED), found)
+    primary = keyring.certificates()[0].primary
+    verdict("a key by its certificate", keyring.standing(primary, OLD, READ, verify) is keyring.standing(key, OLD, READ, verify))
+    empty = document.judge(opgp.read(b""), verify, READ)
+    verdict("a keyring of nothing", [(it.verdict, it.why) for it in empty] == [(opgp.Verdict.UNDECIDED, opgp.Why.UNDECIDED)], empty)
+    rule = opgp._Rule(keyring._open(), verify, 0)
+
+    def asked(row, of=document, at=0):
+        call = opgp._library.opgp_document_standing
+        return rule.why(keyring.keys()[at], lambda ring, given, place, why: call(of._document, ring, *given, row, *place, READ, why))
+
+    typed_document = hashed_in_pieces(opgp, packet(2, over(4, 0x10, 8)), [])
+    told = asked(0, at=-1), asked(0), asked(0, typed_document)
+    verdict("another key and another type", told == (None, opgp.Why.ISSUER, opgp.Why.TYPE), told)
+    verdict("no row", raised(IndexError, lambda: asked(1)) and raised(IndexError, lambda: asked(1 << 63)))
+    verdict("reasons are truthy", all(opgp.Why) and len(opgp.Why) == 15 and opgp.Judgement._fields == ("signature", "verdict", "why"))
+
+
+class Number:
+    def __init__(self, value):
+        self.value = value
+
+    def __index__(self):
+        return self.value
+
+
+def judgement_verifiers(opgp):
+    """What a verifier raises ends it. One may close what it is asked about, and ask in its turn."""
+    keyring, document, verify = one_judged(opgp)
+    key = keyring.keys()[-1]
+    wanted = [keyring.standing(key, OLD, READ, verify), *(it.why for it in document.judge(keyring, verify, READ))]
+    verdict("what is asked about is believed", wanted == [None, None], wanted)
+    count = len(verify.asked)
+    verify.asked.clear()
+    thrice = hashed_in_pieces(opgp, packet(2, vector_of("base").documents[0][0]) * 3, [TEXT])
+    verify.own *= 3
+    verdict("three signatures by one key", [it.why for it in thrice.judge(keyring, verify, READ)] == [None] * 3)
+    verdict("each row of its certificate is asked about once", len(verify.asked) == count // 2 + 3 and verify.is_once({0}), verify.asked)
+    for at in range(count):
+        asked = []
+
+        def fails(question):
+            asked.append(question)  # pylint: disable=cell-var-from-loop
+            if len(asked) > at:  # pylint: disable=cell-var-from-loop
+                raise Failing
+            return verify(question)
+
+        both = (lambda: keyring.standing(key, OLD, READ, fails), lambda: document.judge(keyring, fails, READ))  # pylint: disable=cell-var-from-loop
+        for call in both:
+            asked.clear()
+            it = raised(Failing, call)
+            verdict(f"a verifier that raises at {at}", (it and len(asked) == at + 1) or (not it and len(asked) <= at), asked)
+    for kind in (KeyboardInterrupt, SystemExit):
+        def stops(_, kind=kind):
+            raise kind
+        verdict(f"a verifier that raises {kind}", raised(kind, lambda stops=stops: document.judge(keyring, stops, READ)))
+    for given in (None, 7, "good"):
+        for call in (lambda given=given: keyring.standing(key, OLD, READ, lambda _: given),
+                     lambda given=given: document.judge(keyring, lambda _: given, READ)):
+            verdict(f"a verifier that answers {given!r} there", raised(ValueError, call))
+    for given in opgp.Verdict:
+        found = document.judge(keyring, lambda _: given, READ)[0]  # pylint: disable=cell-var-from-loop
+        says = None if given is opgp.Verdict.GOOD else opgp.Why[given.name]
+        verdict(f"a verifier that answers {given} there", (found.verdict, found.why) == (given, says), found)
+
+    def asks(question):
+        nested = [keyring.standing(key, OLD, READ, verify), *(it.why for it in document.judge(keyring, verify, READ))]
+        return verify(question) if nested == wanted and keyring.check() and document.check(keyring) else None
+
+    found = [keyring.standing(key, OLD, READ, asks), *(it.why for it in document.judge(keyring, asks, READ))]
+    verdict("a verifier that asks in its turn", found == wanted, found)
+
+    def closes(question):
+        keyring.close()
+        document.close()
+        return verify(question)
+
+    again, other, _ = one_judged(opgp)
+    found = [it.why for it in document.judge(keyring, closes, READ)]
+    verdict("a verifier that closes both", found == [None] and raised(ValueError, keyring.keys) and raised(ValueError, document.signatures), found)
+    keyring, document = again, other
+    verdict("one that closes the keyring", keyring.standing(key, OLD, READ, closes) is None and raised(ValueError, keyring.keys))
+
+    def begins_anew(question):
+        other.__init__(SIGNATURE)
+        return verify(question)
+
+    keyring, other, _ = one_judged(opgp)
+    found = [it.why for it in other.judge(keyring, begins_anew, READ)]
+    verdict("one that begins the document anew", found == [None] and raised(ValueError, other.signatures), found)
+
+
+def judged_in_places(opgp):
+    """Of a key in two places the first that is believed says so, else the first says why not; whatever the library answers."""
+    keyring, document, verify = one_judged(opgp, "sub_of_other")
+    verdict("it is in two places", len(keyring.merged().find(document.judge(keyring, verify, READ)[0].signature.issuer)) == 2)
+    for answers, wanted, count in (((0, 0), None, 1), ((0, 5), None, 1), ((4, 0), None, 2), ((4, 5), opgp.Why.UNBOUND, 2), ((5, 4), opgp.Why.EXPIRED, 2),
+                                   ((13, 1), opgp.Why.ISSUER, 2)):
+        asked = []
+
+        def answer(*given):
+            asked.append(given[6])  # pylint: disable=cell-var-from-loop
+            given[-1].value = answers[len(asked) - 1]  # pylint: disable=cell-var-from-loop
+            return 0
+
+        with unittest.mock.patch.object(opgp._library, "opgp_document_standing", answer):
+            found = [it.why for it in document.judge(keyring, verify, READ)]
+        verdict(f"two places where the library says {answers}", found == [wanted] and asked == [0, 1][:count], (found, asked))
+    for status, number, kind in ((0, 14, ValueError), (0, 255, ValueError), (3, 0, MemoryError), (5, 0, ValueError), (6, 0, IndexError),
+                                 (77, 0, RuntimeError)):
+        def wrong(*given, status=status, number=number):
+            given[-1].value = number
+            return status
+
+        for name, call in (("opgp_document_standing", lambda: document.judge(keyring, verify, READ)),
+                           ("opgp_ring_standing", lambda: keyring.standing(keyring.keys()[0], OLD, READ, verify))):
+            with unittest.mock.patch.object(opgp._library, name, wrong):
+                verdict(f"{name} that returns {status} and {number}", raised(kind, call))
+
+
+def judged_elsewhere(opgp):
+    """The same is said of keys and signatures where other packets and certificates stand in front, and however the keyring is written."""
+    marker, opaque = b"\xca\x03PGP", packet(2, OPAQUE)
+    for vector in map(vector_of, ("base", "revocation_last", "v6_revocation_last", "revoker_displaced", "key_expired_after")):
+        limits_given = opgp.Limits(keep_malformed=True)
+        whole, own = opgp.read(vector.octets), [it for _, it in vector.documents]
+        verify = Arithmetic(opgp, vector.verdicts, own)
+        document = hashed_in_pieces(opgp, b"".join(packet(2, it) for it, _ in vector.documents), [TEXT])
+        wanted = [whole.standing(it, OLD, READ, verify) for it in whole.keys()], [it.why for it in document.judge(whole, verify, READ)]
+        one, three = (opgp.read(octets_of(it)).write() for it in (A1, A3))
+        for lead in (b"", marker, one, three + opaque, marker + one * 2):
+            in_front = opgp.read(lead, limits_given)
+            keyring = opgp.read(lead + vector.octets, limits_given)
+            before = len(in_front.signatures())
+            for made in (keyring, keyring.normalised(), opgp.read(keyring.write(armor=True), limits_given)):
+                verify = Arithmetic(opgp, [standing.BAD] * before + vector.verdicts, own)
+                keys = made.keys()[len(in_front.keys()) :]
+                verdict(f"{vector.stem} behind {lead[:9]}", [made.standing(it, OLD, READ, verify) for it in keys] == wanted[0])
+                verdict(f"{vector.stem} behind {lead[:9]}, what is asked", {it for it, _ in verify.asked} <= {it.certificate for it in keys})
+                merged = verdicts_of_merged(vector._replace(octets=lead + vector.octets, verdicts=verify.rows), made.merged().write())
+                found = document.judge(made, Arithmetic(opgp, merged, own), READ)
+                verdict(f"{vector.stem} behind {lead[:9]}, judged", [it.why for it in found] == wanted[1], found)
+                verdict(f"{vector.stem} behind {lead[:9]}, its signers", [it.signature for it in found] == document.signatures(made))
+
+
+def judged_at_once(opgp):
+    """Threads that judge one document by one keyring say the same."""
+    for stem in ("base", "twice_first_bare"):
+        keyring, document, verify = one_judged(opgp, stem)
+        found = verdicts_of_merged(vector_of(stem), keyring.merged().write())
+        verify = Arithmetic(opgp, found, verify.own)
+        wanted, wrong = document.judge(opgp.read(keyring.write()), verify, READ), []
+
+        def work_at_once():
+            for _ in range(20):
+                judged = document.judge(keyring, verify, READ)  # pylint: disable=cell-var-from-loop
+                if judged != wanted:  # pylint: disable=cell-var-from-loop
+                    wrong.append(judged)  # pylint: disable=cell-var-from-loop
+
+        them = [threading.Thread(target=work_at_once) for _ in range(4)]
+        for it in them:
+            it.start()
+        for it in them:
+            it.join()
+        verdict(f"threads that judge {stem}", not wrong, wrong[:1])
+
+
+def judged_by_arithmetic(opgp, env, room):
+    """judge.py says of each vector what the model says by the merged keyring; and what it didn't verify."""
+    paths = [f"{room}/{it}" for it in ("KEYRING", "SIGNATURES", "FILE")]
+    example, at = f"{HERE}/python/examples/judge.py", ("--at", str(READ))
+
+    def write(*octets):
+        for path, it in zip(paths, octets):
+            with open(path, "wb") as file:
+                file.write(it)
+
+    keyring, document, _ = one_judged(opgp)
+    vector = vector_of("base")
+    signatures = packet(2, vector.documents[0][0])
+    write(vector.octets, signatures, TEXT)
+    name = document.signatures(keyring)[0].issuer.hex().upper()
+    without = "import sys, runpy\nsys.modules['cryptography'] = None\nsys.argv[0:1] = []\nrunpy.run_path(sys.argv[0], run_name='__main__')"
+    ended = run(sys.executable, "-c", without, example, *paths, *at, env=env)
+    wanted = ["nothing is verified: the package cryptography is wanted", "not verified: 1 by EdDSALegacy, SHA2-256"]
+    told = ended.returncode, lines_of(ended), ended.stderr.decode().splitlines()
+    verdict("judge.py without cryptography", told == (1, [f"signature 0 : undecided issuer {name}"], wanted), ended)
+    for what, words, status in (("a time below 0", (*paths, "--at", "-1"), 1), ("no file", (*paths[:2], "/nothing/here", *at), 1),
+                                ("no words", (), 2), ("no time", (*paths, "--at", "now"), 2),
+                                ("a keyring that is refused", (paths[2], *paths[1:], *at), 1)):
+        ended = run(sys.executable, example, *words, env=env)
+        verdict(f"judge.py of {what}", (ended.returncode, ended.stdout) == (status, b"") and ended.stderr and b"Traceback" not in ended.stderr, ended)
+    if not importlib.util.find_spec("cryptography"):
+        return
+    ended = run(sys.executable, example, *paths, *at, env=env)
+    verdict("judge.py", (ended.returncode, ended.stdout, ended.stderr) == (0, f"signature 0 : believed issuer {name}\n".encode(), b""), ended)
+    ended = run(sys.executable, example, *paths, "--at", str(OLD - 1), env=env)
+    verdict("judge.py of a time before", (ended.returncode, ended.stdout) == (1, f"signature 0 : future issuer {name}\n".encode()), ended)
+    spec = importlib.util.spec_from_file_location("judge", example)
+    judge = importlib.util.module_from_spec(spec)
+    spec.loader.exec_module(judge)
+    for vector in standing_cases.vectors():
+        octets, out, err = opgp.read(vector.octets, opgp.Limits(keep_malformed=True)).merged().write(), io.StringIO(), io.StringIO()
+        signatures = b"".join(packet(2, it) for it, _ in vector.documents)
+        write(vector.octets, signatures, TEXT)
+        if raised(opgp.Fault, lambda: (opgp.read(vector.octets), opgp.Document(signatures))):  # pylint: disable=cell-var-from-loop
+            continue  # what is malformed
+        with unittest.mock.patch("sys.argv", [example, *paths, *at]), contextlib.redirect_stdout(out), contextlib.redirect_stderr(err):
+            judge.left_out.clear()
+            status = judge.main()
+        by = standing.Keyring(octets, verdicts_of_merged(vector, octets))
+        wanted = [by.believed(*it, READ) for it in vector.documents]
+        told = re.findall(r"^signature \d+ : (\S+) issuer \S+$", out.getvalue(), re.M)
+        holds = [it == "believed" for it in told] == [it is None for it in wanted] and status == (None not in wanted)
+        reasons = all(why_of(opgp, it).name.lower() == said for it, said in zip(wanted, told) if it not in (None, "undecided"))
+        verdict(f"judge.py of {vector.stem}", holds and reasons and len(told) == len(wanted), (told, wanted, out.getvalue(), err.getvalue()))
+        verdict(f"judge.py of {vector.stem} verifies all", err.getvalue() == "", err.getvalue())
+
+
 def work(opgp):
     """Four times as many certificates take four times as many lines of the module, and no more, in each of its calls."""
     body = opgp.read(octets_of(A1)).packets()[0].body
@@ -1269,6 +1676,11 @@ def work(opgp):
     hashed = opgp.document(packet(2, document), io.BytesIO(b""))
     one, four = (lines(count, lambda it: hashed.check(it, lambda of: asked.append(of.signer.row) or opgp.Verdict.GOOD)) for count in (100, 400))
     verdict("the work of a document's check is that of its signers", 0 < one == four and asked == [7, 7], (one, four, asked))
+    judge = (lambda it: it.standing(opgp._key_at(it._open(), 7), 0, 0, lambda _: opgp.Verdict.GOOD),
+             lambda it: hashed.judge(it, lambda _: opgp.Verdict.GOOD, 0))
+    for call in judge:
+        one, four = lines(100, call), lines(400, call)
+        verdict("the work of a judgement is that of its certificates", 0 < one == four, (one, four))
 
 
 def threads(opgp):
@@ -1293,7 +1705,9 @@ def threads(opgp):
 AT_ONCE = {
     "calls of one keyring": """
 keyring = opgp.read(octets)
+key, good = keyring.keys()[-1], lambda _: opgp.Verdict.GOOD
 calls = [keyring.write, keyring.keys, keyring.signatures, lambda: keyring.octets(0), lambda: keyring.merged().write(),
+         lambda: keyring.standing(key, 1700000000, 1700000000, good), lambda: keyring.standing(key, 0, 1 << 40, good, "any"),
          lambda: keyring.normalised().write(), lambda: keyring.joined(keyring).write(), lambda: keyring.certificate(0).write(),
          lambda: [it.signatures for it in keyring.certificates()], keyring.check]
 wanted = [it() for it in calls]
@@ -1305,7 +1719,8 @@ def work(number):
 """,
     "closing a keyring that is in use": """
 rings = [opgp.read(octets) for _ in range(40)]
-wanted = rings[0].write(), rings[0].packets(), rings[0].signatures()
+key, good = rings[0].keys()[0], lambda _: opgp.Verdict.GOOD
+wanted = rings[0].write(), rings[0].packets(), rings[0].signatures(), opgp.read(octets).standing(key, 1 << 31, 1 << 31, good)
 
 def work(number):
     for turn in range(40):
@@ -1315,7 +1730,7 @@ def work(number):
                 time.sleep(0.002)
                 it.close()
             else:
-                assert (it.write(), it.packets(), it.signatures()) == wanted
+                assert (it.write(), it.packets(), it.signatures(), it.standing(key, 1 << 31, 1 << 31, good)) == wanted
         except ValueError:
             pass
 """,
@@ -1394,12 +1809,13 @@ def ended():
     document.end()
     wanted = hashlib.sha256(piece * 160 + document.behind(0)).digest()
     them = [threading.Thread(target=lambda: found.extend(document.check(ring))) for _ in range(8)]
+    them += [threading.Thread(target=lambda: found.extend(it[:2] for it in document.judge(ring.joined(ring), None, 0))) for _ in range(8)]
     found = []
     for it in them:
         it.start()
     for it in them:
         it.join()
-    assert [row.digest for row, _ in found] == [wanted] * 8
+    assert [row.digest for row, _ in found] == [wanted] * 16
 """,
     "closing a document that is in use": """
 documents = [opgp.Document(signature) for _ in range(40)]
@@ -1419,6 +1835,7 @@ def work(number):
                 it.push(octets)
                 it.end()
                 assert [row.row for row, _ in it.check(ring)] == [0] == [row.row for row in it.signatures()]
+                assert [row.row for row, _, why in it.judge(ring, None, 0) if why] == [0]
         except ValueError:
             pass
 """,
@@ -1498,10 +1915,12 @@ def once():
         [*reader.taken()]
     again.__init__(octets), begun.push(octets), begun.__init__(), opgp.Reader().push(octets)
     with opgp.document(signature * 3, io.BytesIO(octets)) as hashed:
-        hashed.signatures(), hashed.check(keyring), hashed.front(0), hashed.behind(2)
+        hashed.signatures(), hashed.check(keyring), hashed.front(0), hashed.behind(2), hashed.judge(keyring.joined(keyring), None, 0)
+    keyring.standing(keyring.keys()[1], 1 << 31, 1 << 32, lambda _: opgp.Verdict.GOOD)
     document.push(octets), document.__init__(signature), opgp.Document(signature).push(octets)
     for wrong in (lambda: opgp.read(bad), lambda: opgp.read(5), lambda: keyring.octets(7), lambda: keyring.joined(5), document.signatures,
-                  lambda: document.behind(1), lambda: document.__init__(bad), lambda: opgp.Document(signature * 65), hashed.end):
+                  lambda: document.behind(1), lambda: document.__init__(bad), lambda: opgp.Document(signature * 65), hashed.end,
+                  lambda: keyring.standing(keyring.keys()[0], 0, 0, lambda _: 7), lambda: keyring.standing(keyring.keys()[0], -1, 0, None)):
         try:
             wrong()
         except (ValueError, TypeError, IndexError):
@@ -2003,11 +2422,12 @@ def main():
                 rows_fit(opgp, source)
             for test in (examples, answered, expiry_rules, strangers, at_once, memory):
                 test(opgp, env)
-            for test in (sent, little_memory, documented, verified, expiry_beside_gpg, stated_beside_gpg, without_library):
+            for test in (sent, little_memory, documented, verified, judged_by_arithmetic, expiry_beside_gpg, stated_beside_gpg, without_library):
                 test(opgp, env, room)
             for test in (names, faults, keyrings_made, pieces, short_reads, moments, limits, limits_in_pieces, policies, errors, large, inputs,
                          modes, long_octets, searches, rows_refused, closed, copies, verifiers, flags, stated, named_signers, documents,
-                         document_pieces, document_refused, document_uses, document_files, document_signers, work, each_octets, threads):
+                         document_pieces, document_refused, document_uses, document_files, document_signers, standings, judgements, judgement_refused,
+                         judgement_verifiers, judged_in_places, judged_elsewhere, judged_at_once, work, each_octets, threads):
                 test(opgp)
             packed(opgp, room)
             typed()

@@ -1,6 +1,6 @@
 #!/usr/bin/env python3
-"""Compares what the library for C says of keys with tests/lib/standing.py, which works the same rule out in its own way: over generated
-certificates (--cases, from --seed), whose signatures come with verdicts, so that nothing is signed; and over those of
+"""Compares what the library for C says of keys and user IDs with tests/lib/standing.py, which works the same rule out in its own way:
+over generated certificates (--cases, from --seed), whose signatures come with verdicts, so that nothing is signed; and over those of
 tests/vectors/validity, of which other programs were asked.
 
 Usage: tests/bindings/validity.py [--cases N] [--seed N] [--library FILE]
@@ -13,6 +13,7 @@ import os
 import subprocess
 import sys
 import tempfile
+import time
 
 HERE = os.path.dirname(os.path.dirname(os.path.dirname(os.path.realpath(__file__))))
 sys.path.insert(0, f"{HERE}/tests/lib")
@@ -20,15 +21,19 @@ sys.path.insert(0, f"{HERE}/tests/lib")
 import model  # noqa: E402
 import standing  # noqa: E402
 import standing_cases  # noqa: E402
+from openpgp_maker import Key, number, packet, signature, subpacket  # noqa: E402
 
-WHYS = (None, "future", "revoked", "early", "unbound", "expired", "flags", "back")
-DONE, LIMITS, CLOSED, NO_ROW = 0, 4, 5, 6
+WHYS = (None, "future", "revoked", "early", "unbound", "expired", "flags", "back", "type", "critical", "weak", "time", "lapsed", "issuer")
+DONE, ROOM, LIMITS, CLOSED, NO_ROW = 0, 2, 4, 5, 6
 NONE = 2**64 - 1
 READ = 1795132800  # when the vectors are read: 2026-11-20
 KEEP_MALFORMED = 2  # such signatures say nothing, and have a row
 POLICIES = {"usual": 0, "any": 1}
+IDENTITIES = {"fine": 0, "revoked": 2, "unbound": 4}
+FLAGS = {"certify": 1, "sign": 2, "encrypt": 4, "authenticate": 32}
 NUMBERS = {standing.UNDECIDED: 0, standing.GOOD: 1, standing.BAD: 2}
 SHOWN = 5  # of what differs
+MANY, MANY_SECONDS = 40000, 4  # subkeys, and how long they take at most, twice
 
 passed, failed = 0, 0
 
@@ -53,15 +58,27 @@ def verdict(title, holds, told=""):
         print(f"FAILED: {title}: {told}")
 
 
+class State(ctypes.Structure):
+    _fields_ = [(name, ctypes.c_uint64) for name in ("certificate", "component", "end")]
+    _fields_ += [("begin", ctypes.c_uint32)]
+    _fields_ += [(name, ctypes.c_uint8) for name in ("why", "is_key", "uses", "has_reason", "reason")]
+    _fields_ += [("reserved", ctypes.c_uint8 * 7)]
+
+
 class Library:
     def __init__(self, path):
         self.calls = ctypes.CDLL(path)
         wide, octet = ctypes.c_uint64, ctypes.POINTER(ctypes.c_uint8)
         self.calls.opgp_ring_open.argtypes = [ctypes.c_char_p, ctypes.c_size_t] + [ctypes.c_void_p] * 3
         self.calls.opgp_ring_standing.argtypes = [ctypes.c_void_p, ctypes.c_char_p, ctypes.c_size_t, ctypes.c_uint32, wide, wide, wide, wide, octet]
+        self.calls.opgp_ring_states.argtypes = [ctypes.c_void_p, ctypes.c_char_p, ctypes.c_size_t, ctypes.c_uint32, wide]
+        self.calls.opgp_ring_states.argtypes += [ctypes.c_void_p, ctypes.c_size_t, ctypes.POINTER(wide)]
         self.calls.opgp_ring_revocation.argtypes = [ctypes.c_void_p, wide, octet, ctypes.c_size_t, ctypes.POINTER(wide)]
-        self.calls.opgp_ring_close.argtypes = [Handle]
-        self.calls.opgp_ring_close.restype = None
+        for call in (self.calls.opgp_ring_close, self.calls.opgp_document_close):
+            call.argtypes, call.restype = [Handle], None
+        self.calls.opgp_document_open.argtypes = [ctypes.c_char_p, ctypes.c_size_t, ctypes.c_uint32] + [ctypes.c_void_p] * 3
+        handles = [ctypes.c_void_p] * 2
+        self.calls.opgp_document_standing.argtypes = [*handles, ctypes.c_char_p, ctypes.c_size_t, ctypes.c_uint32, wide, wide, wide, wide, octet]
         self.limits = Limits()
         self.calls.opgp_usual_limits(ctypes.byref(self.limits))
         self.limits.policies = KEEP_MALFORMED
@@ -81,6 +98,29 @@ class Library:
         status = self.calls.opgp_ring_standing(ctypes.byref(handle), verdicts, len(verdicts), policy, certificate, place, made, now, why)
         return status, why.value
 
+    def states(self, handle, verdicts, policy, at):
+        """The status, and how each part stands."""
+        size = ctypes.c_uint64()
+        given = ctypes.byref(handle), verdicts, len(verdicts), policy, at
+        status = self.calls.opgp_ring_states(*given, None, 0, size)
+        rows = (State * size.value)()
+        if status == ROOM:
+            status = self.calls.opgp_ring_states(*given, rows, len(rows), size)
+        return status, list(rows)
+
+    def document(self, body):
+        """A handle of a signature over a document; None where it is refused."""
+        handle, fault, octets = Handle(), Fault(), packet(2, body)
+        status = self.calls.opgp_document_open(octets, len(octets), 2, *map(ctypes.byref, (self.limits, handle, fault)))
+        return handle if status == DONE else None
+
+    def belief(self, document, handle, verdicts, policy, certificate, component, now):
+        """The status, and why the document's signature isn't to be believed as one by this key."""
+        why = ctypes.c_uint8(255)
+        place = NONE if component is None else component
+        handles = ctypes.byref(document), ctypes.byref(handle)
+        status = self.calls.opgp_document_standing(*handles, verdicts, len(verdicts), policy, 0, certificate, place, now, why)
+        return status, why.value
 
     def revocation(self, handle, row):
         """The digest of what the key revocation in a row hashes, or None."""
@@ -100,6 +140,32 @@ def numbers(verdicts):
     return bytes(NUMBERS[it] for it in verdicts)
 
 
+def row_of(row):
+    return tuple(getattr(row, name) for name, _ in State._fields_[:-1]) + (bytes(row.reserved),)
+
+
+def state_rows(keyring, at):
+    """The same, worked out here: how each part of a keyring stands."""
+    for c, certificate in enumerate(keyring.certificates):
+        for n, (part, state) in enumerate(zip((certificate.primary, *certificate.components), keyring.state(c, at))):
+            place = c, n - 1 if n else NONE
+            if part.key:
+                why, uses, begin, end, reason = state
+                told = NONE if end is None else end, begin, WHYS.index(why), 1, sum(FLAGS[it] for it in uses), reason is not None, reason or 0
+            else:
+                told = NONE, 0, IDENTITIES[state], 0, 0, 0, 0
+            yield (*place, *told, bytes(7))
+
+
+def compare_states(library, keyring, handle, found, policy, at):
+    """Whether library and model say the same of each part of a keyring."""
+    status, rows = library.states(handle, found, policy, at)
+    wanted = list(state_rows(keyring, at))
+    told = [row_of(it) for it in rows]
+    wrong = [pair for pair in zip(told, wanted) if pair[0] != pair[1]]
+    verdict(f"states at {at}", status == DONE and told == wanted, f"{status}, {len(told)} of {len(wanted)}: {wrong[:2]}: {found.hex()}")
+
+
 def compare(library, case, looks_closely):
     """Whether library and model say the same of each question of a case; and that there is no key where there is none. Of few cases also
     what key revocations hash."""
@@ -109,6 +175,10 @@ def compare(library, case, looks_closely):
         status, why = library.standing(handle, found, policy, *question)
         wanted = keyring.standing(*question)
         verdict(f"{question}", (status, why) == (DONE, WHYS.index(wanted)), f"{status} {why}, not {wanted}: {case.octets.hex()} {found.hex()} {case.policy}")
+    for at in {at for _, at in case.states}:
+        compare_states(library, keyring, handle, found, policy, at)
+    for body, _, now in case.documents:
+        beliefs(library, keyring, handle, body, found, policy, now)
     keys = {place for place, _ in keyring.table()}
     for c, certificate in enumerate(keyring.certificates):
         others = [n for n in range(len(certificate.components) + 1) if (c, n) not in keys]
@@ -116,6 +186,19 @@ def compare(library, case, looks_closely):
     for row, (certificate, _, it, is_embedded) in enumerate(standing.rows(standing.read(case.octets)) if looks_closely else ()):
         verdict("a revocation", library.revocation(handle, row) == revocation(certificate, it, is_embedded), f"{row} {case.octets.hex()}")
     library.calls.opgp_ring_close(handle)
+
+
+def beliefs(library, keyring, handle, body, found, policy, now):
+    """Whether library and model say the same of a document's signature, as one by each key of a keyring."""
+    document = library.document(body)
+    verdict("a document's signature is read", document is not None, body.hex())
+    for place, _ in keyring.table() if document else ():
+        status, why = library.belief(document, handle, found, policy, *place, now)
+        wanted = keyring.belief(body, place, now)
+        verdict(f"{place} {now}", (status, why) == (DONE, WHYS.index(wanted)), f"{status} {why}, not {wanted}: {body.hex()}")
+    if document:
+        verdict("no key", library.belief(document, handle, found, policy, NONE, None, now) == (NO_ROW, 255))
+        library.calls.opgp_document_close(document)
 
 
 def compare_vectors(library):
@@ -131,6 +214,11 @@ def compare_vectors(library):
                 question = (*place, made, READ)
                 wanted = (DONE, WHYS.index(keyring.standing(*question)))
                 verdict(it.title, library.standing(handle, found, POLICIES["usual"], *question) == wanted, f"{question}: not {wanted}")
+        for at in {READ, READ - 100 * 86400, *(key.created for _, key in keyring.table())}:
+            compare_states(library, keyring, handle, found, POLICIES["usual"], at)
+        for body, _ in it.documents:
+            if body[0] in (4, 6):
+                beliefs(library, keyring, handle, body, found, POLICIES["usual"], READ)
         library.calls.opgp_ring_close(handle)
 
 
@@ -151,6 +239,24 @@ def edges(library, case):
     verdict("without verdicts", library.standing(handle, b"", 0, 0, None, 2**40, 2**40) == (DONE, WHYS.index("unbound")))
     verdict("read before it was made", library.standing(handle, b"", 0, 0, None, 1, 0) == (DONE, WHYS.index("future")))
     verdict("a closed handle", library.standing(Handle(), b"", 0, 0, None, 0, 0) == (CLOSED, 255))
+    verdict("states by an unknown policy", library.states(handle, b"", 2, 0) == (LIMITS, []))
+    verdict("states of a closed handle", library.states(Handle(), b"", 0, 0) == (CLOSED, []))
+    library.calls.opgp_ring_close(handle)
+
+
+def large(library):
+    """A certificate of many subkeys: the work is linear in their number, so it takes no minutes."""
+    made = 1700000000
+    keys = [Key(4, made, 27, number(32, it + 1), lambda digest, hash: bytes(64)) for it in range(MANY + 1)]
+    area = subpacket(2, number(4, made)) + subpacket(27, b"\x02") + keys[0].issuer_fingerprint
+    parts = [(6, keys[0], 0x1F), *((14, it, standing.BINDING) for it in keys[1:])]
+    octets = b"".join(packet(part, it.body) + packet(2, signature(keys[0], kind, b"", area)) for part, it, kind in parts)
+    handle, found = library.opened(octets), bytes([NUMBERS[standing.GOOD]]) * (MANY + 1)
+    began = time.monotonic()
+    status, rows = library.states(handle, found, POLICIES["usual"], made)
+    spent = time.monotonic() - began
+    verdict("many states", status == DONE and [it.component for it in rows] == [NONE, *range(MANY)] and not any(it.why for it in rows), status)
+    verdict("many states in little time", spent < MANY_SECONDS, f"{spent} s")
     library.calls.opgp_ring_close(handle)
 
 
@@ -163,10 +269,11 @@ def main():
     path = told.library or made()
     if os.path.exists(path):
         library = Library(path)
-        for number, case in enumerate(standing_cases.cases(told.seed, told.cases, is_honest=True)):
-            if number == 0:
+        for n, case in enumerate(standing_cases.cases(told.seed, told.cases, is_honest=True)):
+            if n == 0:
                 edges(library, case)
-            compare(library, case, number % 20 == 0)
+            compare(library, case, n % 20 == 0)
+        large(library)
         compare_vectors(library)
     print(f"{passed} passed, {failed} failed")
     return failed != 0

@@ -1,13 +1,14 @@
 #!/usr/bin/env python3
-"""Tries opgp-verify --signature, which verifies detached signatures over a document, and says what a run must write to the octet.
+"""Tries opgp-verify --signature, which judges detached signatures over a document, and says what a run must write to the octet.
 
 Usage: tests/bindings/verify.py [--program FILE --library FILE]
 
 The program is built as `make verifier` builds it, unless one is named; so is libopgp.a, with which it is compiled for sanitizers too. It verifies what RFC 9580 and sq signed, and where gpg is
 installed what that signs here: by keys of each algorithm that it makes, of types 00 and 01, over documents of many forms. Each
 signature is then held against a document, a signature or a keyring that was changed. The digests that the lines show are worked out
-with Python's hashlib, by tests/lib/model.py. Signatures that nobody made, whose digest begins as they state, say what is undecided and
-why. Command lines, files that are refused or missing, full devices, memory that is refused and how much of it is taken are tried too.
+with Python's hashlib, by tests/lib/model.py, which merges the keyrings too; and which good signature isn't to be believed, and why, by
+tests/lib/standing.py: also of the 346 cases of tests/vectors/validity, at several times, and of keyrings that are made of their packets.
+Signatures that nobody made, whose digest begins as they state, say what is undecided and why. Command lines, files that are refused or missing, full devices, memory that is refused and how much of it is taken are tried too.
 So are large keyrings, over which several threads go: what is written is the same with any number of them, also where some can't be
 started.
 What isn't here is said on standard error. The last line counts what was tried.
@@ -24,23 +25,28 @@ import shutil
 import subprocess
 import sys
 import tempfile
+import time
 
 sys.dont_write_bytecode = True
 sys.path.insert(0, f"{sys.path[0]}/../lib")
 
 import model  # noqa: E402
+import standing  # noqa: E402
+import standing_cases  # noqa: E402
 from running import HERE  # noqa: E402
 
 SECONDS = 300  # for one run
 USAGE = "\n\nUsage: opgp-verify [OPTIONS] --signature <SIG> --keyring <FILE>... [DOCUMENT]\n"
 MORE = "\nFor more information, try '--help'.\n"
-NOT_JUDGED = "ood is arithmetic: whether a key has expired, is revoked or may sign isn't judged yet"
+READ = 1795132800  # when the cases of tests/vectors/validity are read: 2026-11-20
+DAY = 86400
 OF_SQ = b"OpenPGP\r\nin two lines\n"  # what sq signed (tests/vectors/sq/make.sh)
 MARKER = b"\xca\x03PGP"
 # A critical subpacket of an unknown kind, a critical notation, one that isn't critical, and a critical one that is known.
 SUBPACKETS = {"kind": b"\2\xe5x", "notation": b"\x0b\x94" + bytes(4) + b"\0\1\0\1ab", "usual": b"\2\x65x", "known": b"\2\x87\1"}
 passed = failed = 0
 PROGRAM = ROOM = None
+AT = READ  # when documents are judged
 
 
 def verdict(name, holds, why=""):
@@ -138,29 +144,53 @@ def flipped(octets, at, bit=1):
 
 def counts_of(found):
     """The exit status and standard error of a run that finds this of its signatures."""
+    unbelieved = sum(it.startswith("good unbelieved ") for it in found)
     good, bad, undecided = (sum(it.startswith(word) for it in found) for word in ("good", "bad", "undecided"))
-    told = f"opgp-verify: {good} good, {bad} bad, {undecided} undecided, {len(found) - good - bad - undecided} not hashed\n"
-    return int(bad > 0 or good == 0), f"{told}opgp-verify: g{NOT_JUDGED}\n"
+    good -= unbelieved
+    unhashed = len(found) - good - unbelieved - bad - undecided
+    told = f"opgp-verify: {good} good, {unbelieved} unbelieved, {bad} bad, {undecided} undecided, {unhashed} not hashed\n"
+    return int(bad > 0 or good == 0), told
 
 
-def wanted(octets, keyrings, document, found):
-    """What a run must end with that finds this of each signature: a verdict, or why it isn't hashed."""
-    keys, lines = [body for it in keyrings for kind, body in packets_in(it) if kind in (6, 14)], []
+@functools.cache
+def merged(keyrings):
+    """These keyrings as one, whose certificates of one key are one; and what arithmetic finds of its rows. The program itself is asked,
+    which is enough where no critical subpacket is in question, and no revocation is misplaced."""
+    octets = b"".join(packet(body, kind) for it in keyrings for kind, body in packets_in(it))
+    status, octets, fault = model.answer("merge", octets, bare=True)
+    if status:
+        raise ValueError(fault)
+    lines = run("--policy=any", kept("merged", octets))[1].splitlines()
+    return octets, [it if it in (standing.GOOD, standing.BAD) else standing.UNDECIDED for it in (line.split()[-1] for line in lines)]
+
+
+@functools.cache
+def believed(keyrings, body, policy, at):
+    """The verdict on a good signature, by the model."""
+    why = standing.Keyring(*merged(keyrings), policy).believed(body, standing.GOOD, at)
+    return f"good unbelieved {why}" if why else "good"
+
+
+def wanted(octets, keyrings, document, found, policy="usual", at=None):
+    """What a run must end with that finds this of each signature: a verdict, or why it isn't hashed. Of a good one more is said."""
+    keys, lines, ends = [body for it in keyrings for kind, body in packets_in(it) if kind in (6, 14)], [], []
     for number, (body, said) in enumerate(zip(bodies_in(octets), found, strict=True)):
         it = model.kept_signature(body)
+        said = believed(tuple(keyrings), body, policy, AT if at is None else at) if said == "good" else said
         digest, signer = digest_of(it, document)[:2].hex().upper(), model.signer_of(it, keys) if it.version in (4, 6) else None
         name = model.key_id(signer).hex().upper() if signer else "-"
         asked = f"asked type {it.kind:02X} hash {it.hash} signer {name} digest {digest} verdict {said}"
         lines.append(f"signature {number} : {asked if digest else f'none {said}'}\n")
-    status, told = counts_of(found)
+        ends.append(said)
+    status, told = counts_of(ends)
     return status, "".join(lines), told
 
 
 def holds(name, octets, keyrings, document, found, *words):
     """Whether a run over these signatures, keyrings and document finds that of each signature, and writes no more."""
     given = [f"--keyring={kept(f'keyring{number}', it)}" for number, it in enumerate(keyrings)]
-    ended = run("--signature", kept("signature", octets), *given, *words, given=document)
-    hoped = wanted(octets, keyrings, document, found)
+    ended = run("--signature", kept("signature", octets), *given, f"--at={AT}", *words, given=document)
+    hoped = wanted(octets, keyrings, document, found, "any" if "any" in words else "usual")
     verdict(name, ended == hoped, (ended, hoped))
 
 
@@ -188,6 +218,11 @@ def examples():
         yield Signed(f"sq's of version {version}", OF_SQ, octets_of(f"{folder}/signature_{version}.asc"), suites)
         bodies = bodies_in(octets_of(f"{folder}/signed_by_two_{version}.asc"))
         yield Signed(f"sq's two of version {version}", OF_SQ, b"".join(map(packet, bodies)), suites)
+
+
+def one_of_sq():
+    """One signature, which is to be believed."""
+    return next(it for it in examples() if it.name == "sq's of version 4")
 
 
 def of_others():
@@ -232,9 +267,9 @@ def changed_signatures():
         found = {"good": 0}
         for at in range(len(body)):
             path = kept("signature", packet(flipped(body, at, 1 << at % 8)))
-            status, out, told = run("--signature", path, "--keyring", keyring, given=it.document)
-            is_good = out.endswith(" good\n")
-            fits = (at in free or not is_good) and status == int(not is_good)
+            status, out, told = run("--signature", path, "--keyring", keyring, f"--at={AT}", given=it.document)
+            is_good = " verdict good" in out
+            fits = (at in free or not is_good) and status == int(not out.endswith(" good\n"))
             verdict(f"{it.name} with octet {at} changed", fits, (status, out, told))
             found["good"] += is_good
         verdict(f"{it.name} with octets changed", found["good"] <= len(free), found)
@@ -314,6 +349,211 @@ def undecided():
     holds("nobody's by a key of modulus 0", packet(body), [packet(key, 6)], b"text", ["undecided key"])
 
 
+# ---- Whether a key may be believed
+
+DOCUMENT = b"document\n"  # what is signed in tests/vectors/validity
+SIGNED, LATER = READ - 100 * DAY, READ - 50 * DAY  # when it was signed there, and when something changed
+# What a line says of a signature that the model finds this of; of any other it says that it is good, and that it is why it isn't believed.
+SAID = {None: "good", "bad": "bad", "undecided": "undecided [a-z-]+|kind|opaque|hash", "critical": "(?:undecided|good unbelieved) critical",
+        "weak": "undecided (?:weak-hash|small-key)|good unbelieved weak"}  # fmt: skip
+
+
+@functools.cache
+def cases():
+    return {it.stem: it for it in standing_cases.vectors()}
+
+
+def rows_in(octets):
+    """What each row of a keyring is: the bodies of its key and its part, the packet's, and its own, which may be embedded in that."""
+    outer, found = None, []
+    for certificate, part, it, is_embedded in standing.rows(standing.read(octets)):
+        outer = outer if is_embedded else it.body
+        found.append((certificate[0].body, part.kind, part.body, outer, it.body))
+    return found
+
+
+def known_of(*stems):
+    """What arithmetic finds of the rows of these cases, wherever they are; where a signer isn't in one keyring, what it finds in another."""
+    known = {}
+    for it in map(cases().get, stems):
+        for row, said in zip(rows_in(it.octets), it.verdicts, strict=True):
+            known[row] = known.get(row, said) if said == standing.UNDECIDED else said
+    return known
+
+
+def certificates_in(octets):
+    """The octets of each certificate."""
+    found = []
+    for kind, body in packets_in(octets):
+        if kind == 6:
+            found.append(b"")
+        found[-1] += packet(body, kind)
+    return found
+
+
+def judges(name, stems, given, at=READ, policy="usual", documents=None):
+    """Whether a run over these keyrings, of the packets of these cases, finds of the signatures of the first one what the model does; and
+    what it finds."""
+    documents, known = documents or cases()[stems[0]].documents, known_of(*stems)
+    _, octets, _ = model.answer("merge", b"".join(given), bare=True)
+    words = [f"--keyring={kept(f'keyring{number}', it)}" for number, it in enumerate(given)]
+    path = kept("signature", b"".join(packet(body) for body, _ in documents))
+    ended = run("--signature", path, *words, f"--at={at}", "--policy", policy, given=DOCUMENT)
+    keyring = standing.Keyring(octets, [known[it] for it in rows_in(octets)], policy)
+    whys = [keyring.believed(body, own, at) for body, own in documents]
+    found = re.findall(r"^signature \d+ : (?:none|.* verdict) (.*)$", ended[1], re.M)
+    fits = len(found) == len(whys) == ended[1].count("\n")
+    fits = fits and all(re.fullmatch(SAID.get(why, f"good unbelieved {why}"), it) for why, it in zip(whys, found))
+    verdict(name, fits and (ended[0], ended[2]) == counts_of(found), (ended, whys))
+    return found
+
+
+def of_cases():
+    """Each case when it is to be read, and earlier, by either policy; and its certificates in keyrings of their own, also in the other order."""
+    for stem, it in cases().items():
+        if not it.documents:
+            continue  # not a list of signatures
+        judges(stem, [stem], [it.octets])
+        judges(f"{stem}, any policy", [stem], [it.octets], policy="any")
+        for at in (SIGNED - 1, SIGNED, (SIGNED + LATER) // 2):
+            judges(f"{stem} at {at}", [stem], [it.octets], at)
+        them = certificates_in(it.octets)
+        if len(them) > 1:
+            judges(f"{stem}, several keyrings", [stem], them)
+            judges(f"{stem}, several keyrings in the other order", [stem], them[::-1])
+
+
+def in_other_places():
+    """A revocation counts in whatever copy of the certificate it is, and in whatever keyring; so does an expiry that was made shorter."""
+    base = cases()["base"]
+    for stem, said in (
+        ("key_revoked", "revoked"), ("sub_revoked", "revoked"), ("key_compromised", "revoked"), ("key_retired_before", "revoked"),
+        ("revocation_last", "revoked"), ("revocation_in_name", "revoked"), ("revocation_in_sub", "revoked"), ("key_shortened", "expired"),
+    ):  # fmt: skip
+        other = cases()[stem]
+        first = judges(f"{stem} in another keyring", ["base", stem], [base.octets, other.octets])
+        for given in ([other.octets, base.octets], [base.octets + other.octets], [other.octets + base.octets], [base.octets] * 3 + [other.octets]):
+            found = judges(f"{stem} in another place", ["base", stem], given)
+            verdict(f"{stem} in another place: {said}", found == first == [f"good unbelieved {said}"], found)
+        verdict(f"{stem} isn't there", judges(f"{stem} isn't there", ["base", stem], [base.octets]) == ["good"])
+    for stem, said in (("key_revoked", "good unbelieved revoked"), ("key_revoked_left", "good")):  # behind all; with left octets that don't fit
+        body = next(body for kind, body in packets_in(cases()[stem].octets) if kind == 2 and body[1] == standing.REVOCATION)
+        words = ["--signature", kept("signature", packet(base.documents[0][0])), "--keyring", kept("keyring", base.octets + packet(body))]
+        ended = run(*words, f"--at={READ}", given=DOCUMENT)
+        verdict(f"{stem}, behind all", ended[1].endswith(f" verdict {said}\n"), ended)
+    them = certificates_in(cases()["revoker_key"].octets)
+    for given in (them, them[::-1]):
+        found = judges("a revoker in another keyring", ["revoker_key"], given)
+        verdict("a revoker in another keyring: revoked", found == ["good unbelieved revoked"], found)
+        found = judges("a revoker that isn't there", ["revoker_key"], given[:1])
+        verdict("a revoker that isn't there: not revoked", found in (["good"], ["undecided absent"]), found)
+    for stem, said in (
+        ("twice_second_revoked", "revoked"), ("twice_first_revoked", "revoked"), ("twice_second_sub_revoked", "revoked"),
+        ("twice_first_sub_revoked", "revoked"), ("twice_second_expired", "expired"), ("twice_first_expired", "expired"),
+        ("sub_twice_first_revoked", "revoked"), ("sub_twice_second_revoked", "revoked"),
+    ):  # fmt: skip
+        found = judges(stem, [stem], [cases()[stem].octets])
+        verdict(f"{stem}: {said}, since keyrings are merged", found == [f"good unbelieved {said}"], found)
+    both = [judges("a key in two places", [stem], [cases()[stem].octets]) for stem in ("bound_in_second", "sub_of_other_revoked")]
+    verdict("a key that stands in one of two places", both == [["good"], ["good"]], both)
+    them = certificates_in(cases()["sub_of_other"].octets)
+    revoked = next(it for it in certificates_in(cases()["revoker_revoked"].octets) if packets_in(it)[0] == packets_in(them[1])[0])
+    whys = [judges("a key that stands in neither", ["sub_of_other", "revoker_revoked"], [*given, revoked]) for given in (them, them[::-1])]
+    verdict("a key that stands in neither: what is so of the first", whys == [["good unbelieved unbound"], ["good unbelieved revoked"]], whys)
+
+
+def moments():
+    """A key that expires: before and behind the end of its last second; each way to say when."""
+    for stem in ("key_expired_after", "sub_expired_after"):
+        it = cases()[stem]
+        days = [number for number in range(101) if judges(f"{stem} at day {number}", [stem], [it.octets], SIGNED + number * DAY) == ["good"]]
+        end = SIGNED + (days[-1] + 1) * DAY
+        verdict(f"{stem} goes from good to expired", days == [*range(len(days))] and 0 < len(days) < 101, days)
+        for at, said in ((SIGNED - 1, "good unbelieved future"), (SIGNED, "good"), (end - 1, "good"), (end, "good unbelieved expired")):
+            date = time.strftime("%Y-%m-%dT%H:%M:%SZ", time.gmtime(at))
+            for given in (str(at), f"0{at}", date, *[date[:10]] * (at % DAY == 0)):
+                verdict(f"{stem} at {given}: {said}", judges(f"{stem} at {given}", [stem], [it.octets], at) == [said])
+                words = ["--signature", f"{ROOM}/signature", "--keyring", f"{ROOM}/keyring0", "--at", given]
+                verdict(f"{stem} at {given}, shown", run(*words, given=DOCUMENT)[1].endswith(f" verdict {said}\n"))
+    base = cases()["base"]
+    ended = [run(*words, given=DOCUMENT) for words in [[f"--signature={kept('signature', packet(base.documents[0][0]))}", f"--keyring={kept('keyring', base.octets)}", *at]
+                                                         for at in ([], ["--at", str(int(time.time()))])]]
+    verdict("the clock is read", ended[0] == ended[1], ended)
+
+
+def of_one_key():
+    """64 signatures by one key, and by several; what is good and believed counts, whatever else there is."""
+    base, bad = cases()["base"].documents, [(flipped(body, len(body) - 1), standing.BAD) for body, _ in cases()["base"].documents]
+    for count in (2, 63, 64):
+        verdict(f"{count} by one key", judges(f"{count} by one key", ["base"], [cases()["base"].octets], documents=base * count) == ["good"] * count)
+    mixed = judges("good and bad by one key", ["base"], [cases()["base"].octets], documents=(base + bad) * 32)
+    verdict("good and bad by one key, in order", mixed == ["good", "bad"] * 32, mixed)
+    stems = [stem for stem, it in cases().items() if it.documents][:40]
+    many = [it for stem in stems for it in cases()[stem].documents][:64]
+    judges("many by several keys", stems, [cases()[stem].octets for stem in stems], documents=many)
+    other = cases()["key_revoked"]
+    v6 = next(it for stem, it in cases().items() if stem.startswith("v6_") and it.expected == [None])
+    stems = ["key_revoked", v6.stem]
+    for documents, said in (
+        (other.documents, ["good unbelieved revoked"]), (other.documents + v6.documents, ["good unbelieved revoked", "good"]),
+        (v6.documents + other.documents, ["good", "good unbelieved revoked"]), (other.documents * 2 + bad, ["good unbelieved revoked"] * 2 + ["bad"]),
+    ):  # fmt: skip
+        found = judges(f"several: {said}", stems, [other.octets, v6.octets], documents=documents)
+        verdict(f"several are {said}", found == said, found)
+
+
+def crowd(count):
+    """So many certificates of other keys, each with a signature that nobody made, whose digest begins as it states."""
+    key = next(body for kind, body in packets_in(cases()["base"].octets) if kind == 6)
+    for number in range(count):
+        other = key[:1] + number.to_bytes(4, "big") + key[5:]
+        body = signature(4, 0x1F, 22, 8, b"\5\2" + (number + 1).to_bytes(4, "big") + issuer(other))
+        body = body[: -len(model.Signature(body).material)] + b"\1\0" + b"\x80" * 32 + b"\0\xfc" + b"\x08" * 32
+        left = hashlib.sha256(model.asked_there(body, None, other, None)[1]).digest()[:2]
+        at = place_of_left(body)
+        yield packet(other, 6) + packet(body[:at] + left + body[at + 2 :])
+
+
+def in_a_crowd():
+    """In a large keyring only the signer's certificates are verified, and once, however many signatures and keyrings there are."""
+    library = f"{ROOM}/verifications.so"
+    made = subprocess.run(["cc", "-O1", "-shared", "-fPIC", "-o", library, f"{HERE}/tests/lib/verifications.c", "-ldl"], capture_output=True,
+                          check=False)
+    verdict("tests/lib/verifications.c", made.returncode == 0, made.stderr)
+    path = kept("crowd", b"".join(crowd(3000)))
+    ended, count = counted(library, ["--policy=any", "--jobs=1", path])
+    verdict("a large keyring", ended[1].count(" verdict bad\n") == count == 3000, (count, ended[2]))
+    debian = [it for it in DEBIAN if os.path.exists(it)][:1]
+    for stem, said in (("base", "good"), ("revoker_key", "good unbelieved revoked")):
+        it = cases()[stem]
+        keyring, own = kept("keyring", it.octets), certificates_in(it.octets)
+        name = issuer_in(it.documents[0][0])
+        signer = next(key for key in own if name in [body[:1] + model.fingerprint(body) for kind, body in packets_in(key) if kind in (6, 14)])
+        primary = packets_in(signer)[0][1]
+        rows = sum(row[0] == primary and found != standing.UNDECIDED for row, found in known_of(stem).items())
+        for signatures in (1, 64):
+            words = ["--signature", kept("signature", packet(it.documents[0][0]) * signatures), f"--at={READ}"]
+            for them in ([path, keyring], [keyring, path], [path, keyring, path, keyring], [*debian, keyring]):
+                ended, count = counted(library, [*words, *(f"--keyring={it}" for it in them)])
+                fits = ended[1].count(f" verdict {said}\n") == signatures and count == signatures + rows
+                verdict(f"{stem}: {signatures} signatures, keyrings {them}", fits, (count, signatures + rows, ended[2]))
+
+
+def issuer_in(body):
+    """The fingerprint that a signature names first, behind its version."""
+    return next(octets for octet, _, octets in model.Signature(body).hashed if octet & 127 == 33)
+
+
+def counted(library, words):
+    """The end of a run over the document, and what a preloaded library counts."""
+    with tempfile.TemporaryFile() as told:
+        os.dup2(told.fileno(), 9)
+        ended = run(*words, given=DOCUMENT, env={**os.environ, "LD_PRELOAD": library}, pass_fds=(9,))
+        os.close(9)
+        told.seek(0)
+        return ended, int(told.read() or 0)
+
+
 # ---- Inputs
 
 
@@ -331,9 +571,9 @@ def keyrings():
 
 def streams():
     """Each input in turn is standard input; no two are."""
-    it = next(examples())
+    it = one_of_sq()
     signatures, keyring, document = kept("signature", it.octets), kept("keyring", it.keyring), kept("document", it.document)
-    good = wanted(it.octets, [it.keyring], it.document, ["good"])
+    good = wanted(it.octets, [it.keyring], it.document, ["good"], at=int(time.time()))
     for words, given in (
         (["--signature", signatures, "--keyring", keyring, document], b"no document"),
         (["--signature", signatures, "--keyring", keyring], it.document),
@@ -398,6 +638,31 @@ def command_lines():
     for value in ("1", "9", "10", "64", "01", "064"):
         ended = run("--jobs", value, "--signature", f"{ROOM}/none", "--keyring", "y")
         verdict(f"{value} jobs", ended == (3, "", f"opgp-verify: can't read '{ROOM}/none': No such file or directory\n"), ended)
+    for value in (
+        "now", "x", "1.5", "1e9", "0x10", "+1", " 1", "1 ", "1795132800s", "9" * 19, "9" * 40, "2026-", "2026-11", "2026-11-31", "2026-13-01", "2026-00-01",
+        "2026-11-00", "2023-02-29", "2100-02-29", "2026-1-1", "2026-11-20 ", " 2026-11-20", "2026-11-20T", "2026-11-20T08:30", "2026-11-20T08:30:00",
+        "2026-11-20T08:30Z", "2026-11-20 08:30:00Z", "2026-11-20T08:30:00z", "2026-11-20T24:00:00Z", "2026-11-20T08:60:00Z", "2026-11-20T23:59:60Z",
+        "2026-11-20T8:30:00Z", "2026-11-20T08:30:00+01:00", "2026-11-20T08:30:00.5Z", "20261120T083000Z", "1969-12-31", "0000-01-01", "10000-01-01",
+        "2026/11/20", "20-11-2026", "2026-11-20T08:30:00ZZ", "99999-01-01",
+    ):  # fmt: skip
+        ended = run("--at", value, "--signature", "x", "--keyring", "y")
+        said = f"error: invalid value '{value}' for '--at <TIME>': {value} is no time: seconds since 1970 or a date, 2026-11-20T08:30:00Z\n{MORE}"
+        verdict(f"at {value}", ended == (2, "", said), ended)
+    for value in ("0", "1", "2026", "1795132800", "9" * 18, "1970-01-01", "2024-02-29", "2026-11-20", "2026-11-20T08:30:00Z", "9999-12-31T23:59:59Z", "2106-02-07T06:28:16Z"):
+        for words in (["--at", value], [f"--at={value}"]):
+            ended = run(*words, "--signature", f"{ROOM}/none", "--keyring", "y")
+            verdict(f"at {value}", ended == (3, "", f"opgp-verify: can't read '{ROOM}/none': No such file or directory\n"), ended)
+    for words, said in (
+        ("--at", "a value is required for '--at <TIME>' but none was supplied"), ("--at=", "a value is required for '--at <TIME>'"),
+        ("--at -1", "a value is required for '--at <TIME>'"), ("--signature x --at --keyring y", "a value is required for '--at <TIME>'"),
+        ("--at 1 --at 1", "the argument '--at <TIME>' cannot be used multiple times"), ("--at1", "unexpected argument '--at1' found"),
+        ("--at 1", "the argument '--at <TIME>' cannot be used without '--signature <SIG>'"),
+        ("--at 1 x", "the argument '--at <TIME>' cannot be used without '--signature <SIG>'"),
+        ("--keyring x --at=2026-11-20", "the argument '--at <TIME>' cannot be used without '--signature <SIG>'"),
+        ("--at 1 --signature x", "the following required arguments were not provided:\n  --keyring <FILE>"),
+    ):  # fmt: skip
+        ended = run(*words.split())
+        verdict(f"words {words}", ended[:2] == (2, "") and f"error: {said}" in ended[2], ended)
     for words, said in (
         ("--jobs", "a value is required for '--jobs <N>' but none was supplied"), ("--jobs=", "a value is required for '--jobs <N>'"),
         ("--jobs -1", "a value is required for '--jobs <N>' but none was supplied"), ("--jobs --jobs", "a value is required for '--jobs"),
@@ -408,10 +673,10 @@ def command_lines():
         verdict(f"words {words}", ended[:2] == (2, "") and f"error: {said}" in ended[2], ended)
     status, out, told = run("--help")
     usage = USAGE.replace("Usage:", "      ").strip("\n")
-    verdict("the help", (status, out) == (2, "") and f"G{NOT_JUDGED}." in told and f"[FILE]\n{usage}\n" in told, told)
+    verdict("the help", (status, out) == (2, "") and "\nOf a keyring good is arithmetic: " in told and f"[FILE]\n{usage}\n" in told, told)
     verdict("the help of --signature", run("--signature", "x", "-h") == (2, "", told))
     shown = re.findall(r"^ +(?:-\w, )?--(\w+)(?: <\w+>)?  +\w", told, re.M)
-    verdict("the options in the help", shown == ["signature", "keyring", "policy", "require", "jobs", "version", "help"], shown)
+    verdict("the options in the help", shown == ["signature", "keyring", "at", "policy", "require", "jobs", "version", "help"], shown)
 
 
 def refused():
@@ -455,9 +720,9 @@ def refused():
 
 def devices():
     """A full or closed standard output; a closed standard input; a full or closed standard error, which changes nothing."""
-    it = next(examples())
+    it = one_of_sq()
     signatures, keyring, document = kept("signature", it.octets), kept("keyring", it.keyring), kept("document", it.document)
-    words = [PROGRAM, "--signature", signatures, "--keyring", keyring]
+    words = [PROGRAM, "--signature", signatures, "--keyring", keyring, f"--at={AT}"]
     with open("/dev/full", "wb") as full:
         ended = subprocess.run([*words, document], stdout=full, stderr=subprocess.PIPE, check=False)
         verdict("a full standard output", (ended.returncode, ended.stderr) == (3, b"opgp-verify: write failed\n"), ended)
@@ -465,7 +730,7 @@ def devices():
         verdict("a full standard error", ended.returncode == 0 and ended.stdout.endswith(b" good\n"), ended)
     shell = shlex.join(words)
     for ends, status, out, told in (
-        (f"{document} >&-", 3, False, "write failed"), (f"{document} 2>&-", 0, True, ""), (f"{document} <&-", 0, True, " 1 good, 0 bad, "),
+        (f"{document} >&-", 3, False, "write failed"), (f"{document} 2>&-", 0, True, ""), (f"{document} <&-", 0, True, " 1 good, 0 unbelieved, 0 bad, "),
         ("<&-", 3, False, "can't read '-': Bad file descriptor"), (f"{document} <&- >&- 2>&-", 3, False, ""),
     ):
         ended = subprocess.run(["sh", "-c", f"{shell} {ends}"], stdin=subprocess.DEVNULL, capture_output=True, check=False)
@@ -507,10 +772,17 @@ def memory_wanting():
     bodies = bodies_in(it.octets)
     path = kept("signature", b"".join(map(packet, [*bodies, with_unhashed(bodies[0], SUBPACKETS["notation"])])))
     a1, found = f"{HERE}/examples/rfc9580-a1.asc", ["good", "good", "undecided critical"]
-    words = ["--signature", path, "--keyring", a1, "--keyring", kept("keyring", it.keyring), kept("document", it.document)]
+    words = ["--signature", path, "--keyring", a1, "--keyring", kept("keyring", it.keyring), f"--at={AT}", kept("document", it.document)]
     usual = run(*words)
     verdict("a run over a document", usual == wanted(octets_of(path), [octets_of(a1), it.keyring], it.document, found), usual)
     all_refused("a document", library, words, usual)
+    # Also where somebody else revoked the key, and where a revocation is behind another part than it is over.
+    for stem in ("revoker_key", "revocation_last"):
+        octets = [cases()[stem].octets, b"".join(packet(body) for body, _ in cases()[stem].documents)]
+        words = ["--signature", kept("signature", octets[1]), "--keyring", kept("keyring", octets[0]), f"--at={READ}", kept("document", DOCUMENT)]
+        usual = run(*words)
+        verdict(f"a run over {stem}", usual[0] == 1 and usual[1].endswith(" good unbelieved revoked\n"), usual)
+        all_refused(stem, library, words, usual, 400)
     # Also of a keyring: without memory for its subpackets no signature with a critical one is good.
     packets = packets_in(octets_of(f"{HERE}/tests/vectors/algorithms/rsa_2048.gpg"))
     octets = b"".join(packet(with_unhashed(body, SUBPACKETS["kind"]) if kind == 2 else body, kind) for kind, body in packets)
@@ -648,6 +920,11 @@ def by_sanitizers(archive):
     """No thread uses memory that another one does at the same time, or that isn't its own; and none is left behind."""
     octets, _, _ = copies(14)
     path = kept("copies", octets)
+    judged = []
+    for stem in ("base", "revoker_key", "revocation_last", "twice_second_revoked"):
+        bodies = [body for body, _ in cases()[stem].documents]
+        judged.append(["--signature", kept(f"signature.{stem}", b"".join(map(packet, bodies * 9))), "--keyring", kept(f"keyring.{stem}", cases()[stem].octets),
+                       f"--at={READ}", kept("document", DOCUMENT)])
     for kind in ("thread", "address,undefined"):
         program = f"{ROOM}/opgp-verify.{kind}"
         sources = [f"{HERE}/c/{it}" for it in ("opgp-verify.c", "verify-arithmetic.c")]
@@ -661,6 +938,9 @@ def by_sanitizers(archive):
                 words = ["--policy", policy, "--jobs", str(jobs), path]
                 ended, usual = subprocess.run([program, *words], capture_output=True, text=True, check=False, timeout=SECONDS), run(*words)
                 verdict(f"sanitizer {kind}, {policy}, {jobs} jobs", (ended.returncode, ended.stdout, ended.stderr) == usual, ended.stderr)
+        for words in judged:
+            ended, usual = subprocess.run([program, *words], capture_output=True, text=True, check=False, timeout=SECONDS), run(*words)
+            verdict(f"sanitizer {kind}, {words}", (ended.returncode, ended.stdout, ended.stderr) == usual, ended.stderr)
 
 
 def by_valgrind():
@@ -677,7 +957,7 @@ def by_valgrind():
         ([signatures, document, other, keyring, other], 1), ([other, document, other], 1), ([signatures, document, other, signatures], 1),
         ([signatures, ROOM, other], 3), ([signatures, "-", "-", "-"], 2),
     ):
-        given = ["--signature", *given[:2], *(f"--keyring={it}" for it in given[2:])]
+        given = ["--signature", *given[:2], *(f"--keyring={it}" for it in given[2:]), f"--at={AT}"]
         ended = subprocess.run([*words, *given], capture_output=True, check=False, timeout=SECONDS)
         verdict(f"by valgrind: {given}", ended.returncode == status and b"==" not in ended.stderr, ended)
 
@@ -810,7 +1090,7 @@ def policies_of_gpg(gpg):
 
 
 def others_of_gpg(gpg):
-    """By a subkey, by other curves, and by a key that has expired, which isn't judged."""
+    """By a subkey, by other curves, and by a key that has expired."""
     document = DOCUMENTS["CR LF"]
     gpg.make("sub", "rsa2048", "cert", "ed25519")
     for name, found in (("nistp521", "good"), ("brainpoolP256r1", "good"), ("secp256k1", "undecided curve")):
@@ -834,9 +1114,12 @@ def others_of_gpg(gpg):
 
 
 def with_gpg():
+    """What gpg signs is judged a day later."""
+    global AT
     if not shutil.which("gpg"):
         left_out("gpg, and so all of its signatures")
         return
+    AT = int(time.time()) + DAY
     gpg = Gpg()
     try:
         for name in ALGORITHMS:
@@ -851,6 +1134,7 @@ def with_gpg():
         policies_of_gpg(gpg)
         others_of_gpg(gpg)
     finally:
+        AT = READ
         gpg.close()
 
 
@@ -879,8 +1163,9 @@ def main():
         ROOM = room
         PROGRAM, archive = (os.path.abspath(words.program), words.library) if words.program else built()
         if PROGRAM:
-            for part in (of_others, changed_signatures, several, critical, undecided, keyrings, streams, command_lines, refused, devices,
-                         memory, memory_wanting, threads, debian_keyring, threads_refused, by_valgrind, with_gpg):
+            for part in (of_others, changed_signatures, several, critical, undecided, of_cases, in_other_places, moments, of_one_key, in_a_crowd,
+                         keyrings, streams, command_lines, refused, devices, memory, memory_wanting, threads, debian_keyring, threads_refused,
+                         by_valgrind, with_gpg):
                 part()
         if archive:
             by_sanitizers(os.path.abspath(archive))

@@ -6,6 +6,7 @@ the numbers of its certificate and of its component, as in those rows; None is t
 
 import collections
 import functools
+import hashlib
 
 import model
 
@@ -13,7 +14,9 @@ GOOD, BAD, UNDECIDED = "good", "bad", "undecided"
 DIRECT, REVOCATION, BINDING, BACK, SUBKEY_REVOCATION, IDENTITY_REVOCATION = 0x1F, 0x20, 0x18, 0x19, 0x28, 0x30
 CERTIFICATIONS = (0x10, 0x11, 0x12, 0x13)
 PRIMARY, SUBKEY, USER_ID, ATTRIBUTE = 6, 14, 13, 17
-NOTATION, SHA1 = 20, 2
+NOTATION = 20
+# How many octets the digests of the hash algorithms have that the usual policy relies on (9.5).
+RELIED = {11: 28, 8: 32, 9: 48, 10: 64, 12: 32, 14: 64}
 # What a signature of these types is made over is what it hangs on (5.2.1). A key revocation counts wherever it hangs.
 PLACES = {
     PRIMARY: (DIRECT, REVOCATION),
@@ -24,7 +27,7 @@ PLACES = {
 # The bits of key flags (5.2.3.29) that allow a use: one of them is enough.
 USES = {"certify": 0x01, "sign": 0x02, "encrypt": 0x0C, "authenticate": 0x20}
 
-Key = collections.namedtuple("Key", "version created fingerprint key_id is_strong")
+Key = collections.namedtuple("Key", "version created fingerprint key_id is_strong least")
 Part = collections.namedtuple("Part", "kind body key hangs")
 
 
@@ -41,9 +44,19 @@ def is_strong(body):
     return body[5] != 19 or len(material[1]) >= 57
 
 
+def least_digest(body):
+    """How many octets the digest of a signature by the key of this body has at least (5.2.3.2 to 5.2.3.5)."""
+    material = model.key_material(body)
+    if body[5] == 17:
+        return (model.number(material[1]).bit_length() + 7) // 8
+    if body[5] == 19:
+        return min(len(material[1]) // 2, 64)
+    return {22: 32, 27: 32, 28: 64}.get(body[5], 0)
+
+
 def key_of(body):
     name = model.fingerprint(body)
-    return Key(body[0], model.number(body[1:5]), name, name[:8] if body[0] == 6 else name[-8:], is_strong(body))
+    return Key(body[0], model.number(body[1:5]), name, name[:8] if body[0] == 6 else name[-8:], is_strong(body), least_digest(body))
 
 
 @functools.lru_cache(maxsize=1)
@@ -84,6 +97,16 @@ def is_critical(it):
     return False
 
 
+def is_unfit(it):
+    """Whether the data of a subpacket in its hashed area hasn't the form of its kind."""
+    return any(model.meaning(octet & 127, octets) == "unfit" for octet, _, octets in it.hashed)
+
+
+def relies_on(hash, signer):
+    """Whether the usual policy does on a signature by this hash algorithm and this key."""
+    return hash in RELIED and signer.is_strong and RELIED[hash] >= signer.least
+
+
 class Said:
     """What a signature says in its hashed area, and what was found of it."""
 
@@ -91,18 +114,22 @@ class Said:
         self.kind, self.by = it.kind, signer.fingerprint if signer else None
         self.is_genuine = verdict == GOOD and is_in_place
         self.is_understood = not is_critical(it)
-        self.is_relied_on = policy == "any" or (it.hash != SHA1 and signer is not None and signer.is_strong)
-        self.is_good = self.is_genuine and self.is_understood and self.is_relied_on
-        said = {kind: [] for kind in (2, 3, 9, 12, 27)}
+        self.is_relied_on = policy == "any" or (signer is not None and relies_on(it.hash, signer))
+        said = {kind: [] for kind in (2, 3, 9, 12, 25, 27, 29)}
         for octet, _, octets in it.hashed:
             if octet & 127 in said and model.meaning(octet & 127, octets) == "typed":
                 said[octet & 127].append(octets)
         times = said[2]
         self.made = model.number(times[0]) if len(times) == 1 else None
+        self.is_of_its_age = signer is not None and self.made is not None and self.made >= signer.created
+        self.is_good = self.is_genuine and self.is_understood and self.is_relied_on and self.is_of_its_age and not is_unfit(it)
         self.lasts, self.key_lasts = (min(filter(None, map(model.number, said[kind])), default=0) for kind in (3, 9))
         flags = [octets[0] if octets else 0 for octets in said[27]]
-        self.uses = {use for use, bits in USES.items() if flags and all(it & bits for it in flags)}
+        self.has_flags = bool(flags)
+        self.uses = {use for use, bits in USES.items() if all(it & bits for it in flags)}
+        self.is_main = any(octets != b"\0" for octets in said[25])
         self.revokers = {octets[2:] for octets in said[12] if octets[0] & 0x80}
+        self.reason = said[29][0][0] if said[29] else None
         self.back = None
 
     def lives(self, t):
@@ -117,6 +144,10 @@ class Component:
 
     def __init__(self, part):
         self.kind, self.key, self.said = part.kind, part.key, []
+
+
+def is_good(it):
+    return it.is_good
 
 
 def newest(group, t):
@@ -147,20 +178,33 @@ class Certificate:
     def component(self, number):
         return self.primary if number is None else self.components[number]
 
-    def speaking(self, component, kinds):
-        """Its good signatures of these types by the primary key."""
-        return [it for it in component.said if it.is_good and it.kind in kinds and it.by == self.fingerprint]
+    def own(self, kinds, *components):
+        """The genuine signatures of these types by the primary key, without those in which something critical isn't understood."""
+        found = [s for it in components for s in it.said if s.kind in kinds and s.by == self.fingerprint]
+        return [s for s in found if s.is_genuine and s.is_understood]
 
     def speakers(self, component, t):
-        """Those that speak for a key at a time: for a subkey the newest bindings; for the primary key (10.1) the newest direct key
-        signatures, and in version 4 also the newest of all certifications."""
+        """Those that speak for a key at a time: for a subkey the newest good bindings; for the primary key (10.1) the newest good direct
+        key signatures, and in version 4 also the newest good ones of all certifications of user IDs."""
         if component is not self.primary:
-            return newest(self.speaking(component, (BINDING,)), t)
-        found = newest(self.speaking(component, (DIRECT,)), t)
+            return newest(filter(is_good, self.own((BINDING,), component)), t)
+        found = newest(filter(is_good, self.own((DIRECT,), component)), t)
         if component.key.version == 4:
-            identities = (it for it in self.components if it.kind in (USER_ID, ATTRIBUTE))
-            found = found + newest([s for it in identities for s in self.speaking(it, CERTIFICATIONS)], t)
+            user_ids = (it for it in self.components if it.kind == USER_ID)
+            found = found + newest(filter(is_good, self.own(CERTIFICATIONS, *user_ids)), t)
         return found
+
+    def limiters(self, component, t):
+        """Those that must allow a use beside them, good or not: a weak one, too, was made by the key's owner."""
+        if component is not self.primary:
+            return newest(self.own((BINDING,), component), t)
+        direct = self.own((DIRECT,), component)
+        certifications = self.own(CERTIFICATIONS, *(it for it in self.components if it.kind in (USER_ID, ATTRIBUTE)))
+        main = [it for it in certifications if it.is_main]
+        return [it for group in (direct, certifications, main) for it in newest(group, t)]
+
+    def heard(self, component, t):
+        return self.speakers(component, t) + self.limiters(component, t)
 
     def revokes(self, component):
         """Whether something revokes this key: whatever else it says, arithmetic is enough."""
@@ -169,7 +213,7 @@ class Certificate:
 
     def until(self, component, t):
         """The end of the key and of the primary key, whichever is first, by those that speak at a time; or None."""
-        ends = [end(it.key, self.speakers(it, t)) for it in (self.primary, component)]
+        ends = [end(it.key, self.heard(it, t)) for it in (self.primary, component)]
         return min((it for it in ends if it is not None), default=None)
 
     def why(self, component, made, now):
@@ -191,25 +235,37 @@ class Certificate:
         why = self.why(component, made, now)
         if why:
             return why
-        speakers = [(t, it) for t in (made, now) for it in self.speakers(component, t)]
-        if any("sign" not in it.uses for _, it in speakers):
+        if any("sign" not in self.uses(component, t) for t in (made, now)):
             return "flags"
-        if component is not self.primary and any(not it.back or not it.back.lives(t) for t, it in speakers):
-            return "back"
-        return None
+        return "back" if any(self.lacks_back(component, t) for t in (made, now)) else None
+
+    def lacks_back(self, component, t):
+        """Whether a binding of a subkey that is heard has no good signature by the subkey that counts then (5.2.1.9)."""
+        return component is not self.primary and any(not it.back or not it.back.lives(t) for it in self.heard(component, t))
+
+    def uses(self, component, t):
+        """What all that is heard for a key lets it be used for, if one that speaks for it has flags."""
+        is_said = any(it.has_flags for it in self.speakers(component, t))
+        return [use for use in USES if is_said and all(use in it.uses for it in self.heard(component, t))]
+
+    def reason(self, component):
+        """The reason that the first revocation of a key states; or None."""
+        genuine = [(part, it) for part in (self.primary, *self.components) for it in part.said if it.is_genuine and self.may_revoke(it)]
+        reasons = [it.reason for part, it in genuine if it.kind == REVOCATION or (it.kind == SUBKEY_REVOCATION and part is component)]
+        return reasons[0] if reasons else None
 
     def state_of_key(self, component, at):
-        """Why it is none to believe, what all that speak for it allow, from when, and until when (None: for ever)."""
-        allowed = [it.uses for it in self.speakers(component, at)]
-        uses = [use for use in USES if allowed and all(use in it for it in allowed)]
+        """Why it is of no use, what it may be used for, from when, until when (None: for ever), and the reason of its first revocation."""
+        lost = ("certify", "sign") if self.lacks_back(component, at) else ()
+        uses = [it for it in self.uses(component, at) if it not in lost]
         begin = max(component.key.created, self.primary.key.created)
-        return self.why(component, at, at), uses, begin, self.until(component, at)
+        return self.why(component, at, at), uses, begin, self.until(component, at), self.reason(component)
 
     def state_of_identity(self, component, at):
         own = [it for it in component.said if it.is_genuine and it.by == self.fingerprint]
         if any(it.kind == IDENTITY_REVOCATION for it in own):
             return "revoked"
-        return "fine" if newest(self.speaking(component, CERTIFICATIONS), at) else "unbound"
+        return "fine" if newest(filter(is_good, self.own(CERTIFICATIONS, component)), at) else "unbound"
 
 
 class Keyring:
@@ -227,12 +283,14 @@ class Keyring:
         found = list(rows(certificates))
         if len(found) != len(verdicts):
             raise ValueError(f"{len(verdicts)} verdicts for {len(found)} rows")
-        outer = None
+        outer, is_first = None, True
         for (certificate, part, it, is_embedded), verdict in zip(found, verdicts):
             if is_embedded:
-                self.embed(outer, it, verdict, part)
+                if is_first:
+                    self.embed(outer, it, verdict, part)
+                is_first = False
             else:
-                outer = self.said(it, verdict, it.kind in PLACES[part.kind])
+                outer, is_first = self.said(it, verdict, it.kind in PLACES[part.kind]), True
                 if it.version == certificate[0].key.version:
                     places[id(part)].said.append(outer)
         self.certificates = [Certificate(it) for it in components]
@@ -247,9 +305,9 @@ class Keyring:
         return Said(it, self.signer(it), self.policy, verdict, is_in_place)
 
     def embed(self, binding, it, verdict, part):
-        """Gives a binding what is embedded in it: the first good and dated one by the subkey is its back signature (5.2.1.9)."""
+        """Gives a binding what is embedded in it first, if that is good and by the subkey: its back signature (5.2.1.9)."""
         back = self.said(it, verdict, it.kind == BACK)
-        if binding.back is None and back.is_good and back.made is not None and back.by == part.key.fingerprint:
+        if back.is_good and back.by == part.key.fingerprint:
             binding.back = back
 
     def standing(self, certificate, component, made, now):
@@ -264,6 +322,28 @@ class Keyring:
                 if it.key:
                     yield (c, number), it.key
 
+    def flaw(self, it, key, now):
+        """What is wrong with a document's signature itself, as one by this key; or None."""
+        if it.version not in (4, 6) or it.kind not in (0x00, 0x01):
+            return "type"
+        signer = self.signer(it)
+        if signer is None or (signer.version, signer.fingerprint) != (key.version, key.fingerprint):
+            return "issuer"
+        said = Said(it, signer, self.policy, GOOD, True)
+        if not said.is_understood or is_unfit(it):
+            return "critical"
+        if not said.is_relied_on:
+            return "weak"
+        if said.made is None:
+            return "time"
+        return "lapsed" if said.has_lapsed(now) else None
+
+    def belief(self, body, place, now):
+        """Why a document's signature of this body that is good isn't to be believed as one by the key at a place; or None."""
+        it, (certificate, component) = model.kept_signature(body), place
+        key = self.certificates[certificate].component(component).key
+        return self.flaw(it, key, now) or self.standing(certificate, component, model.created_of(it), now)
+
     def believed(self, body, verdict, now):
         """Why a document's signature of this body, on which there is this verdict, isn't to be believed; or None."""
         it = model.kept_signature(body)
@@ -272,17 +352,8 @@ class Keyring:
             return "bad"
         if verdict != GOOD or it.kind not in (0x00, 0x01) or signer is None or it.version != signer.version:
             return "undecided"
-        said = Said(it, signer, self.policy, verdict, True)
-        if not said.is_understood:
-            return "critical"
-        if not said.is_relied_on:
-            return "policy"
-        if said.made is None:
-            return "time"
-        if said.has_lapsed(now):
-            return "lapsed"
-        places = [place for place, key in self.table() if key.fingerprint == signer.fingerprint]
-        whys = [self.standing(*place, said.made, now) for place in places]
+        places = [place for place, key in self.table() if (key.version, key.fingerprint) == (signer.version, signer.fingerprint)]
+        whys = [self.belief(body, place, now) for place in places]
         return None if None in whys else whys[0]
 
     def state(self, certificate, at):

@@ -10,3 +10,4 @@ pub mod Report
 pub mod Ring
 pub mod Stack
 pub mod Io
+pub mod Valid

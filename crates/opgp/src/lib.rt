@@ -103,6 +103,16 @@ pub mod stack {
     };
 }
 
+/// Which keys, and signatures over documents, may be believed, by a verifier's verdicts.
+pub mod valid {
+    pub use opgp_valid::{
+        Author, Belief, Certified, Facts, Flaw, IdentityState, Judgement, Key, KeyPlace, KeyState,
+        Known, KnownKeys, Life, PartState, Policy, Revoked, Statement, Uses, Why, believe,
+        identity_state, is_strong, judge, key_state, laws, least_digest, list_revocations,
+        part_states, revocation_at, standing, subpackets, verdicts_behind,
+    };
+}
+
 /// Lines, octets and armor through one buffer into a writer.
 pub mod io {
     pub use opgp_io::{Armoring, Buffer, Held, Output, Sink, Source, Watched, Word, laws, put_all};

@@ -1,10 +1,20 @@
 -- What the call says that judges a key.
 use Rattle.std.specs.Prelude.{ℕ, ◌==◌, if◌then◌else◌, List, map, Option, Some, None}
+use Rattle.std.specs.Prelude.{Result, Ok, Err, slice_get}
+use Rattle.opgp_octets.specs.declared.fault.BodyFault.{BodyFault}
+use Rattle.opgp_packet.specs.SigView.{sig_view_value}
+use Rattle.opgp_packet.specs.SignatureBody.{SignatureValue, signature_at}
+use Rattle.opgp_packet.specs.declared.sig_view.SigView.{SigView}
 use Rattle.opgp_ring.specs.Keyring.{KeyringValue}
 use Rattle.opgp_report.specs.declared.verifier.Verdict.{Verdict}
 use Rattle.opgp_report.specs.declared.verifier.Verdict.TheVariants as verdict
 use Rattle.opgp_tables.specs.Room.{none}
+use Rattle.opgp_valid.specs.Believed.{belief_of}
 use Rattle.opgp_valid.specs.Judgement.{judgement_of}
+use Rattle.opgp_valid.specs.declared.believing.Belief.{Belief}
+use Rattle.opgp_valid.specs.declared.believing.Belief.TheVariants as belief
+use Rattle.opgp_valid.specs.declared.believing.Flaw.{Flaw}
+use Rattle.opgp_valid.specs.declared.believing.Flaw.TheVariants as flaw
 use Rattle.opgp_valid.specs.declared.judgement.Judgement.{Judgement}
 use Rattle.opgp_valid.specs.declared.judgement.Judgement.TheVariants.{Stands, Fails, NoKey}
 use Rattle.opgp_valid.specs.declared.judgement.KeyPlace.{KeyPlace}
@@ -50,3 +60,45 @@ judgement_number NoKey = None
 abbrev pub judged_by : KeyringValue → Policy → List ℕ → KeyPlace → ℕ → ℕ → Option ℕ
 judged_by r policy founds at made now =
     judgement_number (judgement_of r policy (map verdict_by founds) at made now)
+
+abbrev pub flaw_number : Flaw → ℕ
+flaw_number flaw.Kind = 8
+flaw_number flaw.Critical = 9
+flaw_number flaw.Weak = 10
+flaw_number flaw.Time = 11
+flaw_number flaw.Lapsed = 12
+flaw_number flaw.Issuer = 13
+
+-- 0 for a signature that is believed; none where there is no key
+abbrev pub belief_number : Belief → Option ℕ
+belief_number belief.Believed = Some 0
+belief_number (belief.Flawed flaw) = Some (flaw_number flaw)
+belief_number (belief.Unbelieved why) = Some (why_number why)
+belief_number belief.NoKey = None
+
+-- of a signature, by the numbers of verdicts; none where there is none
+module _ (r : KeyringValue) (policy : Policy) (founds : List ℕ) (at : KeyPlace) (now : ℕ) where
+  abbrev pub believed_in : Option SignatureValue → Option ℕ
+  believed_in None = None
+  believed_in (Some v) = belief_number (belief_of r policy (map verdict_by founds) at now v)
+
+-- ---- the signatures that a handle holds
+abbrev pub value_of : Result SignatureValue BodyFault → Option SignatureValue
+value_of (Ok v) = Some v
+value_of (Err fault) = None
+
+abbrev pub value_at : List ℕ → Option SignatureValue
+value_at body = value_of (signature_at body)
+
+abbrev pub value_if : Option (Option SignatureValue) → Option SignatureValue
+value_if None = None
+value_if (Some value) = value
+
+-- the one of this number, if it is well-formed
+abbrev pub held_value : List (List ℕ) → ℕ → Option SignatureValue
+held_value bodies n = value_if (slice_get (map value_at bodies) n)
+
+-- what was read as a signature
+abbrev pub value_read : Result SigView BodyFault → Option SignatureValue
+value_read (Ok view) = Some (sig_view_value view)
+value_read (Err fault) = None

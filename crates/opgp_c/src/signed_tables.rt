@@ -126,7 +126,7 @@ pub(crate) fn put_jobs(
 }
 
 /// The signatures that are held.
-fn signatures_in(held: &Signed) -> &DetachedSignatures
+pub(crate) fn signatures_in(held: &Signed) -> &DetachedSignatures
     ghost so_far: { List ℕ }
     requires { IsGiven so_far held.now }
     ensures { signature_bodies (detached_packets result.now) ≡ bodies_in held.now }

@@ -33,7 +33,7 @@ fn verdict_by(number: u8) -> Verdict
 }
 
 /// The verdicts of these numbers. Fails only when out of memory.
-fn verdicts_of(alloc: Global, numbers: &[u8]) -> Result<Vec<Verdict>, OutOfMemory>
+pub(crate) fn verdicts_of(alloc: Global, numbers: &[u8]) -> Result<Vec<Verdict>, OutOfMemory>
     ensures { IfOk result (λ v. v.items ≡ map verdict_by numbers.now) }
 {
     let mut verdicts = Vec::with_capacity(alloc, numbers.len())?;
@@ -46,7 +46,7 @@ fn verdicts_of(alloc: Global, numbers: &[u8]) -> Result<Vec<Verdict>, OutOfMemor
 }
 
 /// The policy of a number: 0 the usual one, 1 any.
-fn policy_by(number: u32) -> Option<Policy>
+pub(crate) fn policy_by(number: u32) -> Option<Policy>
     ensures { result ≡ policy_by number }
 {
     match number {
@@ -58,7 +58,7 @@ fn policy_by(number: u32) -> Option<Policy>
 
 /// The place of a key by the numbers of its certificate and its component, where `NONE` is for the
 /// primary key.
-fn place_by(certificate: u64, component: u64) -> KeyPlace
+pub(crate) fn place_by(certificate: u64, component: u64) -> KeyPlace
     ensures { result ≡ place_by certificate component }
 {
     KeyPlace {
@@ -72,7 +72,7 @@ fn place_by(certificate: u64, component: u64) -> KeyPlace
 }
 
 /// The number of a reason.
-fn why_number(why: Why) -> u8
+pub(crate) fn why_number(why: Why) -> u8
     ensures { result ≡ why_number why }
 {
     match why {

@@ -4,17 +4,18 @@ use Rattle.std.specs.List.{filter, find, list_all, list_any}
 use Rattle.std.proofs.lemmas.Bool.{leb-true, le-leb, true≢false, false≢true}
 use Rattle.std.proofs.lemmas.Bool.Decides.{nat_tests}
 use Rattle.std.proofs.lemmas.List.Folds.{list_any-append}
-use Rattle.opgp_valid.specs.Group.{speaks}
+use Rattle.opgp_valid.specs.Group.{any, good, speaks}
 use Rattle.opgp_valid.specs.Laws.{IsAmong}
 use Rattle.opgp_valid.specs.Saying.{is_nonempty}
-use Rattle.opgp_valid.specs.Speaking.{end_in, is_same, later, latest, made_at, newest, sooner, speakers, uses_in}
-use Rattle.opgp_valid.specs.Standing.{applies, created_of, has_ended, is_expired_at, is_unbacked_at, is_unbound_at, may_not_sign_at, own_speakers, primary_speakers, revokes, standing_of}
+use Rattle.opgp_valid.specs.Speaking.{end_in, is_same, later, latest, made_at, newest, sooner, uses_in}
+use Rattle.opgp_valid.specs.Speaking as spoken
+use Rattle.opgp_valid.specs.Standing.{applies, created_of, has_ended, heard, is_expired_at, is_unbacked_at, is_unbound_at, limiters, may_not_sign_at, revokes, speakers, standing_of}
 use Rattle.opgp_valid.specs.Statement.{end_of, has_back}
 use Rattle.opgp_valid.specs.Facts.{FactsValue}
 use Rattle.opgp_valid.specs.declared.facts.Key.{Key}
 use Rattle.opgp_valid.specs.declared.facts.Key.TheVariants as key
 use Rattle.opgp_valid.specs.declared.group.Group.{Group}
-use Rattle.opgp_valid.specs.declared.group.Group.TheVariants.{Direct, Certifications, Bindings}
+use Rattle.opgp_valid.specs.declared.group.Sort.TheVariants.{Direct, UserIds, Certifications, Main, Bindings}
 use Rattle.opgp_valid.specs.declared.statement.Statement.{Statement}
 use Rattle.opgp_valid.specs.declared.why.Why.{Why}
 use Rattle.opgp_valid.specs.declared.why.Why.TheVariants.{Future, Revoked, Early, Unbound, Expired, Flags, Back}
@@ -106,21 +107,30 @@ same_latest a b h = same_time (latest a) (latest b) (λ n. latest_reaches n a �
 
 alike_newest : (group : Group) (at : ℕ) (a b : List Statement) → Alike a b → Alike (newest group at a) (newest group at b)
 alike_newest group at a b h =
-    let k : Alike (speakers group at a) (speakers group at b) = alike_filter (speaks group at) a b h in
-    rw (same_latest (speakers group at a) (speakers group at b) k)
-    (alike_filter (λ s. is_same (made_at s) (latest (speakers group at b))) (speakers group at a) (speakers group at b) k)
+    let k : Alike (spoken.speakers group at a) (spoken.speakers group at b) = alike_filter (speaks group at) a b h in
+    rw (same_latest (spoken.speakers group at a) (spoken.speakers group at b) k)
+    (alike_filter (λ s. is_same (made_at s) (latest (spoken.speakers group at b))) (spoken.speakers group at a) (spoken.speakers group at b) k)
 
 -- ---- what is judged of them
 module _ (f g : FactsValue) (v : f.version ≡ g.version) (c : f.created ≡ g.created) (h : Alike f.statements g.statements) where
-  alike_primary : (at : ℕ) → Alike (primary_speakers f at) (primary_speakers g at)
-  alike_primary at = rw v (alike_append (newest Direct at f.statements) (newest Direct at g.statements) _ _ (alike_newest Direct at f.statements g.statements h) (certified (g.version == 4))) where
-    certified : (t : Bool) → Alike (cond t (newest Certifications at f.statements) []) (cond t (newest Certifications at g.statements) [])
-    certified true = alike_newest Certifications at f.statements g.statements h
-    certified false = λ p. refl
+  alike_group : (group : Group) (at : ℕ) → Alike (newest group at f.statements) (newest group at g.statements)
+  alike_group group at = alike_newest group at f.statements g.statements h
 
-  alike_own : (k : Key) (at : ℕ) → Alike (own_speakers f k at) (own_speakers g k at)
-  alike_own key.Primary at = alike_primary at
-  alike_own (key.Subkey n created) at = alike_newest (Bindings n) at f.statements g.statements h
+  alike_speakers : (k : Key) (at : ℕ) → Alike (speakers f k at) (speakers g k at)
+  alike_speakers key.Primary at = rw v (alike_append (newest (good Direct) at f.statements) (newest (good Direct) at g.statements) _ _ (alike_group (good Direct) at) (certified (g.version == 4))) where
+    certified : (t : Bool) → Alike (cond t (newest (good UserIds) at f.statements) []) (cond t (newest (good UserIds) at g.statements) [])
+    certified true = alike_group (good UserIds) at
+    certified false = λ p. refl
+  alike_speakers (key.Subkey n created) at = alike_group (good (Bindings n)) at
+
+  alike_limiters : (k : Key) (at : ℕ) → Alike (limiters f k at) (limiters g k at)
+  alike_limiters key.Primary at =
+      alike_append (newest (any Direct) at f.statements) (newest (any Direct) at g.statements) _ _ (alike_group (any Direct) at)
+      (alike_append (newest (any Certifications) at f.statements) (newest (any Certifications) at g.statements) _ _ (alike_group (any Certifications) at) (alike_group (any Main) at))
+  alike_limiters (key.Subkey n created) at = alike_group (any (Bindings n)) at
+
+  alike_heard : (k : Key) (at : ℕ) → Alike (heard f k at) (heard g k at)
+  alike_heard k at = alike_append (speakers f k at) (speakers g k at) (limiters f k at) (limiters g k at) (alike_speakers k at) (alike_limiters k at)
 
   same_created : (k : Key) → created_of f k ≡ created_of g k
   same_created key.Primary = c
@@ -130,24 +140,25 @@ module _ (f g : FactsValue) (v : f.version ≡ g.version) (c : f.created ≡ g.c
   nonempty_same a b e = nonempty_some a ∙ e (λ s. true) ∙ sym (nonempty_some b)
 
   unbound_same : (k : Key) (at : ℕ) → is_unbound_at f k at ≡ is_unbound_at g k at
-  unbound_same k at = or_same _ _ _ _ (ap not (nonempty_same (primary_speakers f at) (primary_speakers g at) (alike_primary at))) (ap not (nonempty_same (own_speakers f k at) (own_speakers g k at) (alike_own k at)))
+  unbound_same k at = or_same _ _ _ _ (ap not (nonempty_same (speakers f key.Primary at) (speakers g key.Primary at) (alike_speakers key.Primary at))) (ap not (nonempty_same (speakers f k at) (speakers g k at) (alike_speakers k at)))
 
   ended_same : (at created : ℕ) (a b : List Statement) → Alike a b → has_ended at (end_in created a) ≡ has_ended at (end_in created b)
   ended_same at created a b e = ended_some at created a ∙ e (λ s. has_ended at (end_of created s)) ∙ sym (ended_some at created b)
 
   expired_same : (k : Key) (at : ℕ) → is_expired_at f k at ≡ is_expired_at g k at
   expired_same k at = or_same _ _ _ _
-      (ap (λ n. has_ended at (end_in n (primary_speakers f at))) c ∙ ended_same at g.created (primary_speakers f at) (primary_speakers g at) (alike_primary at))
-      (ap (λ n. has_ended at (end_in n (own_speakers f k at))) (same_created k) ∙ ended_same at (created_of g k) (own_speakers f k at) (own_speakers g k at) (alike_own k at))
+      (ap (λ n. has_ended at (end_in n (heard f key.Primary at))) c ∙ ended_same at g.created (heard f key.Primary at) (heard g key.Primary at) (alike_heard key.Primary at))
+      (ap (λ n. has_ended at (end_in n (heard f k at))) (same_created k) ∙ ended_same at (created_of g k) (heard f k at) (heard g k at) (alike_heard k at))
 
   flags_same : (k : Key) (at : ℕ) → may_not_sign_at f k at ≡ may_not_sign_at g k at
-  flags_same k at = not_signing (own_speakers f k at) ∙ alike_own k at (λ s. not s.uses.sign) ∙ sym (not_signing (own_speakers g k at))
+  flags_same k at = or_same _ _ _ _ (ap not (alike_speakers k at (λ s. s.has_flags)))
+      (not_signing (heard f k at) ∙ alike_heard k at (λ s. not s.uses.sign) ∙ sym (not_signing (heard g k at)))
 
   unbacked_same : (k : Key) (at : ℕ) → is_unbacked_at f k at ≡ is_unbacked_at g k at
   unbacked_same key.Primary at = refl
   unbacked_same (key.Subkey n created) at =
       let k : Key = key.Subkey n created in
-      not_all (has_back at) (own_speakers f k at) ∙ alike_own k at (λ s. not (has_back at s)) ∙ sym (not_all (has_back at) (own_speakers g k at))
+      not_all (has_back at) (heard f k at) ∙ alike_heard k at (λ s. not (has_back at s)) ∙ sym (not_all (has_back at) (heard g k at))
 
   applies_same : (k : Key) (made now : ℕ) (why : Why) → applies f k made now why ≡ applies g k made now why
   applies_same k made now Future = refl

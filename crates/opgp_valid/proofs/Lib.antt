@@ -1,6 +1,5 @@
 pub mod Alike
 pub mod Among
-pub mod Areas
 pub mod Asked
 pub mod Changing
 pub mod Finding
@@ -8,6 +7,9 @@ pub mod FoundKeys
 pub mod Members
 pub mod Newest
 pub mod Orders
+pub mod Parts
+pub mod Revocations
 pub mod Rule
 pub mod Sayings
 pub mod Verdicts
+pub mod Walks

@@ -1,16 +1,17 @@
 -- The newest that speak, by what holds of them.
-use Rattle.std.proofs.Common.{◌≡◌, ◌∙◌, ◌⊎◌, ◌↔◌, inl, inr, ℕ, ◌+◌, ◌<◌, ◌≤◌, ◌==◌, nat_le, nat_lt, List, true, ◌||◌, Option, Some, None, is_none, is_some, refl, sym, ap, arith}
+use Rattle.std.proofs.Common.{◌≡◌, ◌∙◌, ◌⊎◌, ◌↔◌, inl, inr, ℕ, ◌+◌, ◌<◌, ◌≤◌, ◌==◌, nat_le, nat_lt, List, Bool, true, false, not, ◌||◌, Option, Some, None, is_none, is_some, refl, sym, ap, arith}
 use Rattle.std.specs.List.{Contains}
 use Rattle.std.specs.Option.{option_map}
 use Rattle.std.proofs.lemmas.Bool.{and_from, and_parts, eq-eqb, eqb-true, false≢true, le-leb, leb-true, lt-ltb, ltb-true, or_cases, or_left, or_right}
 use Rattle.opgp_octets.specs.declared.signature_type.SignatureType.{SignatureType}
 use Rattle.opgp_octets.specs.declared.signature_type.SignatureType.TheVariants as types
-use Rattle.opgp_valid.specs.Group.{binds, certifies, is_direct, is_in, is_primary, is_the, speaks}
+use Rattle.opgp_valid.specs.Group.{binds, certifies, is_certification_on, is_direct, is_direct_on, is_in, is_primary, is_the, speaks}
 use Rattle.opgp_valid.specs.Speaking.{is_same, latest, made_at, newest, speakers}
-use Rattle.opgp_valid.specs.Stands.{Certifies, IsInForce, IsNewest, IsOf, Speaks}
+use Rattle.opgp_valid.specs.Stands.{Certifies, IsCertification, IsDirect, IsInForce, IsNewest, IsOf, Speaks}
 use Rattle.opgp_valid.specs.Statement.{lives, lives_if}
 use Rattle.opgp_valid.specs.declared.group.Group.{Group}
-use Rattle.opgp_valid.specs.declared.group.Group.TheVariants.{Direct, Certifications, Bindings}
+use Rattle.opgp_valid.specs.declared.group.Sort.{Sort}
+use Rattle.opgp_valid.specs.declared.group.Sort.TheVariants.{Direct, UserIds, Certifications, Main, Bindings}
 use Rattle.opgp_valid.specs.declared.statement.Author.{Author}
 use Rattle.opgp_valid.specs.declared.statement.Author.TheVariants.{Primary, Revoker}
 use Rattle.opgp_valid.specs.declared.statement.Life.{Life}
@@ -69,26 +70,52 @@ primary_is : (a : Author) → is_primary a ≡ true → a ≡ Primary
 primary_is Primary e = refl
 primary_is Revoker e = absurd (false≢true e)
 
-is_of : (group : Group) (s : Statement) → is_in group s ≡ true → IsOf group s
-is_of Direct s e = let h = and_parts (is_direct s.kind) (is_none s.component) e in (direct_is s.kind h.0, none_is s.component h.1)
-is_of Certifications s e = let h = and_parts (certifies s.kind) (is_some s.component) e in (certifies_is s.kind h.0, h.1)
+direct_of : (s : Statement) → is_direct_on s ≡ true → IsDirect s
+direct_of s e = let h = and_parts (is_direct s.kind) (is_none s.component) e in (direct_is s.kind h.0, none_is s.component h.1)
+
+of_direct : (s : Statement) → IsDirect s → is_direct_on s ≡ true
+of_direct s h = and_from _ _ (ap is_direct h.0) (ap is_none h.1)
+
+certification_of : (s : Statement) → is_certification_on s ≡ true → IsCertification s
+certification_of s e = let h = and_parts (certifies s.kind) (is_some s.component) e in (certifies_is s.kind h.0, h.1)
+
+of_certification : (s : Statement) → IsCertification s → is_certification_on s ≡ true
+of_certification s h = and_from _ _ (is_certifies s.kind h.0) h.1
+
+is_of : (sort : Sort) (s : Statement) → is_in sort s ≡ true → IsOf sort s
+is_of Direct s e = direct_of s e
+is_of UserIds s e = let h = and_parts (is_certification_on s) s.is_on_user_id e in (certification_of s h.0, h.1)
+is_of Certifications s e = certification_of s e
+is_of Main s e = let h = and_parts (is_certification_on s) s.is_main e in (certification_of s h.0, h.1)
 is_of (Bindings n) s e = let h = and_parts (binds s.kind) (is_the n s.component) e in (binds_is s.kind h.0, the_is n s.component h.1)
 
-of_is : (group : Group) (s : Statement) → IsOf group s → is_in group s ≡ true
-of_is Direct s h = and_from _ _ (ap is_direct h.0) (ap is_none h.1)
-of_is Certifications s h = and_from _ _ (is_certifies s.kind h.0) h.1
+of_is : (sort : Sort) (s : Statement) → IsOf sort s → is_in sort s ≡ true
+of_is Direct s h = of_direct s h
+of_is UserIds s h = and_from _ _ (of_certification s h.0) h.1
+of_is Certifications s h = of_certification s h
+of_is Main s h = and_from _ _ (of_certification s h.0) h.1
 of_is (Bindings n) s h = and_from _ _ (ap binds h.0) (is_the_one n s.component h.1)
+
+-- a group that asks for it has those that are good
+asked_good : (m g : Bool) → (not m || g) ≡ true → m ≡ true → g ≡ true
+asked_good true g e a = e
+asked_good false g e a = absurd (false≢true a)
+
+good_asked : (m g : Bool) → (m ≡ true → g ≡ true) → (not m || g) ≡ true
+good_asked true g h = h refl
+good_asked false g h = refl
 
 -- ---- it speaks
 pub speaks_is : (group : Group) (at : ℕ) (s : Statement) → speaks group at s ≡ true → Speaks group at s
 speaks_is group at s e =
-    let a = and_parts (is_in group s) _ e in
-    let b = and_parts s.is_good _ a.1 in
-    let c = and_parts (is_primary s.author) (lives_if at s.life) b.1 in
-    record { of = is_of group s a.0; good = b.0; own = primary_is s.author c.0; in_force = in_force at s.life c.1 }
+    let a = and_parts (is_in group.sort s) _ e in
+    let b = and_parts (not group.must_be_good || s.is_good) _ a.1 in
+    let u = and_parts s.is_understood _ b.1 in
+    let c = and_parts (is_primary s.author) (lives_if at s.life) u.1 in
+    record { of = is_of group.sort s a.0; good = asked_good group.must_be_good s.is_good b.0; understood = u.0; own = primary_is s.author c.0; in_force = in_force at s.life c.1 }
 
 pub is_speaks : (group : Group) (at : ℕ) (s : Statement) → Speaks group at s → speaks group at s ≡ true
-is_speaks group at s h = and_from _ _ (of_is group s h.of) (and_from _ _ h.good (and_from _ _ (ap is_primary h.own) (from_force at s.life h.in_force)))
+is_speaks group at s h = and_from _ _ (of_is group.sort s h.of) (and_from _ _ (good_asked group.must_be_good s.is_good h.good) (and_from _ _ h.understood (and_from _ _ (ap is_primary h.own) (from_force at s.life h.in_force))))
 
 -- ---- it is the newest
 same_is : (a : ℕ) (o t : Option ℕ) → o ≡ Some a → is_same o t ≡ true → t ≡ Some a

@@ -1,23 +1,25 @@
 -- The rule, by the facts that it says.
-use Rattle.std.proofs.Common.{◌≡◌, ◌∙◌, ◌↔◌, inl, inr, ℕ, ◌+◌, ◌==◌, nat_lt, List, [], ◌∷◌, Bool, true, false, not, cond, Option, Some, None, refl, sym, ap}
-use Rattle.std.specs.List.{Contains}
+use Rattle.std.proofs.Common.{◌≡◌, ◌∙◌, ◌↔◌, ◌⊎◌, inl, inr, ℕ, ◌+◌, ◌==◌, nat_lt, List, [], ◌∷◌, ◌++◌, Bool, true, false, not, cond, Option, Some, None, refl, sym, ap}
+use Rattle.std.specs.List.{Contains, list_any}
 use Rattle.std.proofs.lemmas.Bool.{eq-eqb, eqb-true, false≢true, le-ltb, leb-false, lt-leb, ltb-false, or_from, or_parts, true≢false}
 use Rattle.std.proofs.lemmas.List.Elements.{Contains-append_cases, Contains-append_left, Contains-append_right}
 use Rattle.opgp_octets.specs.declared.signature_type.SignatureType.{SignatureType}
 use Rattle.opgp_octets.specs.declared.signature_type.SignatureType.TheVariants as types
 use Rattle.opgp_valid.specs.Saying.{is_nonempty}
 use Rattle.opgp_valid.specs.Speaking.{end_in, newest, uses_in}
-use Rattle.opgp_valid.specs.Standing.{applies, created_of, has_ended, is_expired_at, is_revocation_of, is_revoked, is_unbacked_at, is_unbound_at, may_not_sign_at, own_speakers, primary_speakers, revokes, standing_of}
+use Rattle.opgp_valid.specs.Standing.{applies, created_of, has_ended, heard, is_expired_at, is_revocation_of, is_revoked, is_unbacked_at, is_unbound_at, limiters, may_not_sign_at, revokes, speakers, standing_of}
 use Rattle.opgp_valid.specs.Statement.{end_of, has_back}
-use Rattle.opgp_valid.specs.Stands.{IsBacked, IsHeard, IsNewest, Lasts, Revokes, Stands, StandsAt}
+use Rattle.opgp_valid.specs.Group.{any, good}
+use Rattle.opgp_valid.specs.Stands.{IsBacked, IsHeard, IsLimiter, IsNewest, IsSpeaker, Lasts, Revokes, Stands, StandsAt}
 use Rattle.opgp_valid.specs.Facts.{FactsValue}
 use Rattle.opgp_valid.specs.declared.facts.Key.{Key}
 use Rattle.opgp_valid.specs.declared.facts.Key.TheVariants as key
-use Rattle.opgp_valid.specs.declared.group.Group.TheVariants.{Direct, Certifications, Bindings}
+use Rattle.opgp_valid.specs.declared.group.Sort.{Sort}
+use Rattle.opgp_valid.specs.declared.group.Sort.TheVariants.{Direct, UserIds, Certifications, Main, Bindings}
 use Rattle.opgp_valid.specs.declared.statement.Statement.{Statement}
 use Rattle.opgp_valid.specs.declared.why.Why.TheVariants.{Future, Revoked, Early, Unbound, Expired, Flags, Back}
 use Rattle.opgp_valid.proofs.Alike.{ended_some, not_all, not_signing}
-use Rattle.opgp_valid.proofs.Members.{member_here, none_in, none_passes, passes_none}
+use Rattle.opgp_valid.proofs.Members.{member_here, none_in, none_passes, passes_none, passes_some, some_passes}
 use Rattle.opgp_valid.proofs.Newest.{from_force, in_force, is_the_one, newest_is_newest, the_is}
 
 -- ---- what revokes a key
@@ -44,23 +46,43 @@ is_unrevoked f k h = passes_none (revokes k) f.statements (λ s c. other s c (re
 
 -- ---- who is heard
 module _ (f : FactsValue) (at : ℕ) (s : Statement) where
-  heard_primary : Contains (primary_speakers f at) s → IsHeard f key.Primary at s
-  heard_primary h = elim (Contains-append_cases (newest Direct at f.statements) _ s h) [ inl a ↦ inl ((newest_is_newest Direct at f.statements s).0 a) | inr b ↦ inr (certified (f.version == 4) refl b) ] where
-    certified : (t : Bool) → (f.version == 4) ≡ t → Contains (cond t (newest Certifications at f.statements) []) s → (f.version ≡ 4) × IsNewest Certifications at f.statements s
-    certified true e c = (eqb-true f.version 4 e, (newest_is_newest Certifications at f.statements s).0 c)
+  speaker : (k : Key) → Contains (speakers f k at) s → IsSpeaker f k at s
+  speaker key.Primary h = elim (Contains-append_cases (newest (good Direct) at f.statements) _ s h) [ inl a ↦ inl ((newest_is_newest (good Direct) at f.statements s).0 a) | inr b ↦ inr (certified (f.version == 4) refl b) ] where
+    certified : (t : Bool) → (f.version == 4) ≡ t → Contains (cond t (newest (good UserIds) at f.statements) []) s → (f.version ≡ 4) × IsNewest (good UserIds) at f.statements s
+    certified true e c = (eqb-true f.version 4 e, (newest_is_newest (good UserIds) at f.statements s).0 c)
     certified false e c = absurd (none_in s c)
+  speaker (key.Subkey n created) h = (newest_is_newest (good (Bindings n)) at f.statements s).0 h
 
-  primary_heard : IsHeard f key.Primary at s → Contains (primary_speakers f at) s
-  primary_heard (inl h) = Contains-append_left (newest Direct at f.statements) _ s ((newest_is_newest Direct at f.statements s).1 h)
-  primary_heard (inr h) = Contains-append_right (newest Direct at f.statements) _ s (rw (eq-eqb f.version 4 h.0) ((newest_is_newest Certifications at f.statements s).1 h.1))
+  is_speaker : (k : Key) → IsSpeaker f k at s → Contains (speakers f k at) s
+  is_speaker key.Primary (inl h) = Contains-append_left (newest (good Direct) at f.statements) _ s ((newest_is_newest (good Direct) at f.statements s).1 h)
+  is_speaker key.Primary (inr h) = Contains-append_right (newest (good Direct) at f.statements) _ s (rw (eq-eqb f.version 4 h.0) ((newest_is_newest (good UserIds) at f.statements s).1 h.1))
+  is_speaker (key.Subkey n created) h = (newest_is_newest (good (Bindings n)) at f.statements s).1 h
 
-  heard : (k : Key) → Contains (own_speakers f k at) s → IsHeard f k at s
-  heard key.Primary h = heard_primary h
-  heard (key.Subkey n created) h = (newest_is_newest (Bindings n) at f.statements s).0 h
+  -- of the sorts that limit
+  limits : (sort : Sort) → Contains (newest (any sort) at f.statements) s → IsNewest (any sort) at f.statements s
+  limits sort h = (newest_is_newest (any sort) at f.statements s).0 h
 
-  is_heard : (k : Key) → IsHeard f k at s → Contains (own_speakers f k at) s
-  is_heard key.Primary h = primary_heard h
-  is_heard (key.Subkey n created) h = (newest_is_newest (Bindings n) at f.statements s).1 h
+  is_limit : (sort : Sort) → IsNewest (any sort) at f.statements s → Contains (newest (any sort) at f.statements) s
+  is_limit sort h = (newest_is_newest (any sort) at f.statements s).1 h
+
+  limiter : (k : Key) → Contains (limiters f k at) s → IsLimiter f k at s
+  limiter key.Primary h = elim (Contains-append_cases (newest (any Direct) at f.statements) _ s h) [ inl a ↦ inl (limits Direct a) | inr b ↦ inr (second b) ] where
+    second : Contains (newest (any Certifications) at f.statements ++ newest (any Main) at f.statements) s → IsNewest (any Certifications) at f.statements s ⊎ IsNewest (any Main) at f.statements s
+    second h = elim (Contains-append_cases (newest (any Certifications) at f.statements) _ s h) [ inl a ↦ inl (limits Certifications a) | inr b ↦ inr (limits Main b) ]
+  limiter (key.Subkey n created) h = limits (Bindings n) h
+
+  is_limiter : (k : Key) → IsLimiter f k at s → Contains (limiters f k at) s
+  is_limiter key.Primary (inl h) = Contains-append_left (newest (any Direct) at f.statements) _ s (is_limit Direct h)
+  is_limiter key.Primary (inr (inl h)) = Contains-append_right (newest (any Direct) at f.statements) _ s (Contains-append_left (newest (any Certifications) at f.statements) _ s (is_limit Certifications h))
+  is_limiter key.Primary (inr (inr h)) = Contains-append_right (newest (any Direct) at f.statements) _ s (Contains-append_right (newest (any Certifications) at f.statements) _ s (is_limit Main h))
+  is_limiter (key.Subkey n created) h = is_limit (Bindings n) h
+
+  one_heard : (k : Key) → Contains (heard f k at) s → IsHeard f k at s
+  one_heard k h = elim (Contains-append_cases (speakers f k at) (limiters f k at) s h) [ inl a ↦ inl (speaker k a) | inr b ↦ inr (limiter k b) ]
+
+  is_heard : (k : Key) → IsHeard f k at s → Contains (heard f k at) s
+  is_heard k (inl h) = Contains-append_left (speakers f k at) (limiters f k at) s (is_speaker k h)
+  is_heard k (inr h) = Contains-append_right (speakers f k at) (limiters f k at) s (is_limiter k h)
 
 -- ---- what they say
 some_said : (ss : List Statement) → not (is_nonempty ss) ≡ false → (s : Statement) × Contains ss s
@@ -104,39 +126,42 @@ module _ (f : FactsValue) (at : ℕ) where
   each_backed : (k : Key) → is_unbacked_at f k at ≡ false → (s : Statement) → IsHeard f k at s → IsBacked k at s
   each_backed key.Primary e s h = tt
   each_backed (key.Subkey n created) e s h =
-      let ss : List Statement = own_speakers f (key.Subkey n created) at in
+      let ss : List Statement = heard f (key.Subkey n created) at in
       in_force at s.back (signs_is (has_back at s) (none_passes (λ r. not (has_back at r)) ss (sym (not_all (has_back at) ss) ∙ e) s (is_heard f at s (key.Subkey n created) h)))
 
   backed_each : (k : Key) → ((s : Statement) → IsHeard f k at s → IsBacked k at s) → is_unbacked_at f k at ≡ false
   backed_each key.Primary h = refl
   backed_each (key.Subkey n created) h =
-      let ss : List Statement = own_speakers f (key.Subkey n created) at in
-      not_all (has_back at) ss ∙ passes_none (λ r. not (has_back at r)) ss (λ s c. ap not (from_force at s.back (h s (heard f at s (key.Subkey n created) c))))
+      let ss : List Statement = heard f (key.Subkey n created) at in
+      not_all (has_back at) ss ∙ passes_none (λ r. not (has_back at r)) ss (λ s c. ap not (from_force at s.back (h s (one_heard f at s (key.Subkey n created) c))))
 
   module _ (k : Key) where
     stands_at : is_unbound_at f k at ≡ false → is_expired_at f k at ≡ false → may_not_sign_at f k at ≡ false → is_unbacked_at f k at ≡ false → StandsAt f k at
     stands_at u e g b =
-        let said = or_parts (not (is_nonempty (primary_speakers f at))) (not (is_nonempty (own_speakers f k at))) u in
-        let last = or_parts (has_ended at (end_in f.created (primary_speakers f at))) (has_ended at (end_in (created_of f k) (own_speakers f k at))) e in
-        let p = some_said (primary_speakers f at) said.0 in
-        let o = some_said (own_speakers f k at) said.1 in
+        let said = or_parts (not (is_nonempty (speakers f key.Primary at))) (not (is_nonempty (speakers f k at))) u in
+        let last = or_parts (has_ended at (end_in f.created (heard f key.Primary at))) (has_ended at (end_in (created_of f k) (heard f k at))) e in
+        let flags = or_parts (not (list_any (λ s. s.has_flags) (speakers f k at))) (not (uses_in (heard f k at)).sign) g in
+        let p = some_said (speakers f key.Primary at) said.0 in
+        let o = some_said (speakers f k at) said.1 in
+        let q = some_passes (λ s. s.has_flags) (speakers f k at) (signs_is (list_any (λ s. s.has_flags) (speakers f k at)) flags.0) in
         record {
-          primary_said = (p.0, heard_primary f at p.0 p.1);
-          said = (o.0, heard f at o.0 k o.1);
-          primary_lasts = λ s h. each_lasts at f.created (primary_speakers f at) last.0 s (primary_heard f at s h);
-          lasts = λ s h. each_lasts at (created_of f k) (own_speakers f k at) last.1 s (is_heard f at s k h);
-          signs = λ s h. each_signs (own_speakers f k at) g s (is_heard f at s k h);
+          primary_said = (p.0, speaker f at p.0 key.Primary p.1);
+          said = (o.0, speaker f at o.0 k o.1);
+          primary_lasts = λ s h. each_lasts at f.created (heard f key.Primary at) last.0 s (is_heard f at s key.Primary h);
+          lasts = λ s h. each_lasts at (created_of f k) (heard f k at) last.1 s (is_heard f at s k h);
+          flagged = (q.0, speaker f at q.0 k q.1, q.2);
+          signs = λ s h. each_signs (heard f k at) flags.1 s (is_heard f at s k h);
           backed = each_backed k b;
         }
 
     unbound : StandsAt f k at → is_unbound_at f k at ≡ false
-    unbound h = or_from _ _ (said_some (primary_speakers f at) h.primary_said.0 (primary_heard f at h.primary_said.0 h.primary_said.1)) (said_some (own_speakers f k at) h.said.0 (is_heard f at h.said.0 k h.said.1))
+    unbound h = or_from _ _ (said_some (speakers f key.Primary at) h.primary_said.0 (is_speaker f at h.primary_said.0 key.Primary h.primary_said.1)) (said_some (speakers f k at) h.said.0 (is_speaker f at h.said.0 k h.said.1))
 
     unexpired : StandsAt f k at → is_expired_at f k at ≡ false
-    unexpired h = or_from _ _ (lasts_each at f.created (primary_speakers f at) (λ s c. h.primary_lasts s (heard_primary f at s c))) (lasts_each at (created_of f k) (own_speakers f k at) (λ s c. h.lasts s (heard f at s k c)))
+    unexpired h = or_from _ _ (lasts_each at f.created (heard f key.Primary at) (λ s c. h.primary_lasts s (one_heard f at s key.Primary c))) (lasts_each at (created_of f k) (heard f k at) (λ s c. h.lasts s (one_heard f at s k c)))
 
     may_sign : StandsAt f k at → may_not_sign_at f k at ≡ false
-    may_sign h = signs_each (own_speakers f k at) (λ s c. h.signs s (heard f at s k c))
+    may_sign h = or_from _ _ (ap not (passes_some (λ s. s.has_flags) (speakers f k at) h.flagged.0 (is_speaker f at h.flagged.0 k h.flagged.1) h.flagged.2)) (signs_each (heard f k at) (λ s c. h.signs s (one_heard f at s k c)))
 
 -- ---- the first reason
 first_none : {A : Type 0} (b : Bool) (x : A) (o : Option A) → cond b (Some x) o ≡ None → (b ≡ false) × (o ≡ None)

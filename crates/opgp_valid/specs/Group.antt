@@ -1,9 +1,12 @@
 -- Signatures that say the same sort of thing, and which of them speak for a key at a time.
-use Rattle.std.specs.Prelude.{ℕ, Bool, true, false, ◌&&◌, ◌==◌, Option, Some, None, is_none, is_some}
+use Rattle.std.specs.Prelude.{ℕ, Bool, true, false, not, ◌&&◌, ◌||◌, ◌==◌}
+use Rattle.std.specs.Prelude.{Option, Some, None, is_none, is_some}
 use Rattle.opgp_octets.specs.declared.signature_type.SignatureType.{SignatureType}
 use Rattle.opgp_octets.specs.declared.signature_type.SignatureType.TheVariants as types
 use Rattle.opgp_valid.specs.declared.group.Group.{Group}
-use Rattle.opgp_valid.specs.declared.group.Group.TheVariants.{Direct, Certifications, Bindings}
+use Rattle.opgp_valid.specs.declared.group.Sort.{Sort}
+use Rattle.opgp_valid.specs.declared.group.Sort.TheVariants.{Direct, UserIds, Certifications}
+use Rattle.opgp_valid.specs.declared.group.Sort.TheVariants.{Main, Bindings}
 use Rattle.opgp_valid.specs.declared.statement.Author.{Author}
 use Rattle.opgp_valid.specs.declared.statement.Author.TheVariants.{Primary, Revoker}
 use Rattle.opgp_valid.specs.declared.statement.Statement.{Statement}
@@ -29,17 +32,34 @@ abbrev pub is_the : ℕ → Option ℕ → Bool
 is_the n None = false
 is_the n (Some m) = m == n
 
--- direct key signatures on the primary key (5.2.1.10); certifications of any component; bindings of
--- this one (5.2.1.8)
-abbrev pub is_in : Group → Statement → Bool
-is_in Direct s = is_direct s.kind && is_none s.component
-is_in Certifications s = certifies s.kind && is_some s.component
+-- a direct key signature on the primary key (5.2.1.10), and a certification of any component
+abbrev pub is_direct_on : Statement → Bool
+is_direct_on s = is_direct s.kind && is_none s.component
+
+abbrev pub is_certification_on : Statement → Bool
+is_certification_on s = certifies s.kind && is_some s.component
+
+-- direct key signatures; certifications of user IDs; certifications of any component; those of the
+-- user ID that is said to be the primary one (5.2.3.27); bindings of this component (5.2.1.8)
+abbrev pub is_in : Sort → Statement → Bool
+is_in Direct s = is_direct_on s
+is_in UserIds s = is_certification_on s && s.is_on_user_id
+is_in Certifications s = is_certification_on s
+is_in Main s = is_certification_on s && s.is_main
 is_in (Bindings n) s = binds s.kind && is_the n s.component
+
+-- those of a sort that are good, and all of them
+abbrev pub good : Sort → Group
+good sort = record { sort = sort; must_be_good = true }
+
+abbrev pub any : Sort → Group
+any sort = record { sort = sort; must_be_good = false }
 
 abbrev pub is_primary : Author → Bool
 is_primary Primary = true
 is_primary Revoker = false
 
--- it is one of them, good, by the primary key, and counts at this time
+-- it is one of them by the primary key, nothing critical in it is unknown, and it counts at this time
 abbrev pub speaks : Group → ℕ → Statement → Bool
-speaks group at s = is_in group s && (s.is_good && (is_primary s.author && is_alive at s))
+speaks group at s = is_in group.sort s && ((not group.must_be_good || s.is_good)
+    && (s.is_understood && (is_primary s.author && is_alive at s)))

@@ -8,11 +8,16 @@ use Rattle.opgp_report.specs.Report.{keys_in}
 use Rattle.opgp_report.specs.Signer.{signer_of}
 use Rattle.opgp_valid.specs.declared.known_keys.Known.{Known}
 use Rattle.opgp_valid.specs.declared.known_keys.KnownKeys.{KnownKeys}
-use Rattle.opgp_valid.specs.Policy.{is_strong}
+use Rattle.opgp_valid.specs.Policy.{created_of, is_strong, least_digest}
 
--- what is known of a key: its fingerprint, and whether it is strong
+-- what is known of a key: its fingerprint, when it was created, and what a policy asks of it
 abbrev pub known_of : List ℕ → Known
-known_of body = record { print = print_of body; is_strong = is_strong body }
+known_of body = record {
+  print = print_of body;
+  created = created_of body;
+  is_strong = is_strong body;
+  least_digest = least_digest body;
+}
 
 abbrev pub knowns : KnownKeys → List Known
 knowns k = k.keys.items

@@ -1,9 +1,12 @@
+pub mod Believed
 pub mod Facts
 pub mod Gathering
 pub mod Group
 pub mod Judgement
 pub mod KnownKeys
 pub mod Laws
+pub mod Listing
+pub mod Moment
 pub mod Policy
 pub mod Revocation
 pub mod Saying
@@ -11,8 +14,10 @@ pub mod Speaking
 pub mod Standing
 pub mod Stands
 pub mod State
+pub mod States
 pub mod Statement
 pub mod Subpackets
 pub mod Told
 pub mod Uses
+pub mod Walk
 pub mod Why

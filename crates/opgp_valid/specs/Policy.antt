@@ -1,6 +1,7 @@
 -- Which hash algorithms and keys are relied on (RFC 9580, 9.5, 12.4).
-use Rattle.std.specs.Prelude.{ℕ, nat_le, nat_lt, Bool, true, false, not, ◌&&◌, ◌||◌, ◌==◌}
+use Rattle.std.specs.Prelude.{ℕ, nat_le, nat_lt, Bool, true, false, ◌&&◌, ◌||◌, ◌==◌, ◌/◌, min}
 use Rattle.std.specs.Prelude.{if◌then◌else◌, List, [], ◌∷◌, length, drop, Result, Ok, Err}
+use Rattle.std.specs.Prelude.{Option, Some, None}
 use Rattle.opgp_octets.specs.HashAlgorithm.{hash_algorithm_of}
 use Rattle.opgp_octets.specs.KeyAlgorithm.{key_algorithm_of}
 use Rattle.opgp_octets.specs.declared.fault.BodyFault.{BodyFault}
@@ -9,19 +10,32 @@ use Rattle.opgp_octets.specs.declared.hash_algorithm.HashAlgorithm.TheVariants a
 use Rattle.opgp_packet.specs.FieldReading.{body_at}
 use Rattle.opgp_packet.specs.Fields.{Field, amount, integer}
 use Rattle.opgp_packet.specs.KeyBody.{key}
-use Rattle.opgp_packet.specs.KeyShape.{Shape, rsa, dsa, ecdsa, shape_of}
+use Rattle.opgp_packet.specs.KeyShape.{Shape, rsa, dsa, ecdsa, eddsa, ed25519, ed448, shape_of}
 use Rattle.opgp_hash.specs.SignedValue.{field_at}
 use Rattle.opgp_valid.specs.declared.policy.Policy.{Policy}
 use Rattle.opgp_valid.specs.declared.policy.Policy.TheVariants.{Usual, Any}
 
 -- ---- hashes
-abbrev pub is_weak_hash : HashAlgorithm → Bool
-is_weak_hash hashes.Sha1 = true
-is_weak_hash other = false
+-- how many octets the digest of one has that is relied on: not of MD5, SHA-1 and RIPEMD-160 (9.5)
+abbrev pub relied_size : HashAlgorithm → Option ℕ
+relied_size hashes.Sha224 = Some 28
+relied_size hashes.Sha256 = Some 32
+relied_size hashes.Sha384 = Some 48
+relied_size hashes.Sha512 = Some 64
+relied_size hashes.Sha3_256 = Some 32
+relied_size hashes.Sha3_512 = Some 64
+relied_size other = None
 
-abbrev pub relies_on : Policy → ℕ → Bool → Bool
-relies_on Any hash is_strong = true
-relies_on Usual hash is_strong = is_strong && not (is_weak_hash (hash_algorithm_of hash))
+abbrev pub is_as_long : ℕ → Option ℕ → Bool
+is_as_long least None = false
+is_as_long least (Some size) = nat_le least size
+
+-- on a signature with this hash algorithm by a key that is strong or isn't, and asks for a digest
+-- of so many octets at least
+abbrev pub relies_on : Policy → ℕ → Bool → ℕ → Bool
+relies_on Any hash is_strong least = true
+relies_on Usual hash is_strong least =
+    is_strong && is_as_long least (relied_size (hash_algorithm_of hash))
 
 -- ---- keys
 -- an integer without the zeros in front of it
@@ -45,6 +59,17 @@ is_strong_material dsa (integer p ∷ integer q ∷ fields) = fills 256 p.octets
 is_strong_material ecdsa (oid ∷ integer point ∷ fields) = nat_le 57 (length point.octets)
 is_strong_material shape fields = true
 
+-- how many octets the digest has at least that a key of this form signs: as many as q of DSA, or as
+-- an integer of the curve of ECDSA, where 64 are enough (5.2.3.2); 32 for Ed25519 (5.2.3.3,
+-- 5.2.3.4), 64 for Ed448 (5.2.3.5)
+abbrev pub least_of_material : Shape → List Field → ℕ
+least_of_material dsa (integer p ∷ integer q ∷ fields) = length (without_zeros q.octets)
+least_of_material ecdsa (oid ∷ integer point ∷ fields) = min 64 (length point.octets / 2)
+least_of_material eddsa fields = 32
+least_of_material ed25519 fields = 32
+least_of_material ed448 fields = 64
+least_of_material shape fields = 0
+
 -- ---- the key of a body (5.5.2): version, creation time, algorithm, in version 6 a count, material
 abbrev pub fields_read : Result (List Field) BodyFault → List Field
 fields_read (Ok fields) = fields
@@ -67,3 +92,6 @@ material_of body = drop (if version_of body == 6 then 4 else 3) (fields_of body)
 
 abbrev pub is_strong : List ℕ → Bool
 is_strong body = is_strong_material (shape_in body) (material_of body)
+
+abbrev pub least_digest : List ℕ → ℕ
+least_digest body = least_of_material (shape_in body) (material_of body)

@@ -6,13 +6,14 @@ use Rattle.opgp_octets.specs.declared.signature_type.SignatureType.{SignatureTyp
 use Rattle.opgp_octets.specs.declared.signature_type.SignatureType.TheVariants as types
 use Rattle.opgp_valid.specs.declared.facts.Key.{Key}
 use Rattle.opgp_valid.specs.declared.facts.Key.TheVariants as key
-use Rattle.opgp_valid.specs.declared.group.Group.TheVariants.{Direct, Certifications, Bindings}
+use Rattle.opgp_valid.specs.declared.group.Sort.TheVariants.{Direct, UserIds, Certifications}
+use Rattle.opgp_valid.specs.declared.group.Sort.TheVariants.{Main, Bindings}
 use Rattle.opgp_valid.specs.declared.statement.Statement.{Statement}
 use Rattle.opgp_valid.specs.declared.why.Why.{Why}
 use Rattle.opgp_valid.specs.declared.why.Why.TheVariants.{Future, Revoked, Early, Unbound, Expired}
 use Rattle.opgp_valid.specs.declared.why.Why.TheVariants.{Flags, Back}
 use Rattle.opgp_valid.specs.Facts.{FactsValue}
-use Rattle.opgp_valid.specs.Group.{is_the}
+use Rattle.opgp_valid.specs.Group.{any, good, is_the}
 use Rattle.opgp_valid.specs.Saying.{is_nonempty}
 use Rattle.opgp_valid.specs.Speaking.{end_in, newest, uses_in}
 use Rattle.opgp_valid.specs.Statement.{has_back}
@@ -37,16 +38,23 @@ abbrev pub is_revoked : FactsValue → Key → Bool
 is_revoked f k = list_any (revokes k) f.statements
 
 -- ---- who speaks
--- for the primary key: the newest direct key signatures, and in version 4 also the newest
--- certifications (5.2.3.10, 10.1)
-abbrev pub primary_speakers : FactsValue → ℕ → List Statement
-primary_speakers f at = newest Direct at f.statements
-    ++ (if f.version == 4 then newest Certifications at f.statements else [])
+-- for the primary key: the newest good direct key signatures, and in version 4 also the newest good
+-- certifications of user IDs (5.2.3.10, 10.1); for a subkey: the newest good bindings (5.2.1.8)
+abbrev pub speakers : FactsValue → Key → ℕ → List Statement
+speakers f key.Primary at = newest (good Direct) at f.statements
+    ++ (if f.version == 4 then newest (good UserIds) at f.statements else [])
+speakers f (key.Subkey n created) at = newest (good (Bindings n)) at f.statements
 
--- for a subkey: the newest bindings (5.2.1.8)
-abbrev pub own_speakers : FactsValue → Key → ℕ → List Statement
-own_speakers f key.Primary at = primary_speakers f at
-own_speakers f (key.Subkey n created) at = newest (Bindings n) at f.statements
+-- who limits what they say, good or not: the newest direct key signatures, certifications, and
+-- certifications of the primary user ID; the newest bindings
+abbrev pub limiters : FactsValue → Key → ℕ → List Statement
+limiters f key.Primary at = newest (any Direct) at f.statements
+    ++ (newest (any Certifications) at f.statements ++ newest (any Main) at f.statements)
+limiters f (key.Subkey n created) at = newest (any (Bindings n)) at f.statements
+
+-- who is heard
+abbrev pub heard : FactsValue → Key → ℕ → List Statement
+heard f k at = speakers f k at ++ limiters f k at
 
 abbrev pub created_of : FactsValue → Key → ℕ
 created_of f key.Primary = f.created
@@ -63,21 +71,21 @@ has_ended at (Some end) = nat_le end at
 
 abbrev pub is_unbound_at : FactsValue → Key → ℕ → Bool
 is_unbound_at f k at =
-    not (is_nonempty (primary_speakers f at)) || not (is_nonempty (own_speakers f k at))
+    not (is_nonempty (speakers f key.Primary at)) || not (is_nonempty (speakers f k at))
 
 -- by the first that lets the key end, or its primary key (5.2.3.13)
 abbrev pub is_expired_at : FactsValue → Key → ℕ → Bool
-is_expired_at f k at = has_ended at (end_in f.created (primary_speakers f at))
-    || has_ended at (end_in (created_of f k) (own_speakers f k at))
+is_expired_at f k at = has_ended at (end_in f.created (heard f key.Primary at))
+    || has_ended at (end_in (created_of f k) (heard f k at))
 
--- not all let it sign (5.2.3.29)
+-- none that speaks for it has key flags, or not all that have some let it sign (5.2.3.29)
 abbrev pub may_not_sign_at : FactsValue → Key → ℕ → Bool
-may_not_sign_at f k at = not (uses_in (own_speakers f k at)).sign
+may_not_sign_at f k at = not (list_any (λ s. s.has_flags) (speakers f k at))
+    || not (uses_in (heard f k at)).sign
 
 -- a binding without a good signature by the subkey that counts (5.2.1.9)
 abbrev pub is_unbacked_at : FactsValue → Key → ℕ → Bool
-is_unbacked_at f k at =
-    is_subkey k && not (list_all (has_back at) (own_speakers f k at))
+is_unbacked_at f k at = is_subkey k && not (list_all (has_back at) (heard f k at))
 
 -- ---- the rule
 -- each reason why the key isn't believed, for a signature that was made then and is read now

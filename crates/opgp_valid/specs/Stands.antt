@@ -9,7 +9,10 @@ use Rattle.opgp_valid.specs.Facts.{FactsValue}
 use Rattle.opgp_valid.specs.declared.facts.Key.{Key}
 use Rattle.opgp_valid.specs.declared.facts.Key.TheVariants as key
 use Rattle.opgp_valid.specs.declared.group.Group.{Group}
-use Rattle.opgp_valid.specs.declared.group.Group.TheVariants.{Direct, Certifications, Bindings}
+use Rattle.opgp_valid.specs.declared.group.Sort.{Sort}
+use Rattle.opgp_valid.specs.declared.group.Sort.TheVariants.{Direct, UserIds, Certifications}
+use Rattle.opgp_valid.specs.declared.group.Sort.TheVariants.{Main, Bindings}
+use Rattle.opgp_valid.specs.Group.{any, good}
 use Rattle.opgp_valid.specs.declared.statement.Author.TheVariants.{Primary}
 use Rattle.opgp_valid.specs.declared.statement.Life.{Life}
 use Rattle.opgp_valid.specs.declared.statement.Statement.{Statement}
@@ -29,18 +32,29 @@ abbrev pub Certifies : SignatureType → Type 0
 Certifies kind = (kind ≡ types.GenericCertification) ⊎ ((kind ≡ types.PersonaCertification)
     ⊎ ((kind ≡ types.CasualCertification) ⊎ (kind ≡ types.PositiveCertification)))
 
--- It is a direct key signature on the primary key (5.2.1.10), a certification of some user ID or
--- user attribute, or a binding of the subkey that is this component (5.2.1.8).
-abbrev pub IsOf : Group → Statement → Type 0
-IsOf Direct s = (s.kind ≡ types.DirectKey) × (s.component ≡ None)
-IsOf Certifications s = Certifies s.kind × IsSome s.component
+-- a direct key signature on the primary key (5.2.1.10); a certification of some component
+abbrev pub IsDirect : Statement → Type 0
+IsDirect s = (s.kind ≡ types.DirectKey) × (s.component ≡ None)
+
+abbrev pub IsCertification : Statement → Type 0
+IsCertification s = Certifies s.kind × IsSome s.component
+
+-- It is a direct key signature, a certification of some user ID, one of some user ID or attribute,
+-- one that says that this is the primary one (5.2.3.27), or a binding of the subkey that is this
+-- component (5.2.1.8).
+abbrev pub IsOf : Sort → Statement → Type 0
+IsOf Direct s = IsDirect s
+IsOf UserIds s = IsCertification s × (s.is_on_user_id ≡ true)
+IsOf Certifications s = IsCertification s
+IsOf Main s = IsCertification s × (s.is_main ≡ true)
 IsOf (Bindings n) s = (s.kind ≡ types.SubkeyBinding) × (s.component ≡ Some n)
 
--- It is one of these, the policy relies on it and knows all that is critical in it (5.2.3.7), the
--- primary key itself made it (5.2.3.10), and it is in force.
+-- It is one of these, good if the group asks for that, nothing critical in it is unknown (5.2.3.7),
+-- the primary key itself made it (5.2.3.10), and it is in force.
 pub record Speaks (group : Group) (at : ℕ) (s : Statement) : Type 0 where
-  pub of : IsOf group s
-  pub good : s.is_good ≡ true
+  pub of : IsOf group.sort s
+  pub good : group.must_be_good ≡ true → s.is_good ≡ true
+  pub understood : s.is_understood ≡ true
   pub own : s.author ≡ Primary
   pub in_force : IsInForce at s.life
 
@@ -65,12 +79,21 @@ Revokes key.Primary s = s.kind ≡ types.KeyRevocation
 Revokes (key.Subkey n created) s = (s.kind ≡ types.KeyRevocation)
     ⊎ ((s.kind ≡ types.SubkeyRevocation) × (s.component ≡ Some n))
 
--- It is heard: for the primary key each newest direct key signature, and in version 4 also each
--- newest certification (10.1); for a subkey each newest binding.
+-- It speaks for a key: for the primary key each newest good direct key signature, and in version 4
+-- also each newest good certification of a user ID (10.1); for a subkey each newest good binding.
+abbrev pub IsSpeaker : FactsValue → Key → ℕ → Statement → Type 0
+IsSpeaker f key.Primary at s = IsNewest (good Direct) at f.statements s
+    ⊎ ((f.version ≡ 4) × IsNewest (good UserIds) at f.statements s)
+IsSpeaker f (key.Subkey n created) at s = IsNewest (good (Bindings n)) at f.statements s
+
+-- It limits what is said: it is a newest one of these, good or not.
+abbrev pub IsLimiter : FactsValue → Key → ℕ → Statement → Type 0
+IsLimiter f key.Primary at s = IsNewest (any Direct) at f.statements s
+    ⊎ (IsNewest (any Certifications) at f.statements s ⊎ IsNewest (any Main) at f.statements s)
+IsLimiter f (key.Subkey n created) at s = IsNewest (any (Bindings n)) at f.statements s
+
 abbrev pub IsHeard : FactsValue → Key → ℕ → Statement → Type 0
-IsHeard f key.Primary at s = IsNewest Direct at f.statements s
-    ⊎ ((f.version ≡ 4) × IsNewest Certifications at f.statements s)
-IsHeard f (key.Subkey n created) at s = IsNewest (Bindings n) at f.statements s
+IsHeard f k at s = IsSpeaker f k at s ⊎ IsLimiter f k at s
 
 -- A signature by the subkey itself is embedded in its binding, and is in force (5.2.1.9, 5.2.3.34).
 abbrev pub IsBacked : Key → ℕ → Statement → Type 0
@@ -79,13 +102,14 @@ IsBacked (key.Subkey n created) at s = IsInForce at s.back
 
 -- The key has this at a time. What is said of the primary key concerns its subkeys too.
 pub record StandsAt (f : FactsValue) (k : Key) (at : ℕ) : Type 0 where
-  -- something is heard for the primary key (10.1), and for the key (5.2.1.8)
-  pub primary_said : (s : Statement) × IsHeard f key.Primary at s
-  pub said : (s : Statement) × IsHeard f k at s
+  -- something speaks for the primary key (10.1), and for the key (5.2.1.8)
+  pub primary_said : (s : Statement) × IsSpeaker f key.Primary at s
+  pub said : (s : Statement) × IsSpeaker f k at s
   -- nothing of it lets the primary key, or the key, expire by then (5.2.3.13)
   pub primary_lasts : (s : Statement) → IsHeard f key.Primary at s → Lasts f.created at s
   pub lasts : (s : Statement) → IsHeard f k at s → Lasts (created_of f k) at s
-  -- all that is heard for the key lets it sign (5.2.3.29)
+  -- something that speaks for the key has key flags, and all that is heard lets it sign (5.2.3.29)
+  pub flagged : (s : Statement) × IsSpeaker f k at s × (s.has_flags ≡ true)
   pub signs : (s : Statement) → IsHeard f k at s → s.uses.sign ≡ true
   -- and each binding has the subkey's own signature (5.2.1.9)
   pub backed : (s : Statement) → IsHeard f k at s → IsBacked k at s

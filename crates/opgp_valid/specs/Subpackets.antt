@@ -1,6 +1,6 @@
 -- What the subpackets of an area say (RFC 9580, 5.2.3).
 use Rattle.std.specs.Prelude.{ℕ, nat_le, min, Bool, true, false, not, ◌&&◌, ◌||◌, ◌==◌}
-use Rattle.std.specs.Prelude.{if◌then◌else◌, List, [], ◌∷◌, Option, Some, None}
+use Rattle.std.specs.Prelude.{if◌then◌else◌, List, [], ◌∷◌, Option, Some, None, is_some}
 use Rattle.std.specs.List.{flat_map, list_any}
 use Rattle.std.specs.Option.{option_map, option_and_then}
 use Rattle.opgp_octets.specs.SubpacketKind.{subpacket_kind_of}
@@ -13,7 +13,7 @@ use Rattle.opgp_packet.specs.Subpackets.{Sub}
 use Rattle.opgp_packet.specs.SubView.{fields_of, is_critical, kind_shown}
 use Rattle.opgp_report.specs.Signer.{first_some}
 use Rattle.opgp_valid.specs.declared.uses.Uses.{Uses}
-use Rattle.opgp_valid.specs.Uses.{all_of, no_use, uses_of}
+use Rattle.opgp_valid.specs.Uses.{all_of, uses_of}
 
 abbrev pub at_most_one : {A : Type 0} → Option A → List A
 at_most_one (Some x) = x ∷ []
@@ -55,13 +55,21 @@ first_octet (n ∷ o) = n
 abbrev pub uses_stated : Sub → Option Uses
 uses_stated s = option_map (λ o. uses_of (first_octet o)) (fields_of kind.KeyFlags form.octets s)
 
--- what all of a list allow; without any, nothing
-abbrev pub uses_given : List Uses → Uses
-uses_given [] = no_use
-uses_given us = all_of us
-
+-- what all of them allow; without any, everything
 abbrev pub uses_in_area : List Sub → Uses
-uses_in_area subs = uses_given (flat_map (λ s. at_most_one (uses_stated s)) subs)
+uses_in_area subs = all_of (flat_map (λ s. at_most_one (uses_stated s)) subs)
+
+-- there are some
+abbrev pub has_flags : List Sub → Bool
+has_flags subs = list_any (λ s. is_some (uses_stated s)) subs
+
+-- ---- which user ID is the primary one (5.2.3.27)
+abbrev pub is_nonzero : Option ℕ → Bool
+is_nonzero None = false
+is_nonzero (Some n) = not (n == 0)
+
+abbrev pub is_main_in : List Sub → Bool
+is_main_in subs = list_any (λ s. is_nonzero (fields_of kind.PrimaryUserId form.octet s)) subs
 
 -- ---- revocations
 -- the fingerprint of a key that may revoke; bit 7 of the class is set (5.2.3.23)
@@ -80,6 +88,17 @@ reason_stated s = option_map (λ x. x.0) (fields_of kind.RevocationReason form.c
 
 abbrev pub reason_in : List Sub → Option ℕ
 reason_in subs = first_some reason_stated subs
+
+-- ---- what isn't well-formed
+abbrev pub is_unfit : Meaning → Bool
+is_unfit unfit = true
+is_unfit (typed k f fields) = false
+is_unfit unknown = false
+
+-- the data of one hasn't the form of its kind
+abbrev pub has_unfit : List Sub → Bool
+has_unfit subs =
+    list_any (λ s. is_unfit (meaning_of (subpacket_kind_of (kind_shown s.kind)) s.octets)) subs
 
 -- ---- what is critical
 abbrev pub is_known : Meaning → Bool

@@ -1,5 +1,6 @@
 -- What the signatures of a certificate say, by the verdicts on them.
-use Rattle.std.specs.Prelude.{ℕ, Bool, true, false, ◌&&◌, ◌||◌, ◌==◌, if◌then◌else◌, List, [], ◌∷◌}
+use Rattle.std.specs.Prelude.{ℕ, nat_le, Bool, true, false, ◌&&◌, ◌||◌, ◌==◌, if◌then◌else◌}
+use Rattle.std.specs.Prelude.{List, [], ◌∷◌}
 use Rattle.std.specs.Prelude.{◌++◌, map, Option, Some, None, is_some, is_none, is_ok, not}
 use Rattle.std.specs.Prelude.{Result, Ok, Err}
 use Rattle.std.specs.List.{flat_map, fold}
@@ -15,8 +16,7 @@ use Rattle.opgp_packet.specs.Subpackets.{Sub}
 use Rattle.opgp_hash.specs.Asking.{ask_at_of}
 use Rattle.opgp_hash.specs.Fingerprint.{print_octets, print_version}
 use Rattle.opgp_hash.specs.SignedValue.{SignedValue, signed_of}
-use Rattle.opgp_hash.specs.SubjectValue.{SubjectValue, one, two}
-use Rattle.opgp_hash.specs.SubjectValue.{first_key}
+use Rattle.opgp_hash.specs.SubjectValue.{SubjectValue, first_key, on_user_id, one, two}
 use Rattle.opgp_hash.specs.declared.fingerprints.Fingerprint.{Fingerprint}
 use Rattle.opgp_hash.specs.declared.fingerprints.Fingerprint.TheVariants.{Four}
 use Rattle.opgp_hash.specs.declared.site.Site.{Site}
@@ -27,11 +27,12 @@ use Rattle.opgp_report.specs.Standing.{Standing, certificate_standing}
 use Rattle.opgp_report.specs.declared.place.Place.{Place}
 use Rattle.opgp_report.specs.declared.verifier.Verdict.{Verdict}
 use Rattle.opgp_report.specs.declared.verifier.Verdict.TheVariants as verdict
-use Rattle.opgp_valid.specs.Group.{certifies, is_direct}
+use Rattle.opgp_valid.specs.Group.{certifies, is_direct, is_the}
 use Rattle.opgp_valid.specs.KnownKeys.{issuer_among}
 use Rattle.opgp_valid.specs.Policy.{relies_on}
-use Rattle.opgp_valid.specs.Subpackets.{at_most_one, has_unknown_critical, lasts_in, made_in}
-use Rattle.opgp_valid.specs.Subpackets.{reason_in, revokers_in, uses_in_area}
+use Rattle.opgp_valid.specs.Subpackets.{at_most_one, has_flags, has_unfit, has_unknown_critical}
+use Rattle.opgp_valid.specs.Subpackets.{is_main_in, lasts_in, made_in, reason_in, revokers_in}
+use Rattle.opgp_valid.specs.Subpackets.{uses_in_area}
 use Rattle.opgp_valid.specs.declared.known_keys.Known.{Known}
 use Rattle.opgp_valid.specs.declared.policy.Policy.{Policy}
 use Rattle.opgp_valid.specs.declared.statement.Author.{Author}
@@ -104,7 +105,12 @@ is_print_among prints (Some k) =
 
 abbrev pub relies_with : Policy → ℕ → Option Known → Bool
 relies_with policy hash None = false
-relies_with policy hash (Some k) = relies_on policy hash k.is_strong
+relies_with policy hash (Some k) = relies_on policy hash k.is_strong k.least_digest
+
+-- it wasn't made before its issuer's key
+abbrev pub is_of_age : Option Life → Option Known → Bool
+is_of_age (Some life) (Some k) = nat_le k.created life.made
+is_of_age life k = false
 
 -- signatures that may name keys which may revoke (5.2.3.23)
 abbrev pub names_revokers : SignatureType → Bool
@@ -113,6 +119,15 @@ names_revokers t = is_direct t || certifies t
 abbrev pub second_key : SubjectValue → Option (List ℕ)
 second_key (two primary subkey) = Some subkey
 second_key other = None
+
+abbrev pub is_user_id : SubjectValue → Bool
+is_user_id (on_user_id primary id) = true
+is_user_id other = false
+
+-- nothing critical in it is unknown (5.2.3.7)
+abbrev pub is_understood : SignatureValue → Bool
+is_understood v =
+    not (has_unknown_critical (hashed_subs v) || has_unknown_critical (unhashed_subs v))
 
 abbrev pub is_by_subkey : Option (List ℕ) → Option Known → Bool
 is_by_subkey None k = false
@@ -147,18 +162,20 @@ is_same_number a b = false
 abbrev pub holds : Place → Statement → Bool
 holds place st = is_same_number st.component place.component && (st.hang == place.hang)
 
--- of the good signatures by the subkey that are embedded, the first counts that states when it was
--- made (5.2.1.9)
 abbrev pub with_back : Place → Option Life → Statement → Statement
-with_back place life st = if holds place st && is_none st.back then record {
+with_back place life st = if holds place st then record {
   kind = st.kind;
   component = st.component;
+  is_on_user_id = st.is_on_user_id;
   hang = st.hang;
   author = st.author;
+  is_understood = st.is_understood;
   is_good = st.is_good;
   life = st.life;
   key_lasts = st.key_lasts;
+  has_flags = st.has_flags;
   uses = st.uses;
+  is_main = st.is_main;
   back = life;
   reason = st.reason;
 } else st
@@ -183,10 +200,16 @@ module _ (known : List Known) (policy : Policy) (primary : Fingerprint) where
   abbrev pub issuer : SignatureValue → Option Known
   issuer v = issuer_among known v
 
-  -- the policy relies on it, and nothing critical in it is unknown (5.2.3.7)
+  -- the policy relies on it, its hashed subpackets have the form of their kinds, and its key is no
+  -- younger
   abbrev pub is_good : SignatureValue → Bool
   is_good v = relies_with policy (hash_in v) (issuer v)
-      && not (has_unknown_critical (hashed_subs v) || has_unknown_critical (unhashed_subs v))
+      && (not (has_unfit (hashed_subs v)) && is_of_age (life_in v) (issuer v))
+
+  -- its life, if it is good and by the subkey
+  abbrev pub back_in : Option (List ℕ) → SignatureValue → Option Life
+  back_in subkey v = if is_some (signed_of v)
+      && (is_by_subkey subkey (issuer v) && (is_understood v && is_good v)) then life_in v else None
 
   module _ (revokers : List Fingerprint) where
     -- whose it is, if what they say counts
@@ -194,36 +217,39 @@ module _ (known : List Known) (policy : Policy) (primary : Fingerprint) where
     author_of k = if is_print primary k then Some author.Primary
         else (if is_print_among revokers k then Some author.Revoker else None)
 
-    abbrev pub statement_of : Place → SignatureValue → Author → Statement
-    statement_of place v by = record {
+    abbrev pub statement_of : Place → SubjectValue → SignatureValue → Author → Statement
+    statement_of place subject v by = record {
       kind = type_in v;
       component = place.component;
+      is_on_user_id = is_user_id subject;
       hang = place.hang;
       author = by;
+      is_understood = is_understood v;
       is_good = is_good v;
       life = life_in v;
       key_lasts = lasts_in kind.KeyExpires (hashed_subs v);
+      has_flags = has_flags (hashed_subs v);
       uses = uses_in_area (hashed_subs v);
+      is_main = is_main_in (hashed_subs v);
       back = None;
       reason = reason_in (hashed_subs v);
     }
 
     -- a signature packet adds what it says
-    abbrev pub stated : Place → SignatureValue → List Statement
-    stated place v = if is_some (signed_of v)
-        then at_most_one (option_map (statement_of place v) (author_of (issuer v))) else []
+    abbrev pub stated : Place → SubjectValue → SignatureValue → List Statement
+    stated place subject v = if is_some (signed_of v)
+        then at_most_one (option_map (statement_of place subject v) (author_of (issuer v))) else []
 
-    -- one that is embedded adds its life to the one that it is embedded in, if it is good, and by
-    -- the subkey
+    -- the first that is embedded adds its life to the one that it is embedded in, if it is good and
+    -- by the subkey (5.2.1.9)
     abbrev pub with_embedded : Place → Option (List ℕ) → SignatureValue → List Statement
         → List Statement
-    with_embedded place subkey v told =
-        if is_some (signed_of v) && (is_by_subkey subkey (issuer v) && is_good v)
-        then change_last (with_back place (life_in v)) told else told
+    with_embedded place subkey v told = if is_the 0 place.nested
+        then change_last (with_back place (back_in subkey v)) told else told
 
     abbrev pub told_by : Standing → SignatureValue → List Statement → List Statement
-    told_by s v told =
-        if is_none s.place.nested then told ++ stated s.place v else with_embedded s.place (second_key s.subject) v told
+    told_by s v told = if is_none s.place.nested then told ++ stated s.place s.subject v
+        else with_embedded s.place (second_key s.subject) v told
 
     abbrev pub told_with : List Statement → Standing → Verdict → Result SignatureValue BodyFault
         → List Statement

@@ -9,14 +9,14 @@ ghost use Rattle.opgp_hash.specs.Subject.{subject_value};
 ghost use Rattle.opgp_hash.specs.SubjectValue.{first_key};
 ghost use Rattle.opgp_report.specs.KeyIndex.{prints_shown};
 ghost use Rattle.opgp_valid.specs.KnownKeys.{knowns};
-ghost use Rattle.opgp_valid.specs.Subpackets.{has_unknown_critical};
-ghost use Rattle.opgp_valid.specs.Told.{author_of, hash_in, is_asked_alone, is_print};
+ghost use Rattle.opgp_valid.specs.Subpackets.{has_unfit, has_unknown_critical};
+ghost use Rattle.opgp_valid.specs.Told.{author_of, hash_in, is_asked_alone, is_of_age, is_print};
 ghost use Rattle.opgp_valid.specs.Told.{is_print_among, life_of, relies_with, type_in};
 
 use crate::known_keys::{Known, KnownKeys};
 use crate::policy::Policy;
 use crate::statement::{Author, Life};
-use crate::subpackets::{has_unknown_critical, made_in, signature_lasts};
+use crate::subpackets::{has_unfit, has_unknown_critical, made_in, signature_lasts};
 use opgp_hash::{Fingerprint, Site, Subject, ask_at};
 use opgp_octets::SignatureType;
 use opgp_packet::{SigView, Subs};
@@ -119,19 +119,45 @@ pub(crate) fn life_in(hashed: Subs<'_>) -> Option<Life>
     }
 }
 
+/// Whether a signature of this life wasn't made before its issuer's key.
+fn is_of_age(life: Option<Life>, issuer: Option<Known>) -> bool
+    ensures { result ≡ is_of_age life issuer }
+{
+    match (life, issuer) {
+        (Some(life), Some(known)) => known.created <= life.made,
+        _ => false,
+    }
+}
+
+/// Whether a policy relies on a signature with this hash algorithm by this key.
+pub(crate) fn relies_with(policy: Policy, hash: u8, issuer: Option<Known>) -> bool
+    ensures { result ≡ relies_with policy hash issuer }
+{
+    match issuer {
+        Some(known) => policy.relies_on(hash, known.is_strong, known.least_digest),
+        None => false,
+    }
+}
+
+/// Whether nothing critical in a signature is unknown (RFC 9580, 5.2.3.7).
+pub(crate) fn is_understood(read: &Read<'_>) -> bool
+    ensures { result ≡ not (has_unknown_critical (subs_to_come read.now.hashed)
+        || has_unknown_critical (subs_to_come read.now.unhashed)) }
+{
+    !(has_unknown_critical(read.hashed) || has_unknown_critical(read.unhashed))
+}
+
 impl Context<'_> {
-    /// Whether the policy relies on a signature by this key, and nothing critical in it is unknown.
+    /// Whether the policy relies on a signature by this key, its hashed subpackets have the form of
+    /// their kinds, and the key is no younger.
     pub(crate) fn is_good(&self, read: &Read<'_>, issuer: Option<Known>) -> bool
         ensures { result ≡ relies_with self.now.policy read.now.hash issuer
-            && not (has_unknown_critical (subs_to_come read.now.hashed)
-            || has_unknown_critical (subs_to_come read.now.unhashed)) }
+            && (not (has_unfit (subs_to_come read.now.hashed))
+            && is_of_age (life_of (subs_to_come read.now.hashed)) issuer) }
     {
-        let Some(known) = issuer else {
-            return false;
-        };
-        self.policy.relies_on(read.hash, known.is_strong)
-            && !has_unknown_critical(read.hashed)
-            && !has_unknown_critical(read.unhashed)
+        relies_with(self.policy, read.hash, issuer)
+            && !has_unfit(read.hashed)
+            && is_of_age(life_in(read.hashed), issuer)
     }
 
     /// Whose a signature by this key is, if what it says counts.

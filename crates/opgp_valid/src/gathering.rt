@@ -9,15 +9,16 @@ ghost use Rattle.opgp_report.specs.First.{print_of};
 ghost use Rattle.opgp_report.specs.KeyIndex.{prints_shown};
 ghost use Rattle.opgp_valid.specs.KnownKeys.{knowns};
 ghost use Rattle.opgp_valid.specs.Gathering.{Gathers};
-ghost use Rattle.opgp_valid.specs.Told.{change_last, holds, is_by_subkey, second_key, stated};
-ghost use Rattle.opgp_valid.specs.Told.{statements_of, with_back, with_embedded};
+ghost use Rattle.opgp_valid.specs.Told.{back_in, change_last, holds, is_by_subkey, is_user_id};
+ghost use Rattle.opgp_valid.specs.Told.{second_key};
+ghost use Rattle.opgp_valid.specs.Told.{stated, statements_of, with_back, with_embedded};
 
 use crate::asking::{is_genuine, next_verdict};
-use crate::context::{Context, is_print, life_in, parts_of};
+use crate::context::{Context, is_print, is_understood, life_in, parts_of};
 use crate::known_keys::Known;
 use crate::naming::revokers_of;
 use crate::statement::{Life, Statement};
-use crate::subpackets::{key_lasts, reason_in, uses_in_area};
+use crate::subpackets::{has_flags, is_main_in, key_lasts, reason_in, uses_in_area};
 use opgp_hash::{CertificateHasher, Subject};
 use opgp_octets::OutOfMemory;
 use opgp_packet::SigView;
@@ -46,12 +47,11 @@ fn holds(place: Place, statement: &Statement) -> bool
     is_same && statement.hang == place.hang
 }
 
-/// A statement with the life of the signature at this place, if it is embedded in its signature,
-/// and is the first.
+/// A statement with the life of the signature at this place, if it is embedded in its signature.
 fn with_back(place: Place, life: Option<Life>, statement: Statement) -> Statement
     ensures { result ≡ with_back place life statement }
 {
-    if holds(place, &statement) && statement.back.is_none() {
+    if holds(place, &statement) {
         Statement {
             back: life,
             ..statement
@@ -59,6 +59,13 @@ fn with_back(place: Place, life: Option<Life>, statement: Statement) -> Statemen
     } else {
         statement
     }
+}
+
+/// Whether a subject is a user ID.
+fn is_user_id(subject: Subject<'_>) -> bool
+    ensures { result ≡ is_user_id (subject_value subject.entry) }
+{
+    matches!(subject, Subject::OnUserId(_, _))
 }
 
 /// Whether a key is the subkey of a subject.
@@ -71,13 +78,33 @@ fn is_by_subkey(subject: Subject<'_>, issuer: Option<Known>) -> bool
     }
 }
 
+/// The life of a signature over a subject, if it is good and by the subkey.
+fn back_in(context: Context<'_>, subject: Subject<'_>, signature: SigView<'_>) -> Option<Life>
+    ensures { result ≡ back_in (knowns context.entry.known.now) context.entry.policy
+        context.entry.primary (second_key (subject_value subject.entry))
+        (sig_view_value signature.entry) }
+{
+    let parts = parts_of(signature)?;
+    let issuer = context.known.issuer(signature);
+    if is_by_subkey(subject, issuer) && is_understood(&parts) && context.is_good(&parts, issuer) {
+        life_in(parts.hashed)
+    } else {
+        None
+    }
+}
+
 impl<'v> Gatherer<'v> {
     /// Adds what a signature at this place says, if it counts. Fails only when out of memory.
-    fn add(&mut self, place: Place, signature: SigView<'_>) -> Result<(), OutOfMemory>
+    fn add(
+        &mut self,
+        place: Place,
+        subject: Subject<'_>,
+        signature: SigView<'_>,
+    ) -> Result<(), OutOfMemory>
         ensures told { OnOk result (self.new.statements.items ≡ self.old.statements.items
             ++ stated (knowns self.old.context.known.now) self.old.context.policy
             self.old.context.primary (prints_shown self.old.revokers.now) place
-            (sig_view_value signature.entry)) }
+            (subject_value subject.entry) (sig_view_value signature.entry)) }
         ensures context { self.new.context ≡ self.old.context }
         ensures revokers { self.new.revokers ≡ self.old.revokers }
         ensures verdicts { self.new.verdicts ≡ self.old.verdicts }
@@ -93,12 +120,16 @@ impl<'v> Gatherer<'v> {
         self.statements.push(Statement {
             kind: parts.kind,
             component: place.component,
+            is_on_user_id: is_user_id(subject),
             hang: place.hang,
             author,
+            is_understood: is_understood(&parts),
             is_good: context.is_good(&parts, issuer),
             life: life_in(parts.hashed),
             key_lasts: key_lasts(parts.hashed),
+            has_flags: has_flags(parts.hashed),
             uses: uses_in_area(parts.hashed),
+            is_main: is_main_in(parts.hashed),
             back: None,
             reason: reason_in(parts.hashed),
         })?;
@@ -108,7 +139,7 @@ impl<'v> Gatherer<'v> {
 
 impl Gatherer<'_> {
     /// Adds the life of a signature at this place over a subject to what the one says that it is
-    /// embedded in, if it is good, and by the subkey. Fails only when out of memory.
+    /// embedded in, if it is the first there, good, and by the subkey. Fails only when out of memory.
     fn add_embedded(
         &mut self,
         place: Place,
@@ -124,20 +155,16 @@ impl Gatherer<'_> {
         ensures revokers { self.new.revokers ≡ self.old.revokers }
         ensures verdicts { self.new.verdicts ≡ self.old.verdicts }
     {
-        let context = self.context;
-        let Some(parts) = parts_of(signature) else {
-            return Ok(());
-        };
-        let issuer = context.known.issuer(signature);
-        if is_by_subkey(subject, issuer) && context.is_good(&parts, issuer) {
-            change_last(&mut self.statements, place, life_in(parts.hashed))?;
+        if place.nested == Some(0) {
+            let life = back_in(self.context, subject, signature);
+            change_last(&mut self.statements, place, life)?;
         }
         Ok(())
     }
 }
 
 /// Adds a life to the last statement, if it is that of the signature in which the one at this place
-/// is embedded, and it is the first. Fails only when out of memory.
+/// is embedded. Fails only when out of memory.
 fn change_last(
     statements: &mut Vec<Statement>,
     place: Place,
@@ -171,7 +198,7 @@ impl<'a> Visitor<'a> for Gatherer<'_> {
             return Ok(());
         }
         if met.place.nested.is_none() {
-            self.add(met.place, signature)
+            self.add(met.place, hasher.subject(), signature)
         } else {
             self.add_embedded(met.place, hasher.subject(), signature)
         }

@@ -1,48 +1,96 @@
 //! Signatures that say the same sort of thing.
 
 ghost use Rattle.std.specs.Prelude.{◌≡◌};
-ghost use Rattle.opgp_valid.specs.Group.{certifies};
+ghost use Rattle.opgp_valid.specs.Group.{certifies, is_certification_on, is_direct_on, is_in};
 
 use crate::statement::{Author, Statement};
 use opgp_octets::SignatureType;
 
-/// The signatures of a certificate of which the newest counts.
+/// What signatures of a certificate have in common of which the newest counts.
 #[derive(Clone, Copy)]
-pub(crate) enum Group {
+pub(crate) enum Sort {
     /// Direct key signatures on the primary key (RFC 9580, 5.2.1.10).
     Direct,
-    /// Certifications of user IDs and user attributes (5.2.1.4 to 5.2.1.7).
+    /// Certifications of user IDs (5.2.1.4 to 5.2.1.7).
+    UserIds,
+    /// Certifications of user IDs and user attributes.
     Certifications,
+    /// Certifications that say that their user ID is the primary one (5.2.3.27).
+    Main,
     /// Bindings of the subkey that is the component of this number (5.2.1.8).
     Bindings(usize),
 }
 
-impl Group {
-    ghost use Rattle.opgp_valid.specs.Group.{is_in, speaks};
+/// The signatures of a sort: only those that are good, or all of them.
+#[derive(Clone, Copy)]
+pub(crate) struct Group {
+    pub(crate) sort: Sort,
+    pub(crate) must_be_good: bool,
+}
 
-    /// Whether a signature is one of them.
+/// Whether a signature is a direct key signature on the primary key.
+fn is_direct(statement: &Statement) -> bool
+    ensures { result ≡ is_direct_on statement.now }
+{
+    matches!(statement.kind, SignatureType::DirectKey) && statement.component.is_none()
+}
+
+/// Whether a signature is a certification of a user ID or a user attribute.
+fn is_certification(statement: &Statement) -> bool
+    ensures { result ≡ is_certification_on statement.now }
+{
+    certifies(statement.kind) && statement.component.is_some()
+}
+
+impl Sort {
+    /// Whether a signature is of this sort.
     pub(crate) fn has(self, statement: &Statement) -> bool
         ensures { result ≡ is_in self statement.now }
     {
-        let component = statement.component;
         match self {
-            Group::Direct => {
-                matches!(statement.kind, SignatureType::DirectKey) && component.is_none()
-            }
-            Group::Certifications => certifies(statement.kind) && component.is_some(),
-            Group::Bindings(number) => {
-                matches!(statement.kind, SignatureType::SubkeyBinding) && component == Some(number)
+            Sort::Direct => is_direct(statement),
+            Sort::UserIds => is_certification(statement) && statement.is_on_user_id,
+            Sort::Certifications => is_certification(statement),
+            Sort::Main => is_certification(statement) && statement.is_main,
+            Sort::Bindings(number) => {
+                matches!(statement.kind, SignatureType::SubkeyBinding)
+                    && statement.component == Some(number)
             }
         }
     }
+}
 
-    /// Whether a signature is one of them, and speaks for a key at this time: it is good, by the
-    /// primary key, and counts then.
+impl Group {
+    ghost use Rattle.opgp_valid.specs.Group.{any, good, speaks};
+
+    /// Those of a sort that are good.
+    pub(crate) fn good(sort: Sort) -> Group
+        ensures { result ≡ good sort }
+    {
+        Group {
+            sort,
+            must_be_good: true,
+        }
+    }
+
+    /// All of a sort.
+    pub(crate) fn any(sort: Sort) -> Group
+        ensures { result ≡ any sort }
+    {
+        Group {
+            sort,
+            must_be_good: false,
+        }
+    }
+
+    /// Whether a signature is one of them, and speaks for a key at this time: it is by the primary
+    /// key, nothing critical in it is unknown, and it counts then.
     pub(crate) fn speaks(self, statement: &Statement, at: u64) -> bool
         ensures { result ≡ speaks self at statement.now }
     {
-        self.has(statement)
-            && statement.is_good
+        self.sort.has(statement)
+            && (!self.must_be_good || statement.is_good)
+            && statement.is_understood
             && matches!(statement.author, Author::Primary)
             && statement.is_alive(at)
     }

@@ -3,7 +3,9 @@
 ghost use Rattle.std.specs.Prelude.{◌≡◌, drop, length, IfOk, MatchOption, None, Some, slice_get};
 ghost use Rattle.opgp_ring.specs.Grouped.{component_of, components_left};
 ghost use Rattle.opgp_report.specs.Standing.{certificate_standing};
+ghost use Rattle.std.specs.Option.{option_map};
 ghost use Rattle.opgp_valid.specs.Judgement.{judged, judgement_of, key_at, subkey_at, verdicts_from};
+ghost use Rattle.opgp_valid.specs.KnownKeys.{known_in, knowns};
 
 use crate::certified::{Certified, created_of};
 use crate::facts::Key;
@@ -36,8 +38,9 @@ pub struct KeyPlace {
     pub component: Option<usize>,
 }
 
-/// The verdicts behind those on the rows of a certificate.
-fn rest_behind<'v>(certificate: &Certificate, verdicts: &'v [Verdict]) -> &'v [Verdict]
+/// The verdicts behind those on the rows of a certificate in a report. The work is linear in the
+/// certificate's octets.
+pub fn verdicts_behind<'v>(certificate: &Certificate, verdicts: &'v [Verdict]) -> &'v [Verdict]
     ensures { result.now ≡ drop (length (certificate_standing 0 certificate.now)) verdicts.now }
 {
     match rows_left(certificate, verdicts.len()) {
@@ -59,14 +62,18 @@ fn subkey_of(number: usize, component: Component<'_>) -> Option<Key>
     }
 }
 
-/// The subkey that is the component of this number.
-fn subkey_at(mut components: Components<'_>, number: usize) -> Option<Key>
-    ensures { result ≡ subkey_at number (slice_get (components_left components.entry) number) }
+/// The component of this number.
+pub(crate) fn component_at<'a>(
+    mut components: Components<'a>,
+    number: usize,
+) -> Option<Component<'a>>
+    ensures { option_map (λ c. component_of c) result
+        ≡ slice_get (components_left components.entry) number }
 {
     let mut left = number;
     'components: while let Some(component) = components.next() {
         if left == 0 {
-            return subkey_of(number, component);
+            return Some(component);
         }
         left -= 1;
     }
@@ -79,12 +86,15 @@ fn key_at(certificate: &Certificate, component: Option<usize>) -> Option<Key>
 {
     match component {
         None => Some(Key::Primary),
-        Some(number) => subkey_at(certificate.components(), number),
+        Some(number) => match component_at(certificate.components(), number) {
+            Some(component) => subkey_of(number, component),
+            None => None,
+        },
     }
 }
 
 /// The certificate of this number, and the verdicts on its rows and on those behind it.
-fn certificate_at<'a>(
+pub(crate) fn certificate_at<'a>(
     certificates: &'a [Certificate],
     number: usize,
     verdicts: &'a [Verdict],
@@ -100,7 +110,7 @@ fn certificate_at<'a>(
         if left == 0 {
             return Some((certificate, found));
         }
-        found = rest_behind(certificate, found);
+        found = verdicts_behind(certificate, found);
         left -= 1;
         rest = more;
     }
@@ -136,6 +146,25 @@ pub fn judge(
     ensures { IfOk result (λ j.
         j ≡ judgement_of keyring.now policy verdicts.now at made now) }
 {
+    let known = KnownKeys::of(alloc, keyring)?;
+    judge_among(alloc, &known, keyring, verdicts, policy, at, made, now)
+}
+
+/// The same, where these are the keyring's keys.
+pub(crate) fn judge_among(
+    alloc: Global,
+    known: &KnownKeys,
+    keyring: &Keyring,
+    verdicts: &[Verdict],
+    policy: Policy,
+    at: KeyPlace,
+    made: u64,
+    now: u64,
+) -> Result<Judgement, OutOfMemory>
+    requires { knowns known.now ≡ known_in keyring.now }
+    ensures { IfOk result (λ j.
+        j ≡ judgement_of keyring.now policy verdicts.now at made now) }
+{
     let certificates = keyring.certificates();
     let Some((certificate, found)) = certificate_at(certificates, at.certificate, verdicts) else {
         return Ok(Judgement::NoKey);
@@ -143,7 +172,6 @@ pub fn judge(
     let Some(key) = key_at(certificate, at.component) else {
         return Ok(Judgement::NoKey);
     };
-    let known = KnownKeys::of(alloc, keyring)?;
-    let certified = Certified::of(alloc, &known, policy, certificate, found)?;
+    let certified = Certified::of(alloc, known, policy, certificate, found)?;
     Ok(judged(standing(certified.facts(), key, made, now)))
 }

@@ -8,7 +8,8 @@ ghost use Rattle.opgp_ring.specs.Grouped.{components_left};
 ghost use Rattle.opgp_report.specs.KeyIndex.{prints_shown};
 ghost use Rattle.opgp_report.specs.Report.{certificate_keys, subkey_bodies};
 
-use crate::strength::is_strong;
+use crate::certified::created_of;
+use crate::strength::{is_strong, least_digest};
 use opgp_hash::Fingerprint;
 use opgp_octets::OutOfMemory;
 use opgp_packet::{KeyView, SigView};
@@ -21,10 +22,14 @@ use std::alloc::Global;
 pub struct Known {
     /// Its fingerprint.
     pub print: Fingerprint,
+    /// When it was created, in seconds since 1970.
+    pub created: u32,
     /// Whether it is strong enough for [`Policy::Usual`].
     ///
     /// [`Policy::Usual`]: crate::Policy::Usual
     pub is_strong: bool,
+    /// How many octets the digests have at least that it signs.
+    pub least_digest: usize,
 }
 
 /// The keys of a keyring, in order, with an index of their fingerprints and key IDs.
@@ -56,7 +61,9 @@ impl KnownKeys {
         let KnownKeys { mut keys, names } = self;
         let known = Known {
             print: print_of(&key),
+            created: created_of(key),
             is_strong: is_strong(key),
+            least_digest: least_digest(key),
         };
         let names = names.with(known.print)?;
         keys.push(known)?;

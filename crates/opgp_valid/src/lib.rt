@@ -3,6 +3,7 @@
 #![tactic(auto)]
 
 mod asking;
+mod believing;
 mod certified;
 mod context;
 mod facts;
@@ -12,6 +13,7 @@ mod judgement;
 mod judging;
 mod known_keys;
 pub mod laws;
+mod listing;
 mod moment;
 mod naming;
 mod policy;
@@ -20,20 +22,25 @@ mod saying;
 mod speaking;
 mod state;
 mod statement;
+mod states;
 mod strength;
 pub mod subpackets;
 mod uses;
+mod walk;
 mod why;
 
+pub use believing::{Belief, Flaw, believe};
 pub use certified::Certified;
 pub use facts::{Facts, Key};
-pub use judgement::{Judgement, KeyPlace, judge};
+pub use judgement::{Judgement, KeyPlace, judge, verdicts_behind};
 pub use judging::standing;
 pub use known_keys::{Known, KnownKeys};
+pub use listing::{Revoked, list_revocations};
 pub use policy::Policy;
 pub use revocation::revocation_at;
 pub use state::{IdentityState, KeyState, identity_state, key_state};
 pub use statement::{Author, Life, Statement};
-pub use strength::is_strong;
+pub use states::{PartState, part_states};
+pub use strength::{is_strong, least_digest};
 pub use uses::Uses;
 pub use why::Why;

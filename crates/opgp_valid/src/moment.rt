@@ -1,14 +1,19 @@
 //! What holds of a key at one time.
 
 ghost use Rattle.std.specs.Prelude.{◌≡◌};
-ghost use Rattle.opgp_valid.specs.Saying.{saying_of};
 ghost use Rattle.opgp_valid.specs.Facts.{facts_value};
-ghost use Rattle.opgp_valid.specs.Standing.{created_of, has_ended, own_speakers, primary_speakers};
-ghost use Rattle.opgp_valid.specs.Standing.{is_expired_at, is_unbacked_at, is_unbound_at, may_not_sign_at};
+ghost use Rattle.opgp_valid.specs.Group.{any};
+ghost use Rattle.opgp_valid.specs.Moment.{saying_at, subkey_saying_of};
+ghost use Rattle.opgp_valid.specs.Saying.{saying_of};
+ghost use Rattle.opgp_valid.specs.Speaking.{newest};
+ghost use Rattle.opgp_valid.specs.Standing.{has_ended, is_expired_at, is_unbacked_at};
+ghost use Rattle.opgp_valid.specs.Standing.{is_unbound_at, limiters, may_not_sign_at, speakers};
+ghost use Rattle.opgp_valid.specs.declared.facts.Key.TheVariants as keys;
 
 use crate::facts::{Facts, Key};
-use crate::group::Group;
+use crate::group::{Group, Sort};
 use crate::saying::{Saying, newest_saying};
+use crate::statement::Statement;
 
 /// What holds of a key at one time.
 #[derive(Clone, Copy)]
@@ -33,31 +38,77 @@ pub(crate) fn has_ended(end: Option<u64>, at: u64) -> bool
     }
 }
 
-/// What is said of the primary key at this time.
-pub(crate) fn primary_saying(facts: Facts<'_>, at: u64) -> Saying
-    ensures { result ≡ saying_of facts.entry.created at (primary_speakers (facts_value facts.entry) at) }
+/// What the newest of a sort say of the primary key at this time, good or not.
+fn newest_of(facts: Facts<'_>, sort: Sort, at: u64) -> Saying
+    ensures { result ≡ saying_of facts.entry.created at
+        (newest (any sort) at (facts_value facts.entry).statements) }
 {
-    let direct = newest_saying(facts.statements, Group::Direct, facts.created, at);
+    newest_saying(facts.statements, Group::any(sort), facts.created, at)
+}
+
+/// What limits what speaks for the primary key at this time.
+#[tactic(auto, using(crate::proofs::Sayings::said_both))]
+fn primary_limits(facts: Facts<'_>, at: u64) -> Saying
+    ensures { result
+        ≡ saying_of facts.entry.created at (limiters (facts_value facts.entry) keys.Primary at) }
+{
+    let direct = newest_of(facts, Sort::Direct, at);
+    let certified = newest_of(facts, Sort::Certifications, at);
+    let main = newest_of(facts, Sort::Main, at);
+    direct.and(certified.and(main))
+}
+
+/// What speaks for the primary key at this time.
+#[tactic(auto, using(crate::proofs::Sayings::said_both))]
+fn primary_spoken(facts: Facts<'_>, at: u64) -> Saying
+    ensures { result
+        ≡ saying_of facts.entry.created at (speakers (facts_value facts.entry) keys.Primary at) }
+{
+    let direct = newest_saying(
+        facts.statements,
+        Group::good(Sort::Direct),
+        facts.created,
+        at,
+    );
     if facts.version == 4 {
-        let certified = newest_saying(facts.statements, Group::Certifications, facts.created, at);
-        direct.and(certified)
+        let user_ids = Group::good(Sort::UserIds);
+        direct.and(newest_saying(facts.statements, user_ids, facts.created, at))
     } else {
         direct
     }
 }
 
+/// What is said of the primary key at this time.
+#[tactic(auto, using(crate::proofs::Sayings::said_within))]
+pub(crate) fn primary_saying(facts: Facts<'_>, at: u64) -> Saying
+    ensures { result ≡ saying_at (facts_value facts.entry) keys.Primary at }
+{
+    primary_spoken(facts, at).within(primary_limits(facts, at))
+}
+
 /// What is said of a key at this time, where this is said of its primary key.
 pub(crate) fn own_saying(facts: Facts<'_>, key: Key, primary: Saying, at: u64) -> Saying
-    requires { primary ≡ saying_of facts.created at (primary_speakers (facts_value facts) at) }
-    ensures { result
-        ≡ saying_of (created_of (facts_value facts.entry) key) at (own_speakers (facts_value facts.entry) key at) }
+    requires { primary ≡ saying_at (facts_value facts) keys.Primary at }
+    ensures { result ≡ saying_at (facts_value facts.entry) key at }
 {
     match key {
         Key::Primary => primary,
-        Key::Subkey { number, created } => {
-            newest_saying(facts.statements, Group::Bindings(number), created, at)
-        }
+        Key::Subkey { number, created } => subkey_saying(facts.statements, number, created, at),
     }
+}
+
+/// What is said of the subkey that is the component of this number, and was created then.
+#[tactic(auto, using(crate::proofs::Sayings::said_within))]
+pub(crate) fn subkey_saying(
+    statements: &[Statement],
+    number: usize,
+    created: u32,
+    at: u64,
+) -> Saying
+    ensures { result ≡ subkey_saying_of statements.now number created at }
+{
+    let spoken = newest_saying(statements, Group::good(Sort::Bindings(number)), created, at);
+    spoken.within(newest_saying(statements, Group::any(Sort::Bindings(number)), created, at))
 }
 
 /// What holds of a key at this time.
@@ -72,7 +123,7 @@ pub(crate) fn key_at(facts: Facts<'_>, key: Key, at: u64) -> Moment
     Moment {
         is_unbound: !primary.is_said || !own.is_said,
         is_expired: has_ended(primary.end, at) || has_ended(own.end, at),
-        may_not_sign: !own.uses.sign,
+        may_not_sign: !own.has_flags || !own.uses.sign,
         is_unbacked: matches!(key, Key::Subkey { .. }) && !own.is_backed,
     }
 }

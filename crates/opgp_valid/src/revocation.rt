@@ -35,7 +35,10 @@ fn alone_in<'a>(subject: Subject<'a>, signature: SigView<'a>) -> Option<Question
 }
 
 /// What is met hashes over the primary key alone, if it is a revocation of that key.
-fn revocation_of<'a>(hasher: &CertificateHasher<'a>, met: &Met<'a>) -> Option<Question<'a>>
+pub(crate) fn revocation_of<'a>(
+    hasher: &CertificateHasher<'a>,
+    met: &Met<'a>,
+) -> Option<Question<'a>>
     ensures { option_map (λ q. question_value q) result
         ≡ revocation_met met.now.place (hasher_subject hasher.now) met.now.signature }
 {

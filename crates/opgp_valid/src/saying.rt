@@ -1,7 +1,7 @@
 //! What signatures say together of a key.
 
 ghost use Rattle.std.specs.Prelude.{◌≡◌, ◌&&◌, ◌∷◌, [], List};
-ghost use Rattle.opgp_valid.specs.Saying.{merged, nothing_said, saying_of};
+ghost use Rattle.opgp_valid.specs.Saying.{limited, merged, saying_of};
 ghost use Rattle.opgp_valid.specs.declared.statement.Statement.{Statement};
 ghost use Rattle.opgp_valid.specs.Group.{speaks};
 ghost use Rattle.opgp_valid.specs.Speaking.{is_same, made_at, made_then, newest, speakers};
@@ -16,6 +16,8 @@ use crate::uses::Uses;
 pub(crate) struct Saying {
     /// Whether there is one.
     pub(crate) is_said: bool,
+    /// Whether one has key flags.
+    pub(crate) has_flags: bool,
     /// When the first of them lets the key expire, in seconds since 1970; None for never.
     pub(crate) end: Option<u64>,
     /// What all of them let it be used for.
@@ -28,6 +30,7 @@ impl Saying {
     /// What no signature says.
     pub(crate) const NOTHING: Saying = Saying {
         is_said: false,
+        has_flags: false,
         end: None,
         uses: Uses::ALL,
         is_backed: true,
@@ -39,6 +42,7 @@ impl Saying {
     {
         Saying {
             is_said: true,
+            has_flags: statement.has_flags,
             end: statement.end_of(created),
             uses: statement.uses,
             is_backed: statement.has_back(at),
@@ -51,9 +55,21 @@ impl Saying {
     {
         Saying {
             is_said: self.is_said || other.is_said,
+            has_flags: self.has_flags || other.has_flags,
             end: sooner(self.end, other.end),
             uses: self.uses.and(other.uses),
             is_backed: self.is_backed && other.is_backed,
+        }
+    }
+
+    /// What these say, limited by what others do: to say it, one of these is needed.
+    pub(crate) fn within(self, other: Saying) -> Saying
+        ensures { result ≡ limited self other }
+    {
+        Saying {
+            is_said: self.is_said,
+            has_flags: self.has_flags,
+            ..self.and(other)
         }
     }
 }

@@ -1,16 +1,18 @@
 //! How the parts of a certificate stand at a time.
 
-ghost use Rattle.std.specs.Prelude.{◌≡◌, find};
+ghost use Rattle.std.specs.Prelude.{◌≡◌};
 ghost use Rattle.std.specs.List.{list_any};
 ghost use Rattle.opgp_valid.specs.Facts.{facts_value};
-ghost use Rattle.opgp_valid.specs.Standing.{revokes};
-ghost use Rattle.opgp_valid.specs.State.{identity_of, revokes_identity};
-ghost use Rattle.opgp_valid.specs.State.{state_of, uses_by, vouches};
+ghost use Rattle.opgp_valid.specs.Moment.{saying_at};
+ghost use Rattle.opgp_valid.specs.State.{first_revocation, identity_of, revokes_identity};
+ghost use Rattle.opgp_valid.specs.State.{state_of, unusable, uses_by, vouches};
+ghost use Rattle.opgp_valid.specs.Standing.{is_revoked};
+ghost use Rattle.opgp_valid.specs.declared.facts.Key.TheVariants as keys;
 ghost use Rattle.std.specs.Option.{option_and_then};
 
 use crate::facts::{Facts, Key};
 use crate::group::certifies;
-use crate::judging::{created_of, is_revoked, revokes};
+use crate::judging::{created_of, revokes};
 use crate::moment::{has_ended, own_saying, primary_saying};
 use crate::saying::Saying;
 use crate::speaking::sooner;
@@ -25,8 +27,9 @@ pub struct KeyState {
     /// Why it is of no use at all: `Revoked`, `Early`, `Unbound` or `Expired`, the first that
     /// applies; None if it is of use.
     pub why: Option<Why>,
-    /// What all that speak for it let it be used for (RFC 9580, 5.2.3.29). A subkey without a good
-    /// signature by itself neither signs nor certifies (5.2.1.9).
+    /// What all that is heard for it lets it be used for (RFC 9580, 5.2.3.29): nothing if none that
+    /// speaks for it has key flags. A subkey without a good signature by itself neither signs nor
+    /// certifies (5.2.1.9).
     pub uses: Uses,
     /// From when on it is there, in seconds since 1970: since both it and the primary key are.
     pub begin: u32,
@@ -47,25 +50,44 @@ pub enum IdentityState {
     Unbound,
 }
 
-/// The code of the reason of the first of these signatures that revokes a key.
-fn reason_of(statements: &[Statement], key: Key) -> Option<u8>
-    ensures { result ≡ option_and_then (λ s. s.reason) (find (revokes key) statements.now) }
+/// A revocation.
+#[derive(Clone, Copy)]
+pub(crate) struct Revocation {
+    /// The code of its reason (RFC 9580, 5.2.3.31).
+    pub(crate) reason: Option<u8>,
+}
+
+/// The first of these signatures that revokes a key.
+pub(crate) fn first_revocation(statements: &[Statement], key: Key) -> Option<Revocation>
+    ensures { result ≡ first_revocation key statements.now }
 {
     let mut rest = statements;
     'statements: while let [statement, more @ ..] = rest {
         if revokes(key, statement) {
-            return statement.reason;
+            return Some(Revocation {
+                reason: statement.reason,
+            });
         }
         rest = more;
     }
     None
 }
 
+/// The code of the reason of a revocation, if there is one.
+fn reason_of(revocation: Option<Revocation>) -> Option<u8>
+    ensures { result ≡ option_and_then (λ r. r.reason) revocation }
+{
+    match revocation {
+        Some(revocation) => revocation.reason,
+        None => None,
+    }
+}
+
 /// What is said lets a key be used for.
 fn uses_of(own: Saying, key: Key) -> Uses
     ensures { result ≡ uses_by own key }
 {
-    if !own.is_said {
+    if !own.has_flags {
         return Uses::NONE;
     }
     match key {
@@ -78,18 +100,24 @@ fn uses_of(own: Saying, key: Key) -> Uses
     }
 }
 
-/// How a key stands at a time, in seconds since 1970. Allocates nothing; the work is linear in the
-/// number of statements.
-pub fn key_state(facts: Facts<'_>, key: Key, at: u64) -> KeyState
-    ensures { result ≡ state_of (facts_value facts.entry) key at }
+/// Why a key is of no use at all at a time, if it isn't, where this is said of its primary key and of
+/// it.
+fn unusable(
+    facts: Facts<'_>,
+    key: Key,
+    primary: Saying,
+    own: Saying,
+    is_known_revoked: bool,
+    at: u64,
+) -> Option<Why>
+    requires primary { primary ≡ saying_at (facts_value facts) keys.Primary at }
+    requires own { own ≡ saying_at (facts_value facts) key at }
+    requires revoked { is_known_revoked ≡ is_revoked (facts_value facts) key }
+    ensures { result ≡ unusable (facts_value facts.entry) key at }
 {
-    let created = created_of(facts, key);
-    let primary = primary_saying(facts, at);
-    let own = own_saying(facts, key, primary, at);
-    let is_young = at < u64::from(facts.created) || at < u64::from(created);
-    let why = if is_revoked(facts.statements, key) {
+    if is_known_revoked {
         Some(Why::Revoked)
-    } else if is_young {
+    } else if at < u64::from(facts.created) || at < u64::from(created_of(facts, key)) {
         Some(Why::Early)
     } else if !primary.is_said || !own.is_said {
         Some(Why::Unbound)
@@ -97,14 +125,43 @@ pub fn key_state(facts: Facts<'_>, key: Key, at: u64) -> KeyState
         Some(Why::Expired)
     } else {
         None
-    };
-    KeyState {
-        why,
-        uses: uses_of(own, key),
-        begin: facts.created.max(created),
-        end: sooner(primary.end, own.end),
-        reason: reason_of(facts.statements, key),
     }
+}
+
+/// How a key stands at a time, where this is said of its primary key and of it, and this is the first
+/// revocation of it.
+#[tactic(auto, using(crate::proofs::Revocations::revoked_first, crate::proofs::Revocations::reason_first))]
+pub(crate) fn state_with(
+    facts: Facts<'_>,
+    key: Key,
+    primary: Saying,
+    own: Saying,
+    revocation: Option<Revocation>,
+    at: u64,
+) -> KeyState
+    requires primary { primary ≡ saying_at (facts_value facts) keys.Primary at }
+    requires own { own ≡ saying_at (facts_value facts) key at }
+    requires revocation { revocation ≡ first_revocation key (facts_value facts).statements }
+    ensures { result ≡ state_of (facts_value facts.entry) key at }
+{
+    KeyState {
+        why: unusable(facts, key, primary, own, revocation.is_some(), at),
+        uses: uses_of(own, key),
+        begin: facts.created.max(created_of(facts, key)),
+        end: sooner(primary.end, own.end),
+        reason: reason_of(revocation),
+    }
+}
+
+/// How a key stands at a time, in seconds since 1970. Allocates nothing; the work is linear in the
+/// number of statements.
+pub fn key_state(facts: Facts<'_>, key: Key, at: u64) -> KeyState
+    ensures { result ≡ state_of (facts_value facts.entry) key at }
+{
+    let primary = primary_saying(facts, at);
+    let own = own_saying(facts, key, primary, at);
+    let revocation = first_revocation(facts.statements, key);
+    state_with(facts, key, primary, own, revocation, at)
 }
 
 /// Whether a signature revokes the certification of this component.
@@ -123,6 +180,7 @@ fn vouches(number: usize, at: u64, statement: &Statement) -> bool
     certifies(statement.kind)
         && statement.component == Some(number)
         && statement.is_good
+        && statement.is_understood
         && matches!(statement.author, Author::Primary)
         && statement.is_alive(at)
 }

@@ -43,21 +43,29 @@ pub struct Statement {
     pub kind: SignatureType,
     /// The number of the component that it is on; None for the primary key.
     pub component: Option<usize>,
+    /// Whether that is a user ID.
+    pub is_on_user_id: bool,
     /// Its number among all packets that follow the key or component, fillers included.
     pub hang: usize,
     /// Whose key made it.
     pub author: Author,
-    /// The policy relies on its hash algorithm and on its key, and nothing critical in it is unknown
-    /// (5.2.3.7).
+    /// Nothing critical in it is unknown (5.2.3.7).
+    pub is_understood: bool,
+    /// The policy relies on its hash algorithm and on its key, which is no younger than it is, and
+    /// its hashed subpackets have the form of their kinds.
     pub is_good: bool,
     /// From when it counts, and how long; None if it doesn't state one time when it was made.
     pub life: Option<Life>,
     /// After how many seconds from its creation the key expires; 0 for never (5.2.3.13).
     pub key_lasts: u32,
-    /// What the key may be used for.
+    /// Whether it has key flags (5.2.3.29).
+    pub has_flags: bool,
+    /// What its key flags let the key be used for: everything if it has none.
     pub uses: Uses,
-    /// The life of the good signature by the subkey that is embedded in it: of several, the first
-    /// that states when it was made (5.2.1.9, 5.2.3.34).
+    /// Whether it says that its user ID is the primary one (5.2.3.27).
+    pub is_main: bool,
+    /// The life of the signature that is embedded in it, of several in the first, if that is good
+    /// and by the subkey (5.2.1.9, 5.2.3.34).
     pub back: Option<Life>,
     /// The code of the reason for a revocation (5.2.3.31).
     pub reason: Option<u8>,

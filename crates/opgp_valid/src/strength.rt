@@ -2,7 +2,7 @@
 
 ghost use Rattle.std.specs.Prelude.{◌≡◌};
 ghost use Rattle.opgp_packet.specs.Parsed.{body_octets};
-ghost use Rattle.opgp_valid.specs.Policy.{fills, is_strong, without_zeros};
+ghost use Rattle.opgp_valid.specs.Policy.{fills, is_strong, least_digest, without_zeros};
 
 use opgp_packet::{KeyView, Material};
 
@@ -43,5 +43,23 @@ pub fn is_strong(key: KeyView<'_>) -> bool
         Material::Dsa { p, q, .. } => fills(256, p.octets()) && fills(28, q.octets()),
         Material::Ecdsa { point, .. } => point.octets().len() >= 57,
         _ => true,
+    }
+}
+
+/// How many octets the digest has at least that a key signs: of DSA as many as its q, of ECDSA as
+/// an integer of its curve, where 64 are enough (RFC 9580, 5.2.3.2); 32 for Ed25519 (5.2.3.3,
+/// 5.2.3.4) and 64 for Ed448 (5.2.3.5); 0 for others.
+pub fn least_digest(key: KeyView<'_>) -> usize
+    ensures { result ≡ least_digest (body_octets key.entry) }
+{
+    opgp_packet::key_laws::written(&key);
+    let _version = key.version();
+    let _algorithm = key.algorithm();
+    match key.material() {
+        Material::Dsa { q, .. } => without_zeros(q.octets()).len(),
+        Material::Ecdsa { point, .. } => (point.octets().len() / 2).min(64),
+        Material::Eddsa { .. } | Material::Ed25519(_) => 32,
+        Material::Ed448(_) => 64,
+        _ => 0,
     }
 }

@@ -4,9 +4,13 @@ ghost use Rattle.std.specs.Prelude.{◌≡◌, MatchOption};
 ghost use Rattle.std.specs.Option.{option_map};
 ghost use Rattle.opgp_octets.specs.declared.subpacket_kind.SubpacketKind.TheVariants as kinds;
 ghost use Rattle.opgp_packet.specs.Forms as form;
-ghost use Rattle.opgp_packet.specs.SubView.{fields_of, sub_shown};
+ghost use Rattle.opgp_octets.specs.SubpacketKind.{subpacket_kind_of};
+ghost use Rattle.opgp_packet.specs.MeaningReading.{meaning_of};
+ghost use Rattle.opgp_packet.specs.SubView.{fields_of, kind_shown, sub_shown};
 ghost use Rattle.opgp_packet.specs.Subs.{subs_to_come};
-ghost use Rattle.opgp_valid.specs.Subpackets.{has_unknown_critical, is_unknown_critical, lasts_in};
+ghost use Rattle.opgp_valid.specs.Subpackets.{has_flags, has_unfit, has_unknown_critical};
+ghost use Rattle.opgp_valid.specs.Subpackets.{is_main_in, is_nonzero, is_unfit, is_unknown_critical};
+ghost use Rattle.opgp_valid.specs.Subpackets.{lasts_in};
 ghost use Rattle.opgp_valid.specs.Subpackets.{made_in, reason_in, reason_stated, revoker_stated};
 ghost use Rattle.opgp_valid.specs.Subpackets.{shorter, uses_in_area, uses_stated};
 
@@ -99,24 +103,79 @@ fn uses_stated(subpacket: SubView<'_>) -> Option<Uses>
     }
 }
 
-/// What a signature with this hashed area lets a key be used for: what all its key flags allow
-/// (RFC 9580, 5.2.3.29); nothing if there are none.
+/// What the key flags in this hashed area let a key be used for: what all of them allow (RFC 9580,
+/// 5.2.3.29); everything if there are none.
+#[tactic(auto, using(crate::proofs::Sayings::both_assoc))]
 pub fn uses_in_area(subpackets: Subs<'_>) -> Uses
     ensures { result ≡ uses_in_area (subs_to_come subpackets.entry) }
 {
-    let mut found: Option<Uses> = None;
+    let mut found = Uses::ALL;
     for subpacket in subpackets {
         if let Some(uses) = uses_stated(subpacket) {
-            found = Some(match found {
-                Some(before) => before.and(uses),
-                None => uses,
-            });
+            found = found.and(uses);
         }
     }
-    match found {
-        Some(uses) => uses,
-        None => Uses::NONE,
+    found
+}
+
+/// Whether there are key flags in this hashed area (RFC 9580, 5.2.3.29).
+pub fn has_flags(subpackets: Subs<'_>) -> bool
+    ensures { result ≡ has_flags (subs_to_come subpackets.entry) }
+{
+    for subpacket in subpackets {
+        if uses_stated(subpacket).is_some() {
+            return true;
+        }
     }
+    false
+}
+
+/// Whether a subpacket says that its user ID is the primary one.
+fn is_main_stated(subpacket: SubView<'_>) -> bool
+    ensures { result
+        ≡ is_nonzero (fields_of kinds.PrimaryUserId form.octet (sub_shown subpacket.entry)) }
+{
+    if subpacket.kind() != SubpacketKind::PrimaryUserId.number() {
+        return false;
+    }
+    match subpacket.octets() {
+        [octet] => *octet != 0,
+        _ => false,
+    }
+}
+
+/// Whether this hashed area says that its user ID is the primary one (RFC 9580, 5.2.3.27).
+pub fn is_main_in(subpackets: Subs<'_>) -> bool
+    ensures { result ≡ is_main_in (subs_to_come subpackets.entry) }
+{
+    for subpacket in subpackets {
+        if is_main_stated(subpacket) {
+            return true;
+        }
+    }
+    false
+}
+
+/// Whether the data of a subpacket of an area hasn't the form of its kind.
+pub fn has_unfit(subpackets: Subs<'_>) -> bool
+    ensures { result ≡ has_unfit (subs_to_come subpackets.entry) }
+{
+    for subpacket in subpackets {
+        if is_unfit(subpacket) {
+            return true;
+        }
+    }
+    false
+}
+
+/// Whether the data of a subpacket hasn't the form of its kind.
+#[tactic(auto, unfolding(opgp_octets::specs::SubpacketKind::subpacket_kind_of))]
+fn is_unfit(subpacket: SubView<'_>) -> bool
+    ensures { result ≡ is_unfit (meaning_of
+        (subpacket_kind_of (kind_shown (sub_shown subpacket.entry).kind))
+        (sub_shown subpacket.entry).octets) }
+{
+    matches!(subpacket.meaning(), SubMeaning::Unfit)
 }
 
 /// The fingerprint of a key that may revoke, if a subpacket names one (RFC 9580, 5.2.3.23).

@@ -271,8 +271,8 @@ def documents():
     yield signed("critical_notation", "critical", "critical notation", extra=NOTATION)
     ring = one.certificate(on_sub=one.bound(extra=NOTATION))
     yield "bound_critical_notation", "unbound", "binding with a critical notation", ring, BY_SUBKEY
-    yield signed("sha1", "policy", "SHA-1 signature", hash=2)
-    yield signed("sha224", "-", "SHA-224 signature", hash=11)
+    yield signed("sha1", "weak", "SHA-1 signature", hash=2)
+    yield signed("sha224", "weak", "SHA-224 signature", hash=11)
     yield signed("type_02", "undecided", "type 02 (standalone)", kind=0x02)
     yield signed("type_50", "undecided", "type 50", kind=0x50)
     yield signed("type_10", "undecided", "type 10 over the document", kind=0x10)
@@ -427,7 +427,7 @@ def areas():
     yield by_name("expiry_0_and_passed", "expired", "two key expiries, 0 and one that has passed", extra=time(9, 0) + passed)
     yield by_name("expiry_passed_and_0", "expired", "two key expiries, one that has passed and 0", extra=passed + time(9, 0))
     yield by_name("expiry_unhashed", "-", "key expiry that has passed unhashed", unhashed=passed)
-    yield by_name("expiry_unfit", "-", "key expiry of two octets", extra=subpacket(9, b"\0\1"))
+    yield by_name("expiry_unfit", "unbound", "key expiry of two octets", extra=subpacket(9, b"\0\1"))
     yield by_name("expiry_unfit_critical", "unbound", "critical key expiry of two octets", extra=subpacket(9, b"\0\1", True))
     short, long = time(3, 10 * DAY), time(3, 2000 * DAY)
     yield by_name("two_lasts", "unbound", "two expiries of the self-signature, the first has passed", extra=short + long)
@@ -445,12 +445,12 @@ def areas():
     yield "flags_unhashed", "flags", "key flags of the subkey unhashed", one.certificate(on_sub=it), BY_SUBKEY
     yield by_name("name_two_times", "unbound", "two creation times in the self-signature", extra=time(2, BORN + 1))
     title = "a creation time of one octet beside the good one in the self-signature"
-    yield by_name("name_time_unfit", "-", title, extra=subpacket(2, b"\0"))
+    yield by_name("name_time_unfit", "unbound", title, extra=subpacket(2, b"\0"))
     signed = one.document(extra=subpacket(2, b"\0"))
-    yield "time_unfit", "-", "a creation time of one octet beside the good one in the document's signature", WHOLE, signed
-    yield by_name("name_lasts_unfit", "-", "an expiry of one octet in the self-signature", extra=subpacket(3, b"\0"))
+    yield "time_unfit", "critical", "a creation time of one octet beside the good one in the document's signature", WHOLE, signed
+    yield by_name("name_lasts_unfit", "unbound", "an expiry of one octet in the self-signature", extra=subpacket(3, b"\0"))
     signed = one.document(extra=subpacket(3, b"\0"))
-    yield "lasts_unfit", "-", "an expiry of one octet in the document's signature", WHOLE, signed
+    yield "lasts_unfit", "critical", "an expiry of one octet in the document's signature", WHOLE, signed
     yield by_name("name_no_time", "unbound", "no creation time in the self-signature", made=None)
     yield by_name("name_critical_unhashed", "unbound", "an unknown critical subpacket unhashed in the self-signature", unhashed=CRITICAL)
     yield by_name("name_issuer_unhashed", "-", "the self-signature's issuer unhashed", issuer=b"", unhashed=one.primary.issuer_key_id)
@@ -467,14 +467,14 @@ def backs():
 
     yield bound("two_backs", "back", "two back signatures, the first has expired", old, good)
     yield bound("two_backs_back", "-", "two back signatures, the second has expired", good, old)
-    yield bound("two_backs_wrong", "-", "two back signatures, the first is wrong", broken(good), good)
+    yield bound("two_backs_wrong", "back", "two back signatures, the first is wrong", broken(good), good)
     yield bound("two_backs_wrong_back", "-", "two back signatures, the second is wrong", good, broken(good))
     yield bound("back_and_hidden", "back", "one that has expired hashed, a good one unhashed", old, hidden=(good,))
     yield bound("hidden_expired", "-", "a good one hashed, one that has expired unhashed", good, hidden=(old,))
     yield bound("back_future", "back", "back signature in the future", one.back(made=NOW + 50 * DAY))
     yield bound("back_later", "back", "back signature newer than the document's signature", one.back(made=LATER))
     yield bound("back_newer", "-", "back signature newer than the binding", one.back(made=BORN + DAY))
-    yield bound("back_early", "-", "back signature older than the keys", one.back(made=BORN - DAY))
+    yield bound("back_early", "back", "back signature older than the keys", one.back(made=BORN - DAY))
     yield bound("back_no_time", "back", "back signature without a creation time", one.back(made=None))
     yield bound("back_no_issuer", "back", "back signature without an issuer", one.back(issuer=b""))
     it = one.back(issuer=b"", unhashed=one.subkey.issuer_key_id)
@@ -508,11 +508,11 @@ def identities():
     for kind in (0x10, 0x11, 0x12):
         yield f"name_{kind:x}", "-", f"self-signature of type {kind:x}", one.certificate(on_name=one.certified(both, kind=kind)), BY_PRIMARY
     picture = packet(ATTRIBUTE, PICTURE)
-    yield "attribute_alone", "-", "an attribute and no user ID, by the primary", one.key + picture + one.pictured(both), BY_PRIMARY
+    yield "attribute_alone", "unbound", "an attribute and no user ID, by the primary", one.key + picture + one.pictured(both), BY_PRIMARY
     ring = one.key + picture + one.pictured(both) + one.sub + one.bound()
-    yield "attribute_alone_sub", "-", "an attribute and no user ID, by the subkey", ring, BY_SUBKEY
+    yield "attribute_alone_sub", "unbound", "an attribute and no user ID, by the subkey", ring, BY_SUBKEY
     ring = one.key + one.user_id + one.certified() + picture + one.pictured(both, BORN + DAY)
-    yield "attribute_newer", "-", "flags sign by a newer attribute, certify by the user ID", ring, BY_PRIMARY
+    yield "attribute_newer", "flags", "flags sign by a newer attribute, certify by the user ID", ring, BY_PRIMARY
     ring = one.key + one.user_id + self + picture + one.pictured(CERTIFY, BORN + DAY)
     yield "attribute_newer_certify", "flags", "flags certify by a newer attribute, sign by the user ID", ring, BY_PRIMARY
     ring = one.key + one.user_id + self + picture + one.pictured(both, BORN + DAY, key_lasts=800)
@@ -546,7 +546,7 @@ def two_identities():
             for age, (one, other, more) in ages.items():
                 them = ({**good, **one}, {**bad, **other})
                 ring = of_two(*them) if order == "first" else of_two(*reversed(them))
-                expected = "-" if age.startswith("newer") else why
+                expected = "-" if age == "newer" else why
                 title = f"two user IDs: the {order} says {words}; {more}"
                 yield f"two_{what}_{order}_{age}", expected, title, ring, BY_PRIMARY
     lapsed = {"flags": CERTIFY, "lasts": 10, "made": newer}
@@ -585,25 +585,25 @@ def ages():
     yield named("newest_two_times", "-", title, self, other(extra=time(2, BORN + DAY)))
     yield named("newest_no_time", "-", "another self-signature has no creation time, flags certify", self, other(None))
     yield named("newest_left", "-", "newest self-signature with its left octets changed, flags certify", self, broken_left(other()))
-    yield named("newest_sha1", "-", "newest self-signature by SHA-1, flags certify", self, other(hash=2))
-    yield named("newest_sha1_expired", "-", "newest self-signature by SHA-1, expired", self, other(flags=both, key_lasts=800, hash=2))
+    yield named("newest_sha1", "flags", "newest self-signature by SHA-1, flags certify", self, other(hash=2))
+    yield named("newest_sha1_expired", "expired", "newest self-signature by SHA-1, expired", self, other(flags=both, key_lasts=800, hash=2))
     yield named("newest_critical", "-", "newest self-signature has a critical notation, flags certify", self, other(extra=NOTATION))
     yield named("newest_first", "flags", "newest self-signature stands first, flags certify", other(), self)
     yield named("equal_signs_first", "flags", "two of the same age, flags sign and certify", self, one.certified())
     yield named("equal_signs_second", "flags", "two of the same age, flags certify and sign", one.certified(), self)
-    yield named("name_early", "-", "self-signature older than the key", one.certified(both, BORN - 10 * DAY))
+    yield named("name_early", "unbound", "self-signature older than the key", one.certified(both, BORN - 10 * DAY))
     ring = one.key + one.direct(both, BORN - 10 * DAY)
-    yield "direct_early", "-", "direct key signature older than the key", ring, BY_PRIMARY
-    yield "bound_early", "-", "binding older than the keys", one.certificate(on_sub=one.bound(made=BORN - 10 * DAY)), BY_SUBKEY
+    yield "direct_early", "unbound", "direct key signature older than the key", ring, BY_PRIMARY
+    yield "bound_early", "unbound", "binding older than the keys", one.certificate(on_sub=one.bound(made=BORN - 10 * DAY)), BY_SUBKEY
     them = Owner(one.primary, signers.ed25519_legacy(BORN + 100 * DAY, seed(0x16)))
     ring, by = them.certificate(on_sub=them.bound(backs=(them.back(made=BORN + 100 * DAY),))), them.document()
     yield "bound_before_subkey", "-", "binding older than the subkey alone", ring, by
     ring = them.certificate(on_sub=them.bound(made=BORN + 100 * DAY))
-    yield "back_before_subkey", "-", "back signature older than the subkey alone", ring, by
+    yield "back_before_subkey", "back", "back signature older than the subkey alone", ring, by
     it = one.bound(made=BORN + DAY, lasts=10, flags=ENCRYPT)
     yield "newest_bound_lapsed", "-", "newest binding has expired, flags encrypt", one.certificate(on_sub=one.bound() + it), BY_SUBKEY
     it = one.bound() + one.bound(made=BORN + DAY, key_lasts=800, hash=2)
-    yield "newest_bound_sha1", "-", "newest binding by SHA-1, expired", one.certificate(on_sub=it), BY_SUBKEY
+    yield "newest_bound_sha1", "expired", "newest binding by SHA-1, expired", one.certificate(on_sub=it), BY_SUBKEY
     it = one.bound() + one.bound(made=BORN + DAY, key_lasts=800, extra=NOTATION)
     yield "newest_bound_critical", "-", "newest binding has a critical notation, expired", one.certificate(on_sub=it), BY_SUBKEY
     it = one.bound() + one.bound(made=BORN + DAY, backs=())
@@ -637,11 +637,11 @@ def old_keys():
     yield "old_sha1", "unbound", "keys of 2010, all their signatures by SHA-1", whole, by_sub
     yield "old_revoked_sha1", "revoked", "primary of 2010 revoked by SHA-1 in 2012", ring(on_key=old.revoked(**weak)), by_sub
     yield "old_sub_revoked_sha1", "revoked", "subkey of 2010 revoked by SHA-1 in 2012", ring(on_sub=old.sub_revoked(**weak)), by_sub
-    yield "old_newest_sha1", "-", "newest self-signature by SHA-1 in 2012, flags certify", ring(old.certified(**weak)), by_key
+    yield "old_newest_sha1", "flags", "newest self-signature by SHA-1 in 2012, flags certify", ring(old.certified(**weak)), by_key
     it = old.certified(both, key_lasts=2000, **weak)
-    yield "old_expired_sha1", "-", "newest self-signature by SHA-1 in 2012, expired", ring(it), by_key
+    yield "old_expired_sha1", "expired", "newest self-signature by SHA-1 in 2012, expired", ring(it), by_key
     it = old.bound(key_lasts=2000, backs=(old.back(then),), **weak)
-    yield "old_sub_expired_sha1", "-", "newest binding by SHA-1 in 2012, expired", ring(on_sub=it), by_sub
+    yield "old_sub_expired_sha1", "expired", "newest binding by SHA-1 in 2012, expired", ring(on_sub=it), by_sub
 
 
 def of_young_subkey(made):
@@ -694,7 +694,7 @@ def weak_keys():
     it = Owner(small, ONE.subkey)
     yield "rsa_1024_primary", "unbound", "an RSA key of 1024 bits binds the subkey", it.certificate(), it.document()
     it = Owner(ONE.primary, small)
-    yield "rsa_1024_subkey", "policy", "an RSA subkey of 1024 bits signs", it.certificate(), it.document()
+    yield "rsa_1024_subkey", "weak", "an RSA subkey of 1024 bits signs", it.certificate(), it.document()
     it = Owner(large, small)
     yield "rsa_2048_primary", "-", "an RSA key of 2048 bits signs", it.certificate(on_name=it.certified(3)), it.document(large)
     it = Owner(small, ONE.subkey)
@@ -706,10 +706,10 @@ def weak_keys():
         ring = it.certificate(on_name=it.certified(3, hash=good), on_sub=bound)
         yield name, "-", f"ECDSA over {name.upper()}, all by {words[good]}", ring, it.document(hash=good)
         title = f"ECDSA over {name.upper()}, the document's signature by {words[short]}"
-        yield f"{name}_short", "-", title, ring, it.document(hash=short)
+        yield f"{name}_short", "weak", title, ring, it.document(hash=short)
         ring = it.certificate(on_name=it.certified(3, hash=short), on_sub=bound)
         title = f"ECDSA over {name.upper()}, the self-signature by {words[short]}"
-        yield f"{name}_name_short", "-", title, ring, it.document(it.primary, hash=good)
+        yield f"{name}_name_short", "unbound", title, ring, it.document(it.primary, hash=good)
 
 
 def version_6():
@@ -733,11 +733,11 @@ def version_6():
     yield "v6_name_alone_sub", "unbound", "version 6: only a user ID, no direct key signature, by the subkey", key + name + sub, by_sub
     yield "v6_bare", "unbound", "version 6: a bare key", key, by_key
     yield "v6_direct_1_name_3", "flags", "version 6: direct 1, user ID 3", all_of(direct, six.certified(both, BORN + DAY)), by_key
-    yield "v6_direct_3_name_1", "-", "version 6: direct 3, user ID 1", all_of(six.direct(both), six.certified(made=BORN + DAY)), by_key
+    yield "v6_direct_3_name_1", "flags", "version 6: direct 3, user ID 1", all_of(six.direct(both), six.certified(made=BORN + DAY)), by_key
     expired = six.direct(key_lasts=800)
     yield "v6_expired_before", "expired", "version 6: primary expired before the signature", all_of(expired), by_sub
     yield "v6_expired_after", "expired", "version 6: primary expired after the signature", all_of(six.direct(key_lasts=950)), by_sub
-    yield "v6_name_expired", "-", "version 6: expired by the user ID alone", all_of(direct, six.certified(both, key_lasts=800)), by_sub
+    yield "v6_name_expired", "expired", "version 6: expired by the user ID alone", all_of(direct, six.certified(both, key_lasts=800)), by_sub
     ring = all_of(direct, on_sub=six.bound(key_lasts=800))
     yield "v6_sub_expired", "expired", "version 6: subkey expired before the signature", ring, by_sub
     yield "v6_revoked", "revoked", "version 6: primary revoked", all_of(direct + six.revoked()), by_sub

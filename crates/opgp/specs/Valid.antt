@@ -1,0 +1,25 @@
+-- The definitions of `opgp_valid`, and its types as they are declared.
+pub use Rattle.opgp_valid.specs.declared
+pub use Rattle.opgp_valid.specs.Believed
+pub use Rattle.opgp_valid.specs.Facts
+pub use Rattle.opgp_valid.specs.Gathering
+pub use Rattle.opgp_valid.specs.Group
+pub use Rattle.opgp_valid.specs.Judgement
+pub use Rattle.opgp_valid.specs.KnownKeys
+pub use Rattle.opgp_valid.specs.Laws
+pub use Rattle.opgp_valid.specs.Listing
+pub use Rattle.opgp_valid.specs.Moment
+pub use Rattle.opgp_valid.specs.Policy
+pub use Rattle.opgp_valid.specs.Revocation
+pub use Rattle.opgp_valid.specs.Saying
+pub use Rattle.opgp_valid.specs.Speaking
+pub use Rattle.opgp_valid.specs.Standing
+pub use Rattle.opgp_valid.specs.Stands
+pub use Rattle.opgp_valid.specs.State
+pub use Rattle.opgp_valid.specs.States
+pub use Rattle.opgp_valid.specs.Statement
+pub use Rattle.opgp_valid.specs.Subpackets
+pub use Rattle.opgp_valid.specs.Told
+pub use Rattle.opgp_valid.specs.Uses
+pub use Rattle.opgp_valid.specs.Walk
+pub use Rattle.opgp_valid.specs.Why

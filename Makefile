@@ -29,6 +29,9 @@ below = opgp_c $(shell sed -n 's/^opgp_c staticlib: //p' crates.txt)
 # No octet of what is compiled depends on the folder, with -g either.
 strict = -std=c11 -Wall -Wextra -Wconversion -pedantic -fPIC -fvisibility=hidden -fasynchronous-unwind-tables -Ic \
 	'-ffile-prefix-map=$(CURDIR)=.'
+# What opgp-verify is made of, and its other names.
+of_verifier = c/opgp-verify.c $(sort $(wildcard c/verify-*.c))
+names = opgp-sopv opgp-sqv opgp-gpgv
 version = $(shell sed -n '/OPGP_VERSION/s/.*"\(.*\)"/\1/p' c/opgp.h)
 # The version of the calls and structs, which is that of the shared library's name.
 abi = $(shell sed -n 's/^\#define OPGP_ABI //p' c/opgp.h)
@@ -56,12 +59,16 @@ $(made)/libopgp.so.$(abi): $(made)/libopgp.a c/opgp.map
 	$(CC) -shared $(LDFLAGS) -Wl,-soname,libopgp.so.$(abi) -Wl,--version-script=c/opgp.map -Wl,-z,defs -Wl,-z,relro -Wl,-z,now -o $@ \
 		-Wl,--whole-archive $(made)/libopgp.a -Wl,--no-whole-archive
 
-$(made)/opgp-verify: c/opgp-verify.c c/verify-arithmetic.c c/verify-arithmetic.h c/examples/open.h c/opgp.h $(made)/libopgp.a
-	$(CC) $(strict) $(CFLAGS) $(LDFLAGS) -pthread c/opgp-verify.c c/verify-arithmetic.c $(made)/libopgp.a -lcrypto -o $@
+$(made)/opgp-verify: $(of_verifier) $(wildcard c/verify-*.h) c/examples/open.h c/opgp.h $(made)/libopgp.a
+	$(CC) $(strict) $(CFLAGS) $(LDFLAGS) -pthread $(of_verifier) $(made)/libopgp.a -lcrypto -o $@
+
+# Other programs' command lines: opgp-verify does what the name says by which it is started. (The kit wants no symbolic links in here.)
+$(made)/opgp-%: $(made)/opgp-verify
+	ln -f $(made)/opgp-verify $@
 
 verifier: $(made)/libopgp.a
 	@if $(CC) $(CFLAGS) -E -include openssl/core_names.h -x c /dev/null > /dev/null 2>&1; then \
-		$(MAKE) --no-print-directory $(made)/opgp-verify; \
+		$(MAKE) --no-print-directory $(made)/opgp-verify $(names:%=$(made)/%); \
 	else \
 		echo 'opgp-verify is left out: the headers of libcrypto (OpenSSL 3) are wanted'; \
 	fi
@@ -97,7 +104,8 @@ install-library: library
 	chmod 644 $(lib)/cmake/opgp/opgpConfig.cmake $(lib)/cmake/opgp/opgpConfigVersion.cmake
 	if [ -e $(made)/opgp-verify ]; then \
 		install -D -m 755 $(made)/opgp-verify $(bin)/opgp-verify && \
-		install -D -m 644 man/opgp-verify.1 $(share)/man/man1/opgp-verify.1; \
+		install -D -m 644 -t $(share)/man/man1 man/opgp-verify.1 $(names:%=man/%.1) && \
+		for it in $(names); do ln -sf opgp-verify $(bin)/$$it || exit; done; \
 	fi
 
 uninstall:
@@ -105,7 +113,8 @@ uninstall:
 		$(share)/bash-completion/completions/opgp $(zsh)/_opgp $(share)/fish/vendor_completions.d/opgp.fish
 	rm -f $(lib)/libopgp.a $(lib)/libopgp.so.$(abi) $(lib)/libopgp.so $(include)/opgp.h $(include)/opgp.hpp \
 		$(lib)/pkgconfig/opgp.pc $(lib)/cmake/opgp/opgpConfig.cmake $(lib)/cmake/opgp/opgpConfigVersion.cmake \
-		$(share)/man/man3/libopgp.3 $(bin)/opgp-verify $(share)/man/man1/opgp-verify.1
+		$(share)/man/man3/libopgp.3
+	for it in opgp-verify $(names); do rm -f $(bin)/$$it $(share)/man/man1/$$it.1; done
 	for it in $(program_lib)/opgp $(lib)/cmake/opgp; do if [ -d "$$it" ]; then rmdir --ignore-fail-on-non-empty "$$it"; fi; done
 
 dist:

@@ -1,18 +1,24 @@
 /* Verifies the signatures of a keyring by OpenSSL's libcrypto: a line for each, as `opgp check` writes it, with the verdict good,
  * bad or undecided, and after undecided why. With --signature it judges detached signatures over a document (10.4) by the keys of
- * keyrings: a line for each, as `opgp digest` writes it, and after good why it isn't to be believed, if it isn't. Section numbers
- * are those of RFC 9580.
+ * keyrings: a line for each, as `opgp digest` writes it, and after good why it isn't to be believed, if it isn't. With --cleartext it
+ * does so with a message that has its document (7). Under the names of other programs it does that with their command lines. Section
+ * numbers are those of RFC 9580.
  *
  * Of a keyring `good` says that the issuer's key made the signature over what `opgp octets` writes, and nothing of whether the
  * signature, the key or what it certifies is valid: expiries, revocations and key flags aren't looked at.
  *
- * verify-arithmetic.c asks libcrypto, and opgp_judge judges. Here are the rows of a keyring, the threads that go over them, lines,
- * files and the command line. */
+ * verify-arithmetic.c asks libcrypto, verify-judging.c has signatures over documents judged, and verify-names.c has the other names.
+ * Here are the rows of a keyring, the threads that go over them, lines and the command line. */
 #define _GNU_SOURCE /* for sched_getaffinity */
 #include <opgp.h>
 
 #include "examples/open.h"
 #include "verify-arithmetic.h"
+#include "verify-judging.h"
+#include "verify-names.h"
+#include "verify-output.h"
+#include "verify-states.h"
+#include "verify-words.h"
 
 #include <errno.h>
 #include <inttypes.h>
@@ -20,7 +26,6 @@
 #include <sched.h>
 #include <stdatomic.h>
 #include <string.h>
-#include <time.h>
 #include <unistd.h>
 
 /* The most threads that verify, and of how many rows a key is asked for each of them, so that starting it takes less time than it
@@ -34,6 +39,9 @@ struct run {
     size_t key_count, job_count;
     unsigned decisive;        /* the doubts that leave a signature undecided */
     struct finding *findings; /* of each row */
+    opgp_job *revocations;    /* of key revocations behind another part, hashed as they are: over the primary key alone (5.2.1.11) */
+    size_t *misplaced;        /* the rows of these */
+    size_t misplaced_count;
     size_t *asked;            /* the rows of which a key is asked, those of one key together */
     size_t asked_count;
     atomic_size_t taken;      /* how many of those a thread has taken */
@@ -41,22 +49,48 @@ struct run {
 
 /* ---- Rows */
 
-/* Whether there is something to ask the issuer's key of a signature, which is NULL if it isn't there. */
-static bool is_asked(const opgp_job *job, const opgp_key *signer)
-{
-    return signer && !job->is_bad && job->why == OPGP_WHY_HASHED && signer->version == job->version;
-}
-
 /* The issuer's key of a row; NULL if it isn't there. */
 static const opgp_key *signer_of(const struct run *run, size_t row)
 {
     return run->jobs[row].signer == OPGP_NONE ? NULL : &run->keys[run->jobs[row].signer];
 }
 
-/* What is found of a row of which no key is asked: as opgp_check finds it, and why. */
-static struct finding found_without(const opgp_job *job)
+/* The job of a row, as its key is asked; it may differ from that in the table. */
+static const opgp_job *asked_job(const struct run *run, size_t row)
 {
-    return (struct finding){job->is_bad ? OPGP_BAD : OPGP_UNDECIDED, job->signer == OPGP_NONE ? "absent" : "version", 0};
+    size_t low = 0, high = run->misplaced_count;
+    while (low < high) {
+        size_t middle = low + (high - low) / 2;
+        if (run->misplaced[middle] < row) {
+            low = middle + 1;
+        } else {
+            high = middle;
+        }
+    }
+    return low < run->misplaced_count && run->misplaced[low] == row ? &run->revocations[low] : &run->jobs[row];
+}
+
+/* Finds the key revocations that stand behind another part; false if memory ran out. */
+static bool find_revocations(struct run *run)
+{
+    opgp_revocation *rows;
+    size_t count;
+    bool is_done = opgp_revocations(run->keyring, &rows, &count) == OPGP_DONE;
+    run->revocations = is_done ? calloc(count + 1, sizeof *run->revocations) : NULL;
+    run->misplaced = run->revocations ? calloc(count + 1, sizeof *run->misplaced) : NULL;
+    for (size_t i = 0; run->misplaced && i < count; i++) {
+        opgp_job job = run->jobs[rows[i].row];
+        if (job.why == OPGP_WHY_MISPLACED) {
+            job.why = OPGP_WHY_HASHED;
+            job.digest_size = rows[i].digest_size;
+            memcpy(job.digest, rows[i].digest, sizeof job.digest);
+            job.is_bad = memcmp(job.digest, job.left, sizeof job.left) != 0;
+            run->revocations[run->misplaced_count] = job;
+            run->misplaced[run->misplaced_count++] = (size_t)rows[i].row;
+        }
+    }
+    free(rows);
+    return run->misplaced;
 }
 
 /* Finds what there is to find of each row without its key, and counts the rows of which one is asked: in all, and those of each key, by
@@ -66,13 +100,14 @@ static bool find_doubts(struct run *run, size_t *counts)
     for (size_t row = 0; row < run->job_count; row++) {
         const opgp_subpacket *subpackets;
         size_t count;
-        run->findings[row] = found_without(&run->jobs[row]);
-        if (is_asked(&run->jobs[row], signer_of(run, row))) {
+        const opgp_job *job = asked_job(run, row);
+        run->findings[row] = found_without(job);
+        if (is_asked(job, signer_of(run, row))) {
             if (opgp_subpackets_of(run->keyring, row, &subpackets, &count) != OPGP_DONE) {
                 return false;
             }
-            run->findings[row].doubts = doubts_of(&run->jobs[row], subpackets, count);
-            counts[run->jobs[row].signer]++;
+            run->findings[row].doubts = doubts_of(job, subpackets, count);
+            counts[job->signer]++;
             run->asked_count++;
         }
     }
@@ -93,7 +128,7 @@ static bool order_rows(struct run *run)
         place += count;
     }
     for (size_t row = 0; run->asked && row < run->job_count; row++) {
-        if (is_asked(&run->jobs[row], signer_of(run, row))) {
+        if (is_asked(asked_job(run, row), signer_of(run, row))) {
             run->asked[places[run->jobs[row].signer]++] = row;
         }
     }
@@ -104,7 +139,7 @@ static bool order_rows(struct run *run)
 /* Asks the key of a row. No call is made on a handle, and none on the keyring that would make a table. */
 static void ask(struct run *run, size_t row, struct arithmetic *arithmetic)
 {
-    const opgp_job *job = &run->jobs[row];
+    const opgp_job *job = asked_job(run, row);
     struct finding *finding = &run->findings[row];
     opgp_question question = {.row = row, .job = job, .signer = signer_of(run, row)};
     for (unsigned k = 0; k < 4; k++) {
@@ -148,7 +183,7 @@ static bool is_checked(struct run *run, size_t jobs)
 {
     pthread_t others[MOST_JOBS];
     size_t started = 0;
-    if (!order_rows(run)) {
+    if (!find_revocations(run) || !order_rows(run)) {
         return false;
     }
     size_t wanted = run->asked_count / OF_THREAD < jobs ? run->asked_count / OF_THREAD : jobs;
@@ -177,48 +212,45 @@ static void print_number(const char *word, uint64_t number)
     }
 }
 
-static void print_digits(const uint8_t *octets, size_t size)
-{
-    for (size_t i = 0; i < size; i++) {
-        printf("%02X", octets[i]);
-    }
-}
-
 /* Where the signature in a row is. */
 static void print_place(const opgp_job *job, size_t row)
 {
-    if (job->certificate == OPGP_NONE) {
-        printf("signature %zu", row);
-        return;
-    }
     printf("row %zu cert %" PRIu64, row, job->certificate);
     print_number("part", job->component);
     print_number("hang", job->hang);
     print_number("nested", job->nested);
 }
 
+/* Writes what is found of a signature. */
+static void print_verdict(const struct finding *finding)
+{
+    static const char *const words[] = {"undecided", "good", "bad"};
+    printf(" verdict %s", words[finding->verdict]);
+    if (finding->verdict == OPGP_UNDECIDED) {
+        printf(" %s", finding->why);
+    }
+}
+
+/* Writes what is asked of a signature, with its signer's key ID and how its digest begins, and what is found. */
+static void print_asked(uint8_t kind, uint8_t hash, const char *signer, const uint8_t digest[2], const struct finding *finding)
+{
+    printf(" : asked type %02X hash %u signer %s digest %02X%02X", kind, hash, signer, digest[0], digest[1]);
+    print_verdict(finding);
+}
+
 /* Writes all of the line of the signature in a row but its end. Its signer is NULL if it isn't there. */
 static void print_row(const opgp_job *job, size_t row, const opgp_key *signer, const struct finding *finding)
 {
-    static const char *const words[] = {"undecided", "good", "bad"};
-    char why[OPGP_NAME_ROOM];
+    char why[OPGP_NAME_ROOM], name[KEY_ID_ROOM] = "-";
     print_place(job, row);
     if (job->why != OPGP_WHY_HASHED) {
         printf(" : none %s", opgp_name_text(OPGP_WHYS, job->why, why));
         return;
     }
-    printf(" : asked type %02X hash %u signer ", job->kind, job->hash);
-    if (signer) {
-        print_digits(signer->key_id, 8);
-    } else {
-        putchar('-');
+    for (size_t i = 0; signer && i < sizeof signer->key_id; i++) {
+        snprintf(name + 2 * i, 3, "%02X", signer->key_id[i]);
     }
-    printf(" digest ");
-    print_digits(job->digest, 2);
-    printf(" verdict %s", words[finding->verdict]);
-    if (finding->verdict == OPGP_UNDECIDED) {
-        printf(" %s", finding->why);
-    }
+    print_asked(job->kind, job->hash, name, job->digest, finding);
 }
 
 /* ---- The program */
@@ -233,7 +265,10 @@ static int said(int status, const char *text)
 struct task {
     const char *name; /* of the keyring, or of the document; NULL or -: standard input */
     const char *policy, *require, *jobs, *at;
-    const char *signature; /* the file of the signatures over the document; NULL: those of the keyring */
+    bool wants_states;     /* how the parts of the keyring stand, in place of its signatures */
+    const char *signature; /* the file of the signatures over the document; NULL: those of the keyring, or */
+    bool is_message;       /* the document is a cleartext message, which has them */
+    const char *output;    /* the file for the document of that; NULL: it isn't written */
     const char **keyrings; /* the files of the keyrings that have their signers */
     size_t keyring_count;
 };
@@ -251,37 +286,14 @@ static bool is_jobs(const char *word)
     return jobs_in(word) > 0;
 }
 
-/* The time that a word is, in seconds since 1970: so many of them, or a UTC date, which is a time if it is written again as it is;
- * OPGP_NONE if it is none. */
-static uint64_t time_in(const char *word)
-{
-    static const char *const forms[] = {"%Y-%m-%d", "%Y-%m-%dT%H:%M:%SZ"};
-    size_t digits = strspn(word, "0123456789");
-    if (digits > 0 && word[digits] == 0) {
-        return digits < 19 ? strtoull(word, NULL, 10) : OPGP_NONE;
-    }
-    for (size_t i = 0; i < sizeof forms / sizeof *forms; i++) {
-        struct tm date = {.tm_mday = 1};
-        char again[sizeof "9999-12-31T23:59:59Z"];
-        const char *end = strptime(word, forms[i], &date);
-        time_t found = end && *end == 0 ? timegm(&date) : -1;
-        if (found >= 0 && strftime(again, sizeof again, forms[i], gmtime_r(&found, &date)) > 0 && strcmp(again, word) == 0) {
-            return (uint64_t)found;
-        }
-    }
-    return OPGP_NONE;
-}
-
 static bool is_time(const char *word)
 {
-    return time_in(word) != OPGP_NONE;
+    return time_in(word, false) != OPGP_NONE;
 }
 
-/* The present time; where the clock has none, the first one, at which nothing is believed. */
 static uint64_t now_of(const struct task *task)
 {
-    time_t clock = task->at ? 0 : time(NULL);
-    return task->at ? time_in(task->at) : clock < 0 ? 0 : (uint64_t)clock;
+    return task->at ? time_in(task->at, false) : present_time();
 }
 
 /* How many threads verify. */
@@ -291,15 +303,15 @@ static size_t jobs_of(const struct task *task)
     return task->jobs ? jobs_in(task->jobs) : usual < MOST_JOBS ? usual : MOST_JOBS;
 }
 
-static bool has_usual_policy(const struct task *task)
+/* Whether no doubt about a signature decides. */
+static bool has_no_policy(const struct task *task)
 {
-    return !task->policy || strcmp(task->policy, "usual") == 0;
+    return task->policy && strcmp(task->policy, "none") == 0;
 }
 
-/* The doubts that leave a signature undecided. */
-static unsigned decisive_for(const struct task *task)
+static uint32_t policy_of(const struct task *task)
 {
-    return DOUBT_CRITICAL | (has_usual_policy(task) ? DOUBT_WEAK_HASH | DOUBT_SMALL_KEY : 0);
+    return !task->policy || strcmp(task->policy, "usual") == 0 ? OPGP_POLICY_USUAL : OPGP_POLICY_ANY;
 }
 
 /* Writes the lines, and on standard error how many signatures are good and so on; the exit status. */
@@ -309,6 +321,9 @@ static int told(const struct run *run, const struct task *task)
     for (size_t row = 0; row < run->job_count; row++) {
         bool is_hashed = run->jobs[row].why == OPGP_WHY_HASHED;
         print_row(&run->jobs[row], row, signer_of(run, row), &run->findings[row]);
+        if (asked_job(run, row) != &run->jobs[row]) {
+            print_verdict(&run->findings[row]);
+        }
         putchar('\n');
         unhashed += !is_hashed;
         counts[run->findings[row].verdict] += is_hashed;
@@ -321,11 +336,38 @@ static int told(const struct run *run, const struct task *task)
     return counts[OPGP_BAD] > 0 || (task->require && counts[OPGP_GOOD] == 0) ? 1 : 0;
 }
 
+/* What was found of the signature of a question; all of the keyring's were asked about. */
+static opgp_verdict found_of(void *context, const opgp_question *question)
+{
+    const struct run *run = context;
+    return run->findings[question->row].verdict;
+}
+
+/* Writes how the parts of the keyring stand, and on standard error how many keys are usable and so on; the exit status. */
+static int told_states(struct run *run, const struct task *task)
+{
+    opgp_state *states;
+    size_t count;
+    struct state_counts counts = {{0}};
+    uint32_t status = opgp_states(run->keyring, policy_of(task), now_of(task), found_of, run, &states, &count);
+    status = status == OPGP_DONE ? print_states(run->keyring, states, count, &counts) : status;
+    free(states);
+    if (status != OPGP_DONE) {
+        return said(3, opgp_status_text(status));
+    }
+    if (fflush(stdout) || ferror(stdout)) {
+        return said(3, "write failed");
+    }
+    fprintf(stderr, "opgp-verify: %zu usable, %zu revoked, %zu early, %zu unbound, %zu expired\n", counts.of[0], counts.of[1],
+            counts.of[2], counts.of[3], counts.of[4]);
+    return 0;
+}
+
 /* Verifies the rows, and writes all lines if nothing failed. */
 static int verified(struct run *run, const struct task *task)
 {
     int status = 3;
-    run->decisive = decisive_for(task);
+    run->decisive = task->wants_states || has_no_policy(task) ? 0 : decisive_by(policy_of(task)); /* the rule has doubts of its own */
     if (opgp_keys(run->keyring, &run->keys, &run->key_count) == OPGP_DONE
         && opgp_jobs(run->keyring, &run->jobs, &run->job_count) == OPGP_DONE) {
         run->findings = calloc(run->job_count + 1, sizeof *run->findings);
@@ -333,35 +375,13 @@ static int verified(struct run *run, const struct task *task)
     if (!run->findings || !is_checked(run, jobs_of(task))) {
         said(status, "out of memory");
     } else {
-        status = told(run, task);
+        status = task->wants_states ? told_states(run, task) : told(run, task);
     }
     free(run->findings);
+    free(run->revocations);
+    free(run->misplaced);
     free(run->asked);
     return status;
-}
-
-/* Whether this names standard input. */
-static bool is_input(const char *name)
-{
-    static const char *const names[] = {"-", "/dev/stdin", "/dev/fd/0", "/proc/self/fd/0"};
-    for (size_t i = 0; i < sizeof names / sizeof *names; i++) {
-        if (strcmp(name, names[i]) == 0) {
-            return true;
-        }
-    }
-    return false;
-}
-
-static FILE *open_named(const char *name)
-{
-    return is_input(name) ? stdin : fopen(name, "rb");
-}
-
-static void close_named(FILE *file)
-{
-    if (file != stdin) {
-        fclose(file);
-    }
 }
 
 /* Says why a file can't be read, as errno has it. */
@@ -391,244 +411,95 @@ static int verified_keyring(const char *name, const struct task *task)
 
 /* ---- Signatures over a document */
 
-/* All octets of the file of this name, for free(). If it can't be read, this says why, and gives NULL: the exit status is 3. */
-static uint8_t *read_named(const char *name, size_t *size)
+/* The exit status for what became of a step. */
+static int status_of(enum outcome outcome)
 {
-    FILE *file = open_named(name);
-    if (!file) {
-        cannot_read(name);
-        return NULL;
-    }
-    uint8_t *octets = read_whole(file, size);
-    if (!octets) {
-        said(3, "out of memory");
-    } else if (ferror(file)) {
-        cannot_read(name);
-        free(octets);
-        octets = NULL;
-    }
-    close_named(file);
-    return octets;
+    return outcome == STEP_DONE ? 0 : outcome == STEP_REFUSED ? 1 : 3;
 }
 
-/* Says why the library didn't take the file of this name; the exit status. */
-static int refused(const char *name, uint32_t status, const opgp_fault *fault)
+/* The exit status for what was found: 0 if none is bad, and one is good and believed. */
+static int status_of_document(const struct judging *judging)
 {
-    char text[OPGP_FAULT_ROOM];
-    if (status == OPGP_MANY) {
-        fprintf(stderr, "opgp-verify: '%s': more than %d signatures\n", name, OPGP_MOST_SIGNATURES);
-        return 1;
+    size_t count, good = 0, bad = 0;
+    const struct judged *rows = judging_rows(judging, &count);
+    for (const struct judged *row = rows; row < rows + count; row++) {
+        good += row->verdict == OPGP_GOOD && row->standing == OPGP_BELIEVED;
+        bad += row->verdict == OPGP_BAD && row->is_hashed;
     }
-    if (status == OPGP_REFUSED) {
-        fprintf(stderr, "opgp-verify: '%s': %s\n", name, opgp_fault_text(fault, text));
-        return 1;
-    }
-    return said(3, opgp_status_text(status));
+    return bad > 0 || good == 0 ? 1 : 0;
 }
 
-/* Reads the signatures, and begins the document that they are over; the exit status if it isn't 0. */
-static int open_signatures(const char *name, opgp_document *document)
+/* Writes the lines of what was found, and on standard error how many signatures are good and so on; the exit status. */
+static int told_of_document(const struct judging *judging)
 {
-    size_t size;
-    uint8_t *octets = read_named(name, &size);
-    opgp_limits usual;
-    opgp_fault fault;
-    if (!octets) {
-        return 3;
-    }
-    opgp_usual_limits(&usual);
-    uint32_t status = opgp_document_open(octets, size, OPGP_MODE_AUTO, &usual, document, &fault);
-    free(octets);
-    return status == OPGP_DONE ? 0 : refused(name, status, &fault);
-}
-
-/* Reads the keyring of a file; the exit status if it isn't 0. */
-static int read_keyring(const char *name, opgp_keyring **keyring)
-{
-    size_t size;
-    uint8_t *octets = read_named(name, &size);
-    opgp_fault fault;
-    if (!octets) {
-        return 3;
-    }
-    uint32_t status = opgp_open(octets, size, NULL, keyring, &fault);
-    free(octets);
-    return status == OPGP_DONE ? 0 : refused(name, status, &fault);
-}
-
-/* Makes the first of these keyrings all of them, in order: neighbours are joined until one is left, so that none is copied often.
- * The exit status if it isn't 0. */
-static int join_all(opgp_keyring **keyrings, size_t count)
-{
-    for (; count > 1; count = (count + 1) / 2) {
-        for (size_t i = 0; i + 1 < count; i += 2) {
-            opgp_keyring *joined;
-            uint32_t status = opgp_join(keyrings[i], keyrings[i + 1], &joined);
-            opgp_close(keyrings[i]);
-            opgp_close(keyrings[i + 1]);
-            keyrings[i] = keyrings[i + 1] = NULL;
-            keyrings[i / 2] = joined;
-            if (status != OPGP_DONE) {
-                return said(3, opgp_status_text(status));
-            }
+    size_t counts[3] = {0, 0, 0}, unhashed = 0, unbelieved = 0, count;
+    const struct judged *rows = judging_rows(judging, &count);
+    for (const struct judged *row = rows; row < rows + count; row++) {
+        const struct finding found = {row->verdict, row->why, 0};
+        bool is_unbelieved = row->verdict == OPGP_GOOD && row->standing != OPGP_BELIEVED;
+        printf("signature %zu", row->number);
+        if (row->is_hashed) {
+            print_asked(row->kind, row->hash, row->key[0] ? row->key_id : "-", row->digest, &found);
+        } else {
+            printf(" : none %s", row->why);
         }
-        if (count % 2 == 1) {
-            keyrings[count / 2] = keyrings[count - 1];
-            keyrings[count - 1] = NULL;
+        if (is_unbelieved) {
+            printf(" unbelieved %s", standing_word(row->standing));
         }
-    }
-    return 0;
-}
-
-/* Gives the document its octets, piece by piece; the exit status if it isn't 0. */
-static int push_named(const char *name, opgp_document *document)
-{
-    static uint8_t piece[1 << 16];
-    size_t size = sizeof piece;
-    uint32_t status = OPGP_DONE;
-    int exit_status = 0;
-    FILE *file = open_named(name);
-    if (!file) {
-        return cannot_read(name);
-    }
-    while (exit_status == 0 && status == OPGP_DONE && size == sizeof piece) { /* a shorter piece is the last one */
-        size = fread(piece, 1, sizeof piece, file);
-        exit_status = ferror(file) ? cannot_read(name) : 0;
-        status = opgp_document_push(document, piece, size);
-    }
-    close_named(file);
-    status = status == OPGP_DONE ? opgp_document_end(document) : status;
-    return exit_status == 0 && status != OPGP_DONE ? said(3, opgp_status_text(status)) : exit_status;
-}
-
-/* Makes the table of the signatures' subpackets, for free(). Asked with no room, the call counts how much is wanted. */
-static uint32_t make_subpackets(opgp_document *document, opgp_subpacket **rows, size_t *count)
-{
-    opgp_sizes sizes = {0, 0};
-    uint32_t status = opgp_document_subpackets(document, NULL, 0, NULL, 0, &sizes);
-    if (status == OPGP_ROOM) {
-        uint8_t *data = malloc((size_t)sizes.bytes + 1);
-        *rows = calloc((size_t)sizes.rows, sizeof **rows);
-        status = !data || !*rows ? OPGP_MEMORY
-                                 : opgp_document_subpackets(document, *rows, (size_t)sizes.rows, data, (size_t)sizes.bytes, &sizes);
-        free(data);
-    }
-    *count = status == OPGP_DONE ? (size_t)sizes.rows : 0;
-    return status;
-}
-
-/* What judging takes and finds. */
-struct judging {
-    struct arithmetic *arithmetic;
-    unsigned decisive;
-    const opgp_subpacket *subpackets; /* of the document's signatures, in order */
-    size_t subpacket_count;
-    struct finding findings[OPGP_MOST_SIGNATURES]; /* of those whose key was asked */
-    size_t counts[3], unhashed, unbelieved;        /* of the lines */
-};
-
-/* The doubts about a signature over the document that need no arithmetic. */
-static unsigned doubts_in(const struct judging *it, const opgp_question *question)
-{
-    size_t begin = 0;
-    while (begin < it->subpacket_count && it->subpackets[begin].hang < question->row) {
-        begin++;
-    }
-    size_t end = begin;
-    while (end < it->subpacket_count && it->subpackets[end].hang == question->row) {
-        end++;
-    }
-    return doubts_of(question->job, begin < end ? &it->subpackets[begin] : NULL, end - begin);
-}
-
-/* Asks the key of a signature. Doubts decide over the document's alone: the rule has its own about those of the keyring. */
-static opgp_verdict verify(void *context, const opgp_question *question)
-{
-    struct judging *it = context;
-    if (memory_ran_out()) {
-        return OPGP_UNDECIDED;
-    }
-    if (question->job->certificate != OPGP_NONE) {
-        return arithmetic_of(it->arithmetic, question, 0, 0).verdict;
-    }
-    it->findings[question->row] = arithmetic_of(it->arithmetic, question, doubts_in(it, question), it->decisive);
-    return it->findings[question->row].verdict;
-}
-
-/* Writes the line of a signature over the document, and counts it; not 0 if memory ran out, and nothing that was found holds. */
-static int tell(void *context, const opgp_question *question, opgp_verdict verdict, uint8_t why)
-{
-    static const char *const whys[] = {
-        [OPGP_IN_FUTURE] = "future",   [OPGP_REVOKED] = "revoked",    [OPGP_EARLY] = "early",
-        [OPGP_UNBOUND] = "unbound",    [OPGP_EXPIRED] = "expired",    [OPGP_NOT_SIGNING] = "flags",
-        [OPGP_UNBACKED] = "back",      [OPGP_NO_DOCUMENT] = "type",   [OPGP_CRITICAL] = "critical",
-        [OPGP_WEAK] = "weak",          [OPGP_UNDATED] = "time",       [OPGP_LAPSED] = "lapsed",
-        [OPGP_NOT_BY_KEY] = "issuer",
-    };
-    struct judging *it = context;
-    const opgp_job *job = question->job;
-    if (memory_ran_out()) {
-        return 1;
-    }
-    bool is_unbelieved = verdict == OPGP_GOOD && why != OPGP_BELIEVED, is_hashed = job->why == OPGP_WHY_HASHED;
-    struct finding found = is_asked(job, question->signer) ? it->findings[question->row] : found_without(job);
-    print_row(job, question->row, question->signer, &found);
-    if (is_unbelieved) {
-        printf(" unbelieved %s", why < sizeof whys / sizeof *whys ? whys[why] : "unknown");
-    }
-    putchar('\n');
-    it->unhashed += !is_hashed;
-    it->unbelieved += is_unbelieved;
-    it->counts[verdict] += is_hashed && !is_unbelieved;
-    return 0;
-}
-
-/* Judges the signatures over a document that has ended. */
-static int judged(opgp_document *document, const opgp_keyring *keyring, struct judging *it, const struct task *task)
-{
-    uint32_t policy = has_usual_policy(task) ? OPGP_POLICY_USUAL : OPGP_POLICY_ANY;
-    uint32_t status = opgp_judge(document, keyring, policy, now_of(task), verify, tell, it);
-    if (status != OPGP_DONE) {
-        return said(3, status == OPGP_ENDED ? "out of memory" : opgp_status_text(status));
+        putchar('\n');
+        unhashed += !row->is_hashed;
+        unbelieved += is_unbelieved;
+        counts[row->verdict] += row->is_hashed && !is_unbelieved;
     }
     if (fflush(stdout) || ferror(stdout)) {
         return said(3, "write failed");
     }
-    fprintf(stderr, "opgp-verify: %zu good, %zu unbelieved, %zu bad, %zu undecided, %zu not hashed\n", it->counts[OPGP_GOOD],
-            it->unbelieved, it->counts[OPGP_BAD], it->counts[OPGP_UNDECIDED], it->unhashed);
-    return it->counts[OPGP_BAD] > 0 || it->counts[OPGP_GOOD] == 0 ? 1 : 0;
+    fprintf(stderr, "opgp-verify: %zu good, %zu unbelieved, %zu bad, %zu undecided, %zu not hashed\n", counts[OPGP_GOOD], unbelieved,
+            counts[OPGP_BAD], counts[OPGP_UNDECIDED], unhashed);
+    return status_of_document(judging);
 }
 
-/* The same, with all that it takes. */
-static int verified_over(opgp_document *document, const opgp_keyring *keyring, const struct task *task)
+/* Says why a file can't be written, as errno has it. */
+static int cannot_write(const char *name)
 {
-    struct judging it = {.arithmetic = arithmetic_new(), .decisive = decisive_for(task)};
-    opgp_subpacket *subpackets = NULL;
-    uint32_t status = it.arithmetic ? make_subpackets(document, &subpackets, &it.subpacket_count) : OPGP_MEMORY;
-    it.subpackets = subpackets;
-    int exit_status = status == OPGP_DONE ? judged(document, keyring, &it, task) : said(3, opgp_status_text(status));
-    arithmetic_free(it.arithmetic);
-    free(subpackets);
-    return exit_status;
+    fprintf(stderr, "opgp-verify: can't write '%s': %s\n", name, strerror(errno));
+    return 3;
+}
+
+/* The same, and writes the document of a message, if there is a file for it: that gets its name behind the lines, and only with 0. */
+static int told_of_message(const struct judging *judging, const struct task *task)
+{
+    size_t size;
+    struct output output = {0};
+    const uint8_t *text = judging_text(judging, &size);
+    if (task->output && status_of_document(judging) == 0 && !output_write(&output, task->output, text, size, false)) {
+        return cannot_write(task->output);
+    }
+    int status = told_of_document(judging);
+    if (status == 0 && !output_keep(&output)) {
+        status = cannot_write(task->output);
+    }
+    output_end(&output);
+    return status;
 }
 
 /* Reads the signatures, then the keyrings, then the document, and judges. */
 static int verified_document(const char *name, const struct task *task)
 {
-    opgp_document document = {false, NULL};
-    opgp_keyring **keyrings = calloc(task->keyring_count, sizeof *keyrings);
-    int status = keyrings ? open_signatures(task->signature, &document) : said(3, "out of memory");
-    for (size_t i = 0; status == 0 && i < task->keyring_count; i++) {
-        status = read_keyring(task->keyrings[i], &keyrings[i]);
+    if (task->output && is_taken(task->output)) {
+        errno = EEXIST;
+        return cannot_write(task->output);
     }
-    status = status == 0 ? join_all(keyrings, task->keyring_count) : status;
-    status = status == 0 ? push_named(name, &document) : status;
-    status = status == 0 ? verified_over(&document, keyrings[0], task) : status;
-    for (size_t i = 0; keyrings && i < task->keyring_count; i++) {
-        opgp_close(keyrings[i]);
+    struct judging *judging = judging_new("opgp-verify", open_named);
+    if (!judging) {
+        return said(3, "out of memory");
     }
-    free(keyrings);
-    opgp_document_clear(&document);
+    enum outcome outcome = task->is_message ? judging_cleartext(judging, name) : judging_signatures(judging, task->signature);
+    outcome = outcome == STEP_DONE ? judging_keyrings(judging, task->keyrings, task->keyring_count) : outcome;
+    outcome = outcome == STEP_DONE && !task->is_message ? judging_document(judging, name) : outcome;
+    outcome = outcome == STEP_DONE ? judging_verdicts(judging, policy_of(task), now_of(task)) : outcome;
+    int status = outcome == STEP_DONE ? told_of_message(judging, task) : status_of(outcome);
+    judging_free(judging);
     return status;
 }
 
@@ -636,20 +507,27 @@ static int verified_document(const char *name, const struct task *task)
 
 #define USAGE "Usage: opgp-verify [OPTIONS] [FILE]\n"
 #define OF_DOCUMENTS "opgp-verify [OPTIONS] --signature <SIG> --keyring <FILE>... [DOCUMENT]\n"
+#define OF_MESSAGES "opgp-verify [OPTIONS] --cleartext --keyring <FILE>... [MESSAGE]\n"
 #define MORE "\nFor more information, try '--help'.\n"
 
 static const char help[] =
     "Verifies the signatures of the keyring in FILE, or on standard input, by OpenSSL's libcrypto; or with\n"
-    "--signature judges detached signatures over the DOCUMENT, or standard input, by the keys of keyrings\n"
-    "\n" USAGE "       " OF_DOCUMENTS "\n"
+    "--signature judges detached signatures over the DOCUMENT, or standard input, by the keys of keyrings; or\n"
+    "with --cleartext those in the MESSAGE over its text\n"
+    "\n" USAGE "       " OF_DOCUMENTS "       " OF_MESSAGES "\n"
     "Options:\n"
     "      --signature <SIG>  the file of the signatures, 64 at most; '-' is standard input\n"
+    "      --cleartext        the file is a message in the cleartext signature framework, such as InRelease\n"
+    "      --output <FILE>    write its text to this file, which must not exist, if the exit status is 0\n"
     "      --keyring <FILE>   a keyring with the signers, one for each time that this is given; or '-'\n"
-    "      --at <TIME>        the present time for --signature: seconds since 1970, or a date in UTC, such\n"
-    "                         as 2026-11-20 or 2026-11-20T08:30:00Z [default: that of the clock]\n"
+    "      --state            how each key, user ID and attribute of the keyring stands\n"
+    "      --at <TIME>        the present time for --signature, --cleartext and --state: seconds since 1970, or\n"
+    "                         a date in UTC, such as 2026-11-20 or 2026-11-20T08:30:00Z [default: the clock's]\n"
     "      --policy <POLICY>  usual: SHA-1, RSA keys of fewer than 2048 bits and other keys of less than\n"
-    "                         112 bits of strength are undecided, and bind no key with --signature; any:\n"
-    "                         they are verified too [default: usual] [possible values: usual, any]\n"
+    "                         112 bits of strength are undecided, and bind no key with --signature or\n"
+    "                         --state; any: they are verified too; none: so is what has an unknown critical\n"
+    "                         subpacket, for 'opgp state --verdicts' [default: usual] [possible values: usual,\n"
+    "                         any, none]\n"
     "      --require <WHAT>   good: end with 1 where no signature is good [possible values: good]\n"
     "      --jobs <N>         how many threads verify a keyring, 1 to 64 [default: as many as there are\n"
     "                         processors]\n"
@@ -659,15 +537,19 @@ static const char help[] =
     "A line for each signature, as 'opgp check' writes it, or 'opgp digest' of one over a document, with\n"
     "its verdict: good, bad, or undecided and why; and on standard error how many are good and so on.\n"
     "Of a keyring good is arithmetic: whether a key has expired, is revoked or may sign isn't judged. With\n"
-    "--signature it is: a good one whose key isn't to be believed is 'good unbelieved' and why.\n"
+    "--signature and --cleartext it is: a good one whose key isn't to be believed is 'good unbelieved' and\n"
+    "why. --state writes what 'opgp state' does: what each key is of use for, from when until when, or why it isn't.\n"
     "Exit status: 0 no signature is bad, of no signatures too; 1 one is bad, or none is good where that is\n"
-    "required, or with --signature none is good and believed, or an input is refused; 2 the command line\n"
-    "is invalid, or help was asked for; 3 reading, writing or memory failed.\n";
+    "required, or with --signature and --cleartext none is good and believed, or an input is refused; 2 the\n"
+    "command line is invalid, or help was asked for; 3 reading, writing or memory failed.\n";
 
 /* How to use the program for what the words name so far. */
 static const char *usage_of(const struct task *task)
 {
-    return task->signature || task->at || task->keyring_count > 0 ? "Usage: " OF_DOCUMENTS : USAGE;
+    if (task->is_message && !task->wants_states) {
+        return "Usage: " OF_MESSAGES;
+    }
+    return !task->wants_states && (task->signature || task->at || task->keyring_count > 0) ? "Usage: " OF_DOCUMENTS : USAGE;
 }
 
 /* Says what is wrong with a word, between two texts. */
@@ -680,7 +562,7 @@ static int wrong(const struct task *task, const char *front, const char *word, c
 /* An option that has a value: its name, as the help shows it, the values that it takes, or whether it takes one and what it says of
  * another, if not any; and where its value goes. */
 struct option {
-    const char *name, *shown, *values[2];
+    const char *name, *shown, *values[3];
     bool (*takes)(const char *value);
     const char *otherwise, **value;
 };
@@ -695,7 +577,6 @@ static bool is_option_word(const struct option *option, const char *word)
 /* Says what is wrong with the value of an option. */
 static int wrong_value(const struct option *option, const char *value)
 {
-    const char *const more = option->values[1] ? ", " : "";
     if (value && option->takes) {
         fprintf(stderr, "error: invalid value '%s' for '%s': %s %s\n", value, option->shown, value, option->otherwise);
     } else if (value) {
@@ -704,7 +585,11 @@ static int wrong_value(const struct option *option, const char *value)
         fprintf(stderr, "error: a value is required for '%s' but none was supplied\n", option->shown);
     }
     if (option->values[0]) {
-        fprintf(stderr, "  [possible values: %s%s%s]\n", option->values[0], more, option->values[1] ? option->values[1] : "");
+        fprintf(stderr, "  [possible values: %s", option->values[0]);
+        for (size_t i = 1; i < 3 && option->values[i]; i++) {
+            fprintf(stderr, ", %s", option->values[i]);
+        }
+        fputs("]\n", stderr);
     }
     fputs(MORE, stderr);
     return 2;
@@ -726,7 +611,7 @@ static int take_value(const struct task *task, const struct option *option, char
         return wrong_value(option, NULL);
     }
     bool is_taken = takes_any || (option->takes && option->takes(value));
-    for (size_t i = 0; i < 2; i++) {
+    for (size_t i = 0; i < 3; i++) {
         is_taken = is_taken || (option->values[i] && strcmp(value, option->values[i]) == 0);
     }
     if (!is_taken) {
@@ -740,13 +625,25 @@ static int take_value(const struct task *task, const struct option *option, char
 static int take_option(struct task *task, char ***words)
 {
     const struct option options[] = {
-        {"--policy", "--policy <POLICY>", {"usual", "any"}, NULL, NULL, &task->policy},
+        {"--policy", "--policy <POLICY>", {"usual", "any", "none"}, NULL, NULL, &task->policy},
         {"--require", "--require <WHAT>", {"good", NULL}, NULL, NULL, &task->require},
         {"--jobs", "--jobs <N>", {NULL, NULL}, is_jobs, "is not in 1..=64", &task->jobs},
         {"--at", "--at <TIME>", {NULL, NULL}, is_time, "is no time: seconds since 1970 or a date, 2026-11-20T08:30:00Z", &task->at},
         {"--signature", "--signature <SIG>", {NULL, NULL}, NULL, NULL, &task->signature},
+        {"--output", "--output <FILE>", {NULL, NULL}, NULL, NULL, &task->output},
         {"--keyring", "--keyring <FILE>", {NULL, NULL}, NULL, NULL, &task->keyrings[task->keyring_count]},
     };
+    const struct {
+        const char *name;
+        bool *is_there;
+    } alone[] = {{"--state", &task->wants_states}, {"--cleartext", &task->is_message}};
+    for (size_t i = 0; i < sizeof alone / sizeof *alone; i++) {
+        if (strcmp(**words, alone[i].name) == 0) {
+            bool is_second = *alone[i].is_there;
+            *alone[i].is_there = true;
+            return is_second ? wrong(task, "the argument ", alone[i].name, " cannot be used multiple times") : 0;
+        }
+    }
     for (size_t i = 0; i < sizeof options / sizeof *options; i++) {
         if (is_option_word(&options[i], **words)) {
             int status = take_value(task, &options[i], words);
@@ -761,18 +658,35 @@ static int take_option(struct task *task, char ***words)
 static int wrong_task(const struct task *task)
 {
     size_t inputs = !task->name || is_input(task->name) ? 1 : 0;
-    if (task->at && !task->signature) {
-        return wrong(task, "the argument ", "--at <TIME>", " cannot be used without '--signature <SIG>'");
+    bool judges = task->signature || task->is_message;
+    if (task->at && !judges && !task->wants_states) {
+        return wrong(task, "the argument ", "--at <TIME>", " cannot be used without '--signature <SIG>', '--cleartext' or '--state'");
     }
-    if (!task->signature && task->keyring_count == 0) {
+    if (task->is_message && (task->signature || task->wants_states)) {
+        return wrong(task, "the argument ", "--cleartext",
+                     task->signature ? " cannot be used with '--signature <SIG>'" : " cannot be used with '--state'");
+    }
+    if (task->output && (!task->is_message || strcmp(task->output, "-") == 0)) {
+        return wrong(task, "the argument ", "--output <FILE>",
+                     task->is_message ? " cannot be standard output, where the lines are" : " cannot be used without '--cleartext'");
+    }
+    if (task->wants_states && (task->signature || task->keyring_count > 0 || task->require)) {
+        return wrong(task, "the argument ", "--state",
+                     task->require ? " cannot be used with '--require <WHAT>'"
+                                   : " cannot be used with '--signature <SIG>' and '--keyring <FILE>'");
+    }
+    if (has_no_policy(task) && (judges || task->wants_states)) {
+        return wrong(task, "the argument ", "--policy none", " is for the signatures of a keyring alone");
+    }
+    if (!judges && task->keyring_count == 0) {
         return 0;
     }
-    if (!task->signature || task->keyring_count == 0) {
+    if (!judges || task->keyring_count == 0) {
         fprintf(stderr, "error: the following required arguments were not provided:\n  %s\n\n%s" MORE,
-                task->signature ? "--keyring <FILE>" : "--signature <SIG>", usage_of(task));
+                judges ? "--keyring <FILE>" : "--signature <SIG>", usage_of(task));
         return 2;
     }
-    inputs += is_input(task->signature);
+    inputs += task->signature && is_input(task->signature) ? 1 : 0;
     for (size_t i = 0; i < task->keyring_count; i++) {
         inputs += is_input(task->keyrings[i]);
     }
@@ -823,7 +737,7 @@ static int done(struct task *task, char **words)
         return said(3, "out of memory");
     }
     const char *name = task->name ? task->name : "-";
-    return task->signature ? verified_document(name, task) : verified_keyring(name, task);
+    return task->signature || task->is_message ? verified_document(name, task) : verified_keyring(name, task);
 }
 
 int main(int argc, char **argv)
@@ -833,6 +747,10 @@ int main(int argc, char **argv)
         return said(3, "the library is of another version");
     }
     arithmetic_begin();
+    dialect *other = argc > 0 ? dialect_of(argv[0]) : NULL;
+    if (other) {
+        return other(words);
+    }
     if (has_word(words, "-h", "--help")) {
         fputs(help, stderr);
         return 2;

@@ -845,35 +845,38 @@ static opgp_verdict verdict_in(const opgp_keyring *it, size_t row, const opgp_re
     return verdict_of(&question, verify, context);
 }
 
-/* Makes the table of what the key revocations of a keyring hash, for free(). */
-static uint32_t make_revocations(opgp_keyring *it, opgp_revocation **rows, uint64_t *count)
+/* Makes the table of what the key revocations of a keyring hash, for free(), and those that the verifier is asked by. */
+static uint32_t make_revocations(const opgp_keyring *keyring, opgp_revocation **rows, uint64_t *count)
 {
-    uint32_t status = opgp_ring_revocations(&it->ring, NULL, 0, count);
+    opgp_keyring *it = enter(keyring);
+    uint32_t status = want_keys(it);
+    status = status == OPGP_DONE ? want_jobs(it) : status;
+    status = status == OPGP_DONE ? opgp_ring_revocations(&it->ring, NULL, 0, count) : status;
     *rows = status == OPGP_DONE || status == OPGP_ROOM ? room_for(*count, sizeof **rows) : NULL;
     if (status == OPGP_ROOM) {
         status = *rows ? opgp_ring_revocations(&it->ring, *rows, (size_t)*count, count) : OPGP_MEMORY;
     }
-    return status;
+    return leave(it, *rows || status != OPGP_DONE ? status : OPGP_MEMORY);
 }
 
-/* Finds the verdicts on the rows of the certificates that have a signer. */
-static uint32_t find_verdicts(struct judging *it, opgp_verifier *verify, void *context)
+/* Finds the verdicts on the rows of a keyring, for free(): of these certificates alone, or of all if that is NULL. The tables don't
+ * change any more, so no lock is held while the verifier is called. */
+static uint32_t find_verdicts(const opgp_keyring *keyring, const bool *of_certificate, opgp_verifier *verify, void *context,
+                              uint8_t **verdicts)
 {
-    opgp_keyring *keyring = it->keyring;
     opgp_revocation *revocations = NULL;
     uint64_t count = 0, next = 0;
-    uint32_t status = want_jobs(keyring);
-    status = status == OPGP_DONE ? make_revocations(keyring, &revocations, &count) : status;
-    it->verdicts = status == OPGP_DONE ? room_for(keyring->job_sizes.rows, sizeof *it->verdicts) : NULL;
-    for (size_t row = 0; it->verdicts && row < keyring->job_sizes.rows; row++) {
+    uint32_t status = make_revocations(keyring, &revocations, &count);
+    *verdicts = status == OPGP_DONE ? room_for(keyring->job_sizes.rows, sizeof **verdicts) : NULL;
+    for (size_t row = 0; *verdicts && row < keyring->job_sizes.rows; row++) {
         bool is_one = next < count && revocations[next].row == row;
-        if (it->has_signer[keyring->jobs[row].certificate]) {
-            it->verdicts[row] = (uint8_t)verdict_in(keyring, row, is_one ? &revocations[next] : NULL, verify, context);
+        if (!of_certificate || of_certificate[keyring->jobs[row].certificate]) {
+            (*verdicts)[row] = (uint8_t)verdict_in(keyring, row, is_one ? &revocations[next] : NULL, verify, context);
         }
         next += is_one;
     }
     free(revocations);
-    return it->verdicts ? OPGP_DONE : OPGP_MEMORY;
+    return status == OPGP_DONE && !*verdicts ? OPGP_MEMORY : status;
 }
 
 /* Finds why a good signature isn't believed: at no place of its key, and then what is so at the first one. */
@@ -899,7 +902,7 @@ static uint32_t judge(struct judging *it, opgp_document *document, uint32_t poli
     uint32_t status = want_keys(it->keyring);
     status = status == OPGP_DONE ? opgp_signatures(document, it->keyring, &it->jobs, &it->count, &it->made) : status;
     status = status == OPGP_DONE ? find_signers(it, verify, context) : status;
-    status = status == OPGP_DONE && it->good > 0 ? find_verdicts(it, verify, context) : status;
+    status = status == OPGP_DONE && it->good > 0 ? find_verdicts(it->keyring, it->has_signer, verify, context, &it->verdicts) : status;
     for (size_t row = 0; status == OPGP_DONE && row < it->count; row++) {
         status = it->found[row] == OPGP_GOOD ? find_why(it, document, row, policy, now) : OPGP_DONE;
     }
@@ -921,6 +924,53 @@ uint32_t opgp_judge(opgp_document *document, const opgp_keyring *keyring, uint32
     free(it.has_signer);
     free(it.verdicts);
     opgp_close(it.keyring);
+    return status;
+}
+
+/* Makes the table of how the parts of a keyring stand, for free(). */
+static uint32_t make_states(opgp_keyring *it, const uint8_t *verdicts, uint32_t policy, uint64_t at, opgp_state **rows, uint64_t *count)
+{
+    size_t found = (size_t)it->job_sizes.rows;
+    uint32_t status = opgp_ring_states(&it->ring, verdicts, found, policy, at, NULL, 0, count);
+    *rows = status == OPGP_DONE || status == OPGP_ROOM ? room_for(*count, sizeof **rows) : NULL;
+    if (status == OPGP_ROOM) {
+        status = *rows ? opgp_ring_states(&it->ring, verdicts, found, policy, at, *rows, (size_t)*count, count) : OPGP_MEMORY;
+    }
+    if (status == OPGP_DONE && !*rows) {
+        status = OPGP_MEMORY;
+    }
+    return status;
+}
+
+uint32_t opgp_revocations(const opgp_keyring *keyring, opgp_revocation **rows, size_t *count)
+{
+    uint64_t found = 0;
+    uint32_t status = make_revocations(keyring, rows, &found);
+    if (status != OPGP_DONE) {
+        free(*rows);
+        *rows = NULL;
+    }
+    *count = *rows ? (size_t)found : 0;
+    return status;
+}
+
+uint32_t opgp_states(const opgp_keyring *keyring, uint32_t policy, uint64_t at, opgp_verifier *verify, void *context,
+                     opgp_state **rows, size_t *count)
+{
+    uint8_t *verdicts = NULL;
+    uint64_t found = 0;
+    uint32_t status = policy > OPGP_POLICY_ANY ? OPGP_LIMITS : find_verdicts(keyring, NULL, verify, context, &verdicts);
+    *rows = NULL;
+    if (status == OPGP_DONE) {
+        opgp_keyring *it = enter(keyring);
+        status = leave(it, make_states(it, verdicts, policy, at, rows, &found));
+    }
+    free(verdicts);
+    if (status != OPGP_DONE) {
+        free(*rows);
+        *rows = NULL;
+    }
+    *count = *rows ? (size_t)found : 0;
     return status;
 }
 

@@ -41,8 +41,8 @@ extern "C" {
 
 /* The version of the structs and calls below. opgp_abi() of the library must return it. It changes where one of them does, not where
  * one is added. New in 3: opgp_document and its calls, opgp_signatures, opgp_canonical, opgp_state and opgp_ring_states,
- * opgp_revocation and opgp_ring_revocations, opgp_ring_standing, opgp_document_standing and opgp_judge; the statuses 8 and 9; and the
- * why 6. */
+ * opgp_revocation and opgp_ring_revocations, opgp_ring_standing, opgp_document_standing, opgp_judge, opgp_states and
+ * opgp_revocations, and opgp_cleartext_open; the statuses 8 and 9; and the why 6. */
 #define OPGP_ABI 3
 
 /* The version of the library, for people. */
@@ -77,7 +77,8 @@ enum {
     OPGP_SUBPACKET_KINDS = 4, /* 5.2.3.7 */
     OPGP_LAYERS = 5,          /* of a fault */
     OPGP_REASONS = 6,         /* of a fault */
-    OPGP_WHYS = 7             /* why a signature isn't hashed */
+    OPGP_WHYS = 7,            /* why a signature isn't hashed */
+    OPGP_UNBELIEVED = 8       /* why a key, or a signature over a document, isn't believed */
 };
 
 /* ---- The standard's registered numbers, each with the name that opgp_name has for it. */
@@ -747,6 +748,28 @@ OPGP_API uint32_t opgp_document_standing(opgp_document *document, opgp_ring *rin
 OPGP_API void opgp_document_close(opgp_document document);
 OPGP_API void opgp_document_clear(opgp_document *document);
 
+/* Reads a message in the cleartext signature framework (7), such as an InRelease file or a signed mail. Its document, at most n octets,
+ * goes to text[0 .. room): its lines with a line feed between them, and none at the end. The handle then holds the signatures, over that
+ * document, which has ended; what it held before is freed. *size is how many octets the document has.
+ *
+ * Strict: outside of the message only blank lines may be, its headers name hash algorithms alone, and no line begins with a hyphen
+ * unless it is escaped. docs/FORMAT.md has the rules. Until a signature is verified the document may be anybody's. Programs disagree
+ * on signatures of another type than 01 here. opgp_judge doesn't know that this document is a message's: believe none of another type.
+ *
+ * OPGP_DONE; OPGP_REFUSED with *fault: the first line that no message has there, or what is wrong with the signatures; OPGP_ROOM;
+ * OPGP_MANY; OPGP_LIMITS; OPGP_MEMORY. With the last three *size means nothing.
+ *
+ * Proved:
+ *
+ * - OPGP_DONE: the text begins with the document of the one message that the octets are, and is otherwise as it was. The handle holds
+ *   the signatures that follow it, and what each hashes over that document.
+ * - OPGP_REFUSED: the octets are no message with signatures, or more than the limit input allows, and *fault says where and why.
+ * - OPGP_ROOM: the text has less room than *size says.
+ * - OPGP_MANY is returned only if there are more than OPGP_MOST_SIGNATURES, and OPGP_DONE only if there aren't.
+ * - With any status but OPGP_DONE the text and the handle are unchanged. */
+OPGP_API uint32_t opgp_cleartext_open(const uint8_t *in, size_t n, const opgp_limits *limits, uint8_t *text, size_t room, uint64_t *size,
+                                      opgp_document *document, opgp_fault *fault);
+
 /* Make the canonical text of a document (5.2.1.2), which comes in pieces of any size: what signatures of type 01 are over. A line
  * ends in a line feed, or in a carriage return and a line feed; in the text each ends in the two. What is behind the last line end
  * stays as it is. A document with a carriage return that no line feed follows has no canonical text: programs disagree about it.
@@ -954,6 +977,23 @@ typedef int opgp_judge_reporter(void *context, const opgp_question *question, op
  * OPGP_GOING, OPGP_MEMORY, OPGP_CLOSED. */
 OPGP_API uint32_t opgp_judge(opgp_document *document, const opgp_keyring *keyring, uint32_t policy, uint64_t now,
                              opgp_verifier *verify, opgp_judge_reporter *report, void *context);
+
+/* Finds what the revocations of primary keys hash over the primary key alone: the rows of opgp_ring_revocations, for free().
+ *
+ * OPGP_DONE; OPGP_MEMORY: *rows is NULL, and *count 0. */
+OPGP_API uint32_t opgp_revocations(const opgp_keyring *keyring, opgp_revocation **rows, size_t *count);
+
+/* Finds how each key, user ID and attribute of a keyring stands at a time, in seconds since 1970, by a policy (OPGP_POLICY_USUAL ..):
+ * the rows of opgp_ring_states, for free(). docs/VALIDITY.md has the rule.
+ *
+ * The verifier is called as opgp_check calls it, and for key revocations that stand behind another part: they are over the primary
+ * key alone (5.2.1.11), so their job has the digest of that. Only arithmetic is asked for, since the rule looks at the policy itself.
+ * What isn't found good counts for nothing, revocations too; with NULL as verify nothing is. It may make calls on the keyring, but
+ * not close it. Each certificate is judged alone: merge a keyring that may have one twice.
+ *
+ * OPGP_DONE; or *rows is NULL and *count 0: OPGP_LIMITS: there is no such policy; OPGP_MEMORY. */
+OPGP_API uint32_t opgp_states(const opgp_keyring *keyring, uint32_t policy, uint64_t at, opgp_verifier *verify, void *context,
+                              opgp_state **rows, size_t *count);
 
 /* What a status means, in a few words, or "unknown". The text is static. */
 OPGP_API const char *opgp_status_text(uint32_t status);

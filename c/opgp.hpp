@@ -6,6 +6,8 @@
 #include "opgp.h"
 
 #include <cstdlib>
+#include <exception>
+#include <functional>
 #include <memory>
 #include <new>
 #include <optional>
@@ -13,6 +15,7 @@
 #include <string>
 #include <string_view>
 #include <utility>
+#include <vector>
 
 namespace opgp {
 
@@ -58,6 +61,60 @@ public:
 private:
     const Row *first;
     std::size_t rows;
+};
+
+/* What verifies: whether a key made a signature. What it throws, the call that asked it throws in the end. */
+using Verifier = std::function<opgp_verdict(const opgp_question &)>;
+
+/* Whether a signature over a document is to be believed: why is OPGP_BELIEVED, or why it isn't. */
+struct Judgement {
+    opgp_verdict verdict;
+    uint8_t why;
+    std::string signer; /* the fingerprint of its key; empty if the keyring hasn't got it */
+};
+
+/* Asks a verifier for C, through which no exception goes, and takes what is told. */
+class Asked {
+public:
+    explicit Asked(const Verifier &given) : verify(given) {}
+
+    static opgp_verdict ask(void *context, const opgp_question *question) noexcept
+    {
+        Asked *it = static_cast<Asked *>(context);
+        try {
+            return it->raised ? OPGP_UNDECIDED : it->verify(*question);
+        } catch (...) {
+            it->raised = std::current_exception();
+            return OPGP_UNDECIDED;
+        }
+    }
+
+    static int tell(void *context, const opgp_question *question, opgp_verdict verdict, uint8_t why) noexcept
+    {
+        Asked *it = static_cast<Asked *>(context);
+        const opgp_key *key = question->signer;
+        try {
+            it->found.push_back({verdict, why, key ? std::string(key->print, key->print + key->print_size) : std::string()});
+        } catch (...) {
+            it->raised = std::current_exception();
+        }
+        return it->raised ? 1 : 0;
+    }
+
+    /* Throws what was thrown, or an exception for a status. */
+    void check(uint32_t status) const
+    {
+        if (raised) {
+            std::rethrow_exception(raised);
+        }
+        opgp::check(status);
+    }
+
+    std::vector<Judgement> found;
+
+private:
+    const Verifier &verify;
+    std::exception_ptr raised;
 };
 
 class Keyring {
@@ -114,6 +171,18 @@ public:
         opgp_keyring *found = nullptr;
         check(opgp_certificate(get(), number, &found));
         return Keyring(found);
+    }
+
+    /* How each key, user ID and attribute stands at a time, in seconds since 1970. */
+    std::vector<opgp_state> states(uint64_t time, const Verifier &verify, uint32_t policy = OPGP_POLICY_USUAL) const
+    {
+        opgp_state *rows = nullptr;
+        std::size_t count = 0;
+        Asked asked(verify);
+        uint32_t status = opgp_states(get(), policy, time, &Asked::ask, &asked, &rows, &count);
+        std::unique_ptr<opgp_state, decltype(&std::free)> owned(rows, &std::free);
+        asked.check(status);
+        return std::vector<opgp_state>(rows, rows + count);
     }
 
     const opgp_keyring *get() const { return at.get(); }
@@ -269,6 +338,15 @@ public:
         std::size_t count = 0;
         check(opgp_signatures(&handle, keyring ? keyring->get() : nullptr, &rows, &count, &bytes));
         return Signatures(rows, count, bytes);
+    }
+
+    /* Whether each signature is to be believed, once the document has ended, at a present time in seconds since 1970. */
+    std::vector<Judgement> judge(const Keyring &keyring, uint64_t now, const Verifier &verify, uint32_t policy = OPGP_POLICY_USUAL)
+    {
+        Asked asked(verify);
+        uint32_t status = opgp_judge(&handle, keyring.get(), policy, now, &Asked::ask, &Asked::tell, &asked);
+        asked.check(status);
+        return std::move(asked.found);
     }
 
     /* What the signature of a row hashes in front of the document, or behind it. */

@@ -9,19 +9,25 @@ _opgp() {
         before=${COMP_WORDS[COMP_CWORD - 2]}
     fi
     if [ "$COMP_CWORD" = 1 ]; then
-        words="show list check octets write normalise split join signatures digest canonical help --help"
+        words="show list check state octets write normalise split join signatures digest canonical cleartext help --help"
     else
         case $before in
             --mode) words="auto armor binary" ;;
             --outside) words="skip refuse" ;;
             --malformed) words="refuse keep" ;;
             --out) words="armor binary" ;;
-            --of) words="ring literal" ;;
-            --row | --nth | --key | --user-id | --octets | --line | --body | --cert | --input | --pieces)
-                compopt +o default # a number or a key, and no file
+            --of)
+                case ${COMP_WORDS[1]} in
+                    cleartext) words="document hashed signatures" ;;
+                    *) words="ring literal" ;;
+                esac
+                ;;
+            --policy) words="usual any" ;;
+            --row | --nth | --key | --at | --user-id | --octets | --line | --body | --cert | --input | --pieces)
+                compopt +o default # a number, a key or a time, and no file
                 return
                 ;;
-            --signatures)
+            --signatures | --verdicts)
                 compopt -o default
                 return
                 ;;
@@ -33,14 +39,16 @@ _opgp() {
                 case ${COMP_WORDS[1]} in
                     show | list) words="--values $limits" ;;
                     check) words="--fingerprints $limits" ;;
+                    state) words="--at --policy --verdicts $limits" ;;
                     octets) words="--row --all --of $limits" ;;
                     write) words="--out --own-signatures --no-attributes --user-id $limits" ;;
                     normalise) words="--out $limits" ;;
                     split) words="--out --nth --key $limits" ;;
                     join) words="--out --merge $limits" ;;
                     signatures | canonical) words=$limits ;;
+                    cleartext) words="--of $limits" ;;
                     digest) words="--signatures --octets --salt $limits" ;;
-                    help) words="show list check octets write normalise split join signatures digest canonical help" ;;
+                    help) words="show list check state octets write normalise split join signatures digest canonical cleartext help" ;;
                     *) return ;;
                 esac
                 ;;

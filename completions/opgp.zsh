@@ -6,6 +6,7 @@ _opgp() {
         'show:list every packet and every subpacket'
         'list:list the packets of a keyring'
         'check:list the signatures of a keyring'
+        'state:list how the keys and user IDs of a keyring stand at a time'
         'octets:write the octets that signatures hash'
         'write:write a keyring, with its framing'
         'normalise:write a keyring in the current format'
@@ -14,6 +15,7 @@ _opgp() {
         'signatures:list detached signatures'
         'digest:list the digests that signatures have of a document'
         'canonical:write the canonical text of a document'
+        'cleartext:write the document of a cleartext signed message'
         'help:prints the help of the program or of a command'
     )
     limits=(
@@ -39,12 +41,14 @@ _opgp() {
         show) shift words; ((CURRENT--)); _arguments $limits '--values[show the fields of each packet, and what each subpacket means]' ;;
         list) shift words; ((CURRENT--)); _arguments $limits '--values[show the left 16 bits, the creation time and the issuer of each signature]' ;;
         check) shift words; ((CURRENT--)); _arguments $limits '--fingerprints[show the fingerprints of each signature'"'"'s certificate and signer]' ;;
+        state) shift words; ((CURRENT--)); _arguments $limits '--at=[the time, in seconds since 1970 or as a UTC date]:time:' '--policy=[which hash algorithms and keys to rely on]:policy:(usual any)' '--verdicts=[the file of verdicts of a verifier on the signatures]:file:_files' ;;
         octets) shift words; ((CURRENT--)); _arguments $limits '--row=[the number of the row]:number:' '--all[write those of every row, each after a line of its own]' '--of=[what to read the input as]:top:(ring literal)' ;;
         write) shift words; ((CURRENT--)); _arguments $limits $out '--own-signatures[leave out signatures that do not name the primary key as their issuer]' '--no-attributes[leave out user attributes]' '--user-id=[the number of the one user ID to keep in each certificate, from 0]:number:' ;;
         normalise) shift words; ((CURRENT--)); _arguments $limits $out ;;
         split) shift words; ((CURRENT--)); _arguments $limits $out '--nth=[the number of the certificate]:number:' '--key=[the fingerprint or key ID of a key]:key:' ;;
         join) shift words; ((CURRENT--)); _arguments $limits $out '--merge[merge certificates of the same primary key]' ;;
         signatures | canonical) shift words; ((CURRENT--)); _arguments $limits ;;
+        cleartext) shift words; ((CURRENT--)); _arguments $limits '--of=[what to write of the message]:part:(document hashed signatures)' ;;
         digest) shift words; ((CURRENT--)); _arguments $limits '--signatures=[the file of the detached signatures]:file:_files' '--octets=[write what the signature of this number hashes behind the document]:number:' '--salt[with --octets, write what it hashes in front of it]' ;;
         help) _describe command commands ;;
     esac

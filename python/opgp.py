@@ -37,7 +37,7 @@ import threading
 from typing import Any, BinaryIO, Callable, Iterable, Iterator, NamedTuple, Optional, TypeVar, Union
 
 __all__ = ["Certificate", "Document", "Fault", "Judgement", "Key", "KeyFlags", "Keyring", "Limits", "Packet", "Question", "Reader"]
-__all__ += ["Signature", "Subpacket", "Verdict", "Why", "document", "parts", "read"]
+__all__ += ["Signature", "State", "Subpacket", "Verdict", "Why", "cleartext", "document", "parts", "read"]
 
 _ABI = 3
 _NONE = 2**64 - 1
@@ -147,6 +147,18 @@ class _Revocation(ctypes.Structure):
     _fields_ = [("row", ctypes.c_uint64), ("digest_size", ctypes.c_uint8), ("digest", ctypes.c_uint8 * 64), ("reserved", ctypes.c_uint8 * 7)]
 
 
+class _State(ctypes.Structure):
+    _fields_ = [(name, ctypes.c_uint64) for name in ("certificate", "component", "end")] + [
+        ("begin", ctypes.c_uint32),
+        ("why", ctypes.c_uint8),
+        ("is_key", ctypes.c_uint8),
+        ("uses", ctypes.c_uint8),
+        ("has_reason", ctypes.c_uint8),
+        ("reason", ctypes.c_uint8),
+        ("reserved", ctypes.c_uint8 * 7),
+    ]
+
+
 class _Reader(ctypes.Structure):
     _fields_ = [("is_open", ctypes.c_bool), ("at", ctypes.c_void_p)]
 
@@ -204,6 +216,7 @@ def _load() -> ctypes.CDLL:
         ("reader_clear", None, pointer(_Reader)),
         ("take", status, pointer(_Reader), pointer(keyring)),
         ("document_open", status, ctypes.c_char_p, size, status, pointer(_Limits), pointer(_Document), pointer(_Fault)),
+        ("cleartext_open", status, ctypes.c_char_p, size, pointer(_Limits), octets, size, pointer(number), pointer(_Document), pointer(_Fault)),
         ("document_push", status, pointer(_Document), ctypes.c_char_p, size),
         ("document_end", status, pointer(_Document)),
         ("document_subpackets", status, pointer(_Document), pointer(_Subpacket), size, octets, size, pointer(_Sizes)),
@@ -214,6 +227,7 @@ def _load() -> ctypes.CDLL:
         ("ring_clear", None, pointer(_Ring)),
         ("ring_revocations", status, pointer(_Ring), pointer(_Revocation), size, pointer(number)),
         ("ring_standing", status, pointer(_Ring), *verdicts, *[number] * 4, octets),
+        ("ring_states", status, pointer(_Ring), *verdicts, number, pointer(_State), size, pointer(number)),
         ("document_standing", status, pointer(_Document), pointer(_Ring), *verdicts, *[number] * 4, octets),
         ("check", status, keyring, _Verifier, _Reporter, ctypes.c_void_p),
         ("status_text", ctypes.c_char_p, status),
@@ -635,6 +649,29 @@ class Why(enum.Enum):
     """The verdict on the signature is UNDECIDED."""
 
 
+class State(NamedTuple):
+    """How a key, user ID or user attribute stands at a time. docs/VALIDITY.md has the rule."""
+
+    certificate: int
+    """The number of its certificate."""
+    component: Optional[int]
+    """The number of the component that it is; None for a primary key."""
+    is_key: bool
+    """Whether it is a key."""
+    why: Optional[Why]
+    """Why a key is of no use: REVOKED, EARLY, UNBOUND or EXPIRED, the first that applies; None if it is of use. Of a user ID or
+    attribute: REVOKED if the primary key revoked a certification of it, whenever; UNBOUND if it certified none; else None."""
+    uses: KeyFlags
+    """What all that is heard for a key lets it be used for (5.2.3.29): of CERTIFY, SIGN, ENCRYPT_COMMUNICATIONS and
+    AUTHENTICATE. The third stands for both kinds of encryption."""
+    begin: Optional[int]
+    """Since when both a key and its primary key are there, in seconds since 1970."""
+    end: Optional[int]
+    """When a key expires, or its primary key does, in seconds since 1970; None: never."""
+    reason: Optional[int]
+    """The code of the reason that the first revocation of a key states (5.2.3.31)."""
+
+
 class Judgement(NamedTuple):
     """Whether a signature over a document is believed."""
 
@@ -792,6 +829,37 @@ def _verdicts(handle: _Handle, certificate: int, verify: Optional[Verifier], rev
     return bytes(rows[0].row if rows else 0) + bytes(it.value for it in found)
 
 
+def _states(
+    handle: _Handle, at: int, verify: Optional[Verifier], policy: str, certificate: Optional[int] = None
+) -> Iterator[State]:
+    """How the parts of a certificate stand, or those of all, of which the signatures are verified."""
+    number, time, revocations = _policy(policy), _time(at), _revocations(handle)
+    if certificate is None:
+        rows = _signatures(handle)
+        verdicts = bytes(_verdict(_over_the_key(it, revocations), handle, verify).value for it in rows)
+    else:
+        verdicts = _verdicts(handle, certificate, verify, revocations)
+    size = ctypes.c_uint64(len(_packets(handle)))  # of which each part has one
+    states = (_State * size.value)()
+    call, given = _library.opgp_ring_states, (verdicts, len(verdicts), number, time)
+    _raise_but_for_done(handle.by_ring(lambda ring: call(ring, *given, states, len(states), size)))
+    return (_state(it) for it in states[: size.value] if certificate in (None, it.certificate))
+
+
+def _state(it: Any) -> State:
+    """The state in a row of the library's table."""
+    return State(
+        it.certificate,
+        _number(it.component),
+        bool(it.is_key),
+        Why(it.why) if it.why else None,
+        KeyFlags(it.uses),
+        it.begin if it.is_key else None,
+        _number(it.end),
+        it.reason if it.has_reason else None,
+    )
+
+
 def _known(handle: _Handle, key: Key) -> Key:
     """The key, if it is one of this keyring."""
     if not isinstance(key, Key):
@@ -894,6 +962,11 @@ class Certificate:
     def user_ids(self) -> tuple[str, ...]:
         """The user IDs (5.11), as UTF-8. An octet that isn't UTF-8 is a lone surrogate, as os.fsdecode makes it."""
         return tuple(it.body.decode("utf-8", "surrogateescape") for it in self.packets if it.kind == 13)
+
+    def state(self, at: int, verify: Optional[Verifier], policy: str = "usual") -> list[State]:
+        """How its primary key stands at a time, in seconds since 1970, and then each of its components, in order. As
+        `Keyring.states` says it, which is quicker for many certificates. Only signatures of this one are verified."""
+        return list(_states(self._handle, at, verify, policy, self.number))
 
     def __eq__(self, other: object) -> bool:
         if not isinstance(other, Certificate):
@@ -1075,6 +1148,18 @@ class Keyring(_Held):
         return rule.why(_known(handle, key), lambda ring, given, place, why: call(ring, *given, *place, *times, why))
 
 
+    def states(self, at: int, verify: Optional[Verifier], policy: str = "usual") -> list[State]:
+        """How each key, user ID and user attribute stands at a time, in seconds since 1970: the primary key of each certificate,
+        and then its components, in order. docs/VALIDITY.md has the rule, which is proved.
+
+        `verify` is called at most once for each signature of the keyring. What it should verify, and the policy, are those of
+        `standing`. With None no signature is good.
+
+        Raises ValueError for a time below 0 or from 2**64 on, another policy, or a closed keyring; and what `verify` raises.
+        """
+        return list(_states(self._open(), at, verify, policy))
+
+
 class Reader(_Held):
     """Reads a keyring whose octets, armored or binary, come in pieces of any size. It gives the parts as they are complete, as
     keyrings of their own: each certificate, and the packets before the first one, if there are any.
@@ -1143,10 +1228,11 @@ class Document(_Held):
 
     _lock: Any
     _document: Any
+    _is_cleartext: bool
 
     def __new__(cls, *_: Any, **__: Any) -> Document:
         made = super().__new__(cls)
-        made._lock, made._document = threading.RLock(), _Hashed()
+        made._lock, made._document, made._is_cleartext = threading.RLock(), _Hashed(), False
         return made
 
     def __init__(self, signatures: Octets, limits: Optional[Limits] = None, mode: str = "auto") -> None:
@@ -1158,7 +1244,7 @@ class Document(_Held):
             raise ValueError(f"there are more than {_MOST_SIGNATURES} signatures")
         _raise_if_refused(status, fault)
         with self._lock:
-            self._document = made
+            self._document, self._is_cleartext = made, False
 
     def push(self, piece: Octets) -> None:
         """Takes the next piece of the document. Raises ValueError if the document has ended, or is closed."""
@@ -1212,13 +1298,17 @@ class Document(_Held):
         - BAD if its digest doesn't begin with the 16 bits that it states;
         - what `verify` returns, which is called once, if it is hashed, and its issuer's key is in the keyring and has its
           version;
-        - UNDECIDED for all others; without a `verify`, for all that aren't bad.
+        - UNDECIDED for all others; without a `verify`, for all that aren't bad. Of a cleartext message that's also what isn't of
+          type 01.
 
         What `verify` raises ends the check, and is raised here. GOOD is arithmetic and no more. Expiries, revocations, key flags
         and critical subpackets aren't looked at: see `judge`.
         """
         handle = _opened(keyring)
-        return [(it, _verdict(it, handle, verify)) for it in self._found(self._document, handle)]
+        return [(it, self._verdict(it, handle, verify)) for it in self._found(self._document, handle)]
+
+    def _verdict(self, it: Signature, handle: _Handle, verify: Optional[Verifier]) -> Verdict:
+        return _verdict(it, handle, None if self._is_cleartext and it.kind != 1 else verify)
 
     def judge(self, keyring: Keyring, verify: Verifier, now: int, policy: str = "usual") -> list[Judgement]:
         """Whether each signature over the document, in order, may be believed at this time, in seconds since 1970. The verdict on
@@ -1242,7 +1332,7 @@ class Document(_Held):
 
         found = []
         for it in self._found(document, rule.handle):
-            verdict = _verdict(it, rule.handle, verify)
+            verdict = self._verdict(it, rule.handle, verify)
             signer = None if it.signer is None else _key_at(rule.handle, it.signer)
             if signer and verdict is Verdict.GOOD:
                 why = rule.why_anywhere(signer, functools.partial(ask, it.row))
@@ -1400,6 +1490,23 @@ def document(
         made.close()
         raise
     return made
+
+
+def cleartext(message: Octets, limits: Optional[Limits] = None) -> tuple[bytes, Document]:
+    """The document of a message in the cleartext signature framework (7), and the signatures over it: `Document.judge` says which
+    may be believed. Before that, nothing says that the document is genuine. Its lines end in a line feed, but for the last one. All
+    that isn't blank outside of the message is refused.
+
+    Programs disagree on signatures of another type than 01 over such a document, so these are UNDECIDED. Raises what `Document`
+    raises."""
+    octets, within, fault, made, size = _bytes(message), _limits(limits), _Fault(), Document.__new__(Document), ctypes.c_uint64()
+    text = (ctypes.c_uint8 * len(octets))()
+    status = _library.opgp_cleartext_open(octets, len(octets), within, text, len(text), size, made._document, fault)
+    if status == _MANY:
+        raise ValueError(f"there are more than {_MOST_SIGNATURES} signatures")
+    _raise_if_refused(status, fault)
+    made._is_cleartext = True
+    return bytes(memoryview(text)[: size.value]), made
 
 
 def _pieces(source: BinaryIO, size: int) -> Iterator[bytes]:

@@ -375,7 +375,7 @@ static int documented(const char *numbers, const opgp_limits *limits)
 /* Prints each number that a table has a name for, with the name. */
 static int named(void)
 {
-    for (uint32_t table = 0; table <= OPGP_WHYS; table++) {
+    for (uint32_t table = 0; table <= OPGP_UNBELIEVED; table++) {
         for (unsigned number = 0; number <= UINT8_MAX; number++) {
             uint8_t name[OPGP_NAME_ROOM];
             uint64_t n = 0;
@@ -555,7 +555,7 @@ static void texts(void)
     opgp_fault fault = {1, 22, 333, 0, 0, {1}};
     uint64_t n = 7;
     uint8_t byte = 0xA5;
-    for (uint32_t table = 0; table <= OPGP_WHYS; table++) {
+    for (uint32_t table = 0; table <= OPGP_UNBELIEVED; table++) {
         for (unsigned number = 0; number <= UINT8_MAX; number++) {
             uint32_t first = opgp_name(table, (uint8_t)number, &byte, 0, &n);
             holds(first == OPGP_ROOM ? n > 0 && n < OPGP_NAME_ROOM : first == OPGP_NO_ROW && n == 7 && byte == 0xA5, "a name");
@@ -565,7 +565,7 @@ static void texts(void)
             n = 7;
         }
     }
-    const uint32_t others[] = {OPGP_WHYS + 1, 256, 1U << 31, UINT32_MAX};
+    const uint32_t others[] = {OPGP_UNBELIEVED + 1, 256, 1U << 31, UINT32_MAX};
     for (size_t i = 0; i < sizeof others / sizeof *others; i++) {
         holds(opgp_name(others[i], 1, &byte, 1, &n) == OPGP_NO_ROW && n == 7 && byte == 0xA5, "a table that there isn't");
     }
@@ -1285,6 +1285,95 @@ static bool judge_document(void)
     return status == OPGP_DONE;
 }
 
+/* What is answered about each signature, how often one is asked about, and in which row that was last. */
+struct answering {
+    int answer;
+    size_t asked, next;
+};
+
+static opgp_verdict answer(void *context, const opgp_question *question)
+{
+    struct answering *it = context;
+    holds(question->row >= it->next && question->signer && question->signer->version == question->job->version
+              && question->job->why == OPGP_WHY_HASHED && !question->job->is_bad,
+          "a question, in the order of rows");
+    it->next = question->row + 1;
+    it->asked++;
+    return (opgp_verdict)it->answer;
+}
+
+/* Finds the verdicts on the rows of a keyring, where each that is asked about has this one; and how many are asked about. */
+static size_t verdicts_by(const opgp_keyring *keyring, opgp_ring *ring, int given, uint8_t *verdicts)
+{
+    static opgp_revocation revocations[MOST / 64];
+    size_t rows, keys, asked = 0;
+    uint64_t n = 0;
+    const opgp_job *jobs = jobs_in(keyring, &rows);
+    const opgp_key *table = keys_in(keyring, &keys);
+    holds(opgp_ring_revocations(ring, revocations, sizeof revocations / sizeof *revocations, &n) == OPGP_DONE, "revocations");
+    for (size_t row = 0; row < rows; row++) {
+        const opgp_revocation *alone = NULL;
+        for (uint64_t i = 0; i < n && jobs[row].why == OPGP_WHY_MISPLACED; i++) {
+            alone = revocations[i].row == row ? &revocations[i] : alone;
+        }
+        bool is_hashed = jobs[row].why == OPGP_WHY_HASHED || alone;
+        bool is_bad = alone ? memcmp(alone->digest, jobs[row].left, 2) != 0 : jobs[row].is_bad;
+        bool is_asked = is_hashed && !is_bad && jobs[row].signer < keys && table[jobs[row].signer].version == jobs[row].version;
+        asked += is_asked;
+        verdicts[row] = is_bad ? OPGP_BAD : is_asked && (given == OPGP_GOOD || given == OPGP_BAD) ? (uint8_t)given : OPGP_UNDECIDED;
+    }
+    return asked;
+}
+
+/* The states that opgp_states finds by each answer are those of the proved call, by these verdicts. */
+static void states_on_top(const opgp_keyring *keyring)
+{
+    static opgp_state wanted[MOST / 32];
+    static uint8_t verdicts[MOST];
+    opgp_limits limits;
+    opgp_ring ring = {false, NULL};
+    opgp_fault fault;
+    opgp_state *rows = wanted;
+    size_t count = 1;
+    struct answering it = {OPGP_GOOD, 0, 0};
+    opgp_usual_limits(&limits);
+    holds(opgp_ring_open(in, size, &limits, &ring, &fault) == OPGP_DONE, "the same keyring");
+    holds(opgp_states(keyring, 2, 0, answer, &it, &rows, &count) == OPGP_LIMITS && !rows && count == 0 && it.asked == 0, "states by no policy");
+    for (int given = -2; given < 4; given++) {
+        size_t asked = verdicts_by(keyring, &ring, given, verdicts), jobs;
+        jobs_in(keyring, &jobs);
+        for (uint32_t policy = 0; policy < 2; policy++) {
+            for (uint64_t at = 0; at <= UINT64_C(1) << 33; at += UINT64_C(1) << 30) {
+                uint64_t n = 0;
+                it = (struct answering){given, 0, 0};
+                holds(opgp_ring_states(&ring, verdicts, jobs, policy, at, wanted, sizeof wanted / sizeof *wanted, &n) == OPGP_DONE, "states");
+                uint32_t status = opgp_states(keyring, policy, at, given < -1 ? NULL : answer, &it, &rows, &count);
+                holds(status == OPGP_DONE && rows && count == n && memcmp(rows, wanted, count * sizeof *rows) == 0, "states by a verifier");
+                holds(it.asked == (given < -1 ? 0 : asked), "who is asked for states");
+                free(rows);
+            }
+        }
+    }
+    opgp_ring_close(ring);
+}
+
+/* Finds states until memory runs out; then there are none. */
+static bool find_states(void)
+{
+    opgp_keyring *keyring = NULL;
+    opgp_state *rows = NULL;
+    size_t count = 1;
+    struct answering it = {OPGP_GOOD, 0, 0};
+    uint32_t status = opgp_open(in, size, NULL, &keyring, NULL);
+    if (status == OPGP_DONE) {
+        status = opgp_states(keyring, OPGP_POLICY_USUAL, 0, answer, &it, &rows, &count);
+        holds(status == OPGP_DONE ? rows != NULL : status == OPGP_MEMORY && !rows && count == 0, "states where memory runs out");
+    }
+    free(rows);
+    opgp_close(keyring);
+    return status == OPGP_DONE;
+}
+
 static void on_top(void)
 {
     opgp_keyring *keyring = NULL;
@@ -1323,6 +1412,7 @@ static void on_top(void)
     ways(keyring);
     orders(keyring, rows);
     judgements();
+    states_on_top(keyring);
     opgp_keyring *twice = NULL;
     uint8_t *alone = NULL;
     size_t size_of_it = 0;
@@ -1347,7 +1437,7 @@ static void on_top(void)
                                                   "inner 18446744073709551615") == 0,
           "the longest line of a fault");
     holds(strcmp(opgp_fault_text(&unknown, text), "unknown") == 0, "a fault that there isn't");
-    holds(strcmp(opgp_name_text(OPGP_WHYS, 0, name), "unknown") == 0 && strcmp(opgp_name_text(OPGP_WHYS + 1, 0, name), "unknown") == 0
+    holds(strcmp(opgp_name_text(OPGP_WHYS, 0, name), "unknown") == 0 && strcmp(opgp_name_text(OPGP_UNBELIEVED + 1, 0, name), "unknown") == 0
               && strcmp(opgp_name_text(OPGP_LAYERS, 1, name), "armor") == 0,
           "names of what there is and isn't");
     static const char *const statuses[] = {"done", "the input is refused", "too little room", "out of memory",
@@ -1584,6 +1674,7 @@ static void memory(void)
     wants_memory(take_everything);
     wants_memory(judge_everything);
     wants_memory(judge_document);
+    wants_memory(find_states);
     take_patiently();
     wants_memory(take_patiently);
 }

@@ -18,6 +18,8 @@ sys.dont_write_bytecode = True
 sys.path.insert(0, f"{sys.path[0]}/../lib")
 
 import model  # noqa: E402
+import standing  # noqa: E402
+import standing_cases  # noqa: E402
 from running import COMMANDS, HERE, built  # noqa: E402
 
 PROGRAM = built("tests/bindings/capi.py")
@@ -29,7 +31,8 @@ MADE = sorted(glob.glob(f"{HERE}/tests/vectors/algorithms/*.gpg"))
 VECTORS = sorted({*glob.glob(f"{HERE}/tests/vectors/*/*.asc"), *glob.glob(f"{HERE}/tests/vectors/*/*.gpg")} - {*MADE})
 ARCHIVE = sorted(glob.glob("/usr/share/keyrings/debian-*.gpg") + glob.glob("/usr/share/keyrings/debian-*.pgp"))
 MOST = 1 << 20  # octets of an archive's keyring, so that no test takes a minute
-# A program over opgp.hpp: the fingerprints of the keys, how many signatures and what they hash, and the parts in pieces of 7 octets.
+# A program over opgp.hpp: the fingerprints of the keys, how many signatures and what they hash, and the parts in pieces of 7 octets;
+# judging and states, whose verifier may throw.
 CPP = """#include <opgp.hpp>
 #include <cstdio>
 #include <iostream>
@@ -60,6 +63,11 @@ static bool documents(const opgp::Keyring &keyring)
         is_well = is_well && job.why == OPGP_WHY_HASHED && job.kind == job.hang && found.field(job, 0).empty() && found.issuer(job).empty();
         is_well = is_well && document.octets(job.hang, true).size() == 12;
     }
+    const auto judged = document.judge(keyring, 0, [](const opgp_question &) { return OPGP_GOOD; });
+    is_well = is_well && judged.size() == 2;
+    for (const opgp::Judgement &it : judged) {
+        is_well = is_well && it.verdict == OPGP_BAD && it.why == OPGP_NOT_GOOD && it.signer.empty();
+    }
     opgp::CanonicalText text;
     std::string made = text.push("a\\n\\r");
     made += text.push("");
@@ -72,6 +80,27 @@ static bool documents(const opgp::Keyring &keyring)
         is_well = is_well && fault.fault.pos == 5;
     }
     return is_well && made == "a\\r\\n\\r\\nb";
+}
+
+// Each part has a state, and what a verifier throws comes through.
+static bool states(const opgp::Keyring &keyring)
+{
+    std::size_t heads = 0, asked = 0, thrown = 0;
+    for (const opgp_packet &packet : keyring.packets()) {
+        heads += packet.certificate != OPGP_NONE && packet.hang == OPGP_NONE;
+    }
+    bool is_well = keyring.states(0, [](const opgp_question &) { return OPGP_GOOD; }, OPGP_POLICY_ANY).size() == heads;
+    try {
+        is_well = is_well && keyring.states(1, [&](const opgp_question &) -> opgp_verdict { throw ++asked; }).size() == heads;
+    } catch (std::size_t count) {
+        thrown = count;
+    }
+    try {
+        keyring.states(1, [](const opgp_question &) { return OPGP_BAD; }, 2);
+        return false;
+    } catch (const std::invalid_argument &) {
+    }
+    return is_well && thrown == asked && asked < 2;
 }
 
 int main()
@@ -102,7 +131,7 @@ int main()
             parts += part->write().size();
         }
         bool is_twice = keyring.joined(keyring).write() == keyring.write() + keyring.write();
-        std::printf("%zu %zu %d %d\\n", hashed, parts, is_twice, documents(keyring));
+        std::printf("%zu %zu %d %d\\n", hashed, parts, is_twice, documents(keyring) && states(keyring));
     } catch (const opgp::Fault &fault) {
         std::cerr << fault.what() << std::endl;
         return 1;
@@ -204,7 +233,8 @@ def installed(room):
     verdict("make install-library", made.returncode == 0, made.stderr.decode())
     wanted = ["include/opgp.h", "include/opgp.hpp", "lib/libopgp.a", "lib/libopgp.so", f"lib/{SONAME}", "lib/pkgconfig/opgp.pc", "share/man/man3/libopgp.3"]
     wanted += ["lib/cmake/opgp/opgpConfig.cmake", "lib/cmake/opgp/opgpConfigVersion.cmake"]
-    wanted += ["bin/opgp-verify", "share/man/man1/opgp-verify.1"] * has_libcrypto()
+    for name in ("opgp-verify", "opgp-sopv", "opgp-sqv", "opgp-gpgv"):
+        wanted += [f"bin/{name}", f"share/man/man1/{name}.1"] * has_libcrypto()
     found = [os.path.relpath(it, f"{room}/usr") for it in glob.glob(f"{room}/usr/**", recursive=True) if not os.path.isdir(it)]
     verdict("what is installed", sorted(found) == sorted(wanted), found)
     verdict("the library's link", os.readlink(f"{room}/usr/lib/libopgp.so") == SONAME)
@@ -1264,18 +1294,18 @@ def large_verified(program, env, room):
     verdict("opgp-verify of a large keyring", told[0].returncode == 0 and told[0].stdout == told[1].stdout != b"", told[0])
 
 
-def wanting_verified(program, env, room):
+def wanting_verified(program, env, room, words_given=()):
     """Where an allocation fails, the program says that memory ran out, and writes no line; or all is as ever."""
     made = run("cc", "-O1", "-shared", "-fPIC", "-o", f"{room}/refuse.so", f"{HERE}/tests/lib/refuse.c")
     verdict("tests/lib/refuse.c", made.returncode == 0, made.stderr)
     source = f"{HERE}/tests/vectors/algorithms/rsa_2048.gpg"
-    usual = opens(program, source=source, env=env)
+    usual = opens(program, *words_given, source=source, env=env)
 
     def refused(number):
         # The count of allocations is written there.
         with tempfile.TemporaryFile() as told:
             os.dup2(told.fileno(), 9)
-            ended = opens(program, source=source, env={**env, "LD_PRELOAD": f"{room}/refuse.so", "REFUSE": str(number)}, pass_fds=(9,))
+            ended = opens(program, *words_given, source=source, env={**env, "LD_PRELOAD": f"{room}/refuse.so", "REFUSE": str(number)}, pass_fds=(9,))
             os.close(9)
             told.seek(0)
             return ended, int(told.read() or 0)
@@ -1286,6 +1316,51 @@ def wanting_verified(program, env, room):
         ended, _ = refused(number)
         fits = (ended.returncode, ended.stdout) in ((3, b""), (usual.returncode, usual.stdout))
         verdict(f"opgp-verify, allocation {number} refused", fits, ended)
+
+
+def states_verified(program, env, room):
+    """How the parts of keyrings stand is what `opgp state` says by the verdicts, and of the vectors what the model says."""
+    sources = [(it, None) for it in (*SMALL, *(it for it in ARCHIVE if os.path.getsize(it) <= MOST))]
+    sources += [(f"{room}/vector.gpg", it) for it in standing_cases.vectors()]
+    parts = 0
+    for source, vector in sources:
+        if vector:
+            with open(source, "wb") as it:
+                it.write(vector.octets)
+            if opens(PROGRAM, "list", source=source).returncode:
+                continue  # it has malformed signatures
+        name = vector.stem if vector else name_of(source)
+        with open(f"{room}/verdicts", "wb") as it:
+            it.write(opens(program, "--policy", "none", source=source, env=env).stdout)
+        for at, policy in (("2026-11-20", "usual"), ("2020-01-01T00:00:00Z", "any"), ("0", "usual"))[: 1 if vector else 3]:
+            by = [opens(program, "--state", "--at", at, "--policy", policy, source=source, env=env)]
+            by.append(opens(PROGRAM, "state", "--at", at, "--policy", policy, "--verdicts", f"{room}/verdicts", source=source))
+            verdict(f"states of {name} at {at}, {policy}", by[0].returncode == by[1].returncode == 0 and by[0].stdout == by[1].stdout, by)
+            found = re.findall(rb" : (?:pub|sub) [0-9A-F]+ (\w+)", by[0].stdout)
+            counts = ", ".join(f"{found.count(it.encode())} {it}" for it in ("usable", "revoked", "early", "unbound", "expired"))
+            verdict(f"counts of {name} at {at}", by[0].stderr.decode() == f"opgp-verify: {counts}\n", by[0].stderr)
+            if vector:
+                keyring = standing.Keyring(vector.octets, vector.verdicts)
+                wanted = [state for c in range(len(keyring.certificates)) for state in keyring.state(c, 1795132800)]
+                wanted = [state if isinstance(state, str) else state[0] or "usable" for state in wanted]
+                told = re.findall(r" : (?:(?:pub|sub) \w+ (\w+)|u(?:id|at) (\w+))", by[0].stdout.decode())
+                told = [it or other.replace("certified", "fine") for it, other in told]
+                verdict(f"how the parts of {name} stand", told == wanted, (told, wanted))
+                parts += len(told)
+    verdict("many parts of vectors", parts > 800, parts)
+    for given, said in (
+        (["--state", "--state"], "the argument '--state' cannot be used multiple times"),
+        (["--state", "--require", "good"], "the argument '--state' cannot be used with '--require <WHAT>'"),
+        (["--state", "--keyring", SMALL[0]], "the argument '--state' cannot be used with '--signature <SIG>'"),
+        (["--at", "0"], "the argument '--at <TIME>' cannot be used without '--signature <SIG>'"),
+        (["--state=yes"], "unexpected argument '--state=yes' found"),
+        (["--state", "--at", "now"], "invalid value 'now' for '--at <TIME>'"),
+        (["--state", "--policy", "none"], "the argument '--policy none' is for the signatures of a keyring alone"),
+    ):
+        ended = opens(program, *given, source=SMALL[0], env=env)
+        verdict(f"opgp-verify {given}", ended.returncode == 2 and ended.stdout == b"" and said in ended.stderr.decode(), ended)
+    ended = opens(program, "--state", source=f"{HERE}/README.md", env=env)
+    verdict("states of a text", (ended.returncode, ended.stdout) == (1, b""), ended)
 
 
 def verified(room):
@@ -1303,7 +1378,9 @@ def verified(room):
     nasty_verified(program, env, room)
     large_verified(program, env, room)
     wanting_verified(program, env, room)
+    wanting_verified(program, env, room, ("--state", "--at", "2026-11-20"))
     archive_verified(program, env)
+    states_verified(program, env, room)
     beside_gpg(program, env, room)
 
 

@@ -1,8 +1,9 @@
 #!/usr/bin/env python3
 """Tries python/opgp.py over the library for C, which OPGP_LIBRARY names or which is made: the rows, faults, hashed octets and packets
-of keyrings beside those that the program prints, signatures over documents beside hashlib, whether they are believed beside
-tests/lib/standing.py, limits, verifiers, closing, copies, threads, memory, the examples beside gpg where that and Debian's keyrings are,
-its wheel, and its types by mypy where that is. The last line counts what was tried."""
+of keyrings beside those that the program prints, signatures over documents beside hashlib, cleartext messages beside
+tests/lib/cleartext.py, whether keys and signatures are believed beside tests/lib/standing.py, limits, verifiers, closing, copies, threads,
+memory, the examples beside gpg where that and Debian's keyrings are, its wheel, and its types by mypy where that is. The last line counts
+what was tried."""
 
 import array
 import base64
@@ -34,6 +35,7 @@ import unittest.mock
 sys.dont_write_bytecode = True
 sys.path.insert(0, f"{sys.path[0]}/../lib")
 
+import cleartext  # noqa: E402
 import model  # noqa: E402
 import standing  # noqa: E402
 import standing_cases  # noqa: E402
@@ -568,7 +570,7 @@ def errors(opgp):
     it = raised(opgp.Fault, lambda: opgp._raise_if_refused(1, fault))
     told = (it.layer, it.reason, it.number, it.block, it.pos, it.inner)
     verdict("a fault", told == ("composition", "NotASignedLiteral", 53, 1, 22, 333) and str(it) == "composition: NotASignedLiteral block 1 at 22 inner 333", told)
-    it = raised(opgp.Fault, lambda: opgp._raise_if_refused(1, opgp._Fault(layer=6, reason=255)))
+    it = raised(opgp.Fault, lambda: opgp._raise_if_refused(1, opgp._Fault(layer=7, reason=255)))
     verdict("a fault without names", (it.layer, it.reason, it.number) == ("unknown", "unknown", 255), it)
 
 
@@ -582,7 +584,8 @@ taken = int(open("/proc/self/statm").read().split()[0]) * resource.getpagesize()
 resource.setrlimit(resource.RLIMIT_AS, (taken + {more}, resource.RLIM_INFINITY))
 reader = opgp.Reader()
 calls = dict(read=lambda: opgp.read(octets), push=lambda: reader.push(octets), end=reader.end, take=reader.take,
-             standing=lambda: kept.standing(*key, None), judge=lambda: document.judge(kept, None, 0))
+             standing=lambda: kept.standing(*key, None), judge=lambda: document.judge(kept, None, 0),
+             states=lambda: kept.states(0, None))
 for name, call in calls.items():
     try:
         call()
@@ -622,7 +625,7 @@ def little_memory(opgp, env, room):
     path = f"{room}/octets"
     with open(path, "wb") as it:
         it.write(octets)
-    calls = "read", "push", "end", "take", "standing", "judge"
+    calls = "read", "push", "end", "take", "standing", "judge", "states"
     for more, said in ((1 << 40, "done"), (4 << 20, "MemoryError")):
         ended = run(sys.executable, "-c", LITTLE.format(path=path, signature=SIGNATURE, more=more), env=env)
         verdict(f"where there are {more} octets more", lines_of(ended) == [f"{it} {said}" for it in calls], ended)
@@ -1244,6 +1247,83 @@ def document_signers(opgp):
     verdict("they are closed", raised(ValueError, keyring.keys) and raised(ValueError, found.signatures))
 
 
+def cleartexts(opgp):
+    """The messages of tests/vectors/cleartext: documents and faults beside tests/lib/cleartext.py; a signature of type 01 is asked about, by
+    the digest of the document's lines, and no other."""
+    with open(f"{HERE}/tests/vectors/cleartext/certificate.asc", "rb") as it:
+        keyring = opgp.read(it.read())
+    count, asked, keys = 0, [], [it.body for it in keyring.packets() if it.kind in (6, 14)]
+
+    def good(question):
+        asked.append(question)
+        return opgp.Verdict.GOOD
+
+    for title, answer, place, _, message in cleartext.rows():
+        if not answer.startswith("+") or title in cleartext.BEHIND:
+            fault = raised(opgp.Fault, lambda message=message: opgp.cleartext(message))
+            wanted = f"cleartext: {answer} block 0 at {place} inner 0" if not answer.startswith("+") else cleartext.BEHIND[title]
+            verdict(f"{title}: refused", str(fault).startswith(wanted), fault)
+            continue
+        count += 1
+        lines = cleartext.spelled(answer[1:])
+        for given in (message, bytearray(message), memoryview(message)):
+            document, made = opgp.cleartext(given)
+            verdict(f"{title}: its document", (type(document), document) == (bytes, lines), document)
+        bodies = [body for _, _, kind, _, body, _ in model.framed(model.dearmored(message[place:], model.USUAL), model.USUAL)]
+        told = made.signatures(keyring)
+        verdict(f"{title}: its signatures", len(told) == len(bodies), told)
+        for it, body in zip(told, bodies):
+            row_fits(title, it, body, keys)
+            if it.kind == 1:
+                wanted = said_over(body, cleartext.hashed(lines))[2]
+                verdict(f"{title}: row {it.row}", (it.digest, it.is_bad) == (wanted, wanted[:2] != it.left), (it, wanted))
+        asked.clear()
+        judged = made.judge(keyring, good, READ, "any")
+        of_document = [it for it in asked if it.signature.certificate is None]
+        may_be_good = [it for it in told if it.kind == 1 and not it.is_bad and it.signer is not None]
+        verdict(f"{title}: what is asked", [it.signature for it in of_document] == may_be_good, (of_document, may_be_good))
+        verdicts = ["BAD" if it.is_bad else "GOOD" if it in may_be_good else "UNDECIDED" for it in told]
+        verdict(f"{title}: judged", [it.verdict.name for it in judged] == verdicts, (judged, verdicts))
+        verdict(f"{title}: checked", made.check(keyring, good) == [*zip(told, (opgp.Verdict[it] for it in verdicts))])
+        verdict(f"{title}: it has ended", raised(ValueError, made.end) and raised(ValueError, lambda made=made: made.push(b"")))
+    verdict("there are messages", count == 40, count)
+
+
+def cleartext_refused(opgp):
+    """What is no message, or has too much; and limits."""
+    title, _, place, _, message = next(cleartext.rows())
+    verdict("the first message", title == "base" and opgp.cleartext(message)[0].endswith(b"trail"))
+    for wrong in NO_OCTETS:
+        verdict(f"{wrong!r} is no message", raised(TypeError, lambda wrong=wrong: opgp.cleartext(wrong)))
+    for text, wanted in ((b"", "cleartext: NoMessage block 0 at 0 inner 0"), (b"\n" * 9, "cleartext: NoMessage block 0 at 9 inner 0"),
+                         (octets_of(A1), "cleartext: Label block 0 at 0 inner 0"), (message[:place], "cleartext: Unfinished block 0 at "),
+                         (message[: place + 30], f"armor: Unfinished block 0 at {place + 30} ")):
+        it = raised(opgp.Fault, lambda text=text: opgp.cleartext(text))
+        verdict(f"no message {text[:20]!r}", str(it).startswith(wanted), it)
+    for size in (128, 129, 130):
+        long = message.replace(b"hello", b"x" * size)
+        it = raised(BaseException, lambda long=long: opgp.cleartext(long, opgp.Limits(line=129)))
+        wanted = f"cleartext: LineTooLong block 0 at {message.find(b'hello')} " if size > 129 else "None"
+        verdict(f"lines of {size}, and 129 at most", str(it).startswith(wanted), it)
+    for count in (1, 64, 65):
+        many = message[:place] + model.armor(SIGNATURE * count, b"SIGNATURE")
+        if count > 64:
+            it = raised(ValueError, lambda many=many: opgp.cleartext(many))
+            verdict("65 signatures", str(it) == "there are more than 64 signatures" and not isinstance(it, opgp.Fault), it)
+        else:
+            verdict(f"{count} signatures", len(opgp.cleartext(many)[1].signatures()) == count)
+    document, made = opgp.cleartext(message)
+    made.close()
+    verdict("a closed one", raised(ValueError, made.signatures) and document.endswith(b"trail"))
+    # What begins anew is no cleartext message any more: signatures of type 00 are asked about too.
+    keyring = opgp.read(octets_of(A1))
+    made.__init__(packet(2, stating(over(4, 0, 8, named(keyring.keys()[0].fingerprint)), b"x")))
+    made.push(b"x")
+    made.end()
+    checked = made.check(keyring, lambda _: opgp.Verdict.GOOD)
+    verdict("it begins anew", [it for _, it in checked] == [opgp.Verdict.GOOD], checked)
+
+
 # Whether keys and signatures are believed, beside tests/lib/standing.py.
 
 READ = 1795132800  # when the vectors are read: 2026-11-20
@@ -1319,6 +1399,55 @@ def standings(opgp):
         holds = all(it in asked for it, found in enumerate(vector.verdicts) if found == standing.GOOD)
         verdict(f"{vector.stem}: each good row is asked about", holds, sorted(asked))
     verdict("keys of vectors", misplaced > 5 and 500 < believed < tried - 500, (misplaced, believed, tried))
+
+
+def state_of(opgp, place, state):
+    """The module's state for the model's."""
+    if isinstance(state, str):
+        return opgp.State(*place, False, None if state == "fine" else opgp.Why[state.upper()], opgp.KeyFlags(0), None, None, None)
+    why, uses, begin, end, reason = state
+    flags = {"certify": "CERTIFY", "sign": "SIGN", "encrypt": "ENCRYPT_COMMUNICATIONS", "authenticate": "AUTHENTICATE"}
+    known = opgp.KeyFlags(sum(opgp.KeyFlags[flags[it]] for it in uses))
+    return opgp.State(*place, True, why_of(opgp, why), known, begin, end, reason)
+
+
+def states(opgp):
+    """How the parts of the vectors stand is what the model says, of a certificate alone too. A verifier is asked once about a row."""
+    whys = set()
+    for vector in standing_cases.vectors():
+        keyring = opgp.read(vector.octets, opgp.Limits(keep_malformed=True))
+        verify = Arithmetic(opgp, vector.verdicts)
+        for at, policy in ((READ, "usual"), (OLD, "usual"), (OLD - 1, "any"), (0, "any"), (2**64 - 1, "usual")):
+            by = standing.Keyring(vector.octets, vector.verdicts, policy)
+            wanted = [[state_of(opgp, (c, n - 1 if n else None), it) for n, it in enumerate(by.state(c, at))] for c in range(len(by.certificates))]
+            found = keyring.states(at, verify, policy)
+            verdict(f"{vector.stem}: states at {at}, {policy}", found == sum(wanted, []), (found, wanted))
+            verdict(f"{vector.stem}: what is asked", verify.is_once(range(len(wanted))))
+            for it, of in zip(keyring.certificates(), wanted):
+                alone = it.state(at, verify, policy)
+                verdict(f"{vector.stem}: certificate {it.number} at {at}, {policy}", alone == of, (alone, of))
+                verdict(f"{vector.stem}: what is asked of certificate {it.number}", verify.is_once({it.number}))
+            whys |= {it.why for it in found}
+    wanted = {None, opgp.Why.REVOKED, opgp.Why.EARLY, opgp.Why.UNBOUND, opgp.Why.EXPIRED}
+    verdict("reasons of states", whys == wanted, whys)
+
+
+def states_refused(opgp):
+    """Times, policies and keyrings that aren't any; verifiers that raise, and none."""
+    keyring, _, verify = one_judged(opgp)
+    certificate = keyring.certificates()[0]
+    for call in (keyring.states, certificate.state):
+        verdict("a time below 0", raised(ValueError, lambda call=call: call(-1, verify)))
+        verdict("a time from 2**64 on", raised(ValueError, lambda call=call: call(2**64, verify)))
+        verdict("a time that isn't any", raised(TypeError, lambda call=call: call("0", verify)))
+        verdict("a policy", raised(ValueError, lambda call=call: call(READ, verify, "some")))
+        verdict("what a verifier raises", raised(KeyError, lambda call=call: call(READ, lambda _: {}[1])))
+        found = call(READ, None)
+        verdict("without a verifier", {it.why for it in found} == {opgp.Why.UNBOUND}, found)
+    verdict("an empty keyring", opgp.read(b"").states(READ, verify) == [])
+    keyring.close()
+    verdict("a closed keyring", raised(ValueError, lambda: keyring.states(READ, verify)))
+    verdict("its certificate", len(certificate.state(READ, verify)) == len(certificate.keys) + len(certificate.user_ids))
 
 
 def verdicts_of_merged(vector, octets):
@@ -2426,8 +2555,9 @@ def main():
                 test(opgp, env, room)
             for test in (names, faults, keyrings_made, pieces, short_reads, moments, limits, limits_in_pieces, policies, errors, large, inputs,
                          modes, long_octets, searches, rows_refused, closed, copies, verifiers, flags, stated, named_signers, documents,
-                         document_pieces, document_refused, document_uses, document_files, document_signers, standings, judgements, judgement_refused,
-                         judgement_verifiers, judged_in_places, judged_elsewhere, judged_at_once, work, each_octets, threads):
+                         document_pieces, document_refused, document_uses, document_files, document_signers, cleartexts, cleartext_refused,
+                         standings, states, states_refused, judgements, judgement_refused, judgement_verifiers, judged_in_places,
+                         judged_elsewhere, judged_at_once, work, each_octets, threads):
                 test(opgp)
             packed(opgp, room)
             typed()

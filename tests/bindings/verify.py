@@ -16,6 +16,7 @@ What isn't here is said on standard error. The last line counts what was tried.
 
 import argparse
 import functools
+import glob
 import hashlib
 import os
 import re
@@ -31,8 +32,10 @@ sys.dont_write_bytecode = True
 sys.path.insert(0, f"{sys.path[0]}/../lib")
 
 import model  # noqa: E402
+import openpgp_signers as signers  # noqa: E402
 import standing  # noqa: E402
 import standing_cases  # noqa: E402
+from document_cases import TEXT, of_messages  # noqa: E402
 from running import HERE  # noqa: E402
 
 SECONDS = 300  # for one run
@@ -629,7 +632,7 @@ def command_lines():
     ended = run("--signature", "", "--keyring", "x")
     verdict("an empty name", ended == (2, "", f"error: a value is required for '--signature <SIG>' but none was supplied\n{MORE}"), ended)
     ended = run("--signature", "x", "--keyring", "y", "--policy", "some")
-    said = f"error: invalid value 'some' for '--policy <POLICY>'\n  [possible values: usual, any]\n{MORE}"
+    said = f"error: invalid value 'some' for '--policy <POLICY>'\n  [possible values: usual, any, none]\n{MORE}"
     verdict("no such policy", ended == (2, "", said), ended)
     for value in ("0", "65", "00", "065", "+4", "-1", "4x", "x", "0x4", "1.5", " 4", "4 ", "18446744073709551617", "9" * 40):
         ended = run(f"--jobs={value}", "--signature", "x", "--keyring", "y")
@@ -676,7 +679,7 @@ def command_lines():
     verdict("the help", (status, out) == (2, "") and "\nOf a keyring good is arithmetic: " in told and f"[FILE]\n{usage}\n" in told, told)
     verdict("the help of --signature", run("--signature", "x", "-h") == (2, "", told))
     shown = re.findall(r"^ +(?:-\w, )?--(\w+)(?: <\w+>)?  +\w", told, re.M)
-    verdict("the options in the help", shown == ["signature", "keyring", "at", "policy", "require", "jobs", "version", "help"], shown)
+    verdict("the options in the help", shown == ["signature", "cleartext", "output", "keyring", "state", "at", "policy", "require", "jobs", "version", "help"], shown)
 
 
 def refused():
@@ -925,9 +928,15 @@ def by_sanitizers(archive):
         bodies = [body for body, _ in cases()[stem].documents]
         judged.append(["--signature", kept(f"signature.{stem}", b"".join(map(packet, bodies * 9))), "--keyring", kept(f"keyring.{stem}", cases()[stem].octets),
                        f"--at={READ}", kept("document", DOCUMENT)])
+    found = of_messages()
+    for those in (["good"], ["subkey", "version 6", "absent", "revoked", "type 00", "wrong type", "bad"]):
+        message = signers.message(TEXT, *(found[it].octets for it in those))
+        ring = kept(f"ring.{len(those)}", b"".join(dict.fromkeys(found[it].ring for it in those)))
+        for octets in (message, message[:-30], message.replace(b"- -", b"-")):
+            judged.append(["--cleartext", "--keyring", ring, kept(f"message.{len(judged)}", octets)])
     for kind in ("thread", "address,undefined"):
         program = f"{ROOM}/opgp-verify.{kind}"
-        sources = [f"{HERE}/c/{it}" for it in ("opgp-verify.c", "verify-arithmetic.c")]
+        sources = [f"{HERE}/c/opgp-verify.c", *glob.glob(f"{HERE}/c/verify-*.c")]
         words = ["cc", "-std=c11", "-O1", "-g", "-pthread", f"-fsanitize={kind}", "-fno-sanitize-recover=all", f"-I{HERE}/c", *sources, archive]
         made = subprocess.run([*words, "-lcrypto", "-o", program], capture_output=True, check=False)
         if made.returncode or subprocess.run([program, "-V"], capture_output=True, check=False).returncode:

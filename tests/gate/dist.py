@@ -30,6 +30,9 @@ PLACES = {
     "share/man/man3/libopgp.3": 0o644, "share/bash-completion/completions/opgp": 0o644, "share/zsh/site-functions/_opgp": 0o644,
     "share/fish/vendor_completions.d/opgp.fish": 0o644,
 }
+# Other names of opgp-verify, each with a manual.
+NAMES = ("opgp-sopv", "opgp-sqv", "opgp-gpgv")
+PLACES |= {f"bin/{it}": "opgp-verify" for it in NAMES} | {f"share/man/man1/{it}.1": 0o644 for it in NAMES}
 # What stands there as it stands here.
 COPIES = {
     "bin/opgp": "build/installed", "lib/opgp/opgp": "crates/opgp_tool/out/opgp_tool", "include/opgp.h": "c/opgp.h",
@@ -37,6 +40,7 @@ COPIES = {
     "share/man/man3/libopgp.3": "man/libopgp.3", "share/bash-completion/completions/opgp": "completions/opgp.bash",
     "share/zsh/site-functions/_opgp": "completions/opgp.zsh", "share/fish/vendor_completions.d/opgp.fish": "completions/opgp.fish",
 }
+COPIES |= {f"share/man/man1/{it}.1": f"man/{it}.1" for it in NAMES}
 # What a tarball has besides, as it stands here.
 MORE = ["CHANGELOG.md", "README.md", "SECURITY.md", "python/opgp.py",
         *sorted(f"docs/{it}" for it in os.listdir(f"{HERE}/docs") if it.endswith((".md", ".svg")))]
@@ -91,7 +95,7 @@ def places():
     """Where all is put here: opgp-verify is left out without libcrypto's headers."""
     if run("cc", "-E", "-include", "openssl/core_names.h", "-x", "c", os.devnull).returncode:
         left_out("libcrypto's headers")
-        return {name: it for name, it in PLACES.items() if "opgp-verify" not in name}
+        return {name: it for name, it in PLACES.items() if not any(other in name for other in ("opgp-verify", *NAMES))}
     return PLACES
 
 
@@ -279,6 +283,9 @@ def works(room, top, number, line):
     if os.path.exists(f"{top}/bin/opgp-verify"):
         ended = run(f"{top}/bin/opgp-verify", "--version")
         verdict("opgp-verify", ended.returncode == 0 and ended.stdout.startswith(f"opgp-verify {number}"), ended)
+        for name, word in zip(NAMES, ("version", "--version", "--version")):
+            ended = run(f"{top}/bin/{name}", word)
+            verdict(name, ended.returncode == 0 and ended.stdout.startswith(f"{name} {number}"), ended)
 
 
 CMAKE = """cmake_minimum_required(VERSION 3.13)
@@ -383,6 +390,9 @@ def unpacked_packages(room, files, number, line, version):
     verdict("the packaged program says its logic", kept and kept == logic.findall(octets_of(PROGRAM)), kept)
     said = run(f"{root}/usr/bin/opgp-verify", "--version")
     verdict("the packaged opgp-verify", said.returncode == 0 and said.stdout.startswith(f"opgp-verify {number}"), said)
+    for name, word in zip(NAMES, ("version", "--version", "--version")):
+        said = run(f"{root}/usr/bin/{name}", word)
+        verdict(f"the packaged {name}", said.returncode == 0 and said.stdout.startswith(f"{name} {number}"), said)
     if shutil.which("pkg-config"):
         asked = run("pkg-config", "--cflags", "--libs", "opgp",
                     env={"PKG_CONFIG_LIBDIR": f"{lib}/pkgconfig", "PKG_CONFIG_SYSROOT_DIR": root})

@@ -89,7 +89,7 @@ if sys.argv[1:] == ["--first"]:
     print("".join(shown), end="")
     sys.exit()
 verdict("the launcher's help is the program's (tests/gate/manual.py --first prints it)", text_of("build/help.txt") == "".join(shown))
-verdict("the program has commands, options and reasons", len(commands) == 12 and len(options) >= 26 and len(reasons) == 41,
+verdict("the program has commands, options and reasons", len(commands) == 14 and len(options) >= 26 and len(reasons) == 44,
         f"{len(commands)} {len(options)} {len(reasons)}")
 
 manual = text_of("man/opgp.1").replace("\\-", "-")

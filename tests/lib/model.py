@@ -545,14 +545,17 @@ def plain(kind, octets):
 
 
 def names():
-    """Each table's number, a number and its name, by the documents: registered numbers, layers, reasons, why a signature isn't hashed."""
+    """Each table's number, a number and its name, by the documents: registered numbers, layers, reasons, why a signature isn't hashed,
+    and why it, or its key, isn't believed."""
     docs = f"{os.path.dirname(os.path.realpath(__file__))}/../../docs"
     with open(f"{docs}/NUMBERS.md", encoding="utf-8") as it:
         tables = [re.findall(r"^\| (\d+) \| ([^|]+?) \|", part, re.M) for part in it.read().split("\n## ")[1:]]
     with open(f"{docs}/FAULTS.md", encoding="utf-8") as it:
         reasons = sorted(re.findall(r"^### (\d+) `(\w+)`$", it.read(), re.M), key=lambda it: int(it[0]))
-    tables += [[*enumerate(("input", "armor", "framing", "body", "composition", "text"))], reasons]
+    tables += [[*enumerate(("input", "armor", "framing", "body", "composition", "text", "cleartext"))], reasons]
     tables += [[*enumerate(("opaque", "kind", "misplaced", "version", "hash", "line-ends"), 1)]]
+    tables += [[*enumerate(("future", "revoked", "early", "unbound", "expired", "flags", "back"), 1)]]
+    tables[-1] += enumerate(("type", "critical", "weak", "time", "lapsed", "issuer"), 8)
     return [(table, int(number), name) for table, rows in enumerate(tables) for number, name in rows]
 
 

@@ -36,58 +36,62 @@ INPUTS = {
 # The growths of each command over each input. More are a failure: an answer would have come to cost more memory.
 GROWTHS = """
 command                                                       key  certificate  blocks  literal
-show                                                          187          190     190      184
-list                                                          189          194     196      186
-list --values                                                 193          198     200      190
-check                                                         191          198     201      184
-check --fingerprints                                          197          204     207      189
-octets --row 0                                                202          209     211      198
-octets --row 1                                                202          209     211      198
-octets --all                                                  198          205     208      194
-octets --row 0 --of literal                                   210          216     217      210
-octets --row 9 --of literal                                   210          216     217      209
-write                                                         197          202     204      194
-write --out binary                                            203          208     210      200
-write --own-signatures --no-attributes                        209          216     220      204
-write --user-id 0 --own-signatures --out binary               222          229     233      217
-normalise                                                     189          194     196      186
-normalise --out binary                                        195          200     202      192
-split                                                         189          194     196      186
-split --out binary                                            195          200     202      192
-split --nth 0                                                 198          203     205      194
-split --nth 1 --out binary                                    206          211     213      202
-split --nth 9                                                 198          203     205      194
-split --key 8CFDE12197965A9A                                  199          205     206      196
-split --key CB186C4F0609A697 --out binary                     208          212     214      204
-split --key 0000000000000000                                  200          205     207      196
-join                                                          193          198     200      190
-join --out binary                                             199          204     206      196
-join --merge                                                  202          213     220      192
-join --merge --out binary                                     210          221     228      200
-list --progress                                               197          202     204      194
-list --malformed keep                                         196          201     203      193
-list --spool DIR                                              201          206     208      198
-write --out binary --spool DIR                                217          222     224      214
-write --no-attributes --spool DIR                             218          225     229      213
-split --spool DIR                                             201          206     208      198
-octets --all --spool DIR                                      212          219     222      208
-check --spool DIR                                             204          211     214      197
-list --mode armor                                             195          200     202      193
-list --mode binary                                            192          192     192      192
-show --line 128 --body 512 --cert 512 --pieces 1              215          218     218      212
-show --values                                                 191          194     194      188
-signatures                                                    184          190     191      183
-signatures --malformed keep                                   191          197     198      190
-canonical                                                     181          181     181      182
-canonical --spool DIR                                         193          193     193      194
---help                                                        178          178     178      178
-help list                                                     300          300     300      300
-list --help                                                   301          301     301      301
-lists                                                         219          219     219      219
-octets                                                        186          186     186      186
-octets --all --row 0                                          202          202     202      202
-list --body 511                                               150          150     150      150
-list list                                                     143          143     143      143
+show                                                          207          210     210      204
+list                                                          209          214     216      206
+list --values                                                 213          218     220      210
+check                                                         211          218     221      204
+state --at 0                                                  229          237     242      214
+state --at 2026-11-20 --policy any                            238          246     251      223
+check --fingerprints                                          217          224     227      209
+octets --row 0                                                222          229     231      218
+octets --row 1                                                222          229     231      218
+octets --all                                                  218          225     228      214
+octets --row 0 --of literal                                   230          236     237      230
+octets --row 9 --of literal                                   230          236     237      229
+write                                                         217          222     224      214
+write --out binary                                            223          228     230      220
+write --own-signatures --no-attributes                        229          236     240      224
+write --user-id 0 --own-signatures --out binary               242          249     253      237
+normalise                                                     209          214     216      206
+normalise --out binary                                        215          220     222      212
+split                                                         209          214     216      206
+split --out binary                                            215          220     222      212
+split --nth 0                                                 218          223     225      214
+split --nth 1 --out binary                                    226          231     233      222
+split --nth 9                                                 218          223     225      214
+split --key 8CFDE12197965A9A                                  219          225     226      216
+split --key CB186C4F0609A697 --out binary                     228          232     234      224
+split --key 0000000000000000                                  220          225     227      216
+join                                                          213          218     220      210
+join --out binary                                             219          224     226      216
+join --merge                                                  222          233     240      212
+join --merge --out binary                                     230          241     248      220
+list --progress                                               217          222     224      214
+list --malformed keep                                         216          221     223      213
+list --spool DIR                                              221          226     228      218
+write --out binary --spool DIR                                237          242     244      234
+write --no-attributes --spool DIR                             238          245     249      233
+split --spool DIR                                             221          226     228      218
+octets --all --spool DIR                                      232          239     242      228
+check --spool DIR                                             224          231     234      217
+list --mode armor                                             215          220     222      213
+list --mode binary                                            212          212     212      212
+show --line 128 --body 512 --cert 512 --pieces 1              235          238     238      232
+show --values                                                 211          214     214      208
+signatures                                                    204          210     211      203
+signatures --malformed keep                                   211          217     218      210
+canonical                                                     201          201     201      202
+canonical --spool DIR                                         213          213     213      214
+cleartext                                                     205          205     205      205
+cleartext --of signatures                                     211          211     211      211
+--help                                                        202          202     202      202
+help list                                                     320          320     320      320
+list --help                                                   321          321     321      321
+lists                                                         254          254     254      254
+octets                                                        206          206     206      206
+octets --all --row 0                                          222          222     222      222
+list --body 511                                               170          170     170      170
+list list                                                     163          163     163      163
 """
 # How many refused growths of a run over an input change nothing: that for the vector of the words, which is made again, and that for
 # the first octets, which serve what is told alone.

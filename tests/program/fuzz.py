@@ -6,11 +6,10 @@ Usage: tests/program/fuzz.py [--seed N] [--inputs N] [--first N] [--only NAME] [
        tests/program/fuzz.py [--program FILE] FILE..
 
 Input number n of a seed is always the same (tests/lib/inputs.py makes it): keyrings, signed literals and other packets, in
-binary or armored, of which many are then broken. Each is tried by all PROPERTIES, among them the model, or if it is large by
-the model and two others, so that few processes are started; or by the one that is named. With FILEs each of them is tried by every
-property. A failure keeps its input in a
-file, and says the command that repeats it. Of 2,000 inputs or more, each fault and each of the kinds of things that are WANTED
-must be met ten times. The last line counts the inputs.
+binary or armored, of which many are then broken; and cleartext messages of these. Each is tried by all PROPERTIES, among them the model,
+or if it is large by the model and two others, so that few processes are started; or by the one that is named. With FILEs each of them is
+tried by every property. A failure keeps its input in a file, and says the command that repeats it. Of 2,000 inputs or more, each fault and
+each of the kinds of things that are WANTED must be met ten times. The last line counts the inputs.
 
 A run ends with status 0 and nothing on standard error, or with 1, one line of a known form on standard error and nothing
 on standard output. Which inputs are refused, and what each command writes, is held against tests/lib/model.py, of each input;
@@ -33,6 +32,7 @@ import time
 sys.dont_write_bytecode = True
 sys.path.insert(0, f"{sys.path[0]}/../lib")
 
+import cleartext  # noqa: E402
 from inputs import fingerprint, input_of, key_id, keyring, packets  # noqa: E402
 import model  # noqa: E402
 from model import armor  # noqa: E402
@@ -45,6 +45,7 @@ REASONS = {
     " BodyTooLong TooManyPieces",
     "body": "Short MpiBits KeyVersion KeyTooLong Count OidSize KdfSize Trailing SubEmpty SubShort AreaShort SaltSize",
     "composition": "NoPrimary NotInKeyring CertTooLong NotASignedLiteral BlockLabel",
+    "cleartext": "NoMessage Label Outside Header StrayReturn Unescaped NoText LineTooLong Unfinished",
 }
 REASONS = {layer: reasons.split() for layer, reasons in REASONS.items()}
 OF_LIMITS = {"InputTooLong", "LineTooLong", "BodyTooLong", "TooManyPieces", "CertTooLong"}
@@ -634,6 +635,41 @@ def told_beside(program, rng, octets):
         same(f"{words}: the line at fault", told[1] and int(told[1]), 1 + octets[: usual.fault.at].count(b"\n") if known else None)
 
 
+# The armor behind a cleartext message: of a signature of a type that no document has.
+SIGNATURES = armor(b"\xc2\x0e\4\x1f\x16\x08\0\0\0\0\xab\xcd\0\0\0\0", b"SIGNATURE")
+
+
+def message_of(rng, octets):
+    """A cleartext message of these octets or of a few letters, in which something may be odd."""
+    if rng.random() < 0.03:
+        return rng.choice((b"", b"\n", b" \t\r\n\n"))
+    text = octets if rng.random() < 0.3 else bytes(rng.choices(b"a- \t\r\n", (6, 3, 2, 1, 0.3, 4), k=rng.randrange(40)))
+    text = re.sub(rb"(?m)^-", b"- -", text) if rng.random() < 0.9 else text
+    front = rng.choice((b"",) * 8 + (b"\n \t\r\n", b"text\n", b"-----BEGIN PGP MESSAGE-----\n"))
+    head = rng.choice((b"", b"Hash: SHA512, SHA1 \t\r\n", b"Hash: SHA256,\n", b"Comment: a\n") + (b"Hash: SHA256\n",) * 8)
+    made = front + b"-----BEGIN PGP SIGNED MESSAGE-----\n" + head + b"\n" + (text + b"\n") * (rng.random() < 0.95) + SIGNATURES
+    if rng.random() < 0.4:
+        at = rng.randrange(len(made) + 1)
+        return made[:at] + rng.choice((b"", b"\r", b"-", b" ", b"\n", b"a" * 8_200)) + made[at + rng.choice((0, 1, len(made))) :]
+    return made
+
+
+def cleartexts(program, rng, octets):
+    """A cleartext message is read as tests/lib/cleartext.py reads it; a fault behind its document is one of another layer."""
+    message = message_of(rng, octets)
+    answer, found, place = cleartext.read(message, USUAL_LINE)
+    document, hashed_octets, signatures = (program.run(f"cleartext --of {it}", message) for it in ("document", "hashed", "signatures"))
+    same("faults of a message", (document.fault, document.fault), (hashed_octets.fault, signatures.fault))
+    if answer == "fault":
+        same("a fault of a message", document.fault, Fault("cleartext", found, 0, place, 0))
+    elif document.fault is None:
+        same("a document", (document.out, hashed_octets.out), (found, cleartext.hashed(found)))
+    if answer == "ok" and message[place:] == SIGNATURES:
+        same("signatures of a message", (document.fault, signatures.out), (None, SIGNATURES))
+    elif answer == "ok" and document.fault and document.fault.layer == "cleartext":
+        raise Wrong(f"a message: {document.fault} behind its document")
+
+
 def outside_of_blocks(octets):
     """How many octets of a text that was accepted lie outside of its blocks, if some of them are in no text."""
     outside, where = b"", "outside"
@@ -677,7 +713,8 @@ def as_the_model_says(program, rng, octets):
 
 PROPERTIES = (
     written_again, normal_twice, split_and_joined, chosen_by_key, chosen_parts, merged, armored_alike, shown_apart, cut_alike, commands_alike, listed, hashed, hashed_by_all,
-    with_fingerprints, literals, modes_alike, limits_alike, faults_stay, blanks_ignored, outside_refused, malformed_kept, behind_each_other, told_beside, as_the_model_says,
+    with_fingerprints, literals, modes_alike, limits_alike, faults_stay, blanks_ignored, outside_refused, malformed_kept, behind_each_other, told_beside, cleartexts,
+    as_the_model_says,
 )  # fmt: skip
 
 

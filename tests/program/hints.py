@@ -81,7 +81,20 @@ def rows():
     yield "a quoted key", "list", b"".join(b"> " + it + b"\n" for it in KEY.split(b"\n")), f"line 1: {quoted}"
     yield "an indented key", "list", b"On Monday\nI wrote\n" + re.sub(rb"(?m)^", b"    ", KEY), f"line 3: {quoted}"
     yield "a quoted key far behind", "list", b"x\n" * 40_000 + b"> " + KEY.replace(b"\n", b"\n> "), "no line begins with -----BEGIN PGP; this isn't armored"
-    yield "a signed text", "list", b"\n-----BEGIN PGP SIGNED MESSAGE-----\nHash: SHA256\n\nhi\n", "line 2: a cleartext signed message, which opgp doesn't read; gpgv verifies it"
+    yield "a signed text", "list", b"\n-----BEGIN PGP SIGNED MESSAGE-----\nHash: SHA256\n\nhi\n", "line 2: a cleartext signed message; opgp cleartext reads it"
+    signed = b"-----BEGIN PGP SIGNED MESSAGE-----\n"
+    for what, octets, told in (
+        ("text in front", b"hi\n" + signed, "line 1: not blank, outside of the signed message; nothing signs it"),
+        ("a key", KEY, "line 1: no cleartext signed message; one begins with -----BEGIN PGP SIGNED MESSAGE-----"),
+        ("nothing but blanks", b" \n", "no cleartext signed message; one begins with -----BEGIN PGP SIGNED MESSAGE-----"),
+        ("no blank line", signed + b"hi\n", "line 2: not a Hash header, which names hash algorithms; a blank line must be in front of the text"),
+        ("a stray return", signed + b"\na\rb\n", "line 3: a carriage return without a line feed; programs hash three different texts for it"),
+        ("no escape", signed + b"\nhi\n-a\n", "line 4: a hyphen begins the line, and no escape, a hyphen and a space, is in front of it"),
+        ("no text", signed + b"\n-----BEGIN PGP SIGNATURE-----\n", "line 3: no line of text in front of the signatures"),
+        ("no signatures", signed + b"\nhi\n", "the text ends within the signed message; its signatures are missing"),
+        ("a cut signature", signed + b"\nhi\n-----BEGIN PGP SIGNATURE-----\n", "the text ends within a block; its end line is missing"),
+    ):
+        yield f"a signed text: {what}", "cleartext", octets, told
     yield "an armored file", "list", b"-----BEGIN PGP ARMORED FILE-----\n\nqqqq\n", "line 1: an ARMORED FILE; gpg --dearmor writes its octets"
     yield "one line", "list", b" ".join(KEY.split(b"\n")), "line 1: text follows the begin line's hyphens; remove it, or restore the line ends that were lost"
     yield "one line of a message", "list", b"x\n-----BEGIN PGP MESSAGE----- qqqq", "line 2: text follows the begin line's hyphens; remove it, or restore the line ends that were lost"

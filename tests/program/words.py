@@ -21,7 +21,7 @@ FIRST = importlib.util.module_from_spec(importlib.util.spec_from_loader("first",
 LOADER.exec_module(FIRST)
 ROOM = tempfile.TemporaryDirectory()
 KEY = f"{HERE}/examples/rfc9580-a1.asc"
-COMMANDS = ["show", "list", "check", "octets", "write", "normalise", "split", "join", "signatures", "digest", "canonical"]
+COMMANDS = ["show", "list", "check", "state", "octets", "write", "normalise", "split", "join", "signatures", "digest", "canonical", "cleartext"]
 ARMOR, BINARY = b"-----BEGIN PGP PUBLIC KEY BLOCK-----\n\nxjME", b"\xc6\x33\x04"
 NO_ROW, NO_CERTIFICATE = "opgp: no such row", "opgp: no such certificate"
 SIGNATURE = f"--signatures {HERE}/examples/rfc9580-a2.asc"
@@ -33,6 +33,7 @@ TOLD = {
     NO_LITERAL: "opgp: a block that this command doesn't read; opgp show lists its packets\n",
     "input: InputTooLong block 0 at 10 inner 0": "opgp: the input is longer than --input allows\n",
     "input: InputTooLong block 0 at 0 inner 0": "opgp: the input is longer than --input allows\n",
+    "cleartext: Label block 0 at 0 inner 0": "opgp: line 1: no cleartext signed message; one begins with -----BEGIN PGP SIGNED MESSAGE-----\n",
     "framing: NotAPacket block 0 at 0 inner 0": "opgp: line 1: a begin line of armor, but this was read as packets; --mode armor reads armored blocks alone\n",
 }
 # How the output of each command begins; octets has none, since the key has no signature.
@@ -42,6 +43,10 @@ USUAL = {
 }
 # A line that names a task, and how its output begins, or the line of its fault.
 ACCEPTED = {
+    "state --at 0": b"cert 0 part - : unverified pub C959BDBAFA32A2F89A153B678CFDE12197965A9A early uses - ",
+    "state --policy any --at=2026-11-20": b"cert 0 part - : unverified pub C959BDBAFA32A2F89A153B678CFDE12197965A9A unbound uses - ",
+    "state --at 1970-01-01T00:00:01Z --policy=usual --malformed keep": b"cert 0 part - : unverified pub ",
+    "state --at 0 --input 10": "input: InputTooLong block 0 at 10 inner 0",
     "octets --row 0": NO_ROW,
     "octets --row=7 --of ring": NO_ROW,
     "octets --of literal --row 18446744073709551615": NO_LITERAL,
@@ -98,6 +103,10 @@ ACCEPTED = {
     "signatures --mode binary": "framing: NotAPacket block 0 at 0 inner 0",
     "canonical": b"-----BEGIN PGP PUBLIC KEY BLOCK-----\r\n\r\nxjME",
     "canonical --spool " + ROOM.name: b"-----BEGIN PGP PUBLIC KEY BLOCK-----\r\n\r\nxjME",
+    "cleartext": "cleartext: Label block 0 at 0 inner 0",
+    "cleartext --of document": "cleartext: Label block 0 at 0 inner 0",
+    "cleartext --of=signatures --line 128": "cleartext: Label block 0 at 0 inner 0",
+    "cleartext --of hashed --input 10": "input: InputTooLong block 0 at 10 inner 0",
     "canonical --input 10": "input: InputTooLong block 0 at 10 inner 0",
     f"digest {SIGNATURE}": b"signature 0 : asked type 00 hash 8 signer 8CFDE12197965A9A digest ",
     f"digest {SIGNATURE} --malformed=keep --mode armor": b"signature 0 : asked type 00 hash 8 ",
@@ -177,6 +186,12 @@ REFUSED = [
     ("digest", "--signatures <FILE>"), ("digest --octets 0", "--signatures <FILE>"), ("digest --signatures", "--signatures"), ("digest --signatures=", "--signatures"),
     (f"digest {SIGNATURE} --salt", "'--salt' wants '--octets <N>'"), (f"digest {SIGNATURE} {SIGNATURE}", "--signatures"), (f"digest {SIGNATURE} --octets x", "x"),
     (f"digest {SIGNATURE} --octets", "--octets"), (f"digest {SIGNATURE} --salt=1 --octets 0", "--salt"), (f"list {SIGNATURE}", "--signatures"), (f"signatures {SIGNATURE}", "--signatures"),
+    ("state", "--at <TIME>"), ("state --policy any", "--at <TIME>"), ("state --at", "--at"), ("state --at=", "--at"), ("state --at now", "now"),
+    ("state --at 0 --at 0", "--at"), ("state --at 2026-02-29", "2026-02-29"), ("state --at 0 --policy", "--policy"), ("state --at 0 --policy odd", "odd"),
+    ("state --at 0 --verdicts", "--verdicts"), ("state --at 0 --verdicts=", "--verdicts"),
+    ("check --at 0", "--at"), ("list --policy any", "--policy"), ("state --at 0 --values", "--values"),
+    ("cleartext --of", "--of"), ("cleartext --of=", "--of"), ("cleartext --of text", "text"), ("cleartext --of document --of hashed", "--of"),
+    ("cleartext --out armor", "--out"), ("cleartext --values", "--values"), ("canonical --of document", "--of"),
     ("canonical --salt", "--salt"), ("canonical --out armor", "--out"), ("signatures --values", "--values"), ("digests", "unrecognized subcommand 'digests'"),
     ("join --merge --merge", "--merge"), ("join --merge=true", "--merge"), ("--version", "--version"),
     ("list --quiet --quiet", "--quiet"), ("list --quiet=true", "--quiet"), ("--quiet list", "--quiet"), ("list -q", "-q"),

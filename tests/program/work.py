@@ -8,8 +8,8 @@ The instructions are those that valgrind's callgrind counts, less those of a run
 four times as many things they may be 4.6 times as many, of merging, which looks packets up in an ordered map, 4.8. The memory is the most that the heap held at a time (tests/program/work.c,
 preloaded): for as many things more it may grow by five times as much. A command that makes its text part by part holds only what it
 will write: where the things are certificates, each command but `join --merge` may hold that and PIECE octets, and `show` for packets
-too; with --spool, PIECE octets alone; `check`, which writes its rows from where they are held, as many octets as CHECKED says for
-each certificate and PIECE. Where a packet announces a body that doesn't come, in one piece or octet by octet, no more than four times
+too; with --spool, PIECE octets alone; `check`, which writes its rows from where they are held, and `state`, as many octets as CHECKED
+says for each certificate and PIECE. Where a packet announces a body that doesn't come, in one piece or octet by octet, no more than four times
 what came and PIECE octets may be held or asked for.
 
 A factor that doesn't grow is seen too: tests/program/work.txt has the instructions of each row over the larger input, and the most that its
@@ -39,6 +39,8 @@ from running import HERE, Runner, built  # noqa: E402
 
 KEY = bytes.fromhex("C63304 53F35F0B 16 09 2B06010401DA470F01 0107 40 3F098994BDD916ED4053197934E4A87C80733A1280D62F8010992E43EE3B2406".replace(" ", ""))
 SIGNATURE = bytes.fromhex("041F160800000000ABCD00000000")
+MESSAGE = b"-----BEGIN PGP SIGNED MESSAGE-----\nHash: SHA256\n\n"
+SIGNED = b"-----BEGIN PGP SIGNATURE-----\n\n" + base64.b64encode(b"\xc2\x0e" + SIGNATURE) + b"\n-----END PGP SIGNATURE-----\n"
 BEGIN, END = b"-----BEGIN PGP PUBLIC KEY BLOCK-----\n\n", b"-----END PGP PUBLIC KEY BLOCK-----\n"
 # What a command may hold beside its text: two buffers, the pieces that aren't full, what a certificate takes.
 PIECE = 1_600_000
@@ -47,8 +49,9 @@ PIECE = 1_600_000
 KEPT = f"{HERE}/tests/program/work.txt"
 MORE = (("instructions", (1.20, 1.50), 40_000), ("octets held", (1.05, 1.20), 4_096), ("octets asked for", (1.05, 1.20), 4_096))
 KIT = "# kit: "
-# What `check` may hold of a certificate with one key and at most one signature: its row, the issuer's name, the key in the index.
-CHECKED = {"check": 400, "check --fingerprints": 466}
+# What `check` may hold of a certificate with one key and at most one signature: its row, the issuer's name, the key in the index; and
+# `state`, which holds how its parts stand.
+CHECKED = {"check": 400, "check --fingerprints": 466, "state --at 1795132800": 450}
 
 
 def armored(octets, size):
@@ -233,6 +236,7 @@ KINDS = (
     ("lines outside of blocks", 40_000, lambda n: b"a line\n" * n + BEGIN + base64.b64encode(KEY) + b"\n" + END, "parts"),
     ("detached signatures", 4_000, lambda n: (b"\xc2\x0e" + SIGNATURE) * n, "detached"),
     ("lines of a document", 40_000, lambda n: b"a line\n" * n, "a document"),
+    ("lines of a cleartext message", 40_000, lambda n: MESSAGE + b"- a line \n" * n + SIGNED, "cleartext"),
 )
 CHOSEN = "write --own-signatures --no-attributes --user-id LAST --out binary"
 OWN = "write --own-signatures --out binary"
@@ -266,6 +270,10 @@ COMMANDS = (
     "canonical",
     "canonical --spool ROOM",
     "digest --signatures DETACHED",
+    "cleartext --of document",
+    "cleartext --of hashed",
+    "cleartext --of signatures",
+    "state --at 1795132800",
 )
 # What else is tried, by the name of the parts.
 ALSO = {"user IDs": ("normalise --out binary", "split", "split --key FIRST", "join --out binary", "write"), "octets of a user ID": ("split",),
@@ -332,7 +340,7 @@ IN_C = {
 # The programs of the table that aren't the program itself.
 OTHERS = ("opgp_examples", "opgp_calls", "library")
 # Commands that read no keyring.
-OF_DOCUMENTS = ("signatures", "canonical", "digest")
+OF_DOCUMENTS = ("signatures", "canonical", "digest", "cleartext")
 # What is tried where the things are no certificates.
 SOME = ("show", "show --values", "list", "list --values", "check", "check --fingerprints", "octets --row LAST", "write --out binary")
 SOME += (CHOSEN, OWN, "join --merge --out binary")
@@ -349,9 +357,12 @@ def is_tried(kind, command):
     own |= {"of an area": ("check", "octets --all", OWN, "show --values"), "bindings": ("check --fingerprints", "octets --all", OWN)}
     own |= {"malformed": ("list --malformed keep", "check --malformed keep"), "of a literal": ("octets --of literal --row 0",)}
     own |= {"of a text": ("show",), "refused": ("show", "check"), "cut off": ("show", "list"), "many cut off": (), "of fillers": (KEEP, "join --out binary")}
+    own |= {"cleartext": ("cleartext --of document", "cleartext --of hashed", "cleartext --of signatures")}
     own |= {"detached": ("signatures",), "a document": ("canonical", "canonical --spool ROOM", "digest --signatures DETACHED")}
     if command in ALSO.get(name, ()):
         return True
+    if command.startswith("state"):
+        return name in ("certificates", "user IDs", "signatures") or things == "subkeys"
     if things in own or "literal --row" in command or "--malformed" in command or command.split()[0] in OF_DOCUMENTS:
         return command in own.get(things, ())
     if "long" in name:
@@ -372,7 +383,7 @@ class Case:
         self.instructions = self.counted(room) if is_counted else 0
         ended = runner.run(self.words, octets, {"LD_PRELOAD": shim})
         self.status, self.text = ended.status, len(ended.out)
-        self.most, self.asked = map(int, ended.told.split())
+        self.most, self.asked = map(int, ended.told.split()[-2:])
 
     def counted(self, room):
         """The instructions of a run."""

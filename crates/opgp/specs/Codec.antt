@@ -2,6 +2,7 @@
 pub use Rattle.opgp_codec.specs.declared
 pub use Rattle.opgp_codec.specs.Accepts
 pub use Rattle.opgp_codec.specs.Blocks
+pub use Rattle.opgp_codec.specs.Cleartext
 pub use Rattle.opgp_codec.specs.Draft
 pub use Rattle.opgp_codec.specs.Errors
 pub use Rattle.opgp_codec.specs.Found

@@ -1,4 +1,5 @@
 pub mod Armor
+pub mod Cleartext
 pub mod Codec
 pub mod Document
 pub mod Frame
@@ -9,5 +10,6 @@ pub mod Packet
 pub mod Report
 pub mod Ring
 pub mod Stack
+pub mod State
 pub mod Io
 pub mod Valid

@@ -11,13 +11,19 @@ pub mod armor {
     pub use opgp_armor::{ArmorEvent, Block, Dearmor, Label, armor, dearmor, encode_row, laws};
 }
 
+/// Messages in the cleartext signature framework (RFC 9580, 7): documents with their signatures.
+pub mod cleartext {
+    pub use opgp_cleartext::{Cleartext, laws};
+}
+
 /// Keyrings read from a reader and written to a writer.
 pub mod codec {
     pub use opgp_codec::{
         Answer, Draft, DraftError, EngineError, IncomingOctets, IncomingPackets, IncomingParts,
         Mode, NoSpool, Out, PacketReader, PacketsText, PartReader, Parts, ReadError, Sink, Source,
-        Spool, Text, Waiting, WaitingPackets, Watched, laws, read_keyring, read_packets,
-        read_signatures, read_signed, write, write_certificate, write_certificates, write_keyring,
+        Spool, Text, Waiting, WaitingPackets, Watched, cleartext_laws, laws, read_cleartext,
+        read_keyring, read_packets, read_signatures, read_signed, write, write_certificate,
+        write_certificates, write_keyring,
     };
 }
 
@@ -25,7 +31,7 @@ pub mod codec {
 pub mod document {
     pub use opgp_document::{
         CanonicalText, DocumentAnswers, DocumentHasher, DocumentWhy, MOST_SIGNATURES, OpenFault,
-        OwnOctets, SignatureHasher, SignedDocument, StrayReturn, laws,
+        OwnOctets, ShortTable, SignatureHasher, SignedDocument, StrayReturn, laws,
     };
 }
 
@@ -97,9 +103,18 @@ pub mod ring {
 /// What the program does: its lines, its tasks, and a run of one.
 pub mod stack {
     pub use opgp_stack::{
-        Action, Around, KeyName, RunFault, Task, Top, laws, run, run_around, run_canonical,
-        run_digests, run_last, run_signatures, run_spooled, write_fingerprinted_report,
-        write_listing, write_report, write_shown,
+        Action, Around, CleartextPart, KeyName, RunFault, StateTask, Task, Top, laws, read_octets,
+        run, run_around, run_canonical, run_cleartext, run_digests, run_last, run_signatures,
+        run_spooled, run_states, time_in, write_fingerprinted_report, write_listing, write_report,
+        write_shown,
+    };
+}
+
+/// Lines of what is found of signatures, keys and user IDs, and files of verdicts.
+pub mod state {
+    pub use opgp_state::{
+        Basis, KeyringStates, add_fingerprinted_report, add_report, add_states, claimed_verdicts,
+        left_of, read_verdicts, verdict_words,
     };
 }
 

@@ -6,7 +6,7 @@
 #![tactic(auto)]
 
 ghost use Rattle.std.specs.Prelude.{◌≡◌, ◌≢◌, ◌↔◌, ◌⊎◌, ◌<◌, ◌+◌, ◌^◌, ◌++◌, ◌∷◌, [], length};
-ghost use Rattle.std.specs.Prelude.{true, false, ℕ, List, Some, None, Ok};
+ghost use Rattle.std.specs.Prelude.{true, false, ℕ, List, Some, None, Ok, MatchOption, ⊤, ◌≤◌};
 ghost use Rattle.std.specs.List.{slice_get};
 ghost use Rattle.opgp_codec.specs.Writing.{packets_text};
 ghost use Rattle.opgp_tables.specs.GivenLimits.{AreThese, MayBeGiven, usual_limits};
@@ -22,7 +22,7 @@ ghost use Rattle.opgp_ring.specs.Joining.{nth_of};
 ghost use Rattle.opgp_ring.specs.Keyring.{flat};
 ghost use Rattle.opgp_ring.specs.Normal.{normal_of};
 ghost use Rattle.opgp_c.specs.Calls.{Answers, AnswersBy, HoldsTheSame, IsFilled, KeepsMade};
-ghost use Rattle.opgp_c.specs.Calls.{PutsTables, Refuses, RefusesBy, mode_by, name_by, out_of};
+ghost use Rattle.opgp_c.specs.Calls.{PutsTables, Refuses, RefusesBy, mode_by, out_of};
 ghost use Rattle.opgp_c.specs.declared.slot.Reading.TheVariants.{Lost};
 ghost use Rattle.opgp_codec.specs.declared.mode.Mode.{Mode};
 ghost use Rattle.opgp_tables.specs.HashedRows.{hashed_bytes, hashed_rows};
@@ -31,7 +31,7 @@ ghost use Rattle.opgp_c.specs.Readings.{StaysWhat, begun, waiting_in};
 ghost use Rattle.opgp_codec.specs.PartReader.{Use, given, taking};
 ghost use Rattle.opgp_tables.specs.FaultRow.{fault_of};
 ghost use Rattle.opgp_tables.specs.FaultRow.{fault_row};
-ghost use Rattle.opgp_tables.specs.Names.{table_of};
+ghost use Rattle.opgp_c.specs.Whys.{named};
 ghost use Rattle.opgp_octets.specs.Fault.{fault_text};
 ghost use Rattle.opgp_octets.specs.declared.fault.Fault.{Fault};
 ghost use Rattle.opgp_octets.specs.declared.limits.Limits.{Limits};
@@ -50,6 +50,7 @@ pub mod revocations;
 mod ring;
 mod signed;
 mod signed_tables;
+pub mod signed_texts;
 mod sizes;
 mod slot;
 pub mod standings;
@@ -59,6 +60,7 @@ mod status;
 mod tables;
 mod text;
 pub mod texts;
+mod whys;
 
 use crate::calls::{mode_by, put_octets, put_text, read_ring};
 use crate::making::{Making, joined, keep, keep_found, keep_made};
@@ -68,6 +70,7 @@ use crate::ring::Ring;
 use crate::sizes::Sizes;
 use crate::status::{CLOSED, DONE, LIMITS, MEMORY, NO_ROW};
 use crate::tables::{Window, put_hashed, put_row_octets, put_table};
+use crate::whys::unbelieved_name;
 use opgp_codec::Mode;
 use opgp_ring::nth;
 use opgp_tables::{
@@ -96,30 +99,41 @@ pub extern "C" fn opgp_usual_limits(limits: &mut GivenLimits)
 
 /// Puts the name that a table has for a number: those of the standard for packet types, algorithms,
 /// signature types and kinds of subpackets, those of the program for the layers and reasons of
-/// faults, and for why a signature isn't hashed. It has 52 octets at most.
+/// faults, for why a signature isn't hashed, and for why it or its key isn't believed. It has 52
+/// octets at most.
 ///
 /// The status says whether it is done; else the text is unchanged: it has too little room, or there
 /// is no such table, or it has no name for the number.
 #[unsafe(no_mangle)]
 pub extern "C" fn opgp_name(table: u32, number: u8, text: &mut [u8], size: &mut u64) -> u32
     ensures done { result ≡ 0 → (name : List ℕ)
-        × (name_by (table_of table) number ≡ Some name)
+        × (named table number ≡ Some name)
         × IsFilled name text.old text.new × (size.new ≡ length name) }
     ensures room { result ≡ 2 → (name : List ℕ)
-        × (name_by (table_of table) number ≡ Some name)
+        × (named table number ≡ Some name)
         × (length text.old < length name) × (size.new ≡ length name) }
     ensures short { result ≡ 2 → length text.old < 52 }
-    ensures none { (result ≡ 6) ↔ (name_by (table_of table) number ≡ None) }
+    ensures none { (result ≡ 6) ↔ (named table number ≡ None) }
     ensures kept { result ≢ 0 → text.new ≡ text.old }
     ensures size { result ≡ 6 → size.new ≡ size.old }
     ensures status { (result ≡ 0) ⊎ ((result ≡ 2) ⊎ (result ≡ 6)) }
 {
-    let Some(table) = NumberTable::of(table) else {
-        return NO_ROW;
-    };
-    match table.name(number) {
+    match name_in(table, number) {
         Some(name) => put_octets(name.as_bytes(), text, size),
         None => NO_ROW,
+    }
+}
+
+/// The name that the table of this number has for a number.
+fn name_in(table: u32, number: u8) -> Option<&'static str>
+    ensures value { MatchOption result (named table number ≡ None)
+        (λ name. named table number ≡ Some name.now) }
+    ensures short { MatchOption result ⊤ (λ name. length name.now ≤ 52) }
+{
+    if table == 8 {
+        unbelieved_name(number)
+    } else {
+        NumberTable::of(table)?.name(number)
     }
 }
 

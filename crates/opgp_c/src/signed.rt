@@ -55,7 +55,7 @@ pub(crate) fn read_detached(
 
 /// A document under these signatures, of which nothing was given; or the status that says why there
 /// is none.
-fn open(alloc: Global, signatures: &DetachedSignatures) -> Result<SignedDocument, u32>
+pub(crate) fn open(alloc: Global, signatures: &DetachedSignatures) -> Result<SignedDocument, u32>
     ensures ok { IfOk result (λ d. IsSignedBy d
         (signed_in (signature_bodies (detached_packets signatures.now))) []) }
     ensures few { IfOk result (λ _.
@@ -76,7 +76,7 @@ fn open(alloc: Global, signatures: &DetachedSignatures) -> Result<SignedDocument
 }
 
 /// Keeps this in a handle; what that held before is let go.
-fn keep(alloc: Global, into: &mut Document, signed: Signed) -> u32
+pub(crate) fn keep(alloc: Global, into: &mut Document, signed: Signed) -> u32
     ensures done { result ≡ 0 → (into.new.is_open ≡ true) × (into.new.slot.held ≡ signed) }
     ensures kept { result ≢ 0 → into.new ≡ into.old }
     ensures status { (result ≡ 0) ⊎ (result ≡ 3) }

@@ -21,3 +21,6 @@ pub mod Readers
 mod Coming
 pub mod Packeted
 pub mod Keyringed
+mod Cleartexts
+mod Strict
+mod OneMessage

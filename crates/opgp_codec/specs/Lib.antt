@@ -7,6 +7,7 @@ pub mod Pulled
 pub mod Reading
 pub mod Foreign
 pub mod Signatures
+pub mod Cleartext
 pub mod Signed
 pub mod Skipped
 pub mod Spool

@@ -19,6 +19,7 @@ layer_row layer.Framing = (2, codes "framing")
 layer_row layer.Body = (3, codes "body")
 layer_row layer.Composition = (4, codes "composition")
 layer_row layer.Text = (5, codes "text")
+layer_row layer.Cleartext = (6, codes "cleartext")
 
 abbrev pub layer_number : Layer → ℕ
 layer_number l = (layer_row l).0
@@ -63,6 +64,9 @@ reason_row reason.SubShort = (37, codes "SubShort")
 reason_row reason.AreaShort = (40, codes "AreaShort")
 reason_row reason.SaltSize = (41, codes "SaltSize")
 reason_row reason.StrayReturn = (43, codes "StrayReturn")
+reason_row reason.Unescaped = (44, codes "Unescaped")
+reason_row reason.NoText = (45, codes "NoText")
+reason_row reason.NoMessage = (46, codes "NoMessage")
 reason_row reason.NoPrimary = (50, codes "NoPrimary")
 reason_row reason.NotInKeyring = (51, codes "NotInKeyring")
 reason_row reason.CertTooLong = (52, codes "CertTooLong")

@@ -20,6 +20,8 @@ pub enum Layer {
     Composition = 4,
     /// The line ends of a document that is hashed as text (RFC 9580, 5.2.1.2).
     Text = 5,
+    /// The lines of a cleartext message (RFC 9580, 7). It refuses before the armor of its signatures.
+    Cleartext = 6,
 }
 
 /// Why an input is refused. Each reason has a number, which never changes.
@@ -95,6 +97,12 @@ pub enum Reason {
     SaltSize = 41,
     /// A carriage return that no line feed follows, in a document that is to be text.
     StrayReturn = 43,
+    /// A line of a cleartext message begins with a hyphen and isn't escaped.
+    Unescaped = 44,
+    /// A cleartext message has no line of text.
+    NoText = 45,
+    /// The text has no cleartext message.
+    NoMessage = 46,
     /// A component or signature before the first primary key.
     NoPrimary = 50,
     /// A packet that has no place in a keyring.
@@ -158,13 +166,14 @@ impl BodyFault {
 
 impl Layer {
     /// All of them, by number.
-    pub const ALL: [Layer; 6] = [
+    pub const ALL: [Layer; 7] = [
         Layer::Input,
         Layer::Armor,
         Layer::Framing,
         Layer::Body,
         Layer::Composition,
         Layer::Text,
+        Layer::Cleartext,
     ];
 
     /// The layer of this number; None if no layer has it.
@@ -199,6 +208,7 @@ impl Layer {
             Layer::Body => "body",
             Layer::Composition => "composition",
             Layer::Text => "text",
+            Layer::Cleartext => "cleartext",
         }
     }
 }
@@ -211,8 +221,8 @@ macro_rules! reasons {
             Unfinished LineTooLong InputTooLong NotAPacket TypeZero Compressed UnknownCritical
             Indeterminate Truncated PartialKind FirstPartial BodyTooLong TooManyPieces KeyVersion
             KeyTooLong Count OidSize KdfSize Trailing SubEmpty SubShort AreaShort SaltSize
-            StrayReturn NoPrimary NotInKeyring CertTooLong NotASignedLiteral BlockLabel
-            NotASignature
+            StrayReturn Unescaped NoText NoMessage NoPrimary NotInKeyring CertTooLong
+            NotASignedLiteral BlockLabel NotASignature
         }
     };
 }
@@ -235,7 +245,7 @@ macro_rules! name {
 
 impl Reason {
     /// All of them, by number.
-    pub const ALL: [Reason; 41] = reasons!(all);
+    pub const ALL: [Reason; 44] = reasons!(all);
 
     /// The reason of this number; None if no reason has it.
     pub fn of(number: u8) -> Option<Reason>

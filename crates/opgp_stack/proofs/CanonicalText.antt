@@ -1,5 +1,5 @@
 -- The canonical text of a document, as its pieces come.
-use Rattle.std.proofs.Common.{◌≡◌, ◌∙◌, ℕ, ◌+◌, ◌-◌, ◌^◌, ◌<◌, ◌≤◌, ◌⊎◌, inl, inr, Bool, true, false, List, [], ◌∷◌, ◌++◌, length, Option, Some, None, is_some, Result, Ok, Err, sym, ap, subst, arith, append_assoc, append-nil, length-append}
+use Rattle.std.proofs.Common.{◌≡◌, ◌∙◌, ℕ, ◌^◌, ◌<◌, ◌≤◌, ◌⊎◌, inl, inr, Bool, true, false, List, [], ◌∷◌, ◌++◌, length, Option, Some, None, is_some, Result, Ok, Err, sym, ap, subst, arith, append_assoc, append-nil, length-append}
 use Rattle.opgp_octets.specs.Limits.{input_limit}
 use Rattle.opgp_octets.specs.declared.fault.Fault.{Fault}
 use Rattle.opgp_octets.specs.declared.limits.Limits.{Limits}
@@ -65,6 +65,7 @@ text_ends left failed old new limits has octets sound pulls within small (Err ru
 text_ends left failed old new limits has octets sound pulls within small (Err run.NoSuchRow) end = absurd end
 text_ends left failed old new limits has octets sound pulls within small (Err run.NoSuchCertificate) end = absurd end
 text_ends left failed old new limits has octets sound pulls within small (Err run.TooManySignatures) end = absurd end
+text_ends left failed old new limits has octets sound pulls within small (Err run.OtherVerdicts) end = absurd end
 
 -- what is made of a document that is refused
 pub refused_text : (limits : Limits) (document : List ℕ) (fault : Fault) → ((length document ≤ input_limit limits) × (pos : ℕ) × IsStrayAt document pos × (fault ≡ text_fault pos)) ⊎ ((input_limit limits < length document) × (fault ≡ too_long limits)) → OfText limits document (Refused fault)

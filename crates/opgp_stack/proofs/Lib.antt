@@ -1,6 +1,7 @@
 mod AllRows
 mod Calendar
 mod CanonicalText
+mod CleartextParts
 mod DateTexts
 mod DocumentLines
 mod GoingOn
@@ -14,6 +15,8 @@ mod RingMade
 mod Runs
 mod ShownTexts
 mod SoundLines
+pub mod Times
+mod States
 mod Named
 mod NumberTexts
 mod OtherValues

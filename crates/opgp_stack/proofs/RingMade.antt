@@ -24,7 +24,7 @@ use Rattle.opgp_stack.specs.KeyName.{certificates_with, name_octets}
 use Rattle.opgp_stack.specs.Making.{HasMade, HasNames, HasTexts, is_of_parts, out_of, ring_made}
 use Rattle.opgp_stack.specs.OnePart.{asked_among, found_question}
 use Rattle.opgp_stack.specs.PartText.{text_of_part}
-use Rattle.opgp_stack.specs.Report.{fingerprinted_lines, report_lines}
+use Rattle.opgp_state.specs.Report.{fingerprinted_lines, report_lines}
 use Rattle.opgp_stack.specs.Running.{Made, MakesBy, OfRing, Text, found_made, one_text, question_made}
 use Rattle.opgp_stack.specs.declared.all_octets.AllOctets.{AllOctets}
 use Rattle.opgp_stack.specs.declared.checking.Checking.{Checking}

@@ -10,7 +10,7 @@ use Rattle.opgp_codec.specs.declared.draft_error.DraftError.TheVariants as draft
 use Rattle.opgp_codec.specs.declared.engine_error.EngineError.TheVariants as engine
 use Rattle.opgp_codec.specs.Pulled.{OfAll}
 use Rattle.opgp_codec.specs.Reading.{Outcome}
-use Rattle.opgp_stack.specs.Running.{IsMade, Made, MakesBy, ReadsFor, Refused, RunsAs, RunsBy, RunsOf, RunsSpooled, IsSpooled, Text, NoSuchRow, NoSuchCertificate, makes, fails, lacks}
+use Rattle.opgp_stack.specs.Running.{IsMade, Made, MakesBy, ReadsFor, Refused, RunsAs, RunsBy, RunsOf, RunsSpooled, IsSpooled, Text, NoSuchRow, NoSuchCertificate, OtherVerdicts, makes, fails, lacks}
 use Rattle.opgp_codec.proofs.Pulling.{of_all}
 use Rattle.opgp_stack.proofs.ReadFor.{Returns, err_is}
 
@@ -34,6 +34,7 @@ module _ {R W A : Type 0} {left : R → Option (List ℕ)} {has_failed : R → B
   stops run.NoSuchRow by read = absurd read
   stops run.NoSuchCertificate by read = absurd read
   stops run.TooManySignatures by read = absurd read
+  stops run.OtherVerdicts by read = absurd read
 
   -- there is nothing to make it of
   pub stopped_of : (result : Result Unit RunFault) (e : RunFault) → ((octets : List ℕ) (fault : Fault) → answers octets (Err fault) → Of octets (Refused fault))
@@ -63,6 +64,7 @@ made_unspooled held failed old new r (Text text) (inr (Err draft.Spool, e, k)) =
 made_unspooled held failed old new r (Refused fault) (inr h) = absurd h
 made_unspooled held failed old new r NoSuchRow (inr h) = absurd h
 made_unspooled held failed old new r NoSuchCertificate (inr h) = absurd h
+made_unspooled held failed old new r OtherVerdicts (inr h) = absurd h
 
 pub unspooled : {R W : Type 0} {left : R → Option (List ℕ)} {has_failed : R → Bool} (held : W → Option (List ℕ)) (failed : W → Bool) (task : Task) {reader reader' : R} {writer writer' : W} {result : Result Unit RunFault}
     → RunsSpooled false false left has_failed held failed task reader reader' writer writer' result → RunsAs left has_failed held failed task reader reader' writer writer' result

@@ -26,7 +26,7 @@ use Rattle.opgp_ring.specs.Signed.{signature_bodies}
 use Rattle.opgp_codec.specs.Reading.{AnswerOf, Outcome, too_long}
 use Rattle.opgp_codec.specs.Signatures.{AreDetachedSignatures, signature_label}
 use Rattle.opgp_codec.specs.declared.mode.Mode.{Mode}
-use Rattle.opgp_stack.specs.Report.{finding_words, joined}
+use Rattle.opgp_state.specs.Report.{finding_words, joined}
 use Rattle.opgp_stack.specs.Running.{Made, Text, Refused, NoSuchRow, on_value}
 use Rattle.opgp_stack.specs.declared.around.Around.{Around}
 use Rattle.opgp_stack.specs.declared.around.Around.TheVariants.{Front, Behind}

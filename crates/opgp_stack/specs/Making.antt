@@ -25,7 +25,7 @@ use Rattle.opgp_stack.specs.KeyName.{name_octets}
 use Rattle.opgp_stack.specs.Listing.{listing}
 use Rattle.opgp_stack.specs.OnePart.{IsNth, IsRow, asked_among, certificates_in}
 use Rattle.opgp_stack.specs.PartText.{text_of_part}
-use Rattle.opgp_stack.specs.Report.{fingerprinted_lines, report_lines}
+use Rattle.opgp_state.specs.Report.{fingerprinted_lines, report_lines}
 use Rattle.opgp_stack.specs.Running.{Made, Text, named_made, one_text, question_made}
 use Rattle.opgp_stack.specs.ValuedListing.{valued_listing}
 use Rattle.opgp_stack.specs.declared.key_name.KeyName.{KeyName}

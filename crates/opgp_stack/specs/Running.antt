@@ -36,7 +36,7 @@ use Rattle.opgp_stack.specs.Listing.{listing}
 use Rattle.opgp_codec.specs.Packets.{ArePackets, BlockValue, any_label}
 use Rattle.opgp_codec.specs.Pulled.{OfAll}
 use Rattle.opgp_codec.specs.Reading.{AnswerOf, Outcome, Wanted}
-use Rattle.opgp_stack.specs.Report.{fingerprinted_lines, report_lines}
+use Rattle.opgp_state.specs.Report.{fingerprinted_lines, report_lines}
 use Rattle.opgp_stack.specs.Showing.{shown_blocks}
 use Rattle.opgp_stack.specs.ValuedListing.{valued_listing}
 use Rattle.opgp_stack.specs.Values.{valued_blocks}
@@ -51,6 +51,7 @@ pub data Made : Type 0 where
   Refused : Fault → Made
   NoSuchRow : Made
   NoSuchCertificate : Made
+  OtherVerdicts : Made
 
 -- the octets that a question hashes
 abbrev pub question_made : Option QuestionValue → Made
@@ -138,6 +139,8 @@ IsMade held failed old new result (Refused fault) =
 IsMade held failed old new result NoSuchRow = (result ≡ Err run.NoSuchRow) × (new ≡ old)
 IsMade held failed old new result NoSuchCertificate =
     (result ≡ Err run.NoSuchCertificate) × (new ≡ old)
+IsMade held failed old new result OtherVerdicts =
+    (result ≡ Err run.OtherVerdicts) × (new ≡ old)
 
 -- A run makes this of all that the source gives, and this is so of the sink; or the source fails,
 -- or memory runs out while it is read, and nothing is written.

@@ -6,7 +6,7 @@ ghost use Rattle.opgp_ring.specs.Keyring.{KeyringValue};
 ghost use Rattle.opgp_ring.specs.State.{part_of};
 ghost use Rattle.opgp_report.specs.Reporting.{Reports};
 ghost use Rattle.opgp_stack.specs.OnePart.{certificates_in};
-ghost use Rattle.opgp_stack.specs.Report.{HasReport};
+ghost use Rattle.opgp_state.specs.Report.{HasReport};
 
 use opgp_octets::OutOfMemory;
 use opgp_report::{Report, Reporting};

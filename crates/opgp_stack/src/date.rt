@@ -13,14 +13,14 @@ use std::io;
 const FIRST_DAY: u32 = 719_468;
 
 /// The seconds of a day.
-const DAY: u32 = 86_400;
+pub(crate) const DAY: u32 = 86_400;
 
 /// A day of the calendar.
 #[derive(Clone, Copy)]
-struct Date {
-    year: u32,
-    month: u32,
-    day: u32,
+pub(crate) struct Date {
+    pub(crate) year: u32,
+    pub(crate) month: u32,
+    pub(crate) day: u32,
 }
 
 /// A day of a year that begins on 1 March.
@@ -49,7 +49,7 @@ fn march_day(days: u32) -> MarchDay
 }
 
 /// The day so many days after 1970-01-01; a time of four octets is less than 49,711 days.
-fn date_of(days: u32) -> Date
+pub(crate) fn date_of(days: u32) -> Date
     requires { days < 49_711 }
     ensures { date_value result ≡ date_of days }
 {
@@ -76,7 +76,7 @@ fn digit(n: u32) -> u8
 }
 
 /// A day as a text: `2022-11-30`.
-fn day_text(date: Date) -> [u8; 10]
+pub(crate) fn day_text(date: Date) -> [u8; 10]
     ensures { result ≡ day_text (date_value date) }
 {
     let century = date.year / 100;
@@ -95,7 +95,7 @@ fn day_text(date: Date) -> [u8; 10]
 }
 
 /// The seconds since midnight as a text: `T16:08:03Z`.
-fn seconds_text(seconds: u32) -> [u8; 10]
+pub(crate) fn seconds_text(seconds: u32) -> [u8; 10]
     ensures { result ≡ seconds_text seconds }
 {
     let hour = seconds / 3600;

@@ -8,10 +8,9 @@ ghost use Rattle.opgp_report.specs.IssuerName.{name_value};
 ghost use Rattle.opgp_stack.specs.Documents.{digest_line, digest_lines, named_octets, words_line};
 ghost use Rattle.opgp_stack.specs.Documents.{words_text};
 ghost use Rattle.opgp_stack.specs.Documents.{read_shown};
-ghost use Rattle.opgp_stack.specs.Report.{finding_words, id_or_none};
+ghost use Rattle.opgp_state.specs.Report.{finding_words, id_or_none};
 ghost use Rattle.opgp_report.specs.RowValue.{asked_with};
 
-use crate::reporting::{left_of, verdict_words};
 use opgp_codec::Text;
 use opgp_document::{DocumentWhy, OwnOctets};
 use opgp_hash::Digest;
@@ -19,6 +18,7 @@ use opgp_io::{Output, Sink, Word};
 use opgp_octets::BodyFault;
 use opgp_packet::SigView;
 use opgp_report::{IssuerName, Job, LeftOctets, Verdict, Verifier, issuer_named};
+use opgp_state::{left_of, verdict_words};
 use std::io;
 
 /// A line for each signature over a document, with what is answered for it.

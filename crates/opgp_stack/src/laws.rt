@@ -6,6 +6,7 @@ ghost use Rattle.opgp_stack.specs.Date.{DateValue, IsDate, clock_text, date_of, 
 ghost use Rattle.opgp_stack.specs.Date.{days_before, time_of};
 ghost use Rattle.opgp_stack.specs.KeyText.{IsKeyText};
 ghost use Rattle.opgp_stack.specs.Running.{Made, Makes};
+ghost use Rattle.opgp_stack.specs.Time.{IsTime};
 ghost use Rattle.opgp_stack.specs.declared.key_name.KeyName.{KeyName};
 ghost use Rattle.opgp_stack.specs.declared.task.Task.{Task};
 
@@ -37,6 +38,11 @@ pub fn something_is_made()
 /// A text names at most one key.
 pub fn a_text_names_one_key()
     ensures { (text : List ℕ) (a b : KeyName) → IsKeyText text a → IsKeyText text b → a ≡ b }
+{}
+
+/// A text says one time at most.
+pub fn a_text_says_one_time()
+    ensures { (text : List ℕ) (a b : ℕ) → IsTime text a → IsTime text b → a ≡ b }
 {}
 
 /// The date so many days after 1970-01-01 is a day of the calendar, and so many days lie before it, in

@@ -7,6 +7,7 @@ mod around;
 mod canonical;
 mod checking;
 mod checking_fingerprints;
+mod cleartext;
 mod date;
 mod digest_lines;
 mod digesting;
@@ -23,14 +24,16 @@ mod named_certificates;
 mod nth_certificate;
 mod packet_text;
 mod part_text;
-mod reporting;
+mod reading_octets;
 mod row_found;
 mod run_fault;
 mod running;
 mod showing;
 mod showing_from;
 mod signature_lines;
+mod stating;
 mod task;
+mod time;
 mod valued;
 mod valued_listing;
 mod values;
@@ -40,6 +43,7 @@ mod writing_shown;
 
 pub use around::{Around, run_around};
 pub use canonical::run_canonical;
+pub use cleartext::{CleartextPart, run_cleartext};
 pub use digesting::run_digests;
 pub use key_name::KeyName;
 pub use opgp_codec::{
@@ -48,10 +52,14 @@ pub use opgp_codec::{
     write_certificate, write_certificates, write_keyring,
 };
 pub use opgp_merge::Choice;
+pub use opgp_valid::Policy;
+pub use reading_octets::read_octets;
 pub use run_fault::RunFault;
 pub use running::{run, run_last, run_spooled};
 pub use signature_lines::run_signatures;
+pub use stating::{StateTask, run_states};
 pub use task::{Action, Task, Top};
+pub use time::time_in;
 pub use writing_listing::write_listing;
 pub use writing_report::{write_fingerprinted_report, write_report};
 pub use writing_shown::write_shown;

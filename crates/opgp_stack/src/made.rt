@@ -10,7 +10,7 @@ ghost use Rattle.opgp_ring.specs.Composed.{parts_of};
 ghost use Rattle.opgp_ring.specs.Keyring.{KeyringValue, flat};
 ghost use Rattle.opgp_stack.specs.Making.{HasMade, out_of, ring_made};
 ghost use Rattle.opgp_stack.specs.OnePart.{found_question};
-ghost use Rattle.opgp_stack.specs.Report.{fingerprinted_lines, report_lines};
+ghost use Rattle.opgp_state.specs.Report.{fingerprinted_lines, report_lines};
 ghost use Rattle.opgp_stack.specs.Running.{IsMade, IsSpooled, Made};
 ghost use Rattle.opgp_stack.specs.Running.{found_made, one_text, question_made};
 

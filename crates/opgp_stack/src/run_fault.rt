@@ -28,6 +28,8 @@ pub enum RunFault {
     NoSuchCertificate,
     /// There are more than 64 signatures over one document.
     TooManySignatures,
+    /// A file of verdicts isn't one on the signatures of the keyring.
+    OtherVerdicts,
 }
 
 impl RunFault {
@@ -44,6 +46,7 @@ impl RunFault {
             RunFault::NoSuchRow => 70,
             RunFault::NoSuchCertificate => 71,
             RunFault::TooManySignatures => 72,
+            RunFault::OtherVerdicts => 73,
         }
     }
 }
@@ -62,6 +65,7 @@ impl fmt::Display for RunFault {
             RunFault::NoSuchRow => f.write_str("no such row"),
             RunFault::NoSuchCertificate => f.write_str("no such certificate"),
             RunFault::TooManySignatures => f.write_str("too many signatures"),
+            RunFault::OtherVerdicts => { f.write_str("the verdicts aren't those of this keyring") }
         }
     }
 }

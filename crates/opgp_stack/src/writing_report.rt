@@ -3,13 +3,13 @@
 ghost use Rattle.std.specs.Prelude.{◌≡◌, false, map};
 ghost use Rattle.opgp_report.specs.Fingerprinting.{fingerprinted_rows_of, rows_to_come};
 ghost use Rattle.opgp_report.specs.Row.{report_rows, row_value};
-ghost use Rattle.opgp_stack.specs.Report.{fingerprinted_lines, report_lines};
+ghost use Rattle.opgp_state.specs.Report.{fingerprinted_lines, report_lines};
 ghost use Rattle.opgp_codec.specs.Written.{IsWritten};
 
-use crate::reporting::{add_fingerprinted_report, add_report};
 use opgp_codec::{EngineError, Text, write};
 use opgp_io::{Output, Sink};
 use opgp_report::{FingerprintedReport, FingerprintedRows, Report, Row};
+use opgp_state::{add_fingerprinted_report, add_report};
 use std::alloc::Global;
 use std::io;
 

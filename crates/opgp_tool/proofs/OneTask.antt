@@ -14,12 +14,16 @@ use Rattle.opgp_stack.specs.declared.task.Action.{Action}
 use Rattle.opgp_stack.specs.declared.task.Action.TheVariants as action
 use Rattle.opgp_stack.specs.declared.task.Task.{Task}
 use Rattle.opgp_stack.specs.KeyText.{IsKeyText}
+use Rattle.opgp_stack.specs.Time.{IsTime}
+use Rattle.opgp_stack.specs.declared.stating.StateTask.{StateTask}
+use Rattle.opgp_valid.specs.declared.policy.Policy.{Policy}
 use Rattle.opgp_stack.specs.declared.key_name.KeyName.{KeyName}
 use Rattle.opgp_merge.proofs.Staying.{choice_with}
 use Rattle.opgp_stack.proofs.KeyTexts.{one_name}
+use Rattle.opgp_stack.proofs.Times.{one_time_said}
 use Rattle.opgp_tool.specs.Program.{SaysTask}
-use Rattle.opgp_tool.specs.Words.{Asked, AskedWork, DocumentWork, HasKey, HasLimits, HasNumber, IsAction, IsChoice, IsDocument, IsDocumentWork, IsGivenNumber, IsRequest, IsTask, IsWork}
-use Rattle.opgp_tool.specs.Words.{of_around, of_canonical, of_digests, of_document, of_signatures, of_task}
+use Rattle.opgp_tool.specs.Words.{Asked, AskedWork, DocumentWork, HasKey, HasLimits, HasNumber, HasTime, IsAction, IsChoice, IsDocumentWork, IsGivenNumber, IsRequest, IsStatesWith, IsTask, IsWork}
+use Rattle.opgp_tool.specs.Words.{of_around, of_canonical, of_cleartext, of_digests, of_document, of_signatures, of_states, of_task}
 use Rattle.opgp_tool.proofs.Reading.{apart}
 use Rattle.opgp_tool.proofs.SameLimits.{same_limits}
 
@@ -144,6 +148,7 @@ document_name of_signatures = codes "signatures"
 document_name (of_digests file) = codes "digest"
 document_name (of_around file row part) = codes "digest"
 document_name of_canonical = codes "canonical"
+document_name (of_cleartext part) = codes "cleartext"
 
 document_named : (name : Text) (options : List Row) (w : DocumentWork) → IsDocumentWork name options w
     → name ≡ document_name w
@@ -151,11 +156,13 @@ document_named name options of_signatures said = said
 document_named name options (of_digests file) said = said.0
 document_named name options (of_around file row part) said = said.0
 document_named name options of_canonical said = said
+document_named name options (of_cleartext part) said = said.0
 
 one_document_work : (name : Text) (options : List Row) (a b : DocumentWork)
     → IsDocumentWork name options a → IsDocumentWork name options b → a ≡ b
 one_document_work name options of_signatures of_signatures a b = refl
 one_document_work name options of_canonical of_canonical a b = refl
+one_document_work name options (of_cleartext p) (of_cleartext q) a b = cc (a.1, b.1)
 one_document_work name options (of_digests f) (of_digests g) a b =
     ap of_digests (same_Some f g (sym a.1 ∙ b.1))
 one_document_work name options (of_around f m p) (of_around g n q) a b =
@@ -168,9 +175,9 @@ one_document_work name options x y a b =
     let same : document_name x ≡ document_name y = sym (document_named name options x a) ∙ document_named name options y b in
     absurd (apart (ap (λ (t : Text). bytes_eq t (document_name x)) same))
 
--- no task has their names
+-- no task has their names, nor that of the states
 abbrev is_document : Text → Bool
-is_document name = bytes_eq name (codes "signatures") || bytes_eq name (codes "digest") || bytes_eq name (codes "canonical")
+is_document name = bytes_eq name (codes "signatures") || bytes_eq name (codes "digest") || bytes_eq name (codes "canonical") || bytes_eq name (codes "cleartext") || bytes_eq name (codes "state")
 
 of_no_task : (a : Action) → is_document (name_of a) ≡ false
 of_no_task action.Show = refl
@@ -193,9 +200,38 @@ of_documents of_signatures = refl
 of_documents (of_digests file) = refl
 of_documents (of_around file row part) = refl
 of_documents of_canonical = refl
+of_documents (of_cleartext part) = refl
 
 clash : (a : Action) (w : DocumentWork) → name_of a ≡ document_name w → ⊥
 clash a w e = apart (sym (of_documents w) ∙ ap is_document (sym e) ∙ of_no_task a)
+
+state_clash : (a : Action) → name_of a ≡ codes "state" → ⊥
+state_clash a e = apart (sym (ap is_document e) ∙ of_no_task a)
+
+of_no_states : (w : DocumentWork) → bytes_eq (document_name w) (codes "state") ≡ false
+of_no_states of_signatures = refl
+of_no_states (of_digests file) = refl
+of_no_states (of_around file row part) = refl
+of_no_states of_canonical = refl
+of_no_states (of_cleartext part) = refl
+
+document_clash : (w : DocumentWork) → document_name w ≡ codes "state" → ⊥
+document_clash w e = apart (sym (ap (λ (t : Text). bytes_eq t (codes "state")) e) ∙ of_no_states w)
+
+-- ---- states
+one_at : (options : List Row) (m n : ℕ) → HasTime options m → HasTime options n → m ≡ n
+one_at options m n a b =
+    one_time_said b.0 m n (subst (λ (t : Text). IsTime t m) (same_Some a.0 b.0 (sym a.1 ∙ b.1)) a.2) b.2
+
+abbrev states_with : Mode → Limits → Policy → ℕ → StateTask
+states_with mode limits policy at = record { mode = mode; limits = limits; policy = policy; at = at }
+
+one_judged : (options : List Row) (a b : StateTask) → IsStatesWith options a → IsStatesWith options b → a ≡ b
+one_judged options a b m n =
+    ap (λ (x : Mode). states_with x a.limits a.policy a.at) (m.mode ∙ sym n.mode)
+    ∙ ap (λ (x : Limits). states_with b.mode x a.policy a.at) (one_limits options _ _ m.limits n.limits)
+    ∙ ap (λ (x : Policy). states_with b.mode b.limits x a.at) (m.policy ∙ sym n.policy)
+    ∙ ap (states_with b.mode b.limits b.policy) (one_at options a.at b.at m.at n.at)
 
 abbrev document_with : Mode → Limits → DocumentWork → AskedWork
 document_with mode limits work = of_document mode limits work
@@ -210,6 +246,12 @@ one_work name options (of_task a) (of_document y k v) m n =
     absurd (clash a.action v (sym (named name options a.action m.action) ∙ document_named name options v n.made))
 one_work name options (of_document x l w) (of_task b) m n =
     absurd (clash b.action w (sym (named name options b.action n.action) ∙ document_named name options w m.made))
+one_work name options (of_states a f) (of_states b g) m n =
+    ap (λ (t : StateTask). of_states t f) (one_judged options a b m.judged n.judged) ∙ ap (of_states b) (m.verdicts ∙ sym n.verdicts)
+one_work name options (of_task a) (of_states b g) m n = absurd (state_clash a.action (sym (named name options a.action m.action) ∙ n.named))
+one_work name options (of_states a f) (of_task b) m n = absurd (state_clash b.action (sym (named name options b.action n.action) ∙ m.named))
+one_work name options (of_document x l w) (of_states b g) m n = absurd (document_clash w (sym (document_named name options w m.made) ∙ n.named))
+one_work name options (of_states a f) (of_document y k v) m n = absurd (document_clash v (sym (document_named name options v n.made) ∙ m.named))
 
 abbrev asked_with : AskedWork → Bool → Bool → Option Text → Asked
 asked_with work progress quiet spool = record { work = work; progress = progress; quiet = quiet; spool = spool }

@@ -18,7 +18,10 @@ use Rattle.opgp_stack.specs.KeyText.{IsKeyText}
 use Rattle.opgp_stack.specs.declared.key_name.KeyName.{KeyName}
 use Rattle.opgp_tool.specs.Words.{HasKey, HasNumber, IsAction, IsChoice, IsGivenNumber, is_given, top_of}
 use Rattle.opgp_tool.specs.Words.{AskedWork, DocumentWork, IsDocument, IsDocumentWork, IsTask, IsWork}
-use Rattle.opgp_tool.specs.Words.{of_around, of_canonical, of_digests, of_document, of_signatures, of_task}
+use Rattle.opgp_tool.specs.Words.{of_around, of_canonical, of_cleartext, of_digests, of_document, of_signatures, of_states, of_task}
+use Rattle.opgp_tool.specs.Words.{HasTime, IsStates}
+use Rattle.opgp_stack.specs.Time.{IsTime}
+use Rattle.opgp_stack.specs.declared.stating.StateTask.{StateTask}
 
 module _ (E : Type 0) (Gives : List ℕ → Result ℕ E → Type 0)
     (parses : (t : List ℕ) (r : Result ℕ E) → Gives t r → ParsesUnsigned 64 10 t r)
@@ -147,10 +150,18 @@ no_digest options none of_signatures said = absurd (apart (ap is_digest said))
 no_digest options none (of_digests file) said = none None said.2
 no_digest options none (of_around file row part) said = none (Some row) said.2
 no_digest options none of_canonical said = absurd (apart (ap is_digest said))
+no_digest options none (of_cleartext part) said = absurd (apart (ap is_digest said.0))
 
--- what is neither a task nor a document's work is no work
+-- what is no task, no document's work and no states is no work
 pub no_work : (name : Text) (options : List Row) → ((task : Task) → IsTask name options task → ⊥)
     → ((mode : Mode) (limits : Limits) (work : DocumentWork) → IsDocument name options mode limits work → ⊥)
+    → ((task : StateTask) (file : Option Text) → IsStates name options task file → ⊥)
     → (work : AskedWork) → IsWork name options work → ⊥
-no_work name options tasks documents (of_task task) said = tasks task said
-no_work name options tasks documents (of_document mode limits work) said = documents mode limits work said
+no_work name options tasks documents states (of_task task) said = tasks task said
+no_work name options tasks documents states (of_document mode limits work) said = documents mode limits work said
+no_work name options tasks documents states (of_states task file) said = states task file said
+
+-- a text that says no time gives none
+pub no_time : (options : List Row) (text : Text) (r : Option ℕ) → Some text ≡ first_of (codes "at") options → IfNone r ((n : ℕ) → IsTime text n → ⊥) → IfNone r ((n : ℕ) → HasTime options n → ⊥)
+no_time options text None is none = λ n has. none n (subst (λ (t : Text). IsTime t n) (same_Some has.0 text (sym has.1 ∙ sym is)) has.2)
+no_time options text (Some n) is none = tt

@@ -186,6 +186,22 @@ abbrev pub packet_hint : Bool → Fault → List ℕ → Hint
 packet_hint true fault octets = binary_hint fault octets (format_of octets) (mark_in octets)
 packet_hint false fault octets = hint.Plain (packet_advice fault octets [])
 
+-- a line that a cleartext message doesn't have there
+abbrev pub cleartext_advice : Reason → Advice
+cleartext_advice reason.Outside = advice.BesideMessage
+cleartext_advice reason.Label = advice.NoSignedText
+cleartext_advice reason.Header = advice.NoHashHeader
+cleartext_advice reason.StrayReturn = advice.StrayReturn
+cleartext_advice reason.Unescaped = advice.Unescaped
+cleartext_advice reason.NoText = advice.NoText
+cleartext_advice reason.LineTooLong = advice.LongLine
+cleartext_advice _ = advice.Malformed
+
+abbrev pub cleartext_hint : Reason → ℕ → List ℕ → Hint
+cleartext_hint reason.NoMessage at octets = hint.Plain advice.NoSignedText
+cleartext_hint reason.Unfinished at octets = hint.Plain advice.CutMessage
+cleartext_hint r at octets = about octets at (cleartext_advice r)
+
 -- ---- what is told of a fault, by the layer that refuses the input; `binary`: it isn't armored
 abbrev pub fault_hint : Bool → Fault → List ℕ → Option Hint
 fault_hint binary fault octets = by_layer binary fault octets fault.layer where
@@ -196,6 +212,7 @@ fault_hint binary fault octets = by_layer binary fault octets fault.layer where
   by_layer binary fault octets layer.Body = Some (packet_hint binary fault octets)
   by_layer binary fault octets layer.Composition = Some (packet_hint binary fault octets)
   by_layer binary fault octets layer.Text = Some (about octets fault.pos advice.StrayReturn)
+  by_layer binary fault octets layer.Cleartext = Some (cleartext_hint fault.reason fault.pos octets)
 
 -- ---- what is told of a run: `octets` are the first ones of its input, which has `count`, and `skipped`
 -- is how many of them lie outside of armored blocks though they are no text

@@ -25,7 +25,7 @@ text_of advice.NotArmored = codes "no line begins with -----BEGIN PGP; this isn'
 text_of advice.Quoted =
     codes "a begin line that isn't at the start of its line; remove what is in front of each line"
 text_of advice.SignedText =
-    codes "a cleartext signed message, which opgp doesn't read; gpgv verifies it"
+    codes "a cleartext signed message; opgp cleartext reads it"
 text_of advice.ArmoredFile = codes "an ARMORED FILE; gpg --dearmor writes its octets"
 text_of advice.LostLineEnds =
     codes "text follows the begin line's hyphens; remove it, or restore the line ends that were lost"
@@ -74,3 +74,13 @@ text_of advice.NotASignature =
     codes "not detached signatures alone; opgp show lists any packets"
 text_of advice.StrayReturn =
     codes "a carriage return without a line feed; programs hash three different texts for it"
+text_of advice.NoSignedText =
+    codes "no cleartext signed message; one begins with -----BEGIN PGP SIGNED MESSAGE-----"
+text_of advice.BesideMessage = codes "not blank, outside of the signed message; nothing signs it"
+text_of advice.NoHashHeader =
+    codes "not a Hash header, which names hash algorithms; a blank line must be in front of the text"
+text_of advice.Unescaped =
+    codes "a hyphen begins the line, and no escape, a hyphen and a space, is in front of it"
+text_of advice.NoText = codes "no line of text in front of the signatures"
+text_of advice.CutMessage =
+    codes "the text ends within the signed message; its signatures are missing"

@@ -1,4 +1,4 @@
--- The command line as `clap` reads it: eleven commands, and the options of each.
+-- The command line as `clap` reads it: thirteen commands, and the options of each.
 use Rattle.std.specs.Prelude.{◌≡◌, List, [], ◌∷◌, Some, true, false, codes, map}
 use Rattle.std.specs.Borrow.{Bor}
 use Rattle.std.specs.List.{AllByRecursion}
@@ -122,13 +122,25 @@ signature_rule = number_rule (codes "octets")
 abbrev pub salt_rule : Rule
 salt_rule = flag_rule (codes "salt")
 
+abbrev pub at_rule : Rule
+at_rule = text_rule (codes "at")
+
+abbrev pub verdicts_rule : Rule
+verdicts_rule = text_rule (codes "verdicts")
+
+abbrev pub policy_rule : Choice → Rule
+policy_rule reliances = choice_rule (codes "policy") reliances (codes "usual")
+
+abbrev pub part_rule : Choice → Rule
+part_rule parts = choice_rule (codes "of") parts (codes "document")
+
 abbrev pub spool_rule : Rule
 spool_rule = text_rule (codes "spool")
 
 abbrev pub key_rule : Rule
 key_rule = text_rule (codes "key")
 
--- the values of `--mode`, `--outside`, `--malformed`, `--out` and `--of`
+-- the values of `--mode`, `--outside`, `--malformed`, `--out`, `--of` and `--policy`
 abbrev pub AreModes : Choice → Type 0
 AreModes modes = words_in modes ≡ codes "auto" ∷ codes "armor" ∷ codes "binary" ∷ []
 
@@ -143,6 +155,13 @@ AreOuts outs = words_in outs ≡ codes "armor" ∷ codes "binary" ∷ []
 
 abbrev pub AreTops : Choice → Type 0
 AreTops tops = words_in tops ≡ codes "ring" ∷ codes "literal" ∷ []
+
+abbrev pub AreReliances : Choice → Type 0
+AreReliances reliances = words_in reliances ≡ codes "usual" ∷ codes "any" ∷ []
+
+-- the values of `--of` for a cleartext message
+abbrev pub AreParts : Choice → Type 0
+AreParts parts = words_in parts ≡ codes "document" ∷ codes "hashed" ∷ codes "signatures" ∷ []
 
 -- the program's command with the options of the limits added
 abbrev pub with_limits : App → App
@@ -187,17 +206,19 @@ bare_program = record {
   subs = [];
 }
 
--- the eleven commands, in order, each with its own values for `--mode`, `--outside`, `--malformed`,
--- `--of` and `--out`
-abbrev pub program_of : (show list check octets write normalise split join : Choices)
-    → (signatures digest canonical : Choices)
-    → (tops write_outs normalise_outs split_outs join_outs : Choice) → App
-program_of show list check octets write normalise split join signatures digest canonical tops
-    write_outs normalise_outs split_outs join_outs = record {
+-- the thirteen commands, in order, each with its own values for `--mode`, `--outside`, `--malformed`,
+-- `--policy`, `--of` and `--out`
+abbrev pub program_of : (show list check state octets write normalise split join : Choices)
+    → (signatures digest canonical cleartext : Choices)
+    → (reliances tops write_outs normalise_outs split_outs join_outs parts : Choice) → App
+program_of show list check state octets write normalise split join signatures digest canonical
+    cleartext reliances tops write_outs normalise_outs split_outs join_outs parts = record {
       top = record (new_shape (codes "opgp")) { subcommand_required = true; is_leaf = false };
       subs = command_shape (codes "show") show (values_rule ∷ [])
           ∷ command_shape (codes "list") list (values_rule ∷ [])
           ∷ command_shape (codes "check") check (fingerprints_rule ∷ [])
+          ∷ command_shape (codes "state") state
+          (at_rule ∷ policy_rule reliances ∷ verdicts_rule ∷ [])
           ∷ command_shape (codes "octets") octets (row_rule ∷ of_rule tops ∷ all_rule ∷ [])
           ∷ command_shape (codes "write") write
           (out_rule write_outs ∷ own_signatures_rule ∷ no_attributes_rule ∷ user_id_rule ∷ [])
@@ -209,6 +230,7 @@ program_of show list check octets write normalise split join signatures digest c
           ∷ command_shape (codes "digest") digest
           (signatures_rule ∷ signature_rule ∷ salt_rule ∷ [])
           ∷ command_shape (codes "canonical") canonical []
+          ∷ command_shape (codes "cleartext") cleartext (part_rule parts ∷ [])
           ∷ [];
     }
 
@@ -216,6 +238,7 @@ pub record IsProgram (program : App) : Type 0 where
   pub show_choices : Choices
   pub list_choices : Choices
   pub check_choices : Choices
+  pub state_choices : Choices
   pub octets_choices : Choices
   pub write_choices : Choices
   pub normalise_choices : Choices
@@ -224,9 +247,12 @@ pub record IsProgram (program : App) : Type 0 where
   pub signatures_choices : Choices
   pub digest_choices : Choices
   pub canonical_choices : Choices
-  pub are_choices : AllChoices (show_choices ∷ list_choices ∷ check_choices ∷ octets_choices
-      ∷ write_choices ∷ normalise_choices ∷ split_choices ∷ join_choices ∷ signatures_choices
-      ∷ digest_choices ∷ canonical_choices ∷ [])
+  pub cleartext_choices : Choices
+  pub are_choices : AllChoices (show_choices ∷ list_choices ∷ check_choices ∷ state_choices
+      ∷ octets_choices ∷ write_choices ∷ normalise_choices ∷ split_choices ∷ join_choices ∷ signatures_choices
+      ∷ digest_choices ∷ canonical_choices ∷ cleartext_choices ∷ [])
+  pub reliances : Choice
+  pub are_reliances : AreReliances reliances
   pub tops : Choice
   pub are_tops : AreTops tops
   pub write_outs : Choice
@@ -234,10 +260,12 @@ pub record IsProgram (program : App) : Type 0 where
   pub split_outs : Choice
   pub join_outs : Choice
   pub are_outs : AllOuts (write_outs ∷ normalise_outs ∷ split_outs ∷ join_outs ∷ [])
-  pub is : program ≡ program_of show_choices list_choices check_choices octets_choices
-      write_choices normalise_choices split_choices join_choices
-      signatures_choices digest_choices canonical_choices
-      tops write_outs normalise_outs split_outs join_outs
+  pub parts : Choice
+  pub are_parts : AreParts parts
+  pub is : program ≡ program_of show_choices list_choices check_choices state_choices
+      octets_choices write_choices normalise_choices split_choices join_choices
+      signatures_choices digest_choices canonical_choices cleartext_choices
+      reliances tops write_outs normalise_outs split_outs join_outs parts
 
 -- the command line names a command of this program, and asks for what its name and its options say
 abbrev pub SaysTask : App → List Text → Asked → Type 0

@@ -18,14 +18,20 @@ use Rattle.opgp_codec.specs.declared.out.Out.TheVariants as out
 use Rattle.opgp_merge.specs.Chosen.{everything, is_everything}
 use Rattle.opgp_merge.specs.declared.choice.Choice.{Choice}
 use Rattle.opgp_stack.specs.KeyText.{IsKeyText}
+use Rattle.opgp_stack.specs.Time.{IsTime}
 use Rattle.opgp_stack.specs.declared.key_name.KeyName.{KeyName}
 use Rattle.opgp_stack.specs.declared.task.Top.{Top}
 use Rattle.opgp_stack.specs.declared.task.Top.TheVariants as top
 use Rattle.opgp_stack.specs.declared.task.Action.{Action}
 use Rattle.opgp_stack.specs.declared.task.Action.TheVariants as action
 use Rattle.opgp_stack.specs.declared.task.Task.{Task}
+use Rattle.opgp_stack.specs.declared.stating.StateTask.{StateTask}
+use Rattle.opgp_valid.specs.declared.policy.Policy.{Policy}
+use Rattle.opgp_valid.specs.declared.policy.Policy.TheVariants.{Usual, Any}
 use Rattle.opgp_stack.specs.declared.around.Around.{Around}
 use Rattle.opgp_stack.specs.declared.around.Around.TheVariants as around
+use Rattle.opgp_stack.specs.declared.cleartext.CleartextPart.{CleartextPart}
+use Rattle.opgp_stack.specs.declared.cleartext.CleartextPart.TheVariants as part
 use Rattle.opgp_tool.specs.declared.task.Request.{Request}
 use Rattle.opgp_tool.specs.declared.document.DocumentAction.{DocumentAction}
 use Rattle.opgp_tool.specs.declared.document.DocumentAction.TheVariants as said
@@ -156,11 +162,18 @@ pub data DocumentWork : Type 0 where
   of_digests : Text → DocumentWork
   of_around : Text → ℕ → Around → DocumentWork
   of_canonical : DocumentWork
+  of_cleartext : CleartextPart → DocumentWork
 
 -- `--salt`: what a signature hashes in front of its document, or else what it hashes behind it
 abbrev pub part_of : Bool → Around
 part_of true = around.Front
 part_of false = around.Behind
+
+-- `--of` of a cleartext message: `hashed`, `signatures`, or else `document`
+abbrev pub cleartext_part_of : Option Text → CleartextPart
+cleartext_part_of None = part.Document
+cleartext_part_of (Some word) = if bytes_eq word (codes "hashed") then part.Hashed
+    else (if bytes_eq word (codes "signatures") then part.Signatures else part.Document)
 
 -- the work of the command of this name with these options
 abbrev pub IsDocumentWork : Text → List Row → DocumentWork → Type 0
@@ -173,12 +186,40 @@ IsDocumentWork name options (of_around file row part) = (name ≡ codes "digest"
     × (first_of (codes "signatures") options ≡ Some file) × HasNumber options (codes "octets") row
     × (part ≡ part_of (is_given (first_of (codes "salt") options)))
 IsDocumentWork name options of_canonical = name ≡ codes "canonical"
+IsDocumentWork name options (of_cleartext part) = (name ≡ codes "cleartext")
+    × (part ≡ cleartext_part_of (first_of (codes "of") options))
+
+-- ---- the command `state`
+-- `--policy`: `any`, or else `usual`
+abbrev pub reliance_of : Option Text → Policy
+reliance_of None = Usual
+reliance_of (Some word) = if bytes_eq word (codes "any") then Any else Usual
+
+-- `--at`: the time that its text says
+abbrev pub HasTime : List Row → ℕ → Type 0
+HasTime options n = (text : Text) × (first_of (codes "at") options ≡ Some text) × IsTime text n
+
+pub record IsStatesWith (options : List Row) (task : StateTask) : Type 0 where
+  pub mode : task.mode ≡ mode_of (first_of (codes "mode") options)
+  pub limits : HasLimits options task.limits
+  pub policy : task.policy ≡ reliance_of (first_of (codes "policy") options)
+  pub at : HasTime options task.at
+
+-- the states of the command of this name with these options, and the name of the file of
+-- `--verdicts`, if it is given
+pub record IsStates (name : Text) (options : List Row) (task : StateTask) (file : Option Text)
+    : Type 0 where
+  pub named : name ≡ codes "state"
+  pub judged : IsStatesWith options task
+  pub verdicts : file ≡ first_of (codes "verdicts") options
 
 -- ---- all of them
--- a task; or how the input is read, within which limits, and what is made
+-- a task; or how the input is read, within which limits, and what is made; or states, by the
+-- verdicts of a file, if there is one
 pub data AskedWork : Type 0 where
   of_task : Task → AskedWork
   of_document : Mode → Limits → DocumentWork → AskedWork
+  of_states : StateTask → Option Text → AskedWork
 
 pub record IsDocument (name : Text) (options : List Row) (mode : Mode) (limits : Limits)
     (work : DocumentWork) : Type 0 where
@@ -189,6 +230,7 @@ pub record IsDocument (name : Text) (options : List Row) (mode : Mode) (limits :
 abbrev pub IsWork : Text → List Row → AskedWork → Type 0
 IsWork name options (of_task task) = IsTask name options task
 IsWork name options (of_document mode limits work) = IsDocument name options mode limits work
+IsWork name options (of_states task file) = IsStates name options task file
 
 -- what a command line asks for: its work, whether `--progress` and `--quiet` are given, and the
 -- directory of `--spool`, if it is
@@ -203,11 +245,14 @@ document_said said.Signatures = of_signatures
 document_said (said.Digests file) = of_digests file.now
 document_said (said.Around file row part) = of_around file.now row part
 document_said said.Canonical = of_canonical
+document_said (said.Cleartext part) = of_cleartext part
 
 abbrev pub work_said : Work → AskedWork
 work_said (work.Task task) = of_task task
 work_said (work.Document task) =
     of_document task.mode task.limits (document_said task.action)
+work_said (work.States states) =
+    of_states states.task (option_map (λ word. word.now) states.verdicts)
 
 abbrev pub asked_by : Request → Asked
 asked_by request = record {

@@ -4,6 +4,7 @@ ghost use Rattle.std.specs.Prelude.{◌≡◌, ◌+◌, ◌==◌, ◌≤◌, len
 ghost use Rattle.std.specs.Prelude.{IsSome, Some, is_some};
 ghost use Rattle.opgp_frame.specs.Header.{kind_in};
 ghost use Rattle.opgp_codec.specs.Reading.{is_binary};
+ghost use Rattle.opgp_tool.specs.Hint.{cleartext_advice, cleartext_hint};
 ghost use Rattle.opgp_tool.specs.Hint.{about, armor_hint, before_begin, begins, binary_hint};
 ghost use Rattle.opgp_tool.specs.Hint.{block_advice, end_advice, fault_hint, first_line};
 ghost use Rattle.opgp_tool.specs.Hint.{foreign_advice, format_of, hint_of, done_hint, label_advice};
@@ -324,6 +325,33 @@ fn binary_hint(fault: &Fault, octets: &[u8]) -> Hint
     }
 }
 
+/// A line that a cleartext message doesn't have there.
+fn cleartext_advice(reason: Reason) -> Advice
+    ensures { result ≡ cleartext_advice reason }
+{
+    match reason {
+        Reason::Outside => Advice::BesideMessage,
+        Reason::Label => Advice::NoSignedText,
+        Reason::Header => Advice::NoHashHeader,
+        Reason::StrayReturn => Advice::StrayReturn,
+        Reason::Unescaped => Advice::Unescaped,
+        Reason::NoText => Advice::NoText,
+        Reason::LineTooLong => Advice::LongLine,
+        _ => Advice::Malformed,
+    }
+}
+
+/// What is told of a fault of a cleartext message.
+fn cleartext_hint(reason: Reason, at: u64, octets: &[u8]) -> Hint
+    ensures { result ≡ cleartext_hint reason at octets.now }
+{
+    match reason {
+        Reason::NoMessage => Hint::Plain(Advice::NoSignedText),
+        Reason::Unfinished => Hint::Plain(Advice::CutMessage),
+        reason => about(octets, at, cleartext_advice(reason)),
+    }
+}
+
 /// What is told of a fault.
 fn fault_hint(is_binary: bool, fault: &Fault, octets: &[u8]) -> Option<Hint>
     ensures { result ≡ fault_hint is_binary fault.now octets.now }
@@ -337,6 +365,7 @@ fn fault_hint(is_binary: bool, fault: &Fault, octets: &[u8]) -> Option<Hint>
             Hint::Plain(packet_advice(fault, octets, &octets[octets.len()..]))
         }),
         Layer::Text => Some(about(octets, fault.pos, Advice::StrayReturn)),
+        Layer::Cleartext => Some(cleartext_hint(fault.reason, fault.pos, octets)),
     }
 }
 

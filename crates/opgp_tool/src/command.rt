@@ -9,12 +9,14 @@ ghost use Rattle.opgp_tool.specs.Program.{nth_rule, flag_rule, merge_rule, key_r
 ghost use Rattle.opgp_tool.specs.Program.{number_rule, valued_rule, text_rule, values_rule};
 ghost use Rattle.opgp_tool.specs.Program.{fingerprints_rule, all_rule, with_limits};
 ghost use Rattle.opgp_tool.specs.Program.{signatures_rule, signature_rule, salt_rule};
+ghost use Rattle.opgp_tool.specs.Program.{AreParts, part_rule};
+ghost use Rattle.opgp_tool.specs.Program.{AreReliances, at_rule, policy_rule, verdicts_rule};
 ghost use Rattle.opgp_tool.specs.Program.{own_signatures_rule, no_attributes_rule, user_id_rule};
 ghost use Rattle.opgp_tool.specs.Program.{IsCommand, IsProgram, bare_program};
 
 use crate::help::{
-    CANONICAL_HELP, CHECK_HELP, DIGEST_HELP, JOIN_HELP, LIST_HELP, NORMALISE_HELP, OCTETS_HELP,
-    PROGRAM_HELP, SHOW_HELP, SIGNATURES_HELP, SPLIT_HELP, WRITE_HELP,
+    CANONICAL_HELP, CHECK_HELP, CLEARTEXT_HELP, DIGEST_HELP, JOIN_HELP, LIST_HELP, NORMALISE_HELP,
+    OCTETS_HELP, PROGRAM_HELP, SHOW_HELP, SIGNATURES_HELP, SPLIT_HELP, STATE_HELP, WRITE_HELP,
 };
 use clap::builder::ValueParser;
 use clap::{Arg, ArgAction, Command};
@@ -29,7 +31,11 @@ static SIGNATURE_POLICIES: [&str; 2] = ["refuse", "keep"];
 
 static OUTS: [&str; 2] = ["armor", "binary"];
 
+static RELIANCES: [&str; 2] = ["usual", "any"];
+
 static TOPS: [&str; 2] = ["ring", "literal"];
+
+static PARTS: [&str; 3] = ["document", "hashed", "signatures"];
 
 /// An option with one value, which this parser checks.
 fn valued_option<'a>(
@@ -115,6 +121,22 @@ fn out_option<'a>(alloc: Global) -> Arg<'a>
     choice_option(alloc, "out", "OUT", OUTS.as_slice(), "armor", help)
 }
 
+/// `--policy`: what is relied on.
+fn policy_option<'a>(alloc: Global) -> Arg<'a>
+    ensures rule { (words : Choice) × AreReliances words × (rule_of result ≡ policy_rule words) }
+    ensures own { result.global ≡ false }
+{
+    let help = "Which hash algorithms and keys to rely on";
+    choice_option(
+        alloc,
+        "policy",
+        "POLICY",
+        RELIANCES.as_slice(),
+        "usual",
+        help,
+    )
+}
+
 /// `--of`: what the input is read as.
 fn of_option<'a>(alloc: Global) -> Arg<'a>
     ensures rule { (words : Choice) × AreTops words × (rule_of result ≡ of_rule words) }
@@ -122,6 +144,15 @@ fn of_option<'a>(alloc: Global) -> Arg<'a>
 {
     let help = "What to read the input as";
     choice_option(alloc, "of", "TOP", TOPS.as_slice(), "ring", help)
+}
+
+/// `--of` of a cleartext message: which part of it is written.
+fn part_option<'a>(alloc: Global) -> Arg<'a>
+    ensures rule { (words : Choice) × AreParts words × (rule_of result ≡ part_rule words) }
+    ensures own { result.global ≡ false }
+{
+    let help = "What to write of the message";
+    choice_option(alloc, "of", "PART", PARTS.as_slice(), "document", help)
 }
 
 /// A limit: a number in its range, or `usual` if the option isn't given.
@@ -263,6 +294,19 @@ fn check_command<'a>(alloc: Global) -> Result<Command<'a>, OutOfMemory>
     with_option(command, flag_option(alloc, "fingerprints", help))
 }
 
+fn state_command<'a>(alloc: Global) -> Result<Command<'a>, OutOfMemory>
+    ensures { IfOk result (λ c. (reliances : Choice) × AreReliances reliances
+        × IsCommand (codes "state") (at_rule ∷ policy_rule reliances ∷ verdicts_rule ∷ []) c) }
+{
+    let about = "List how the keys and user IDs of a keyring stand at a time";
+    let command = new_command(alloc, "state", about, STATE_HELP);
+    let help = "The time, in seconds since 1970 or as a UTC date";
+    let command = with_option(command, text_option(alloc, "at", "TIME", help));
+    let command = with_option(command, policy_option(alloc));
+    let help = "The file of a verifier's verdicts on the signatures";
+    with_option(command, text_option(alloc, "verdicts", "FILE", help))
+}
+
 fn octets_command<'a>(alloc: Global) -> Result<Command<'a>, OutOfMemory>
     ensures { IfOk result (λ c. (tops : Choice) × AreTops tops
         × IsCommand (codes "octets") (row_rule ∷ of_rule tops ∷ all_rule ∷ []) c) }
@@ -339,6 +383,15 @@ fn digest_command<'a>(alloc: Global) -> Result<Command<'a>, OutOfMemory>
     with_option(command, flag_option(alloc, "salt", help))
 }
 
+fn cleartext_command<'a>(alloc: Global) -> Result<Command<'a>, OutOfMemory>
+    ensures { IfOk result (λ c. (parts : Choice) × AreParts parts
+        × IsCommand (codes "cleartext") (part_rule parts ∷ []) c) }
+{
+    let about = "Write the document of a cleartext signed message";
+    let command = new_command(alloc, "cleartext", about, CLEARTEXT_HELP);
+    with_option(command, part_option(alloc))
+}
+
 /// The program without its commands.
 fn bare_program<'a>(alloc: Global) -> Result<Command<'a>, OutOfMemory>
     ensures { IfOk result (λ c. app_of c ≡ bare_program) }
@@ -350,7 +403,7 @@ fn bare_program<'a>(alloc: Global) -> Result<Command<'a>, OutOfMemory>
         .bin_name("opgp")
 }
 
-/// The program and its eleven commands.
+/// The program and its thirteen commands.
 pub fn program<'a>(alloc: Global) -> Result<Command<'a>, OutOfMemory>
     ensures { IfOk result (λ c. IsProgram (app_of c)) }
 {
@@ -358,6 +411,7 @@ pub fn program<'a>(alloc: Global) -> Result<Command<'a>, OutOfMemory>
     let tool = with_command(tool, show_command(alloc))?;
     let tool = with_command(tool, list_command(alloc))?;
     let tool = with_command(tool, check_command(alloc))?;
+    let tool = with_command(tool, state_command(alloc))?;
     let tool = with_command(tool, octets_command(alloc))?;
     let tool = with_command(tool, write_command(alloc))?;
     let about = "Write a keyring in the current format";
@@ -374,5 +428,6 @@ pub fn program<'a>(alloc: Global) -> Result<Command<'a>, OutOfMemory>
     )?;
     let tool = with_command(tool, digest_command(alloc))?;
     let about = "Write the canonical text of a document";
-    with_command(tool, new_command(alloc, "canonical", about, CANONICAL_HELP))
+    let tool = with_command(tool, new_command(alloc, "canonical", about, CANONICAL_HELP))?;
+    with_command(tool, cleartext_command(alloc))
 }

@@ -3,12 +3,13 @@
 ghost use Rattle.std.specs.Prelude.{◌≡◌, IfSome, IfNone, List, Option, codes};
 ghost use Rattle.clap.specs.Words.{first_of, found_of, rows_of};
 ghost use Rattle.opgp_tool.specs.Words.{DocumentWork, IsDocumentWork, document_said};
+ghost use Rattle.opgp_tool.specs.Words.{cleartext_part_of};
 ghost use Rattle.opgp_tool.specs.Words.{is_given, part_of};
 
 use crate::task::{given_number_of, is_given, word_of};
 use clap::ArgMatches;
 use opgp_octets::Limits;
-use opgp_stack::{Around, Mode};
+use opgp_stack::{Around, CleartextPart, Mode};
 
 /// What is made of detached signatures (RFC 9580, 10.4), or of a document.
 #[derive(Clone, Copy)]
@@ -21,6 +22,8 @@ pub enum DocumentAction<'a> {
     Around(&'a str, u64, Around),
     /// The canonical text of the document on standard input.
     Canonical,
+    /// This part of the cleartext message on standard input.
+    Cleartext(CleartextPart),
 }
 
 /// What is made, how the input is read, and within which limits.
@@ -67,6 +70,18 @@ fn part_of(matches: &ArgMatches) -> Around
     }
 }
 
+/// Which part of a message `--of` names.
+fn cleartext_part_of(matches: &ArgMatches) -> CleartextPart
+    ensures { result
+        ≡ cleartext_part_of (first_of (codes "of") (rows_of (found_of matches.now))) }
+{
+    match word_of(matches, "of") {
+        Some("hashed") => CleartextPart::Hashed,
+        Some("signatures") => CleartextPart::Signatures,
+        _ => CleartextPart::Document,
+    }
+}
+
 /// What the command of this name makes, if it is one of these.
 pub(crate) fn document_action_of<'a>(
     name: &str,
@@ -81,6 +96,7 @@ pub(crate) fn document_action_of<'a>(
         "signatures" => Some(DocumentAction::Signatures),
         "digest" => digest_of(matches),
         "canonical" => Some(DocumentAction::Canonical),
+        "cleartext" => Some(DocumentAction::Cleartext(cleartext_part_of(matches))),
         _ => None,
     }
 }

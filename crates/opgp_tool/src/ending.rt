@@ -30,6 +30,10 @@ pub fn end_of(alloc: Global, outcome: &Result<(), RunFault>) -> Result<(u8, Stri
         Err(RunFault::TooManySignatures) => {
             (1, String::from_str(alloc, "opgp: too many signatures\n")?)
         }
+        Err(RunFault::OtherVerdicts) => {
+            let line = "opgp: the verdicts aren't those of this keyring\n";
+            (1, String::from_str(alloc, line)?)
+        }
         Err(RunFault::Read) => (3, String::from_str(alloc, "opgp: read failed\n")?),
         Err(RunFault::Write) => (3, String::from_str(alloc, "opgp: write failed\n")?),
         Err(RunFault::Memory) => (3, String::from_str(alloc, "opgp: out of memory\n")?),

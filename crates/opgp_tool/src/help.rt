@@ -3,9 +3,10 @@
 /// After the commands: where input and output are, and the exit statuses.
 pub const PROGRAM_HELP: &str = "Each command reads standard input and writes standard output: \
 opgp list < KEYRING
-Exit statuses: 0 success; 1 the input is refused, has no such row or certificate, or more than
-64 signatures for a document; 2 invalid command line, or this help, which goes to standard
-error; 3 reading, writing, memory or the spool failed; 4 the launcher couldn't build the program.";
+Exit statuses: 0 success; 1 the input is refused, has no such row or certificate or other
+signatures than the verdicts, or there are more than 64 for a document;
+2 invalid command line, or this help, which goes to standard error; 3 reading, writing,
+memory or the spool failed; 4 the launcher couldn't build the program.";
 
 pub const SHOW_HELP: &str = "The input may be any packets, of a keyring or a message. Each \
 packet has a line with its
@@ -30,6 +31,16 @@ No signature is verified. --fingerprints adds the fingerprints of the certificat
 key and of the issuer's key, if the keyring has it.
 
 Example: opgp check < KEYRING | grep bad";
+
+pub const STATE_HELP: &str =
+    "Each key, user ID and attribute has a line: its place, how it stands, \
+and of a key its uses,
+from when until when it is there, and the code of its revocation's reason. A key is usable
+if it is bound to its certificate, and neither revoked nor expired. The file of verdicts is
+what opgp-verify prints of the keyring. Without it the lines say what the signatures claim,
+and that they are unverified.
+
+Example: opgp state --at 2026-11-20 --verdicts VERDICTS < KEYRING";
 
 pub const OCTETS_HELP: &str = "A row is numbered as check does it; with --of literal it is the \
 number of a signature
@@ -87,3 +98,11 @@ ends in a carriage return and a line feed. A document with a carriage return tha
 feed follows is refused.
 
 Example: opgp canonical < LETTER.txt | sha512sum";
+
+pub const CLEARTEXT_HELP: &str = "The input is a text between -----BEGIN PGP SIGNED MESSAGE----- \
+and its armored signatures. The
+output is its document: escapes undone, no blanks at the ends of lines, a line feed between
+them. --of hashed writes what signatures of type 01 hash, --of signatures the armored
+signatures. Nothing is verified: opgp-verify does that.
+
+Example: opgp cleartext --of signatures < LETTER.asc | opgp signatures";

@@ -76,6 +76,13 @@ pub enum Advice {
     NotASignature,
     /// A document that is no text.
     StrayReturn,
+    /// Lines of a cleartext message.
+    NoSignedText,
+    BesideMessage,
+    NoHashHeader,
+    Unescaped,
+    NoText,
+    CutMessage,
 }
 
 /// The text of each of them.
@@ -111,7 +118,7 @@ impl Advice {
             NotArmored "no line begins with -----BEGIN PGP; this isn't armored",
             Quoted
                 "a begin line that isn't at the start of its line; remove what is in front of each line",
-            SignedText "a cleartext signed message, which opgp doesn't read; gpgv verifies it",
+            SignedText "a cleartext signed message; opgp cleartext reads it",
             ArmoredFile "an ARMORED FILE; gpg --dearmor writes its octets",
             LostLineEnds
                 "text follows the begin line's hyphens; remove it, or restore the line ends that were lost",
@@ -155,6 +162,13 @@ impl Advice {
             NotASignature "not detached signatures alone; opgp show lists any packets",
             StrayReturn
                 "a carriage return without a line feed; programs hash three different texts for it",
+            NoSignedText "no cleartext signed message; one begins with -----BEGIN PGP SIGNED MESSAGE-----",
+            BesideMessage "not blank, outside of the signed message; nothing signs it",
+            NoHashHeader
+                "not a Hash header, which names hash algorithms; a blank line must be in front of the text",
+            Unescaped "a hyphen begins the line, and no escape, a hyphen and a space, is in front of it",
+            NoText "no line of text in front of the signatures",
+            CutMessage "the text ends within the signed message; its signatures are missing",
         }
     }
 }

@@ -15,6 +15,7 @@ mod hint;
 pub mod laws;
 mod progress;
 mod spool_file;
+mod states;
 mod task;
 
 use advising::hint_of;
@@ -22,11 +23,13 @@ use document::{DocumentAction, DocumentTask};
 use ending::end_of;
 use hint::Hint;
 use opgp_stack::{
-    Around, Mode, NoSpool, RunFault, Source, Task, Watched, read_signatures, run_around,
-    run_canonical, run_digests, run_last, run_signatures, run_spooled,
+    Around, CleartextPart, Mode, NoSpool, RunFault, Source, StateTask, Task, Watched, read_octets,
+    read_signatures, run_around, run_canonical, run_cleartext, run_digests, run_last,
+    run_signatures, run_spooled, run_states,
 };
 use progress::Progress;
 use spool_file::{beside_streams, open_spool};
+use states::StatesTask;
 use std::fs::File;
 use std::io::{Stderr, Stdin, Write};
 use std::process::ExitCode;
@@ -63,6 +66,7 @@ fn run_words(rt: &HostRuntime, words: &[String]) -> u8 {
         Ok(request) => match request.work {
             Work::Task(task) => run_task(rt, &request, &task),
             Work::Document(task) => run_document(rt, &request, &task),
+            Work::States(states) => list_states(rt, &request, &states),
         },
         Err(Usage::Text(text)) => {
             let _ = eprint!(rt; "{text}");
@@ -108,6 +112,7 @@ fn run_document(rt: &HostRuntime, request: &Request, task: &DocumentTask) -> u8 
             write_around(rt, request, task, file, row, part)
         }
         DocumentAction::Canonical => write_canonical(rt, request, task),
+        DocumentAction::Cleartext(part) => write_cleartext(rt, request, task, part),
     }
 }
 
@@ -132,7 +137,7 @@ fn list_digests(rt: &HostRuntime, request: &Request, task: &DocumentTask, file: 
         let _ = eprintln!(rt; "opgp: standard input is the document; the signatures are in a file");
         return USAGE;
     }
-    let mut source = match open_signatures(rt, file) {
+    let mut source = match open_beside(rt, file) {
         Ok(source) => source,
         Err(_) => return unopened(rt, request, file),
     };
@@ -165,7 +170,7 @@ fn write_around(
     row: u64,
     part: Around,
 ) -> u8 {
-    let mut source = match open_signatures(rt, file) {
+    let mut source = match open_beside(rt, file) {
         Ok(source) => source,
         Err(_) => return unopened(rt, request, file),
     };
@@ -204,20 +209,71 @@ fn write_canonical(rt: &HostRuntime, request: &Request, task: &DocumentTask) -> 
     finish_document(rt, request, task.mode, &outcome, &reader)
 }
 
+/// Writes a part of the cleartext message on standard input.
+fn write_cleartext(
+    rt: &HostRuntime,
+    request: &Request,
+    task: &DocumentTask,
+    part: CleartextPart,
+) -> u8 {
+    let mut reader = input(rt, request);
+    let mut writer = Watched::new(rt.stdout());
+    let outcome = run_cleartext(rt.alloc(), &task.limits, part, &mut reader, &mut writer);
+    reader.end();
+    finish(rt, request, Mode::Armor, &outcome, &reader)
+}
+
+/// Lists how the parts of the keyring on standard input stand.
+fn list_states(rt: &HostRuntime, request: &Request, states: &StatesTask) -> u8 {
+    let file = match states.verdicts {
+        Some(file) => file,
+        None => return list_states_by(rt, request, &states.task, None),
+    };
+    if is_input(file) {
+        let _ = eprintln!(rt; "opgp: standard input is the keyring; the verdicts are in a file");
+        return USAGE;
+    }
+    let mut source = match open_beside(rt, file) {
+        Ok(source) => source,
+        Err(_) => return unopened(rt, request, file),
+    };
+    match read_octets(rt.alloc(), &mut source, &states.task.limits) {
+        Ok(octets) => list_states_by(rt, request, &states.task, Some(&octets)),
+        Err(error) => {
+            let outcome = Err(RunFault::from(error));
+            finish(rt, request, states.task.mode, &outcome, &source)
+        }
+    }
+}
+
+/// Lists how the parts of the keyring on standard input stand, by the verdicts of this file.
+fn list_states_by(
+    rt: &HostRuntime,
+    request: &Request,
+    task: &StateTask,
+    file: Option<&[u8]>,
+) -> u8 {
+    let mut reader = input(rt, request);
+    let mut writer = Watched::new(rt.stdout());
+    let outcome = run_states(rt.alloc(), task, file, &mut reader, &mut writer);
+    reader.end();
+    finish(rt, request, task.mode, &outcome, &reader)
+}
+
 /// Whether a file's name stands for standard input.
 fn is_input(file: &str) -> bool {
     matches!(file, "-" | "/dev/stdin" | "/dev/fd/0" | "/proc/self/fd/0")
 }
 
-/// Opens the file of signatures, beside the standard streams.
-fn open_signatures(rt: &HostRuntime, file: &str) -> io::Result<Progress<Watched<File>, Stderr>>
+/// Opens a file that is read beside standard input, beside the standard streams.
+fn open_beside(rt: &HostRuntime, file: &str) -> io::Result<Progress<Watched<File>, Stderr>>
     ensures { IfOk result (λ reader. watched_failed (read_of reader) ≡ false) }
 {
     let file = beside_streams(File::open(rt, file)?)?;
     Ok(Progress::new(rt.alloc(), Watched::new(file), None))
 }
 
-/// Says that the file of signatures can't be opened.
+/// Says that a file can't be opened.
 fn unopened(rt: &HostRuntime, request: &Request, file: &str) -> u8 {
     let status = end(rt, &Err(RunFault::Read));
     if !request.quiet {

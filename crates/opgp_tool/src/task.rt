@@ -18,6 +18,7 @@ ghost use Rattle.opgp_tool.specs.declared.task.Usage.TheVariants.{Memory};
 
 use crate::command::program;
 use crate::document::{DocumentTask, document_action_of};
+use crate::states::{StatesTask, states_from};
 use clap::error::ErrorKind;
 use clap::{ArgMatches, Error};
 use opgp_octets::{Limits, Malformed, OutOfMemory, Outside};
@@ -27,6 +28,10 @@ use std::convert::AsStr;
 
 /// What the name of a key is.
 const NAME: &str = "a fingerprint has 40 or 64 hexadecimal digits, a key ID 16";
+
+/// What a time is.
+const TIME: &str = "a time is a number of seconds since 1970, or a UTC date until 2106, as \
+2026-11-20 or 2026-11-20T08:30:00Z";
 
 /// What a command line asks for.
 #[derive(Drop)]
@@ -48,6 +53,8 @@ pub enum Work<'a> {
     Task(Task),
     /// What is made of detached signatures and their document.
     Document(DocumentTask<'a>),
+    /// How the parts of a keyring stand.
+    States(StatesTask<'a>),
 }
 
 /// Why a command line names no task.
@@ -67,7 +74,7 @@ pub(crate) fn word_of<'a>(matches: &ArgMatches<'a>, id: &str) -> Option<&'a str>
     matches.get_str(id)
 }
 
-fn mode_of(matches: &ArgMatches) -> Mode
+pub(crate) fn mode_of(matches: &ArgMatches) -> Mode
     ensures { result ≡ mode_of (first_of (codes "mode") (rows_of (found_of matches.now))) }
 {
     match word_of(matches, "mode") {
@@ -145,7 +152,7 @@ pub(crate) fn is_given(matches: &ArgMatches, id: &str) -> bool
     }
 }
 
-fn limits_of(matches: &ArgMatches) -> Option<Limits>
+pub(crate) fn limits_of(matches: &ArgMatches) -> Option<Limits>
     ensures some { IfSome result (HasLimits (rows_of (found_of matches.now))) }
     ensures none { IfNone result ((limits : Limits)
         → HasLimits (rows_of (found_of matches.now)) limits → ⊥) }
@@ -306,7 +313,10 @@ fn work_from<'a>(name: &str, matches: &ArgMatches<'a>) -> Option<Work<'a>>
 {
     match document_from(name, matches) {
         Some(task) => Some(Work::Document(task)),
-        None => Some(Work::Task(task_from(name, matches)?)),
+        None => match states_from(name, matches) {
+            Some(states) => Some(Work::States(states)),
+            None => Some(Work::Task(task_from(name, matches)?)),
+        },
     }
 }
 
@@ -356,6 +366,7 @@ fn no_task(alloc: Global, matches: &ArgMatches) -> Usage {
     match matches.subcommand() {
         Some(("octets", options)) => no_octets(alloc, options),
         Some(("digest", options)) => no_digest(alloc, options),
+        Some(("state", options)) => no_states(alloc, options),
         Some((_, options)) => no_split(alloc, options),
         None => no_split(alloc, matches),
     }
@@ -383,6 +394,20 @@ fn no_digest(alloc: Global, options: &ArgMatches) -> Usage {
         "error: the argument '--salt' wants '--octets <N>'"
     };
     with_advice(String::from_str(alloc, text))
+}
+
+/// What to print where the options of `state` name no task: `clap` judges neither that `--at` is
+/// wanted nor its text.
+fn no_states(alloc: Global, options: &ArgMatches) -> Usage {
+    match word_of(options, "at") {
+        None => {
+            let text = "error: the following required arguments were not provided:\n  --at <TIME>";
+            with_advice(String::from_str(alloc, text))
+        }
+        Some(at) => {
+            with_advice(format!(in alloc; "error: invalid value '{at}' for '--at <TIME>': {TIME}"))
+        }
+    }
 }
 
 /// What to print where the options of `split` name no task: `clap` judges neither the text of

@@ -1,5 +1,6 @@
 pub mod Believed
 pub mod Facts
+pub mod FlawText
 pub mod Gathering
 pub mod Group
 pub mod Judgement

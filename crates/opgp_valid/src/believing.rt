@@ -5,6 +5,7 @@ ghost use Rattle.opgp_packet.specs.SigView.{sig_view_value};
 ghost use Rattle.opgp_valid.specs.Believed.{belief_of, believed_as, flaw_of, has_lapsed, made_by};
 ghost use Rattle.opgp_valid.specs.Believed.{print_at, print_in, signs_document, subkey_print};
 ghost use Rattle.opgp_valid.specs.KnownKeys.{knowns};
+ghost use Rattle.opgp_valid.specs.FlawText.{flaw_text};
 ghost use Rattle.opgp_valid.specs.Told.{life_in};
 
 use crate::context::{is_print, is_understood, life_in, parts_of, relies_with};
@@ -38,6 +39,22 @@ pub enum Flaw {
     Time,
     /// It has expired (5.2.3.18).
     Lapsed,
+}
+
+impl Flaw {
+    /// The name in lower case, as it is printed.
+    pub fn name(self) -> &'static str
+        ensures { result.now ≡ flaw_text self }
+    {
+        match self {
+            Flaw::Kind => "type",
+            Flaw::Issuer => "issuer",
+            Flaw::Critical => "critical",
+            Flaw::Weak => "weak",
+            Flaw::Time => "time",
+            Flaw::Lapsed => "lapsed",
+        }
+    }
 }
 
 /// Whether a signature over a document is believed.

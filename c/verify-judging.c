@@ -1,0 +1,764 @@
+/* What is found of the signatures over a document, by the calls of libopgp and by verify-arithmetic.c. Section numbers are those of
+ * RFC 9580. */
+#include "verify-judging.h"
+
+#include "verify-words.h"
+
+#include <errno.h>
+#include <stdlib.h>
+#include <string.h>
+
+/* In place of a signature's number: all of them. */
+#define ALL SIZE_MAX
+
+struct judging {
+    const char *program;
+    FILE *(*open)(const char *name);
+    opgp_document document;
+    opgp_keyring *keyring; /* all that were read */
+
+    uint8_t *text; /* the document of a cleartext message; NULL: it is none */
+    size_t text_size;
+
+    opgp_subpacket *subpackets; /* of the document's signatures, in order */
+    size_t subpacket_count;
+
+    /* Of the call of opgp_judge that is made now. */
+    struct arithmetic *arithmetic;
+    unsigned decisive;
+    size_t only;          /* the number of the signature that is taken from it; or ALL */
+    uint64_t certificate; /* the one whose signatures count; OPGP_NONE: all do */
+    struct finding findings[OPGP_MOST_SIGNATURES];
+    uint8_t standings[OPGP_MOST_SIGNATURES];
+
+    struct judged rows[OPGP_MOST_SIGNATURES];
+    opgp_key signers[OPGP_MOST_SIGNATURES]; /* where a row has a key: that */
+    uint64_t homes[OPGP_MOST_SIGNATURES];   /* the certificate that judging_names found for it */
+    uint64_t times[OPGP_MOST_SIGNATURES];   /* the present time by which it was judged */
+    size_t count;
+    char *texts[OPGP_MOST_SIGNATURES]; /* the user IDs, for free() */
+    char whys[OPGP_MOST_SIGNATURES][OPGP_NAME_ROOM]; /* why they aren't hashed */
+};
+
+/* ---- What is said */
+
+static enum outcome said(const struct judging *it, enum outcome outcome, const char *text)
+{
+    fprintf(stderr, "%s: %s\n", it->program, text);
+    return outcome;
+}
+
+/* Says why a call of the library failed. */
+static enum outcome failed(const struct judging *it, uint32_t status)
+{
+    return said(it, STEP_FAILED, opgp_status_text(status));
+}
+
+/* Says why a file can't be read, as errno has it. */
+static enum outcome cannot_read(const struct judging *it, enum outcome outcome, const char *name)
+{
+    fprintf(stderr, "%s: can't read '%s': %s\n", it->program, name, strerror(errno));
+    return outcome;
+}
+
+/* Says why the library didn't take the file of this name. */
+static enum outcome refused(const struct judging *it, const char *name, uint32_t status, const opgp_fault *fault)
+{
+    char text[OPGP_FAULT_ROOM];
+    if (status == OPGP_MANY) {
+        fprintf(stderr, "%s: '%s': more than %d signatures\n", it->program, name, OPGP_MOST_SIGNATURES);
+        return STEP_REFUSED;
+    }
+    if (status == OPGP_REFUSED) {
+        fprintf(stderr, "%s: '%s': %s\n", it->program, name, opgp_fault_text(fault, text));
+        return STEP_REFUSED;
+    }
+    return failed(it, status);
+}
+
+const char *standing_word(uint8_t standing)
+{
+    static const char *const words[] = {
+        [OPGP_BELIEVED] = "believed", [OPGP_IN_FUTURE] = "future",  [OPGP_REVOKED] = "revoked",     [OPGP_EARLY] = "early",
+        [OPGP_UNBOUND] = "unbound",   [OPGP_EXPIRED] = "expired",   [OPGP_NOT_SIGNING] = "flags",   [OPGP_UNBACKED] = "back",
+        [OPGP_NO_DOCUMENT] = "type",  [OPGP_CRITICAL] = "critical", [OPGP_WEAK] = "weak",           [OPGP_UNDATED] = "time",
+        [OPGP_LAPSED] = "lapsed",     [OPGP_NOT_BY_KEY] = "issuer",
+    };
+    return standing < sizeof words / sizeof *words ? words[standing] : "unknown";
+}
+
+/* ---- Reading */
+
+struct judging *judging_new(const char *program, FILE *(*open)(const char *name))
+{
+    struct judging *it = calloc(1, sizeof *it);
+    if (it) {
+        it->program = program;
+        it->open = open;
+    }
+    return it;
+}
+
+void judging_free(struct judging *it)
+{
+    if (it) {
+        for (size_t row = 0; row < it->count; row++) {
+            free(it->texts[row]);
+        }
+        free(it->subpackets);
+        free(it->text);
+        opgp_close(it->keyring);
+        opgp_document_clear(&it->document);
+        free(it);
+    }
+}
+
+/* All octets of the file of this name, for free(). */
+static enum outcome read_named(const struct judging *it, const char *name, uint8_t **octets, size_t *size)
+{
+    FILE *file = it->open(name);
+    enum outcome outcome = STEP_DONE;
+    if (!file) {
+        return cannot_read(it, STEP_MISSING, name);
+    }
+    *octets = read_all(file, size);
+    if (!*octets) {
+        outcome = said(it, STEP_FAILED, "out of memory");
+    } else if (ferror(file)) {
+        outcome = cannot_read(it, STEP_UNREAD, name);
+        free(*octets);
+    }
+    close_named(file);
+    return outcome;
+}
+
+enum outcome judging_signatures(struct judging *it, const char *name)
+{
+    size_t size;
+    uint8_t *octets;
+    opgp_limits usual;
+    opgp_fault fault;
+    enum outcome outcome = read_named(it, name, &octets, &size);
+    if (outcome != STEP_DONE) {
+        return outcome;
+    }
+    opgp_usual_limits(&usual);
+    uint32_t status = opgp_document_open(octets, size, OPGP_MODE_AUTO, &usual, &it->document, &fault);
+    free(octets);
+    return status == OPGP_DONE ? STEP_DONE : refused(it, name, status, &fault);
+}
+
+/* Whether octets that are no cleartext message are another signed one: packets, or an armored text of them. */
+static bool is_other_message(const uint8_t *octets, size_t size)
+{
+    static const char begin[] = "-----BEGIN PGP MESSAGE-----";
+    return size > 0 && (octets[0] >= 0x80 || (size >= sizeof begin - 1 && memcmp(octets, begin, sizeof begin - 1) == 0));
+}
+
+enum outcome judging_cleartext(struct judging *it, const char *name)
+{
+    size_t size;
+    uint8_t *octets;
+    uint64_t text_size = 0;
+    opgp_limits usual;
+    opgp_fault fault;
+    enum outcome outcome = read_named(it, name, &octets, &size);
+    if (outcome != STEP_DONE) {
+        return outcome;
+    }
+    opgp_usual_limits(&usual);
+    it->text = malloc(size + 1);
+    uint32_t status = OPGP_MEMORY;
+    if (it->text) {
+        status = opgp_cleartext_open(octets, size, &usual, it->text, size, &text_size, &it->document, &fault);
+    }
+    it->text_size = (size_t)text_size;
+    if (status != OPGP_DONE) {
+        outcome = refused(it, name, status, &fault);
+        if (status == OPGP_REFUSED && is_other_message(octets, size)) {
+            said(it, outcome, "of signed messages only cleartext ones are read");
+        }
+    }
+    free(octets);
+    return outcome;
+}
+
+const uint8_t *judging_text(const struct judging *it, size_t *size)
+{
+    *size = it->text_size;
+    return it->text;
+}
+
+static enum outcome read_keyring(const struct judging *it, const char *name, opgp_keyring **keyring)
+{
+    size_t size;
+    uint8_t *octets;
+    opgp_fault fault;
+    enum outcome outcome = read_named(it, name, &octets, &size);
+    if (outcome != STEP_DONE) {
+        return outcome;
+    }
+    uint32_t status = opgp_open(octets, size, NULL, keyring, &fault);
+    free(octets);
+    return status == OPGP_DONE ? STEP_DONE : refused(it, name, status, &fault);
+}
+
+/* Makes the first of these keyrings all of them, in order: neighbours are joined until one is left, so that none is copied often. */
+static enum outcome join_all(const struct judging *it, opgp_keyring **keyrings, size_t count)
+{
+    for (; count > 1; count = (count + 1) / 2) {
+        for (size_t i = 0; i + 1 < count; i += 2) {
+            opgp_keyring *joined;
+            uint32_t status = opgp_join(keyrings[i], keyrings[i + 1], &joined);
+            opgp_close(keyrings[i]);
+            opgp_close(keyrings[i + 1]);
+            keyrings[i] = keyrings[i + 1] = NULL;
+            keyrings[i / 2] = joined;
+            if (status != OPGP_DONE) {
+                return failed(it, status);
+            }
+        }
+        if (count % 2 == 1) {
+            keyrings[count / 2] = keyrings[count - 1];
+            keyrings[count - 1] = NULL;
+        }
+    }
+    return STEP_DONE;
+}
+
+enum outcome judging_keyrings(struct judging *it, const char *const *names, size_t count)
+{
+    opgp_keyring **keyrings = calloc(count + 1, sizeof *keyrings);
+    enum outcome outcome = keyrings ? STEP_DONE : said(it, STEP_FAILED, "out of memory");
+    for (size_t i = 0; outcome == STEP_DONE && i < count; i++) {
+        outcome = read_keyring(it, names[i], &keyrings[i]);
+    }
+    outcome = outcome == STEP_DONE ? join_all(it, keyrings, count) : outcome;
+    if (outcome == STEP_DONE) {
+        it->keyring = keyrings[0];
+        keyrings[0] = NULL;
+    }
+    for (size_t i = 0; keyrings && i < count; i++) {
+        opgp_close(keyrings[i]);
+    }
+    free(keyrings);
+    return outcome;
+}
+
+/* Gives the document its octets, piece by piece. */
+enum outcome judging_document(struct judging *it, const char *name)
+{
+    static uint8_t piece[1 << 16];
+    size_t size = sizeof piece;
+    uint32_t status = OPGP_DONE;
+    enum outcome outcome = STEP_DONE;
+    FILE *file = it->open(name);
+    if (!file) {
+        return cannot_read(it, STEP_MISSING, name);
+    }
+    while (outcome == STEP_DONE && status == OPGP_DONE && size == sizeof piece) { /* a shorter piece is the last one */
+        size = fread(piece, 1, sizeof piece, file);
+        outcome = ferror(file) ? cannot_read(it, STEP_UNREAD, name) : STEP_DONE;
+        status = opgp_document_push(&it->document, piece, size);
+    }
+    close_named(file);
+    status = status == OPGP_DONE ? opgp_document_end(&it->document) : status;
+    return outcome == STEP_DONE && status != OPGP_DONE ? failed(it, status) : outcome;
+}
+
+/* ---- Verdicts */
+
+unsigned decisive_by(uint32_t policy)
+{
+    return DOUBT_CRITICAL | (policy == OPGP_POLICY_USUAL ? DOUBT_WEAK_HASH | DOUBT_SMALL_KEY : 0);
+}
+
+bool is_asked(const opgp_job *job, const opgp_key *signer)
+{
+    return signer && !job->is_bad && job->why == OPGP_WHY_HASHED && signer->version == job->version;
+}
+
+struct finding found_without(const opgp_job *job)
+{
+    return (struct finding){job->is_bad ? OPGP_BAD : OPGP_UNDECIDED, job->signer == OPGP_NONE ? "absent" : "version", 0};
+}
+
+/* Makes the table of the signatures' subpackets. Asked with no room, the call counts how much is wanted. */
+static uint32_t make_subpackets(struct judging *it)
+{
+    opgp_sizes sizes = {0, 0};
+    uint32_t status = opgp_document_subpackets(&it->document, NULL, 0, NULL, 0, &sizes);
+    if (status == OPGP_ROOM) {
+        uint8_t *data = malloc((size_t)sizes.bytes + 1);
+        it->subpackets = calloc((size_t)sizes.rows, sizeof *it->subpackets);
+        status = !data || !it->subpackets ? OPGP_MEMORY
+                                          : opgp_document_subpackets(&it->document, it->subpackets, (size_t)sizes.rows, data,
+                                                                     (size_t)sizes.bytes, &sizes);
+        free(data);
+    }
+    it->subpacket_count = status == OPGP_DONE ? (size_t)sizes.rows : 0;
+    return status;
+}
+
+/* The subpackets of a signature over the document; NULL if it has none. */
+static const opgp_subpacket *subpackets_of(const struct judging *it, size_t row, size_t *count)
+{
+    size_t begin = 0;
+    while (begin < it->subpacket_count && it->subpackets[begin].hang < row) {
+        begin++;
+    }
+    size_t end = begin;
+    while (end < it->subpacket_count && it->subpackets[end].hang == row) {
+        end++;
+    }
+    *count = end - begin;
+    return begin < end ? &it->subpackets[begin] : NULL;
+}
+
+/* Asks the key of a signature. Doubts decide over the document's alone: the rule has its own about those of the keyring. */
+static opgp_verdict verify(void *context, const opgp_question *question)
+{
+    struct judging *it = context;
+    if (memory_ran_out()) {
+        return OPGP_UNDECIDED;
+    }
+    if (question->job->certificate != OPGP_NONE) {
+        bool counts = it->certificate == OPGP_NONE || it->certificate == question->job->certificate;
+        return counts ? arithmetic_of(it->arithmetic, question, 0, 0).verdict : OPGP_UNDECIDED;
+    }
+    size_t count;
+    const opgp_subpacket *subpackets = subpackets_of(it, question->row, &count);
+    unsigned doubts = doubts_of(question->job, subpackets, count);
+    it->findings[question->row] = arithmetic_of(it->arithmetic, question, doubts, it->decisive);
+    return it->findings[question->row].verdict;
+}
+
+/* Writes octets in hexadecimal, and a NUL. */
+static void put_digits(char *text, const uint8_t *octets, size_t size)
+{
+    for (size_t i = 0; i < size; i++) {
+        sprintf(text + 2 * i, "%02X", octets[i]);
+    }
+    text[2 * size] = 0;
+}
+
+/* How many bits an integer has. */
+static size_t bits_of(opgp_span integer)
+{
+    while (integer.size > 0 && integer.octets[0] == 0) {
+        integer.octets++;
+        integer.size--;
+    }
+    size_t bits = 8 * integer.size;
+    for (unsigned first = bits > 0 ? integer.octets[0] : 128; first < 128; first *= 2) {
+        bits--;
+    }
+    return bits;
+}
+
+/* The name that programs have for the curve of an object identifier (9.2). */
+static const char *curve_name_of(opgp_span identifier)
+{
+    static const struct {
+        const char *name, *octets;
+    } curves[] = {
+        {"nistp256", "\x2A\x86\x48\xCE\x3D\x03\x01\x07"},
+        {"nistp384", "\x2B\x81\x04\x00\x22"},
+        {"nistp521", "\x2B\x81\x04\x00\x23"},
+        {"brainpoolP256r1", "\x2B\x24\x03\x03\x02\x08\x01\x01\x07"},
+        {"brainpoolP384r1", "\x2B\x24\x03\x03\x02\x08\x01\x01\x0B"},
+        {"brainpoolP512r1", "\x2B\x24\x03\x03\x02\x08\x01\x01\x0D"},
+        {"secp256k1", "\x2B\x81\x04\x00\x0A"},
+        {"ed25519", "\x2B\x06\x01\x04\x01\xDA\x47\x0F\x01"},
+    };
+    static const size_t sizes[] = {8, 5, 5, 9, 9, 9, 5, 9};
+    for (size_t i = 0; i < sizeof curves / sizeof *curves; i++) {
+        if (identifier.size == sizes[i] && memcmp(identifier.octets, curves[i].octets, sizes[i]) == 0) {
+            return curves[i].name;
+        }
+    }
+    return "unknown";
+}
+
+/* Writes the name of a key's algorithm, with its size in bits where it has several. */
+static void put_key_name(char text[KEY_NAME_ROOM], const opgp_question *question)
+{
+    switch (question->signer->algorithm) {
+    case OPGP_KEY_RSA:
+    case OPGP_KEY_RSA_SIGN_ONLY: snprintf(text, KEY_NAME_ROOM, "rsa%zu", bits_of(question->key[0])); return;
+    case OPGP_KEY_DSA: snprintf(text, KEY_NAME_ROOM, "dsa%zu", bits_of(question->key[0])); return;
+    case OPGP_KEY_ECDSA:
+    case OPGP_KEY_EDDSA_LEGACY: snprintf(text, KEY_NAME_ROOM, "%s", curve_name_of(question->key[0])); return;
+    case OPGP_KEY_ED25519: strcpy(text, "ed25519"); return;
+    case OPGP_KEY_ED448: strcpy(text, "ed448"); return;
+    default: strcpy(text, "unknown");
+    }
+}
+
+/* When a signature over the document expires; 0: never. Of several times the earliest counts, as for the rule. */
+static uint64_t expiry_of(const struct judging *it, size_t row, const opgp_job *job)
+{
+    size_t count;
+    uint64_t least = 0;
+    const opgp_subpacket *subpackets = subpackets_of(it, row, &count);
+    for (size_t i = 0; i < count; i++) {
+        const opgp_subpacket *one = &subpackets[i];
+        bool counts = one->kind == OPGP_SUBPACKET_EXPIRATION_TIME && one->is_hashed && one->form == OPGP_FORM_NUMBER && one->numbers[0] > 0;
+        if (counts && (least == 0 || one->numbers[0] < least)) {
+            least = one->numbers[0];
+        }
+    }
+    return least > 0 ? job->created + least : 0;
+}
+
+/* Fills the row of a signature with what is said by it and its key. */
+static void fill_row(struct judging *it, const opgp_question *question)
+{
+    const opgp_job *job = question->job;
+    const opgp_key *signer = question->signer;
+    struct judged *row = &it->rows[question->row];
+    row->number = question->row;
+    row->version = job->version;
+    row->kind = job->kind;
+    row->algorithm = job->algorithm;
+    row->hash = job->hash;
+    row->is_hashed = job->why == OPGP_WHY_HASHED;
+    memcpy(row->digest, job->digest, sizeof row->digest);
+    row->is_dated = job->is_dated;
+    row->made = job->created;
+    row->expires = expiry_of(it, question->row, job);
+    if (signer) {
+        it->signers[question->row] = *signer;
+        put_digits(row->key, signer->print, signer->print_size);
+        put_digits(row->key_id, signer->key_id, sizeof signer->key_id);
+        put_key_name(row->key_name, question);
+    }
+}
+
+/* Takes what was found of a signature. */
+static int take(void *context, const opgp_question *question, opgp_verdict verdict, uint8_t why)
+{
+    struct judging *it = context;
+    if (memory_ran_out()) {
+        return 1;
+    }
+    const opgp_job *job = question->job;
+    bool is_doubtful = it->text && job->why == OPGP_WHY_HASHED && job->kind != OPGP_SIGNATURE_TEXT; /* in a message */
+    verdict = is_doubtful ? OPGP_UNDECIDED : verdict;
+    it->standings[question->row] = verdict == OPGP_GOOD ? why : OPGP_NOT_GOOD;
+    if (it->only == ALL) {
+        struct judged *row = &it->rows[question->row];
+        fill_row(it, question);
+        struct finding found = is_asked(job, question->signer) ? it->findings[question->row] : found_without(job);
+        row->verdict = verdict;
+        row->why = row->is_hashed ? found.why : opgp_name_text(OPGP_WHYS, job->why, it->whys[question->row]);
+        row->why = is_doubtful ? "type" : row->why;
+        row->standing = it->standings[question->row];
+        it->count = question->row + 1;
+    }
+    return 0;
+}
+
+/* Calls opgp_judge. libcrypto's keys are those of one call: the rows of the next one's table may stand where those of this one did. */
+static enum outcome judge(struct judging *it, uint32_t policy, uint64_t now)
+{
+    it->decisive = decisive_by(policy);
+    it->arithmetic = arithmetic_new();
+    uint32_t status = it->arithmetic ? opgp_judge(&it->document, it->keyring, policy, now, verify, take, it) : OPGP_MEMORY;
+    arithmetic_free(it->arithmetic);
+    it->arithmetic = NULL;
+    if (status == OPGP_ENDED || (status == OPGP_DONE && memory_ran_out())) {
+        return said(it, STEP_FAILED, "out of memory");
+    }
+    return status == OPGP_DONE ? STEP_DONE : failed(it, status);
+}
+
+/* Takes the names of issuers, which the rows of opgp_judge don't have. */
+static uint32_t take_issuers(struct judging *it)
+{
+    opgp_job *jobs;
+    uint8_t *made;
+    size_t count;
+    uint32_t status = opgp_signatures(&it->document, NULL, &jobs, &count, &made);
+    for (size_t i = 0; status == OPGP_DONE && i < count && i < it->count; i++) {
+        const uint8_t *name = made + jobs[i].at + jobs[i].sizes[0] + jobs[i].sizes[1];
+        size_t size = jobs[i].issuer_size;
+        put_digits(it->rows[i].issuer, name, size);
+        if (!it->rows[i].key_id[0] && size >= 8) {
+            put_digits(it->rows[i].key_id, size == 20 ? name + 12 : name, 8);
+        }
+    }
+    free(jobs);
+    free(made);
+    return status;
+}
+
+enum outcome judging_verdicts(struct judging *it, uint32_t policy, uint64_t now)
+{
+    uint32_t status = make_subpackets(it);
+    it->only = ALL;
+    it->certificate = OPGP_NONE;
+    enum outcome outcome = status == OPGP_DONE ? judge(it, policy, now) : failed(it, status);
+    for (size_t row = 0; row < it->count; row++) {
+        it->times[row] = now;
+    }
+    return outcome;
+}
+
+/* Says in *standing what is found of one signature at a present time, by the signatures of one certificate or of all. */
+static enum outcome judge_one(struct judging *it, size_t row, uint32_t policy, uint64_t now, uint64_t certificate, uint8_t *standing)
+{
+    it->only = row;
+    it->certificate = certificate;
+    enum outcome outcome = judge(it, policy, now);
+    *standing = outcome == STEP_DONE ? it->standings[row] : OPGP_NOT_GOOD;
+    return outcome;
+}
+
+enum outcome judging_ahead(struct judging *it, uint32_t policy, uint64_t now, uint64_t most)
+{
+    enum outcome outcome = STEP_DONE;
+    for (size_t i = 0; outcome == STEP_DONE && i < it->count; i++) {
+        struct judged *row = &it->rows[i];
+        if (row->verdict == OPGP_GOOD && row->standing == OPGP_IN_FUTURE && row->made > now && row->made - now <= most) {
+            it->times[i] = row->made;
+            outcome = judge_one(it, i, policy, row->made, OPGP_NONE, &row->standing);
+        }
+    }
+    return outcome;
+}
+
+/* ---- Names */
+
+static bool is_same_key(const opgp_key *one, const opgp_key *other)
+{
+    return one->version == other->version && memcmp(one->print, other->print, sizeof one->print) == 0;
+}
+
+/* Finds the certificate of a row's signer among these keys, which are those of the keyring, merged: the first one that has it; but if it
+ * is believed, the first one by whose own signatures it is. Where none is, it isn't believed: its primary key isn't known. */
+static enum outcome find_home(struct judging *it, size_t row, uint32_t policy, const opgp_key *keys, size_t count)
+{
+    uint64_t first = OPGP_NONE, last = OPGP_NONE;
+    for (size_t key = 0; key < count; key++) {
+        if (is_same_key(&keys[key], &it->signers[row])) {
+            first = first == OPGP_NONE ? keys[key].certificate : first;
+            last = keys[key].certificate;
+        }
+    }
+    it->homes[row] = first;
+    if (it->rows[row].standing != OPGP_BELIEVED || first == last) {
+        return STEP_DONE;
+    }
+    uint8_t standing = OPGP_NOT_GOOD;
+    for (size_t key = 0, next = 0; key < count; key = next) {
+        bool has_it = false;
+        for (; next < count && keys[next].certificate == keys[key].certificate; next++) {
+            has_it = has_it || is_same_key(&keys[next], &it->signers[row]);
+        }
+        enum outcome outcome = has_it ? judge_one(it, row, policy, it->times[row], keys[key].certificate, &standing) : STEP_DONE;
+        if (outcome != STEP_DONE || standing == OPGP_BELIEVED) {
+            it->homes[row] = keys[key].certificate;
+            return outcome;
+        }
+    }
+    it->rows[row].standing = OPGP_UNBOUND;
+    return STEP_DONE;
+}
+
+/* The verdicts on the rows of a keyring, by arithmetic alone. */
+struct verdicts {
+    struct arithmetic *arithmetic;
+    uint8_t *found;
+};
+
+static opgp_verdict verify_own(void *context, const opgp_question *question)
+{
+    struct verdicts *it = context;
+    return memory_ran_out() ? OPGP_UNDECIDED : arithmetic_of(it->arithmetic, question, 0, 0).verdict;
+}
+
+static int take_own(void *context, size_t row, const opgp_job *job, opgp_verdict verdict)
+{
+    struct verdicts *it = context;
+    (void)job;
+    it->found[row] = (uint8_t)verdict;
+    return 0;
+}
+
+/* Makes how the parts of a keyring stand at a time, for free(), by these verdicts. */
+static uint32_t make_states(const opgp_keyring *keyring, const uint8_t *verdicts, size_t count, uint32_t policy, uint64_t now,
+                            opgp_state **states, uint64_t *size)
+{
+    uint8_t *octets = NULL;
+    size_t octet_count = 0;
+    opgp_limits usual;
+    opgp_fault fault;
+    opgp_ring ring = {false, NULL};
+    opgp_usual_limits(&usual);
+    uint32_t status = opgp_write(keyring, false, &octets, &octet_count);
+    status = status == OPGP_DONE ? opgp_ring_open(octets, octet_count, &usual, &ring, &fault) : status;
+    status = status == OPGP_DONE ? opgp_ring_states(&ring, verdicts, count, policy, now, NULL, 0, size) : status;
+    if (status == OPGP_ROOM) {
+        *states = calloc((size_t)*size, sizeof **states);
+        status = *states ? opgp_ring_states(&ring, verdicts, count, policy, now, *states, (size_t)*size, size) : OPGP_MEMORY;
+    }
+    opgp_ring_clear(&ring);
+    free(octets);
+    return status;
+}
+
+/* Whether the certification in a row marks its user ID as primary (5.2.3.27). */
+static uint32_t find_mark(const opgp_keyring *keyring, size_t row, bool *marks)
+{
+    const opgp_subpacket *subpackets;
+    size_t count;
+    uint32_t status = opgp_subpackets_of(keyring, row, &subpackets, &count);
+    *marks = false;
+    for (size_t i = 0; i < count; i++) {
+        bool is_mark = subpackets[i].kind == OPGP_SUBPACKET_PRIMARY_USER_ID && subpackets[i].is_hashed;
+        *marks = *marks || (is_mark && subpackets[i].numbers[0] > 0);
+    }
+    return status;
+}
+
+/* How much a user ID is to be the primary one, by what the primary key, which is that of the first row, certifies by now: more where it
+ * is marked so, and the newer that is. */
+static uint32_t rank_of(const opgp_keyring *keyring, uint64_t component, const uint8_t *verdicts, uint64_t now, uint64_t *rank)
+{
+    const opgp_job *jobs;
+    size_t count;
+    uint64_t newest = 0;
+    uint32_t status = opgp_jobs(keyring, &jobs, &count);
+    for (size_t row = 0; status == OPGP_DONE && row < count; row++) {
+        const opgp_job *job = &jobs[row];
+        bool is_kind = job->kind >= OPGP_SIGNATURE_GENERIC_CERTIFICATION && job->kind <= OPGP_SIGNATURE_POSITIVE_CERTIFICATION;
+        bool counts = is_kind && job->component == component && job->signer == 0 && verdicts[row] == OPGP_GOOD;
+        if (counts && job->created >= newest && job->created <= now) {
+            bool marks;
+            newest = job->created;
+            status = find_mark(keyring, row, &marks);
+            *rank = newest | (marks ? (uint64_t)1 << 32 : 0);
+        }
+    }
+    return status;
+}
+
+/* Copies the text of the user ID of a component, for free(). */
+static uint32_t copy_user_id(const opgp_keyring *keyring, uint64_t component, char **text, size_t *size)
+{
+    const opgp_packet *packets;
+    size_t count;
+    uint32_t status = opgp_packets(keyring, &packets, &count);
+    for (size_t i = 0; status == OPGP_DONE && i < count; i++) {
+        if (packets[i].component == component && packets[i].hang == OPGP_NONE && packets[i].kind == OPGP_PACKET_USER_ID) {
+            opgp_span body = opgp_body(keyring, &packets[i]);
+            *text = malloc(body.size + 1);
+            if (!*text) {
+                return OPGP_MEMORY;
+            }
+            memcpy(*text, body.octets, body.size);
+            *size = body.size;
+            return OPGP_DONE;
+        }
+    }
+    return status;
+}
+
+/* Finds the text of the primary user ID of a keyring that is one certificate, by these verdicts on its rows. */
+static uint32_t pick_user_id(const opgp_keyring *keyring, const struct verdicts *verdicts, size_t count, uint32_t policy, uint64_t now,
+                             char **text, size_t *size)
+{
+    const opgp_packet *packets;
+    size_t packet_count = 0;
+    opgp_state *states = NULL;
+    uint64_t state_count = 0, best = 0, found = OPGP_NONE;
+    uint32_t status = make_states(keyring, verdicts->found, count, policy, now, &states, &state_count);
+    status = status == OPGP_DONE ? opgp_packets(keyring, &packets, &packet_count) : status;
+    for (size_t i = 0; status == OPGP_DONE && i < packet_count; i++) {
+        bool is_user_id = packets[i].kind == OPGP_PACKET_USER_ID && packets[i].hang == OPGP_NONE;
+        /* The state of the component behind that of the primary key. */
+        if (is_user_id && packets[i].component + 1 < state_count && states[packets[i].component + 1].why == OPGP_BELIEVED) {
+            uint64_t rank = 0;
+            status = rank_of(keyring, packets[i].component, verdicts->found, now, &rank);
+            if (found == OPGP_NONE || rank > best) {
+                best = rank;
+                found = packets[i].component;
+            }
+        }
+    }
+    free(states);
+    return status == OPGP_DONE && found != OPGP_NONE ? copy_user_id(keyring, found, text, size) : status;
+}
+
+/* The same, with what it takes. */
+static uint32_t find_user_id(const opgp_keyring *keyring, uint32_t policy, uint64_t now, char **text, size_t *size)
+{
+    const opgp_job *jobs;
+    size_t count;
+    uint32_t status = opgp_jobs(keyring, &jobs, &count);
+    struct verdicts verdicts = {NULL, NULL};
+    if (status == OPGP_DONE) {
+        verdicts.arithmetic = arithmetic_new();
+        verdicts.found = calloc(count + 1, 1);
+        status = verdicts.arithmetic && verdicts.found ? opgp_check(keyring, verify_own, take_own, &verdicts) : OPGP_MEMORY;
+    }
+    status = status == OPGP_DONE ? pick_user_id(keyring, &verdicts, count, policy, now, text, size) : status;
+    status = status == OPGP_DONE && memory_ran_out() ? OPGP_MEMORY : status;
+    arithmetic_free(verdicts.arithmetic);
+    free(verdicts.found);
+    return status;
+}
+
+/* Names the primary key and the user ID of a row's certificate, one of this keyring's, which is merged. */
+static uint32_t name_row(struct judging *it, size_t row, const opgp_keyring *merged, uint32_t policy, uint64_t now)
+{
+    const opgp_key *keys;
+    size_t count;
+    opgp_keyring *one = NULL;
+    struct judged *judged = &it->rows[row];
+    for (size_t other = 0; other < row; other++) {
+        if (it->homes[other] == it->homes[row] && it->rows[other].primary[0]) {
+            strcpy(judged->primary, it->rows[other].primary);
+            judged->user_id = it->rows[other].user_id;
+            judged->user_id_size = it->rows[other].user_id_size;
+            return OPGP_DONE;
+        }
+    }
+    uint32_t status = opgp_keys_of(merged, it->homes[row], &keys, &count);
+    if (status == OPGP_DONE) {
+        put_digits(judged->primary, keys[0].print, keys[0].print_size);
+        status = opgp_certificate(merged, it->homes[row], &one);
+    }
+    status = status == OPGP_DONE ? find_user_id(one, policy, now, &it->texts[row], &judged->user_id_size) : status;
+    judged->user_id = it->texts[row] ? it->texts[row] : "";
+    opgp_close(one);
+    return status;
+}
+
+enum outcome judging_names(struct judging *it, uint32_t policy, uint64_t now)
+{
+    const opgp_key *keys;
+    size_t count = 0;
+    opgp_keyring *merged = NULL;
+    enum outcome outcome = STEP_DONE;
+    uint32_t status = take_issuers(it);
+    status = status == OPGP_DONE ? opgp_merge(it->keyring, &merged) : status;
+    status = status == OPGP_DONE ? opgp_keys(merged, &keys, &count) : status;
+    for (size_t row = 0; status == OPGP_DONE && outcome == STEP_DONE && row < it->count; row++) {
+        it->homes[row] = OPGP_NONE;
+        it->rows[row].user_id = "";
+        if (it->rows[row].key[0]) {
+            outcome = find_home(it, row, policy, keys, count);
+            status = outcome == STEP_DONE ? name_row(it, row, merged, policy, now) : status;
+        }
+    }
+    opgp_close(merged);
+    return status == OPGP_DONE ? outcome : failed(it, status);
+}
+
+const struct judged *judging_rows(const struct judging *it, size_t *count)
+{
+    *count = it->count;
+    return it->rows;
+}

@@ -1,0 +1,185 @@
+/* What opgp-sopv, opgp-sqv and opgp-gpgv have in common, and which of them a name is. */
+#include "verify-dialects.h"
+
+#include "verify-words.h"
+
+#include <errno.h>
+#include <string.h>
+
+/* The exit status for a step that isn't done. */
+static int status_of(const struct program *program, enum outcome outcome)
+{
+    switch (outcome) {
+    case STEP_MISSING: return program->missing;
+    case STEP_UNREAD: return program->unread;
+    case STEP_REFUSED: return program->refused;
+    default: return program->failed;
+    }
+}
+
+int judged(const struct program *program, const struct inputs *inputs, struct judging **judging, bool *are_signatures)
+{
+    const uint64_t now = present_time();
+    *are_signatures = true;
+    *judging = arithmetic_stands() ? judging_new(program->name, inputs->open) : NULL;
+    if (!*judging) {
+        return said(program, program->failed, "out of memory");
+    }
+    bool is_message = !inputs->signatures;
+    enum outcome outcome = is_message ? judging_cleartext(*judging, inputs->document) : judging_signatures(*judging, inputs->signatures);
+    *are_signatures = outcome != STEP_REFUSED;
+    outcome = outcome == STEP_DONE ? judging_keyrings(*judging, inputs->keyrings, inputs->keyring_count) : outcome;
+    outcome = outcome == STEP_DONE && !is_message ? judging_document(*judging, inputs->document) : outcome;
+    outcome = outcome == STEP_DONE ? judging_verdicts(*judging, OPGP_POLICY_USUAL, now) : outcome;
+    if (inputs->ahead > 0) {
+        outcome = outcome == STEP_DONE ? judging_ahead(*judging, OPGP_POLICY_USUAL, now, inputs->ahead) : outcome;
+    }
+    outcome = outcome == STEP_DONE ? judging_names(*judging, OPGP_POLICY_USUAL, now) : outcome;
+    return outcome == STEP_DONE ? 0 : status_of(program, outcome);
+}
+
+size_t inputs_named(const struct inputs *inputs)
+{
+    size_t count = (size_t)(inputs->signatures && is_input(inputs->signatures)) + is_input(inputs->document);
+    for (size_t i = 0; i < inputs->keyring_count; i++) {
+        count += is_input(inputs->keyrings[i]);
+    }
+    return count;
+}
+
+bool is_believed(const struct judged *row)
+{
+    return row->verdict == OPGP_GOOD && row->standing == OPGP_BELIEVED;
+}
+
+bool is_absent(const struct judged *row)
+{
+    return row->verdict == OPGP_UNDECIDED && row->is_hashed && strcmp(row->why, "absent") == 0;
+}
+
+int written(const struct program *program, const struct judging *judging, const char *name, bool may_replace, struct output *output)
+{
+    size_t size;
+    const uint8_t *text = judging_text(judging, &size);
+    *output = (struct output){0};
+    bool is_fine = !name || output_write(output, name, text, size, may_replace);
+    return is_fine ? 0 : said(program, program->failed, "can't write '%s': %s", name, strerror(errno));
+}
+
+int kept(const struct program *program, struct output *output, int status)
+{
+    const char *name = output->name;
+    if (status == 0 && !output_keep(output)) {
+        status = said(program, program->failed, "can't write '%s': %s", name, strerror(errno));
+    }
+    output_end(output);
+    return status;
+}
+
+const char *outside(const struct judged *row, const struct window *window)
+{
+    return row->made < window->begin ? "before" : row->made > window->end ? "after" : NULL;
+}
+
+int take_window(const struct words *words, size_t before, size_t after, bool has_none, struct window *window)
+{
+    const size_t options[] = {before, after};
+    uint64_t *const ends[] = {&window->begin, &window->end};
+    *window = (struct window){0, OPGP_NONE};
+    for (size_t i = 0; i < 2; i++) {
+        const char *word = value_of(words, options[i]);
+        if (!word || (has_none && strcmp(word, "-") == 0)) {
+            continue;
+        }
+        *ends[i] = strcmp(word, "now") == 0 ? present_time() : time_in(word, i == 1);
+        if (*ends[i] == OPGP_NONE) {
+            const struct program *program = words->program;
+            return said(program, program->unknown, "'%s' of '%s' is no time: a date in UTC, such as 2026-11-20T08:30:00Z", word,
+                        program->options[options[i]].name);
+        }
+    }
+    return 0;
+}
+
+/* How many octets the character has that a text in UTF-8 begins with; 0 if that isn't one, or is a control character or %. */
+static size_t character_size(const unsigned char *text, size_t size)
+{
+    static const struct {
+        unsigned char first, last, least, most; /* of the first octet, and of the second one */
+        size_t size;
+    } forms[] = {
+        {0xC2, 0xC2, 0xA0, 0xBF, 2}, {0xC3, 0xDF, 0x80, 0xBF, 2}, {0xE0, 0xE0, 0xA0, 0xBF, 3}, {0xE1, 0xEC, 0x80, 0xBF, 3},
+        {0xED, 0xED, 0x80, 0x9F, 3}, {0xEE, 0xEF, 0x80, 0xBF, 3}, {0xF0, 0xF0, 0x90, 0xBF, 4}, {0xF1, 0xF3, 0x80, 0xBF, 4},
+        {0xF4, 0xF4, 0x80, 0x8F, 4},
+    };
+    if (text[0] < 0x80) {
+        return text[0] >= 0x20 && text[0] != 0x7F && text[0] != '%' ? 1 : 0;
+    }
+    for (size_t i = 0; i < sizeof forms / sizeof *forms; i++) {
+        if (text[0] >= forms[i].first && text[0] <= forms[i].last && size >= forms[i].size) {
+            bool fits = text[1] >= forms[i].least && text[1] <= forms[i].most;
+            for (size_t k = 2; k < forms[i].size; k++) {
+                fits = fits && text[k] >= 0x80 && text[k] <= 0xBF;
+            }
+            return fits ? forms[i].size : 0;
+        }
+    }
+    return 0;
+}
+
+void put_text(FILE *file, const char *text, size_t size)
+{
+    const unsigned char *at = (const unsigned char *)text, *end = at + size;
+    while (at < end) {
+        size_t whole = character_size(at, (size_t)(end - at));
+        if (whole > 0) {
+            fwrite(at, 1, whole, file);
+            at += whole;
+        } else {
+            fprintf(file, "%%%02X", *at++);
+        }
+    }
+}
+
+void explain(const struct program *program, const struct judged *row, const char *refusal)
+{
+    char made[TIME_ROOM];
+    const char *key = row->key[0] ? row->key : row->issuer[0] ? row->issuer : "-";
+    fprintf(stderr, "%s: signature %zu type %02X hash %u made %s key %s certificate %s : ", program->name, row->number, row->kind,
+            row->hash, row->is_dated ? time_text(row->made, "%Y-%m-%dT%H:%M:%SZ", made) : "-", key, row->primary[0] ? row->primary : "-");
+    if (!row->is_hashed) {
+        fprintf(stderr, "none %s", row->why);
+    } else if (row->verdict == OPGP_BAD) {
+        fputs("bad", stderr);
+    } else if (row->verdict != OPGP_GOOD) {
+        fprintf(stderr, "undecided %s", row->why);
+    } else if (row->standing != OPGP_BELIEVED) {
+        fprintf(stderr, "good unbelieved %s", standing_word(row->standing));
+    } else if (refusal) {
+        fprintf(stderr, "good refused %s", refusal);
+    } else {
+        fputs("good", stderr);
+    }
+    if (row->user_id_size > 0) {
+        fputs(" \"", stderr);
+        put_text(stderr, row->user_id, row->user_id_size);
+        fputc('"', stderr);
+    }
+    fputc('\n', stderr);
+}
+
+dialect *dialect_of(const char *started)
+{
+    static const struct {
+        const char *name;
+        dialect *does;
+    } names[] = {{"sopv", sopv}, {"sqv", sqv}, {"gpgv", gpgv}};
+    const char *slash = strrchr(started, '/'), *name = slash ? slash + 1 : started;
+    name = strncmp(name, "opgp-", 5) == 0 ? name + 5 : name;
+    for (size_t i = 0; i < sizeof names / sizeof *names; i++) {
+        if (strcmp(name, names[i].name) == 0) {
+            return names[i].does;
+        }
+    }
+    return NULL;
+}

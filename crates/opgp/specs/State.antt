@@ -1,0 +1,7 @@
+-- The definitions of `opgp_state`, and its types as they are declared.
+pub use Rattle.opgp_state.specs.declared
+pub use Rattle.opgp_state.specs.Claimed
+pub use Rattle.opgp_state.specs.KeyringStates
+pub use Rattle.opgp_state.specs.Report
+pub use Rattle.opgp_state.specs.StateLines
+pub use Rattle.opgp_state.specs.VerdictFile

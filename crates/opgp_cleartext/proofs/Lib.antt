@@ -1,0 +1,11 @@
+pub mod Behind
+pub mod Blanks
+pub mod Cutting
+pub mod Grammar
+pub mod HandedOut
+pub mod Joining
+pub mod Opening
+pub mod Passing
+pub mod Turns
+pub mod Walking
+pub mod Whole

@@ -1,0 +1,6 @@
+pub mod Cleartext
+pub mod Faults
+pub mod Hashes
+pub mod Line
+pub mod Machine
+pub mod View

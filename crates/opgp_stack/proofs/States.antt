@@ -1,0 +1,52 @@
+-- How a run goes that writes states.
+use Rattle.std.proofs.Common.{◌≡◌, ◌⊎◌, inl, inr, ℕ, Bool, List, ap, refl, subst, sym, Option, Some, None, Result, Ok, Err}
+use Rattle.std.specs.Borrow.{Bor}
+use Rattle.std.specs.Option.{option_map}
+use Rattle.opgp_ring.specs.Keyring.{KeyringValue}
+use Rattle.opgp_report.specs.declared.verifier.Verdict.{Verdict}
+use Rattle.opgp_valid.specs.declared.policy.Policy.{Policy}
+use Rattle.opgp_state.specs.Claimed.{claims_of}
+use Rattle.opgp_state.specs.StateLines.{state_lines}
+use Rattle.opgp_state.specs.VerdictFile.{HasVerdicts}
+use Rattle.opgp_state.specs.declared.basis.Basis.TheVariants.{Claims, Verdicts}
+use Rattle.opgp_codec.specs.Keyrings.{ComposesTo, key_label}
+use Rattle.opgp_codec.specs.Pulled.{OfAll}
+use Rattle.opgp_codec.specs.Reading.{AnswerOf, Outcome}
+use Rattle.opgp_octets.specs.declared.fault.Fault.{Fault}
+use Rattle.opgp_stack.specs.declared.run_fault.RunFault.{RunFault}
+use Rattle.opgp_stack.specs.declared.run_fault.RunFault.TheVariants as run
+use Rattle.opgp_stack.specs.declared.stating.StateTask.{StateTask}
+use Rattle.opgp_stack.specs.Running.{IsMade, Made, OtherVerdicts, Refused, RunsOf, Text, lacks, makes}
+use Rattle.opgp_stack.specs.Stating.{AreStates, OfStates}
+use Rattle.opgp_codec.proofs.Pulling.{of_all}
+use Rattle.opgp_stack.proofs.Runs.{ran_of}
+
+-- what is read
+abbrev pub RingOf : StateTask → List ℕ → Outcome KeyringValue → Type 0
+RingOf task octets answer = AnswerOf key_label (ComposesTo task.limits) task.mode task.limits octets answer
+
+module _ {R W : Type 0} (left : R → Option (List ℕ)) (has_failed : R → Bool) (held : W → Option (List ℕ)) (failed : W → Bool) (reader reader' : R) (writer : W) (task : StateTask) (file : Option (List ℕ)) where
+  -- the states of the keyring are written, or memory ran out
+  pub states_ran : (writer' : W) (r : KeyringValue) (result ended : Result Unit RunFault) → OfAll left has_failed reader reader' task.limits (λ octets. RingOf task octets (Ok r)) → result ≡ ended
+      → ((ended ≡ Err run.Memory) × (writer' ≡ writer)) ⊎ ((made : Made) × AreStates task.policy task.at file r made × IsMade held failed writer writer' ended made)
+      → RunsOf left has_failed (IsMade held failed) task.limits (OfStates task file) reader reader' writer writer' result
+  states_ran writer' r result ended read same (inl h) = lacks (cc (same, h.0)) read.sound h.1
+  states_ran writer' r result ended read same (inr (made, are, is)) = ran_of (RingOf task) (λ fault. (refl, refl)) writer' result ended r (λ octets h. (made, (Ok r, h, are), is)) read same
+
+  -- or the input is refused
+  pub states_refused : (fault : Fault) → OfAll left has_failed reader reader' task.limits (λ octets. RingOf task octets (Err fault)) → RunsOf left has_failed (IsMade held failed) task.limits (OfStates task file) reader reader' writer writer (Err (run.Refused fault))
+  states_refused fault read = makes (of_all left has_failed reader reader' task.limits _ _ (λ octets h. (Refused fault, (Err fault, h, refl), (refl, refl))) read)
+
+-- ---- which states
+module _ (policy : Policy) (at : ℕ) (r : KeyringValue) where
+  pub claimed_states : (file : Option (Bor (List ℕ))) (verdicts : List Verdict) → file ≡ None → verdicts ≡ claims_of r → AreStates policy at (option_map (λ f. f.now) file) r (Text (state_lines Claims r verdicts policy at))
+  claimed_states None verdicts e is = ap (λ (v : List Verdict). Text (state_lines Claims r v policy at)) is
+  claimed_states (Some f) verdicts e is = cc e
+
+  pub said_states : (file : Option (Bor (List ℕ))) (f : Bor (List ℕ)) (verdicts : List Verdict) → file ≡ Some f → HasVerdicts f.now r verdicts → AreStates policy at (option_map (λ f. f.now) file) r (Text (state_lines Verdicts r verdicts policy at))
+  said_states None f verdicts e is = cc e
+  said_states (Some g) f verdicts e is = let same : g ≡ f = cc e in inl (verdicts, subst (λ (x : Bor (List ℕ)). HasVerdicts x.now r verdicts) (sym same) is, refl)
+
+  pub other_states : (file : Option (Bor (List ℕ))) (f : Bor (List ℕ)) → file ≡ Some f → ((verdicts : List Verdict) → HasVerdicts f.now r verdicts → ⊥) → AreStates policy at (option_map (λ f. f.now) file) r OtherVerdicts
+  other_states None f e is = cc e
+  other_states (Some g) f e is = let same : g ≡ f = cc e in inr (subst (λ (x : Bor (List ℕ)). (verdicts : List Verdict) → HasVerdicts x.now r verdicts → ⊥) (sym same) is, refl)

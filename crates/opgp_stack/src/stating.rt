@@ -1,0 +1,138 @@
+//! How the parts of a keyring stand.
+
+ghost use Rattle.std.specs.Prelude.{◌≡◌, ◌⊎◌, false, Err};
+ghost use Rattle.std.specs.Option.{option_map};
+ghost use Rattle.opgp_state.specs.KeyringStates.{states_in};
+ghost use Rattle.opgp_state.specs.StateLines.{lines_from, state_lines};
+ghost use Rattle.opgp_stack.specs.Running.{IsMade, Made, RunsOf};
+ghost use Rattle.opgp_stack.specs.Stating.{AreStates, OfStates};
+ghost use Rattle.opgp_stack.specs.declared.run_fault.RunFault.TheVariants as run;
+
+use crate::run_fault::RunFault;
+use crate::running::{After, done, end};
+use opgp_codec::{Answer, Mode, Text, read_keyring, write};
+use opgp_io::{Output, Sink, Source};
+use opgp_octets::Limits;
+use opgp_report::Verdict;
+use opgp_ring::Keyring;
+use opgp_state::{Basis, KeyringStates, add_states, claimed_verdicts, read_verdicts};
+use opgp_valid::Policy;
+use std::alloc::Global;
+use std::io;
+
+/// How the parts of a keyring are judged.
+#[derive(Clone, Copy, Debug)]
+pub struct StateTask {
+    /// How the keyring is read.
+    pub mode: Mode,
+    /// The limits of what is read.
+    pub limits: Limits,
+    /// Which hash algorithms and keys are relied on.
+    pub policy: Policy,
+    /// The time at which they are judged, in seconds since 1970.
+    pub at: u64,
+}
+
+/// A line for each part of a keyring.
+#[derive(Clone, Copy)]
+struct StatesText<'a> {
+    basis: Basis,
+    keyring: &'a Keyring,
+    states: &'a KeyringStates,
+}
+
+impl Text for StatesText<'_> {
+    ghost octets = { λ text.
+        lines_from text.basis 0 text.keyring.now.certificates (states_in text.states.now) };
+
+    fn add<W: Sink>(self, output: &mut Output<'_, W>) -> io::Result<()> {
+        add_states(output, self.basis, self.keyring, self.states)
+    }
+}
+
+/// Reads a keyring, and writes how each key, user ID and user attribute of it stands at a time, a
+/// line for each, as [`add_states`] has them. What was read is leaked: the end of the process frees
+/// it. The conditions are that neither the source nor the sink has failed.
+///
+/// Without a file of verdicts the lines say what the signatures claim, and that nothing is
+/// verified: each that is hashed counts as good, unless its digest is bad. A file has the verdicts
+/// of a verifier, as [`read_verdicts`] has them.
+///
+/// The errors are `Refused`, `Read`, `Memory`, `OtherVerdicts`: the file isn't one of verdicts on
+/// this keyring; and `Write`, after which the sink holds a prefix of the lines. With any other
+/// nothing was written.
+///
+/// [`add_states`]: opgp_state::add_states
+/// [`read_verdicts`]: opgp_state::read_verdicts
+pub fn run_states<R: Source, W: Sink>(
+    alloc: Global,
+    task: &StateTask,
+    file: Option<&[u8]>,
+    reader: &mut R,
+    writer: &mut W,
+) -> Result<(), RunFault>
+    requires reader { R.has_failed reader.old ≡ false }
+    requires writer { W.has_failed writer.old ≡ false }
+    ensures { RunsOf R.left R.has_failed (IsMade W.held W.has_failed) task.now.limits
+        (OfStates task.now (option_map (λ f. f.now) file.entry)) reader.old reader.new writer.old
+        writer.new result }
+{
+    match read_keyring(alloc, reader, task.mode, &task.limits) {
+        Ok(Answer::Ring(keyring)) => {
+            let ended = write_states(alloc, &keyring, task, file, writer);
+            done(ended, keyring, After::Leaves)
+        }
+        Ok(Answer::Refused(fault)) => Err(RunFault::Refused(fault)),
+        Err(error) => end(Err(error)),
+    }
+}
+
+/// Writes how the parts of a keyring stand.
+fn write_states<W: Sink>(
+    alloc: Global,
+    keyring: &Keyring,
+    task: &StateTask,
+    file: Option<&[u8]>,
+    writer: &mut W,
+) -> Result<(), RunFault>
+    requires { W.has_failed writer.old ≡ false }
+    ensures { ((result ≡ Err run.Memory) × (writer.new ≡ writer.old)) ⊎ ((made : Made)
+        × AreStates task.now.policy task.now.at (option_map (λ f. f.now) file.entry)
+        keyring.now made
+        × IsMade W.held W.has_failed writer.old writer.new result made) }
+{
+    match file {
+        None => {
+            let verdicts = claimed_verdicts(alloc, keyring)?;
+            write_lines(alloc, keyring, Basis::Claims, &verdicts, task, writer)
+        }
+        Some(file) => match read_verdicts(alloc, keyring, file)? {
+            Some(verdicts) => {
+                write_lines(alloc, keyring, Basis::Verdicts, &verdicts, task, writer)
+            }
+            None => Err(RunFault::OtherVerdicts),
+        },
+    }
+}
+
+/// Writes how the parts of a keyring stand by these verdicts.
+fn write_lines<W: Sink>(
+    alloc: Global,
+    keyring: &Keyring,
+    basis: Basis,
+    verdicts: &[Verdict],
+    task: &StateTask,
+    writer: &mut W,
+) -> Result<(), RunFault>
+    requires { W.has_failed writer.old ≡ false }
+    ensures { IsMade W.held W.has_failed writer.old writer.new result
+        (Made.Text (state_lines basis keyring.now verdicts.now task.now.policy task.now.at)) }
+{
+    let states = KeyringStates::of(alloc, keyring, verdicts, task.policy, task.at)?;
+    let text = StatesText {
+        basis,
+        keyring,
+        states: &states,
+    };
+    end(write(alloc, text, writer))
+}

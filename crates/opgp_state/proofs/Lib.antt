@@ -1,0 +1,4 @@
+mod Fronts
+mod Lines
+mod StateTexts
+mod Verdicts

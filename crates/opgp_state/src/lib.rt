@@ -1,0 +1,19 @@
+//! Lines of what is found of the signatures, keys and user IDs of a keyring, and files of verdicts.
+#![tactic(auto)]
+
+mod basis;
+mod claims;
+mod keyring_states;
+mod line_sink;
+mod reporting;
+mod row_front;
+mod state_lines;
+mod verdict_file;
+mod verdict_lines;
+
+pub use basis::Basis;
+pub use claims::claimed_verdicts;
+pub use keyring_states::KeyringStates;
+pub use reporting::{add_fingerprinted_report, add_report, left_of, verdict_words};
+pub use state_lines::add_states;
+pub use verdict_file::read_verdicts;

@@ -444,7 +444,8 @@ static int told_of_document(const struct judging *judging)
             printf(" : none %s", row->why);
         }
         if (is_unbelieved) {
-            printf(" unbelieved %s", standing_word(row->standing));
+            char word[OPGP_NAME_ROOM];
+            printf(" unbelieved %s", opgp_name_text(OPGP_UNBELIEVED, row->standing, word));
         }
         putchar('\n');
         unhashed += !row->is_hashed;

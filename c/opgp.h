@@ -187,7 +187,7 @@ enum {
 enum {
     OPGP_WHY_HASHED = 0,    /* it is */
     OPGP_WHY_OPAQUE = 1,    /* it isn't parsed, or is of version 3 */
-    OPGP_WHY_KIND = 2,      /* its type isn't one of certificates */
+    OPGP_WHY_KIND = 2,      /* its type isn't one of certificates; over a document: isn't one of documents, or of cleartext messages */
     OPGP_WHY_MISPLACED = 3, /* its type doesn't belong where it is */
     OPGP_WHY_VERSION = 4,   /* its version isn't that of a key that it would hash */
     OPGP_WHY_HASH = 5,      /* its hash algorithm isn't supported, or not in its version */
@@ -689,7 +689,8 @@ OPGP_API void opgp_reader_clear(opgp_reader *reader);
  * - end: ends the document. OPGP_DONE; OPGP_ENDED: it had ended; OPGP_CLOSED.
  * - jobs: fills the caller's tables, as opgp_ring_jobs does, with a row for each signature, in order. A row belongs to no
  *   certificate: certificate, component and nested are OPGP_NONE, and hang is the signature's number, from 0. signer is the row of
- *   its issuer's key among the keys of the ring, which may be a keyring without certificates. OPGP_DONE, OPGP_ROOM, OPGP_MEMORY;
+ *   its issuer's key among the keys of the ring, which may be a keyring without certificates. Over the document of a cleartext
+ *   message only signatures of type 01 are hashed; others get OPGP_WHY_KIND. OPGP_DONE, OPGP_ROOM, OPGP_MEMORY;
  *   OPGP_GOING: the document hasn't ended; OPGP_CLOSED: of one of the handles. With any but the first two *sizes means nothing.
  * - subpackets: the same of the signatures' subpackets, as opgp_ring_subpackets, before the document's end too. OPGP_DONE,
  *   OPGP_ROOM, OPGP_MEMORY, OPGP_CLOSED. With the last two *sizes means nothing.
@@ -728,8 +729,8 @@ OPGP_API uint32_t opgp_document_octets(opgp_document *document, uint64_t row, ui
 
 /* Says in *why whether the signature in a row of opgp_document_jobs may be believed as one by a key of the keyring, where a verifier
  * finds it good, and it is read now, in seconds since 1970. The other arguments are those of opgp_ring_standing, and made is when the
- * signature says that it was made. Ask for each place where the issuer's key is: it is believed if it is at one of them. Nothing of the
- * document counts, nor whether it has ended.
+ * signature says that it was made. Ask for each place where the issuer's key is: it is believed if it is at one of them. Of the document
+ * only one thing counts: where it is a cleartext message's, the answer is OPGP_NO_DOCUMENT for signatures of another type than 01.
  *
  * OPGP_DONE; OPGP_NO_ROW: there is no such key or row, or the signature is malformed; OPGP_LIMITS: there is no such policy;
  * OPGP_MEMORY; OPGP_CLOSED.
@@ -753,11 +754,11 @@ OPGP_API void opgp_document_clear(opgp_document *document);
  * document, which has ended; what it held before is freed. *size is how many octets the document has.
  *
  * Strict: outside of the message only blank lines may be, its headers name hash algorithms alone, and no line begins with a hyphen
- * unless it is escaped. docs/FORMAT.md has the rules. Until a signature is verified the document may be anybody's. Programs disagree
- * on signatures of another type than 01 here. opgp_judge doesn't know that this document is a message's: believe none of another type.
+ * unless it is escaped. docs/FORMAT.md has the rules. Until a signature is verified the document may be anybody's. The handle knows
+ * that its document is a message's: signatures of another type than 01, on which programs disagree, aren't hashed, nor believed.
  *
  * OPGP_DONE; OPGP_REFUSED with *fault: the first line that no message has there, or what is wrong with the signatures; OPGP_ROOM;
- * OPGP_MANY; OPGP_LIMITS; OPGP_MEMORY. With the last three *size means nothing.
+ * OPGP_MANY; OPGP_LIMITS; OPGP_MEMORY. With any but OPGP_DONE and OPGP_ROOM *size is unchanged.
  *
  * Proved:
  *

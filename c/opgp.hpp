@@ -311,6 +311,27 @@ public:
         check(status);
     }
 
+    /* Reads a cleartext message (7): the signatures over the document that it has, which goes to text. Judge it before you use that. Throws
+     * Fault if the message is refused. */
+    static Document cleartext(std::string_view message, std::string &text, const opgp_limits *limits = nullptr)
+    {
+        opgp_limits usual;
+        opgp_fault fault = {};
+        Document found;
+        uint64_t size = 0;
+        std::string made(message.size(), '\0');
+        opgp_usual_limits(&usual);
+        uint32_t status = opgp_cleartext_open(reinterpret_cast<const uint8_t *>(message.data()), message.size(), limits ? limits : &usual,
+                                              reinterpret_cast<uint8_t *>(&made[0]), made.size(), &size, &found.handle, &fault);
+        if (status == OPGP_REFUSED) {
+            throw Fault(fault);
+        }
+        check(status);
+        made.resize(static_cast<std::size_t>(size));
+        text = std::move(made);
+        return found;
+    }
+
     Document(const Document &) = delete;
     Document &operator=(const Document &) = delete;
     Document(Document &&other) noexcept : handle(std::exchange(other.handle, opgp_document{})) {}
@@ -364,6 +385,8 @@ public:
     }
 
 private:
+    Document() = default;
+
     opgp_document handle = {};
 };
 

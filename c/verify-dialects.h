@@ -29,8 +29,10 @@ int judged(const struct program *program, const struct inputs *inputs, struct ju
 
 bool is_believed(const struct judged *row);
 
-/* Writes the document of the message that was judged, for output_keep; 0, or the exit status. Without a name there is nothing to write. */
-int written(const struct program *program, const struct judging *judging, const char *name, bool may_replace, struct output *output);
+/* Writes the document of the message that was judged, for output_keep, with an end of its last line if it is to have one; 0, or the exit
+ * status. Without a name there is nothing to write. */
+int written(const struct program *program, const struct judging *judging, const char *name, bool has_end, bool may_replace,
+            struct output *output);
 
 /* Puts it at its name, if the status is 0; the exit status. */
 int kept(const struct program *program, struct output *output, int status);

@@ -208,14 +208,20 @@ static void tell_key(FILE *status, const char *word, const struct judged *row)
     fputc('\n', status);
 }
 
+/* Whether no keyring has the signer's key: also where the signature is bad all the same, since its digest doesn't begin as it says. */
+static bool is_missing(const struct judged *row)
+{
+    return is_absent(row) || (row->verdict == OPGP_BAD && !row->key[0]);
+}
+
 /* Writes the status lines of a signature that isn't verified, or not believed for another reason than time and revocation. */
 static void tell_error(FILE *status, const struct judged *row)
 {
     const char *name = row->key[0] ? row->key : strlen(row->issuer) > 16 ? row->issuer : "-";
     const char *key_id = row->key_id[0] ? row->key_id : "0000000000000000";
     fprintf(status, "[GNUPG:] ERRSIG %s %u %u %02X %" PRIu64 " %d %s\n", key_id, row->algorithm, row->hash, row->kind,
-            row->is_dated ? row->made : 0, is_absent(row) ? 9 : 4, name);
-    if (is_absent(row)) {
+            row->is_dated ? row->made : 0, is_missing(row) ? 9 : 4, name);
+    if (is_missing(row)) {
         fprintf(status, "[GNUPG:] NO_PUBKEY %s\n", key_id);
     }
 }
@@ -245,7 +251,7 @@ static void tell_row(FILE *status, const struct judged *row, const struct demand
         } else {
             tell_good(status, row);
         }
-    } else if (row->verdict == OPGP_BAD) {
+    } else if (row->verdict == OPGP_BAD && !is_missing(row)) {
         tell_key(status, "BADSIG", row);
     } else if (row->verdict == OPGP_GOOD && row->standing == OPGP_LAPSED) {
         tell_key(status, "EXPSIG", row);
@@ -298,17 +304,18 @@ static int no_data(FILE *status, int found)
     return found;
 }
 
-/* Writes the document of a message; the exit status. As with gpgv, a file that is there is replaced. */
+/* Writes the document of a message; the exit status. As with gpgv, its last line has an end too, which isn't signed: programs look for
+ * that. And a file that is there is replaced. */
 static int put_document(const struct program *program, const struct judging *judging, const char *name)
 {
     size_t size;
     struct output output;
     const uint8_t *text = judging_text(judging, &size);
     if (strcmp(name, "-") == 0) {
-        fwrite(text, 1, size, stdout);
+        fwrite(text, 1, size + 1, stdout);
         return ended(program, stdout, 0);
     }
-    int found = written(program, judging, name, true, &output);
+    int found = written(program, judging, name, true, true, &output);
     return kept(program, &output, found);
 }
 

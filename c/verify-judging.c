@@ -76,17 +76,6 @@ static enum outcome refused(const struct judging *it, const char *name, uint32_t
     return failed(it, status);
 }
 
-const char *standing_word(uint8_t standing)
-{
-    static const char *const words[] = {
-        [OPGP_BELIEVED] = "believed", [OPGP_IN_FUTURE] = "future",  [OPGP_REVOKED] = "revoked",     [OPGP_EARLY] = "early",
-        [OPGP_UNBOUND] = "unbound",   [OPGP_EXPIRED] = "expired",   [OPGP_NOT_SIGNING] = "flags",   [OPGP_UNBACKED] = "back",
-        [OPGP_NO_DOCUMENT] = "type",  [OPGP_CRITICAL] = "critical", [OPGP_WEAK] = "weak",           [OPGP_UNDATED] = "time",
-        [OPGP_LAPSED] = "lapsed",     [OPGP_NOT_BY_KEY] = "issuer",
-    };
-    return standing < sizeof words / sizeof *words ? words[standing] : "unknown";
-}
-
 /* ---- Reading */
 
 struct judging *judging_new(const char *program, FILE *(*open)(const char *name))
@@ -172,8 +161,10 @@ enum outcome judging_cleartext(struct judging *it, const char *name)
     if (it->text) {
         status = opgp_cleartext_open(octets, size, &usual, it->text, size, &text_size, &it->document, &fault);
     }
-    it->text_size = (size_t)text_size;
-    if (status != OPGP_DONE) {
+    if (status == OPGP_DONE) {
+        it->text_size = (size_t)text_size; /* less than the message has */
+        it->text[it->text_size] = '\n';
+    } else {
         outcome = refused(it, name, status, &fault);
         if (status == OPGP_REFUSED && is_other_message(octets, size)) {
             said(it, outcome, "of signed messages only cleartext ones are read");
@@ -443,8 +434,6 @@ static int take(void *context, const opgp_question *question, opgp_verdict verdi
         return 1;
     }
     const opgp_job *job = question->job;
-    bool is_doubtful = it->text && job->why == OPGP_WHY_HASHED && job->kind != OPGP_SIGNATURE_TEXT; /* in a message */
-    verdict = is_doubtful ? OPGP_UNDECIDED : verdict;
     it->standings[question->row] = verdict == OPGP_GOOD ? why : OPGP_NOT_GOOD;
     if (it->only == ALL) {
         struct judged *row = &it->rows[question->row];
@@ -452,7 +441,6 @@ static int take(void *context, const opgp_question *question, opgp_verdict verdi
         struct finding found = is_asked(job, question->signer) ? it->findings[question->row] : found_without(job);
         row->verdict = verdict;
         row->why = row->is_hashed ? found.why : opgp_name_text(OPGP_WHYS, job->why, it->whys[question->row]);
-        row->why = is_doubtful ? "type" : row->why;
         row->standing = it->standings[question->row];
         it->count = question->row + 1;
     }

@@ -46,9 +46,6 @@ struct judged {
     size_t user_id_size;
 };
 
-/* The word for a reason why a good signature isn't to be believed. */
-const char *standing_word(uint8_t standing);
-
 /* The doubts that leave a signature undecided, by a policy (OPGP_POLICY_USUAL ..). */
 unsigned decisive_by(uint32_t policy);
 
@@ -73,8 +70,8 @@ enum outcome judging_document(struct judging *it, const char *name);
  * type than 01 is never good there, but undecided: programs disagree on what it is over. */
 enum outcome judging_cleartext(struct judging *it, const char *name);
 
-/* The document of the message: lines with a line feed between them. It may be anybody's, unless a signature is good and believed. It lives
- * as long as `it`. */
+/* The document of the message: lines with a line feed between them, and one more behind the size. It may be anybody's, unless a signature is
+ * good and believed. It lives as long as `it`. */
 const uint8_t *judging_text(const struct judging *it, size_t *size);
 
 /* Then: judges by a policy at a present time, in seconds since 1970. */

@@ -57,12 +57,13 @@ bool is_absent(const struct judged *row)
     return row->verdict == OPGP_UNDECIDED && row->is_hashed && strcmp(row->why, "absent") == 0;
 }
 
-int written(const struct program *program, const struct judging *judging, const char *name, bool may_replace, struct output *output)
+int written(const struct program *program, const struct judging *judging, const char *name, bool has_end, bool may_replace,
+            struct output *output)
 {
     size_t size;
     const uint8_t *text = judging_text(judging, &size);
     *output = (struct output){0};
-    bool is_fine = !name || output_write(output, name, text, size, may_replace);
+    bool is_fine = !name || output_write(output, name, text, size + has_end, may_replace);
     return is_fine ? 0 : said(program, program->failed, "can't write '%s': %s", name, strerror(errno));
 }
 
@@ -154,7 +155,8 @@ void explain(const struct program *program, const struct judged *row, const char
     } else if (row->verdict != OPGP_GOOD) {
         fprintf(stderr, "undecided %s", row->why);
     } else if (row->standing != OPGP_BELIEVED) {
-        fprintf(stderr, "good unbelieved %s", standing_word(row->standing));
+        char word[OPGP_NAME_ROOM];
+        fprintf(stderr, "good unbelieved %s", opgp_name_text(OPGP_UNBELIEVED, row->standing, word));
     } else if (refusal) {
         fprintf(stderr, "good refused %s", refusal);
     } else {

@@ -80,7 +80,7 @@ static int tell_and_write(const struct words *words, const struct judging *judgi
 {
     struct output output;
     bool is_enough = certificates(judging, window, NULL) >= wanted;
-    int status = written(words->program, judging, is_enough ? value_of(words, OUTPUT) : NULL, false, &output);
+    int status = written(words->program, judging, is_enough ? value_of(words, OUTPUT) : NULL, false, false, &output);
     status = status == 0 ? tell_sqv(words, judging, window, wanted) : status;
     return kept(words->program, &output, status);
 }

@@ -1228,11 +1228,10 @@ class Document(_Held):
 
     _lock: Any
     _document: Any
-    _is_cleartext: bool
 
     def __new__(cls, *_: Any, **__: Any) -> Document:
         made = super().__new__(cls)
-        made._lock, made._document, made._is_cleartext = threading.RLock(), _Hashed(), False
+        made._lock, made._document = threading.RLock(), _Hashed()
         return made
 
     def __init__(self, signatures: Octets, limits: Optional[Limits] = None, mode: str = "auto") -> None:
@@ -1244,7 +1243,7 @@ class Document(_Held):
             raise ValueError(f"there are more than {_MOST_SIGNATURES} signatures")
         _raise_if_refused(status, fault)
         with self._lock:
-            self._document, self._is_cleartext = made, False
+            self._document = made
 
     def push(self, piece: Octets) -> None:
         """Takes the next piece of the document. Raises ValueError if the document has ended, or is closed."""
@@ -1298,17 +1297,14 @@ class Document(_Held):
         - BAD if its digest doesn't begin with the 16 bits that it states;
         - what `verify` returns, which is called once, if it is hashed, and its issuer's key is in the keyring and has its
           version;
-        - UNDECIDED for all others; without a `verify`, for all that aren't bad. Of a cleartext message that's also what isn't of
-          type 01.
+        - UNDECIDED for all others; without a `verify`, for all that aren't bad. Of a cleartext message only signatures of type 01
+          are hashed.
 
         What `verify` raises ends the check, and is raised here. GOOD is arithmetic and no more. Expiries, revocations, key flags
         and critical subpackets aren't looked at: see `judge`.
         """
         handle = _opened(keyring)
-        return [(it, self._verdict(it, handle, verify)) for it in self._found(self._document, handle)]
-
-    def _verdict(self, it: Signature, handle: _Handle, verify: Optional[Verifier]) -> Verdict:
-        return _verdict(it, handle, None if self._is_cleartext and it.kind != 1 else verify)
+        return [(it, _verdict(it, handle, verify)) for it in self._found(self._document, handle)]
 
     def judge(self, keyring: Keyring, verify: Verifier, now: int, policy: str = "usual") -> list[Judgement]:
         """Whether each signature over the document, in order, may be believed at this time, in seconds since 1970. The verdict on
@@ -1332,7 +1328,7 @@ class Document(_Held):
 
         found = []
         for it in self._found(document, rule.handle):
-            verdict = self._verdict(it, rule.handle, verify)
+            verdict = _verdict(it, rule.handle, verify)
             signer = None if it.signer is None else _key_at(rule.handle, it.signer)
             if signer and verdict is Verdict.GOOD:
                 why = rule.why_anywhere(signer, functools.partial(ask, it.row))
@@ -1505,7 +1501,6 @@ def cleartext(message: Octets, limits: Optional[Limits] = None) -> tuple[bytes, 
     if status == _MANY:
         raise ValueError(f"there are more than {_MOST_SIGNATURES} signatures")
     _raise_if_refused(status, fault)
-    made._is_cleartext = True
     return bytes(memoryview(text)[: size.value]), made
 
 

@@ -82,6 +82,34 @@ static bool documents(const opgp::Keyring &keyring)
     return is_well && made == "a\\r\\n\\r\\nb";
 }
 
+// A cleartext message's document, and its signatures, of types 00 and 01: only the latter are hashed.
+static bool messages(const opgp::Keyring &keyring)
+{
+    const std::string message = "-----BEGIN PGP SIGNED MESSAGE-----\\n\\na\\n- -b\\n-----BEGIN PGP SIGNATURE-----\\n\\n"
+                                "wg4EABYIAAAAAKvNAAAAAMIOBAEWCAAAAACrzQAAAAA=\\n-----END PGP SIGNATURE-----\\n";
+    std::string text = "kept";
+    try {
+        opgp::Document::cleartext("x\\n" + message, text);
+        return false;
+    } catch (const opgp::Fault &fault) {
+        if (fault.fault.layer != 6 || text != "kept") {
+            return false;
+        }
+    }
+    opgp::Document document = opgp::Document::cleartext(message, text);
+    try {
+        document.push("c");
+        return false;
+    } catch (const std::logic_error &) {
+    }
+    bool is_well = text == "a\\n-b";
+    for (const opgp_job &job : document.signatures()) {
+        is_well = is_well && job.why == (job.kind == 1 ? OPGP_WHY_HASHED : OPGP_WHY_KIND);
+    }
+    const auto judged = document.judge(keyring, 0, [](const opgp_question &) { return OPGP_GOOD; });
+    return is_well && judged.size() == 2 && judged[0].verdict == OPGP_UNDECIDED && judged[1].verdict == OPGP_BAD;
+}
+
 // Each part has a state, and what a verifier throws comes through.
 static bool states(const opgp::Keyring &keyring)
 {
@@ -131,7 +159,7 @@ int main()
             parts += part->write().size();
         }
         bool is_twice = keyring.joined(keyring).write() == keyring.write() + keyring.write();
-        std::printf("%zu %zu %d %d\\n", hashed, parts, is_twice, documents(keyring) && states(keyring));
+        std::printf("%zu %zu %d %d\\n", hashed, parts, is_twice, documents(keyring) && messages(keyring) && states(keyring));
     } catch (const opgp::Fault &fault) {
         std::cerr << fault.what() << std::endl;
         return 1;

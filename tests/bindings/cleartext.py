@@ -13,6 +13,7 @@ killed. The last line counts what was tried.
 """
 
 import argparse
+import email
 import os
 import re
 import resource
@@ -98,11 +99,11 @@ def tried(title, those, message=None, document=TEXT):
     ended = run("opgp-gpgv", "--keyring", ring, "--status-fd", "1", "-o", out(), path)
     fits = (ended.status, wrote(ended.out), ended.lines) == (gpgv_status(those), hoped, lines)
     verdict(f"opgp-gpgv, {title}", fits, (ended, hoped, lines))
-    verdict(f"opgp-gpgv's document, {title}", taken(out()) == (document if ended.status == 0 else None))
+    verdict(f"opgp-gpgv's document, {title}", taken(out()) == (document + b"\n" if ended.status == 0 else None))
     plain = run("opgp-gpgv", "--keyring", ring, given=message)
     verdict(f"opgp-gpgv over standard input, {title}", plain == ended._replace(out=""), plain)
     plain = run("opgp-gpgv", "--keyring", ring, "--output", "-", "-", given=message)
-    verdict(f"opgp-gpgv to standard output, {title}", (plain.status, octets_of(plain.out)) == (ended.status, b"" if ended.status else document), plain)
+    verdict(f"opgp-gpgv to standard output, {title}", (plain.status, octets_of(plain.out)) == (ended.status, b"" if ended.status else document + b"\n"), plain)
 
     told = f"{names.ROOM}/verifications"
     ended = run("opgp-sopv", "inline-verify", f"--verifications-out={told}", ring, given=message)
@@ -255,7 +256,7 @@ KEY, _ = signers.CRYPTO.of_seed(b"\7" * 32)
 def found_in(body, document):
     """What is to be found of a signature, by making it again."""
     if body[1] != 1:
-        return "undecided type" if body[1] == 0 else "none kind"
+        return "none kind"
     front = body[: 6 + int.from_bytes(body[4:6], "big")]
     digest = signers.hashlib.sha256(cleartext.hashed(document) + front + b"\4\xff" + len(front).to_bytes(4, "big")).digest()
     made = signers.CRYPTO.signed(KEY, digest)
@@ -294,7 +295,7 @@ def of_vectors():
 
 
 def of_real():
-    """What opgp-verify finds of files that Debian publishes, at a time; and after each has changed by an octet."""
+    """What opgp-verify finds of files that Debian publishes, and of mails, at a time; and after each has changed by an octet."""
     room, count = f"{HERE}/tests/vectors/cleartext/real", 0
     words = ["opgp-verify", "--cleartext", "--keyring", f"{room}/keyring.gpg", "--at", "2026-11-29", "--output", out()]
     with open(f"{room}/answers.txt", encoding="ascii") as it:
@@ -314,6 +315,59 @@ def of_real():
             holds = ended.status == 1 and not any(it.startswith("good") for it in said)
             verdict(f"{file}: changed at {at}", holds and taken(out()) is None, ended)
     verdict("there are files", count == len(os.listdir(room)) - 3, count)
+    of_mails()
+
+
+BLOCK = re.compile(rb"^-----BEGIN PGP SIGNED MESSAGE-----$.*?^-----END PGP SIGNATURE-----\n", re.MULTILINE | re.DOTALL)
+
+
+def of_mails():
+    """What is found of mails and other messages that Debian's packages have for tests: as their signers meant. A mail as it is has headers
+    in front and is refused; what is read is its body. Where that has text outside of the message, it is refused too, and the message alone is
+    judged."""
+    room, count = f"{HERE}/tests/vectors/cleartext/mails", 0
+    with open(f"{room}/answers.txt", encoding="ascii") as it:
+        lines = [line.rstrip("\n").split("\t") for line in it if not line.startswith("#")]
+    for file, form, refused, at, *answers, _ in lines:
+        count += 1
+        usual, by_any, words, by_gpgv = (it.split(", ") for it in answers)
+        keys = ["--keyring", f"{room}/keyring.gpg"]
+        octets = octets_at(f"{room}/{file}")
+        whole = [("as a file", octets, "cleartext: Outside block 0 at 0 ")] if form == "mail" else []
+        octets = email.message_from_bytes(octets).get_payload(decode=True) if form == "mail" else octets
+        for title, given, fault in [*whole, *([("its body", octets, refused)] if refused != "-" else [])]:
+            path = kept("message", given)
+            ended = run("opgp-verify", "--cleartext", *keys, "--at", at, "--policy", "any", "--output", out(), path)
+            fits = ended[:2] == (1, "") and ended.lines[0].startswith(f"'{path}': {fault}")
+            verdict(f"{file}, {title}: refused", fits and taken(out()) is None, ended)
+            ended = run("opgp-gpgv", *keys, "--status-fd", "1", "-o", out(), path)
+            verdict(f"{file}, {title}: refused by opgp-gpgv", ended[:2] == (2, "[GNUPG:] NODATA 1\n") and taken(out()) is None, ended)
+        if usual == ["-"]:
+            continue  # no message is in it
+        octets = octets if refused == "-" else BLOCK.search(octets)[0]
+        path, read = kept("message", octets), cleartext.read(octets, LINE)
+        for policy, verdicts in (("usual", usual), ("any", by_any)):
+            ended = run("opgp-verify", "--cleartext", *keys, "--at", at, "--policy", policy, "--output", out(), path)
+            said = [line.partition(" verdict ")[2] or line.partition(" : ")[2] for line in ended.out.splitlines()]
+            status = int("good" not in verdicts or "bad" in verdicts)
+            verdict(f"{file}, policy {policy}: its signatures", (ended.status, said) == (status, verdicts), ended)
+            verdict(f"{file}, policy {policy}: its document", read[0] == "ok" and taken(out()) == (None if status else read[1]))
+        # gpgv finds good what is good and believed.
+        verdict(f"{file}: gpgv", len(by_gpgv) == len(by_any) and all(it == "GOODSIG" for it, its in zip(by_gpgv, by_any) if its == "good"), by_gpgv)
+        ended = run("opgp-gpgv", *keys, "--status-fd", "1", "-o", out(), path)
+        told = [line.split(" ")[0] for line in wrote(ended.out)]
+        status = int(words != ["GOODSIG"] * len(words))
+        fits = ended.status == status and [it for it in told if it.endswith("SIG") and it not in ("NEWSIG", "VALIDSIG")] == words
+        verdict(f"{file}: opgp-gpgv", fits and told.count("VALIDSIG") == words.count("GOODSIG"), ended)
+        verdict(f"{file}: opgp-gpgv's document", taken(out()) == (None if status else read[1] + b"\n"))
+        first, last = octets.find(b"\n\n") + 2, read[2] - 2
+        for place in (first, (first + last) // 2, last):
+            changed = kept("message", octets[:place] + bytes([octets[place] ^ 1]) + octets[place + 1 :])
+            ended = run("opgp-verify", "--cleartext", *keys, "--at", at, "--policy", "any", "--output", out(), changed)
+            verdict(f"{file}: changed at {place}", ended.status == 1 and " verdict good" not in ended.out and taken(out()) is None, ended)
+            ended = run("opgp-gpgv", *keys, "--status-fd", "1", "-o", out(), changed)
+            verdict(f"{file}: changed at {place}, opgp-gpgv", ended.status != 0 and "GOODSIG" not in ended.out and taken(out()) is None, ended)
+    verdict("there are mails", count == len(os.listdir(room)) - 3, count)
 
 
 CALL = r"""
@@ -322,7 +376,8 @@ CALL = r"""
 #include <stdlib.h>
 #include <string.h>
 
-/* Reads messages, each with its size in front, and a number that is added to its size for the room; what the call says of each. */
+/* Reads messages, each with its size in front, and a number that is added to its size for the room; what the call says of each, and the
+ * type of each signature, with why it isn't hashed. */
 int main(void)
 {
     unsigned long n;
@@ -350,6 +405,18 @@ int main(void)
         for (size_t i = 0; i < written; i++) {
             printf("%02X", text[i]);
         }
+        opgp_job *rows = NULL;
+        uint8_t *made = NULL;
+        size_t count = 0;
+        printf(" ");
+        if (status == OPGP_DONE && opgp_signatures(&document, NULL, &rows, &count, &made) != OPGP_DONE) {
+            return 1;
+        }
+        for (size_t i = 0; i < count; i++) {
+            printf("%u:%u,", rows[i].kind, rows[i].why);
+        }
+        free(rows);
+        free(made);
         printf(" %s\n", status == OPGP_REFUSED ? opgp_fault_text(&fault, words) : "");
         opgp_document_clear(&document);
         free(in);
@@ -373,19 +440,21 @@ def by_call():
 
     def asked(message, more):
         ended = subprocess.run([program], input=b"%d %d\n" % (len(message), more) + message, capture_output=True, check=False)
-        return ended.stdout.decode().rstrip("\n").split(" ", 5) if ended.returncode == 0 else [str(ended.returncode)]
+        return ended.stdout.decode().rstrip("\n").split(" ", 6) if ended.returncode == 0 else [str(ended.returncode)]
 
     for title, _, place, _, message in all_rows:
         read, said = cleartext.read(message, LINE), asked(message, 0)
         if read[0] == "ok" and title not in cleartext.BEHIND:
             document = read[1]
-            verdict(f"{title}: the call", said == ["0", str(len(document)), str(len(document)), "1", digits(document), ""], said)
+            bodies = [body for _, _, kind, _, body, _ in model.framed(model.dearmored(message[place:], model.USUAL), model.USUAL) if kind == 2]
+            rows = "".join(f"{body[1]}:{0 if body[1] == 1 else 2}," for body in bodies)
+            verdict(f"{title}: the call", said == ["0", str(len(document)), str(len(document)), "1", digits(document), rows, ""], (said, rows))
             for room in sorted({0, len(document) // 2, len(document) - 1} & {*range(len(document))}):
                 less = asked(message, room - len(message))
-                verdict(f"{title}: room {room}", less == ["2", str(len(document)), "0", "0", "", ""], less)
+                verdict(f"{title}: room {room}", less == ["2", str(len(document)), "0", "0", "", "", ""], less)
         else:
             fault = f"cleartext: {read[1]} block 0 at {place} inner 0" if read[0] == "fault" else cleartext.BEHIND[title]
-            verdict(f"{title}: the call refuses", said[:1] + said[2:5] == ["1", "0", "0", ""] and said[5].startswith(fault), said)
+            verdict(f"{title}: the call refuses", said[:6] == ["1", "77", "0", "0", "", ""] and said[6].startswith(fault), said)
 
 
 # ---- Files
@@ -408,7 +477,7 @@ def outputs():
     folder = f"{names.ROOM}/folder"
     os.mkdir(folder)
     for name, (doing, status, told) in runs.items():
-        written = verification(good).encode() if name == "opgp-sopv" else TEXT
+        written = {"opgp-sopv": verification(good).encode(), "opgp-gpgv": TEXT + b"\n"}.get(name, TEXT)
         exists = 59 if name == "opgp-sopv" else status
         where = f"{folder}/out"
         # There already: a file, a link that leads nowhere, a folder.
@@ -445,7 +514,7 @@ def outputs():
             os.remove(f"{folder}/other")
             verdict(f"{name}: nothing to see", doing("/dev/null").status == 0 and os.path.exists("/dev/null") and not os.path.isfile("/dev/null"))
             ended = doing("/dev/stdout")
-            verdict(f"{name}: /dev/stdout", ended[:2] == (0, told + TEXT.decode()) and os.path.islink("/dev/stdout"), ended)
+            verdict(f"{name}: /dev/stdout", ended[:2] == (0, told + written.decode()) and os.path.islink("/dev/stdout"), ended)
             ended = doing("/dev/full")
             verdict(f"{name}: a full device", ended.status == 2 and ended.lines[-1] == "can't write '/dev/full': No space left on device", ended)
         # No folder; one that isn't a folder; one that isn't writable; and a name that is too long.
@@ -661,7 +730,7 @@ def times():
     soon = found["future"]
     for more, is_good in ((["--ignore-time-conflict"], True), ([], False)):
         ended = run("opgp-gpgv", *more, "--keyring", ring, "-o", out(), kept("soon", signers.message(TEXT, soon.octets)))
-        verdict(f"opgp-gpgv {more}", ended.status == int(not is_good) and taken(out()) == (TEXT if is_good else None), ended)
+        verdict(f"opgp-gpgv {more}", ended.status == int(not is_good) and taken(out()) == (TEXT + b"\n" if is_good else None), ended)
 
 
 # ---- Memory
@@ -726,11 +795,9 @@ def by_valgrind():
 
 # A file of c/, a text that is there once, and what stands in its place; and the part of this test that must fail then.
 WRONG = (
-    ("judging", "job->kind != OPGP_SIGNATURE_TEXT;", "job->kind > OPGP_SIGNATURE_TEXT;", of_cases),  # type 00 is taken
-    ("judging", "it->text && job->why == OPGP_WHY_HASHED", "it->text && verdict == OPGP_GOOD", of_cases),
     ("gpgv", "    found = found == 0 && output ? put_document(program, judging, output) : found;\n", "    found = output && judging_rows(judging, &count) ? put_document(program, judging, output) | found : found;\n", of_cases),
     ("gpgv", "    return kept(program, &output, found);", "    return kept(program, &output, found) * 0;", outputs),
-    ("sqv", "judging, is_enough ? value_of(words, OUTPUT) : NULL, false, &output);", "judging, value_of(words, OUTPUT), false, &output);\n    if (output.name) {\n        output_keep(&output);\n    }", of_cases),
+    ("sqv", "judging, is_enough ? value_of(words, OUTPUT) : NULL, false, false, &output);", "judging, value_of(words, OUTPUT), false, false, &output);\n    if (output.name) {\n        output_keep(&output);\n    }", of_cases),
     ("sqv", "    bool is_enough = certificates(judging, window, NULL) >= wanted;", "    bool is_enough = certificates(judging, window, NULL) > 0;\n    wanted = is_enough ? 1 : wanted;", of_cases),
     ("sopv", "    status = status == 0 ? put_message(words, judging, verifications, size) : status;", "    status = status == 0 || status == 3 ? put_message(words, judging, verifications, size) | status : status;", of_cases),
     ("sopv", "    return kept(program, &output, ended(program, stdout, 0));", "    int found = kept(program, &output, 0);\n    return ended(program, stdout, found);", descriptors),

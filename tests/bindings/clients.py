@@ -1,6 +1,7 @@
 #!/usr/bin/env python3
 """Has other programs verify by opgp-sopv, opgp-sqv and opgp-gpgv, as their users would: git verify-tag, verify-commit and log, apt-get update over
-a repository in a folder, dpkg-source, dpkg's module for OpenPGP, and uscan's. Each must believe what is good and believed, and nothing else.
+a repository in a folder, dpkg-source, dpkg's module for OpenPGP, uscan's, dscverify, and debsig-verify. Each must believe what is good and
+believed, and nothing else.
 
 Usage: tests/bindings/clients.py [--program FILE] [--only PART]
 
@@ -15,11 +16,13 @@ import argparse
 import glob
 import gzip
 import hashlib
+import io
 import os
 import resource
 import shutil
 import subprocess
 import sys
+import tarfile
 import tempfile
 
 sys.dont_write_bytecode = True
@@ -319,6 +322,26 @@ sub run_hook { my ($self, $hook, @more) = @_; return $hook eq 'package-keyrings'
 """
 
 
+HIDDEN = ("sqop", "pgpainless-cli", "sq", "gpgv", "gpgv2", "gpg", "gpg2")  # programs that clients look for in PATH
+
+
+def programs(name):
+    """A folder for PATH, which has the machine's programs without those that verify."""
+    os.makedirs(f"{ROOM}/{name}")
+    for place in ("/usr/bin", "/bin"):
+        for program in os.listdir(place):
+            if program not in HIDDEN and not os.path.lexists(f"{ROOM}/{name}/{program}"):
+                os.symlink(f"{place}/{program}", f"{ROOM}/{name}/{program}")
+    return f"{ROOM}/{name}"
+
+
+def script(name, *lines):
+    """A program of these lines of the shell."""
+    path = kept(name, "".join(f"{line}\n" for line in ("#!/bin/sh", *lines)).encode())
+    os.chmod(path, 0o755)
+    return path
+
+
 def with_dpkg_source():
     """dpkg-source --require-valid-signature: by the first of sqop and gpgv in PATH, and the keyrings of the vendor."""
     if not shutil.which("dpkg-source"):
@@ -327,15 +350,9 @@ def with_dpkg_source():
     folder, dsc = package()
     kept("origins/optest", b"Vendor: Optest\n")
     kept("perl/Dpkg/Vendor/Optest.pm", VENDOR)
-    hidden = ("sqop", "pgpainless-cli", "sq", "gpgv", "gpgv2", "gpg", "gpg2")
-    for kind in ("sop", "gpg"):
-        os.makedirs(f"{ROOM}/bin-{kind}")
-        for place in ("/usr/bin", "/bin"):
-            for name in os.listdir(place):
-                if name not in hidden and not os.path.lexists(f"{ROOM}/bin-{kind}/{name}"):
-                    os.symlink(f"{place}/{name}", f"{ROOM}/bin-{kind}/{name}")
-    os.symlink(f"{ROOM}/opgp-gpgv", f"{ROOM}/bin-gpg/gpgv")
-    os.chmod(kept("bin-sop/sqop", f'#!/bin/sh\nexec {ROOM}/opgp-sopv "$@"\n'.encode()), 0o755)
+    os.symlink(f"{ROOM}/opgp-gpgv", f"{programs('bin-gpg')}/gpgv")
+    programs("bin-sop")
+    script("bin-sop/sqop", f'exec {ROOM}/opgp-sopv "$@"')
     for it in of_messages():
         for kind in ("sop", "gpg"):
             forms = [("", it.message(dsc)), (", text in front", b"x\n" + it.message(dsc)), (", text behind", it.message(dsc) + b"x\n"), (", unsigned", dsc)]
@@ -370,10 +387,11 @@ def with_messages():
         for kind, name in (("gpg", "opgp-gpgv"), ("sop", "opgp-sopv")) if has_dpkg else ():
             ended = run("perl", "-MDpkg::OpenPGP", "-e", script, kind, f"{ROOM}/{name}", message, place, ring)
             is_good = is_enough(it) if kind == "sop" else bool(it.is_good)
-            fits = (ended.returncode == 0, taken() or None) == (is_good, text if is_good else None)
+            written = text + b"\n" if kind == "gpg" else text
+            fits = (ended.returncode == 0, taken() or None) == (is_good, written if is_good else None)
             verdict(f"dpkg's inline_verify by {name}, {it.title}", fits, ended)
         ended = run(f"{ROOM}/opgp-gpgv", "--homedir", "/dev/null", "--keyring", ring, "-o", place, message)
-        verdict(f"uscan's words for gpgv, inline, {it.title}", (ended.returncode == 0, taken()) == (bool(it.is_good), text if it.is_good else None), ended)
+        verdict(f"uscan's words for gpgv, inline, {it.title}", (ended.returncode == 0, taken()) == (bool(it.is_good), text + b"\n" if it.is_good else None), ended)
         with open(message, "rb") as source:
             ended = run(f"{ROOM}/opgp-sopv", "inline-verify", ring, given=source.read())
         verdict(f"uscan's words for sopv, inline, {it.title}", (ended.returncode == 0, ended.stdout) == (is_enough(it), text if is_enough(it) else b""), ended)
@@ -381,7 +399,154 @@ def with_messages():
         with open(message, "rb") as source:
             ended = run(f"{ROOM}/opgp-gpgv", *words, given=source.read())
         told = b"\n[GNUPG:] VALIDSIG " in ended.stderr
-        verdict(f"dscverify's words, {it.title}", (told, ended.stdout) == (is_enough(it), text if it.is_good else b""), ended)
+        verdict(f"dscverify's words, {it.title}", (told, ended.stdout) == (is_enough(it), text + b"\n" if it.is_good else b""), ended)
+
+
+# ---- dscverify
+
+
+def changes(*files):
+    """What a .changes file says of these files, names and octets."""
+    lines = ["Format: 1.8", "Date: Thu, 01 Jan 2026 00:00:00 +0000", "Source: hello", "Architecture: source", "Version: 1.0", "Distribution: unstable"]
+    for field, kind, more in (("Checksums-Sha1", "sha1", ""), ("Checksums-Sha256", "sha256", ""), ("Files", "md5", "misc optional ")):
+        lines += [f"{field}:", *(f" {hashlib.new(kind, octets).hexdigest()} {len(octets)} {more}{name}" for name, octets in files)]
+    return "".join(f"{line}\n" for line in lines).encode()
+
+
+def pairs():
+    """A good signer, and one of each kind with another key; both are in the keyring of the second, but for one that is absent."""
+    found = {it.title: it for it in those()}
+    good = found["good"]
+    yield good, good
+    yield good, Signer("absent", False, good.ring, *found["absent"].signing)
+    yield good, Signer("changed", False, good.ring, *found["changed"].signing)
+    yield good, Signer("revoked", False, found["good and revoked"].ring, found["good and revoked"].signing[1])
+    yield good, Signer("expired", False, found["expired and good"].ring, found["expired and good"].signing[0])
+
+
+def with_dscverify():
+    """dscverify over a .dsc, and over a .changes that names one: by gpg in PATH. It wants exit status 0 and a line VALIDSIG."""
+    if not shutil.which("dscverify") or not shutil.which("dpkg-source"):
+        left_out("dscverify and dpkg-source")
+        return
+    folder, dsc = package()
+    path = programs("bin-dscverify")
+    script("bin-dscverify/gpg", f'exec {ROOM}/opgp-gpgv "$@"')
+
+    def tried(title, name, is_good, *rings):
+        words = [word for ring in rings for word in ("--keyring", kept("dscverify.gpg", ring))]
+        ended = run("dscverify", "--no-conf", "--no-default-keyrings", *words, name, cwd=folder, env={"PATH": path})
+        told = b"All files validated successfully." in ended.stdout, b"Validation FAILED!!" in ended.stderr
+        verdict(f"dscverify, {title}", (ended.returncode == 0, *told) == (is_good, is_good, not is_good), ended)
+
+    def message_of(it, octets):
+        """The message, with an empty line in front of the signature, as debsign and dpkg-buildpackage leave one."""
+        return it.message(octets + b"\n")
+
+    for it in of_messages():
+        message = message_of(it, dsc)
+        kept("package/signed.dsc", message)
+        tried(it.title, "signed.dsc", bool(it.is_good), it.ring)
+        if it.title == "good":
+            tried("no keyring", "signed.dsc", False)
+            at = message.index(b"SIGNATURE-----\n\n") + 100  # a letter of the second line
+            letter = b"B" if message[at : at + 1] == b"A" else b"A"
+            for title, octets in (("text in front", b"x\n" + message), ("text behind", message + b"x\n"), ("unsigned", dsc), ("nothing", b""),
+                                  ("an octet changed", message.replace(b"Version: 1.0", b"Version: 1.1")),
+                                  ("a letter changed", message[:at] + letter + message[at + 1 :]),
+                                  ("no end line", message[: message.rindex(b"-----END")])):
+                kept("package/signed.dsc", octets)
+                tried(title, "signed.dsc", False, it.ring)
+    # A list that ends where the message does: dscverify reads its last row only if that has a line end.
+    good = next(it for it in of_messages() if it.title == "good")
+    rows = (("one.txt", b"one"), ("two.txt", b"two"))
+    kept("package/signed.changes", good.message(changes(*rows).rstrip(b"\n")))
+    for changed in (None, "one.txt", "two.txt"):
+        for name, octets in rows:
+            kept(f"package/{name}", octets if name != changed else octets[::-1])
+        tried(f"a list up to the end, changed is {changed}", "signed.changes", changed is None, good.ring)
+    for good, it in pairs():
+        for kind, outer, inner in (("the .dsc in a .changes", good, it), ("a .changes", it, good)):
+            within = message_of(inner, dsc)
+            kept("package/signed.dsc", within)
+            kept("package/signed.changes", message_of(outer, changes(("signed.dsc", within))))
+            tried(f"{kind}, {it.title}", "signed.changes", bool(it.is_good), it.ring)
+
+
+# ---- debsig-verify
+
+
+def archived(members):
+    """The octets of an ar archive."""
+    octets = b"!<arch>\n"
+    for name, it in members:
+        octets += b"%-16s%-12d%-6d%-6d%-8s%-10d`\n" % (name, 0, 0, 0, b"100644", len(it)) + it + b"\n" * (len(it) % 2)
+    return octets
+
+
+def packed(*files):
+    """The octets of a compressed tar archive."""
+    room = io.BytesIO()
+    with tarfile.open(fileobj=room, mode="w") as archive:
+        for name, octets in files:
+            it = tarfile.TarInfo(name)
+            it.size = len(octets)
+            archive.addfile(it, io.BytesIO(octets))
+    return gzip.compress(room.getvalue(), mtime=0)
+
+
+POLICY = """<?xml version="1.0"?>
+<!DOCTYPE Policy SYSTEM "https://www.debian.org/debsig/1.0/policy.dtd">
+<Policy xmlns="https://www.debian.org/debsig/1.0/">
+  <Origin Name="One" id="{0}" Description="One"/>
+  <Selection><Required Type="origin" File="ring.pgp" id="{0}"/></Selection>
+  <Verification MinOptional="0"><Required Type="origin" File="ring.pgp" id="{0}"/></Verification>
+</Policy>
+"""
+
+
+def with_debsig():
+    """debsig-verify over a package that has its signature in it. It asks its program three things: who signed, over an empty document and with an
+    empty keyring; which keys a keyring has, by gpg's --show-keys and --with-colons; and whether the signature is good. The second isn't for a
+    verifier: by opgp-gpgv alone no package is verified. Where gpg answers that, those are that are good."""
+    if not shutil.which("debsig-verify"):
+        left_out("debsig-verify")
+        return
+    control = b"Package: hello\nVersion: 1.0\nArchitecture: all\nMaintainer: A <a@example.org>\nDescription: hello\n"
+    parts = [(b"debian-binary", b"2.0\n"), (b"control.tar.gz", packed(("./control", control))), (b"data.tar.gz", packed())]
+    signed = b"".join(octets for _, octets in parts)
+    alone = f"{ROOM}/opgp-gpgv"
+    both = script("debsig-gpg", 'for it; do case $it in --show-keys) exec gpg "$@" ;; esac; done', f'exec {alone} "$@"')
+    has_gpg = shutil.which("gpg")
+    if not has_gpg:
+        left_out("gpg, which lists keys for debsig-verify")
+
+    def ended_by(program, *members):
+        package = kept("hello.deb", archived(members))
+        return run("debsig-verify", "--root", f"{ROOM}/debsig", package, env={"DEBSIG_GNUPG_PROGRAM": program, "TMPDIR": ROOM})
+
+    for it in those():
+        if it.title == "good, over text":
+            continue  # an archive isn't text
+        for name in ("one", "second 0", "other", "sub"):
+            key = digits(signers.ed25519(name, BORN).fingerprint)
+            kept(f"debsig/etc/debsig/policies/{key}/one.pol", POLICY.format(key).encode())
+            kept(f"debsig/usr/share/debsig/keyrings/{key}/ring.pgp", it.ring)
+        is_good = it.title in ("good", "good and good")  # a policy names a primary key, that of the first signature
+        signature = it.over(signed)
+        for form, octets in (("", signature), (", armored", model.armor(signature, b"SIGNATURE"))):
+            ended = ended_by(alone, *parts, (b"_gpgorigin", octets))
+            verdict(f"debsig-verify by opgp-gpgv alone, {it.title}{form}", ended.returncode == 14, ended)
+            if has_gpg:
+                ended = ended_by(both, *parts, (b"_gpgorigin", octets))
+                verdict(f"debsig-verify, {it.title}{form}", ended.returncode in ((0,) if is_good else (12, 13)), ended)
+        if it.title == "good" and has_gpg:
+            members = [*parts, (b"_gpgorigin", signature)]
+            for at, (name, octets) in enumerate(members):
+                changed = octets[:-2] + bytes([octets[-2] ^ 1]) + octets[-1:]
+                ended = ended_by(both, *members[:at], (name, changed), *members[at + 1 :])
+                verdict(f"debsig-verify, {name.decode()} changed", ended.returncode == 13, ended)
+            verdict("debsig-verify, no signature", ended_by(both, *parts).returncode == 10)
 
 
 def with_inrelease():
@@ -536,8 +701,8 @@ def main():
         verdict("make verifier", program or not names.failed)
         for name in names.NAMES if program else ():
             os.symlink(program, f"{room}/{name}")
-        for part in (with_git, with_apt, with_dpkg, with_uscan, with_dpkg_source, with_messages, with_inrelease, with_debian, beside_gpgv, beside_sqv, beside_sop,
-                     messages_beside) if program else ():
+        for part in (with_git, with_apt, with_dpkg, with_uscan, with_dpkg_source, with_messages, with_dscverify, with_debsig, with_inrelease, with_debian,
+                     beside_gpgv, beside_sqv, beside_sop, messages_beside) if program else ():
             if words.only in (None, part.__name__):
                 part()
     print(f"{passed} passed, {failed} failed")

@@ -1274,9 +1274,9 @@ def cleartexts(opgp):
         verdict(f"{title}: its signatures", len(told) == len(bodies), told)
         for it, body in zip(told, bodies):
             row_fits(title, it, body, keys)
-            if it.kind == 1:
-                wanted = said_over(body, cleartext.hashed(lines))[2]
-                verdict(f"{title}: row {it.row}", (it.digest, it.is_bad) == (wanted, wanted[:2] != it.left), (it, wanted))
+            wanted = said_over(body, cleartext.hashed(lines))[2] if it.kind == 1 else b""
+            fits = (it.digest, it.is_bad) == (wanted, wanted[:2] != it.left) if it.kind == 1 else it.why_not == "kind"
+            verdict(f"{title}: row {it.row}", fits, (it, wanted))
         asked.clear()
         judged = made.judge(keyring, good, READ, "any")
         of_document = [it for it in asked if it.signature.certificate is None]
@@ -1285,6 +1285,13 @@ def cleartexts(opgp):
         verdicts = ["BAD" if it.is_bad else "GOOD" if it in may_be_good else "UNDECIDED" for it in told]
         verdict(f"{title}: judged", [it.verdict.name for it in judged] == verdicts, (judged, verdicts))
         verdict(f"{title}: checked", made.check(keyring, good) == [*zip(told, (opgp.Verdict[it] for it in verdicts))])
+        rule = opgp._Rule(opgp._opened(keyring).merged(), good, 1)
+        for it in told:
+            def standing(ring, given, place, number, row=it.row, made=made):
+                return opgp._library.opgp_document_standing(made._document, ring, *given, row, *place, READ, number)
+
+            why = rule.why_anywhere(keyring.keys()[it.signer], standing)
+            verdict(f"{title}: row {it.row} by the handle", (why is opgp.Why.TYPE) == (it.kind != 1), why)
         verdict(f"{title}: it has ended", raised(ValueError, made.end) and raised(ValueError, lambda made=made: made.push(b"")))
     verdict("there are messages", count == 40, count)
 

@@ -120,8 +120,8 @@ def of_messages():
     ring, text = found["good"].ring, found["good"].text
     lines = TEXT.replace(b"\n", b"\r\n")
     for title, octets in (("type 00", lines), ("type 00, over line feeds", TEXT), ("type 00, bad", b"x")):
-        found[title] = Case(signers.over(key, octets, MADE), ring, "undecided type", key, text=text)
-    found["type 00, absent"] = Case(signers.over(other, lines, MADE), ring, "undecided type", other)
+        found[title] = Case(signers.over(key, octets, MADE), ring, "none kind", key, text=text)
+    found["type 00, absent"] = Case(signers.over(other, lines, MADE), ring, "none kind", other)
     found["type 00, absent"].is_here = False
     return found
 

@@ -1,6 +1,6 @@
 -- What the calls say that read signatures over a document, and take the document in pieces.
 use Rattle.std.specs.Prelude.{◌≡◌, ◌≢◌, ◌<◌, ◌↔◌, ◌⊎◌, ◌==◌, if◌then◌else◌, ℕ, List, []}
-use Rattle.std.specs.Prelude.{length, map, true, false, Option, Some, None, Result, Ok, Err}
+use Rattle.std.specs.Prelude.{length, map, Bool, true, false, Option, Some, None, Result, Ok, Err}
 use Rattle.std.specs.List.{AllZip}
 use Rattle.opgp_octets.specs.declared.fault.BodyFault.{BodyFault}
 use Rattle.opgp_octets.specs.declared.limits.Limits.{Limits}
@@ -25,7 +25,7 @@ use Rattle.opgp_c.specs.declared.document.Document.{Document}
 use Rattle.opgp_c.specs.declared.ring.Ring.{Ring}
 use Rattle.opgp_c.specs.declared.sizes.Sizes.{Sizes}
 use Rattle.opgp_c.specs.declared.slot.Signed.{Signed}
-use Rattle.opgp_c.specs.declared.slot.Signed.TheVariants.{Going, Ended, Lost}
+use Rattle.opgp_c.specs.declared.slot.Signed.TheVariants.{Going, Ended, Message, Lost}
 
 -- this is the answer to an input of detached signatures that is read by a mode, within the given
 -- limits: their packets, or a fault (RFC 9580, 10.4)
@@ -50,6 +50,7 @@ signed_in bodies = map signed_at bodies
 abbrev pub packets_in : Signed → List PacketValue
 packets_in (Going signatures document) = detached_packets signatures
 packets_in (Ended signatures answers) = detached_packets signatures
+packets_in (Message signatures answers) = detached_packets signatures
 packets_in Lost = []
 
 -- their bodies, in order
@@ -57,17 +58,27 @@ abbrev pub bodies_in : Signed → List (List ℕ)
 bodies_in held = signature_bodies (packets_in held)
 
 -- ---- the document
+-- it is that of a cleartext message (7), which has ended
+abbrev pub is_message : Signed → Bool
+is_message (Going signatures document) = false
+is_message (Ended signatures answers) = false
+is_message (Message signatures answers) = true
+is_message Lost = false
+
 -- these octets of it were given, and more may come
 abbrev pub IsGoing : List ℕ → Signed → Type 0
 IsGoing given (Going signatures document) =
     IsSignedBy document (signed_in (signature_bodies (detached_packets signatures))) given
 IsGoing given (Ended signatures answers) = ⊥
+IsGoing given (Message signatures answers) = ⊥
 IsGoing given Lost = ⊥
 
 -- these octets are the document, which has ended
 abbrev pub IsEnded : List ℕ → Signed → Type 0
 IsEnded given (Going signatures document) = ⊥
 IsEnded given (Ended signatures answers) =
+    AreAnswers answers (signed_in (signature_bodies (detached_packets signatures))) given
+IsEnded given (Message signatures answers) =
     AreAnswers answers (signed_in (signature_bodies (detached_packets signatures))) given
 IsEnded given Lost = ⊥
 
@@ -76,6 +87,8 @@ abbrev pub IsGiven : List ℕ → Signed → Type 0
 IsGiven given (Going signatures document) =
     IsSignedBy document (signed_in (signature_bodies (detached_packets signatures))) given
 IsGiven given (Ended signatures answers) =
+    AreAnswers answers (signed_in (signature_bodies (detached_packets signatures))) given
+IsGiven given (Message signatures answers) =
     AreAnswers answers (signed_in (signature_bodies (detached_packets signatures))) given
 IsGiven given Lost = ⊥
 
@@ -94,13 +107,14 @@ abbrev pub AreAnswered : List ℕ → List (List ℕ) → List Answer → Type 0
 AreAnswered document bodies answers =
     AllZip (λ answer signature. IsAnswer signature document answer) answers (signed_in bodies)
 
--- The tables are filled with the signatures that have these bodies, over this document; their
--- issuers' keys are named by their rows in the keyring's table of keys.
-pub record FillsJobs (document : List ℕ) (bodies : List (List ℕ)) (keyring : KeyringValue)
-    (rows rows' : List JobRow) (bytes bytes' : List ℕ) : Type 0 where
+-- The tables are filled with the signatures that have these bodies, over this document, which may be
+-- that of a cleartext message; their issuers' keys are named by their rows in the keyring's table of
+-- keys.
+pub record FillsJobs (document : List ℕ) (of_message : Bool) (bodies : List (List ℕ))
+    (keyring : KeyringValue) (rows rows' : List JobRow) (bytes bytes' : List ℕ) : Type 0 where
   pub answers : List Answer
   pub are : AreAnswered document bodies answers
-  pub rows_filled : IsFilled (document_job_rows keyring bodies answers) rows rows'
+  pub rows_filled : IsFilled (document_job_rows of_message keyring bodies answers) rows rows'
   pub bytes_filled : IsFilled (document_job_bytes bodies) bytes bytes'
 
 -- A call puts two tables of the signatures that a handle holds, over the document that it was given
@@ -108,8 +122,8 @@ pub record FillsJobs (document : List ℕ) (bodies : List (List ℕ)) (keyring :
 -- nothing (5), or the document hasn't ended (9). The sizes say what is wanted.
 pub record PutsJobs (given : List ℕ) (document document' : Document) (ring ring' : Ring)
     (rows rows' : List JobRow) (bytes bytes' : List ℕ) (sizes : Sizes) (status : ℕ) : Type 0 where
-  pub done : status ≡ 0 → FillsJobs given (bodies_in document.slot.held) ring.slot.held.keyring
-      rows rows' bytes bytes'
+  pub done : status ≡ 0 → FillsJobs given (is_message document.slot.held)
+      (bodies_in document.slot.held) ring.slot.held.keyring rows rows' bytes bytes'
   pub ended : (status ≡ 0) ⊎ (status ≡ 2) → IsEnded given document.slot.held
   pub room : status ≡ 2 → (length rows < length (bodies_in document.slot.held))
       ⊎ (length bytes < length (document_job_bytes (bodies_in document.slot.held)))

@@ -1,5 +1,6 @@
 -- What the call says that judges a key.
-use Rattle.std.specs.Prelude.{ℕ, ◌==◌, if◌then◌else◌, List, map, Option, Some, None}
+use Rattle.std.specs.Prelude.{ℕ, ◌==◌, Bool, not, ◌&&◌, if◌then◌else◌}
+use Rattle.std.specs.Prelude.{List, map, Option, Some, None}
 use Rattle.std.specs.Prelude.{Result, Ok, Err, slice_get}
 use Rattle.opgp_octets.specs.declared.fault.BodyFault.{BodyFault}
 use Rattle.opgp_packet.specs.SigView.{sig_view_value}
@@ -8,6 +9,7 @@ use Rattle.opgp_packet.specs.declared.sig_view.SigView.{SigView}
 use Rattle.opgp_ring.specs.Keyring.{KeyringValue}
 use Rattle.opgp_report.specs.declared.verifier.Verdict.{Verdict}
 use Rattle.opgp_report.specs.declared.verifier.Verdict.TheVariants as verdict
+use Rattle.opgp_tables.specs.DocumentJobs.{is_over_text}
 use Rattle.opgp_tables.specs.Room.{none}
 use Rattle.opgp_valid.specs.Believed.{belief_of}
 use Rattle.opgp_valid.specs.Judgement.{judgement_of}
@@ -76,11 +78,19 @@ belief_number (belief.Flawed flaw) = Some (flaw_number flaw)
 belief_number (belief.Unbelieved why) = Some (why_number why)
 belief_number belief.NoKey = None
 
+-- in a cleartext message only signatures over text are those of a document (RFC 9580, 7.1)
+abbrev pub number_over : Bool → SignatureValue → Option ℕ → Option ℕ
+number_over is_message v None = None
+number_over is_message v (Some n) =
+    if is_message && not (is_over_text v) then Some (flaw_number flaw.Kind) else Some n
+
 -- of a signature, by the numbers of verdicts; none where there is none
-module _ (r : KeyringValue) (policy : Policy) (founds : List ℕ) (at : KeyPlace) (now : ℕ) where
+module _ (is_message : Bool) (r : KeyringValue) (policy : Policy) (founds : List ℕ)
+    (at : KeyPlace) (now : ℕ) where
   abbrev pub believed_in : Option SignatureValue → Option ℕ
   believed_in None = None
-  believed_in (Some v) = belief_number (belief_of r policy (map verdict_by founds) at now v)
+  believed_in (Some v) = number_over is_message v
+      (belief_number (belief_of r policy (map verdict_by founds) at now v))
 
 -- ---- the signatures that a handle holds
 abbrev pub value_of : Result SignatureValue BodyFault → Option SignatureValue

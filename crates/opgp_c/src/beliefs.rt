@@ -6,8 +6,10 @@ ghost use Rattle.std.specs.Option.{option_map};
 ghost use Rattle.opgp_packet.specs.SigView.{sig_view_value};
 ghost use Rattle.opgp_c.specs.Calls.{HoldsTheSame};
 ghost use Rattle.opgp_c.specs.Documents.{IsGiven, KeepsItsOwn, WasGiven, bodies_in};
+ghost use Rattle.opgp_c.specs.Documents.{is_message};
 ghost use Rattle.opgp_c.specs.Standings.{belief_number, believed_in, flaw_number, held_value};
-ghost use Rattle.opgp_c.specs.Standings.{place_by, policy_by, value_if, value_read};
+ghost use Rattle.opgp_c.specs.Standings.{number_over, place_by, policy_by, value_if};
+ghost use Rattle.opgp_c.specs.Standings.{value_read};
 ghost use Rattle.opgp_valid.specs.declared.policy.Policy.{Policy};
 
 use crate::document::Document;
@@ -19,6 +21,7 @@ use crate::status::{CLOSED, DONE, LIMITS, MEMORY, NO_ROW};
 use opgp_octets::{BodyFault, OutOfMemory};
 use opgp_packet::SigView;
 use opgp_ring::Keyring;
+use opgp_tables::is_over_text;
 use opgp_valid::{Belief, Flaw, KeyPlace, Policy, believe};
 use std::alloc::Global;
 
@@ -59,10 +62,35 @@ fn view_at<'a>(views: &[Result<SigView<'a>, BodyFault>], row: u64) -> Option<Sig
     }
 }
 
+/// Whether the document is that of a cleartext message.
+fn is_message(held: &Signed) -> bool
+    ensures { result ≡ is_message held.now }
+{
+    matches!(held, Signed::Message(_, _))
+}
+
+/// The number of a belief in a signature over the document of a cleartext message, if it is one:
+/// there only those over text are signatures over a document.
+fn number_over(is_message: bool, signature: SigView<'_>, number: Option<u8>) -> Option<u8>
+    ensures { result ≡ number_over is_message (sig_view_value signature.entry) number }
+{
+    match number {
+        Some(number) => {
+            if is_message && !is_over_text(signature) {
+                Some(flaw_number(Flaw::Kind))
+            } else {
+                Some(number)
+            }
+        }
+        None => None,
+    }
+}
+
 /// The number of the belief in a signature; None if there is none, or no key. Fails only when out of
 /// memory.
 fn believed(
     alloc: Global,
+    is_message: bool,
     keyring: &Keyring,
     numbers: &[u8],
     policy: Policy,
@@ -70,7 +98,7 @@ fn believed(
     signature: Option<SigView<'_>>,
     now: u64,
 ) -> Result<Option<u8>, OutOfMemory>
-    ensures { IfOk result (λ n. n ≡ believed_in keyring.now policy numbers.now at now
+    ensures { IfOk result (λ n. n ≡ believed_in is_message keyring.now policy numbers.now at now
         (option_map (λ v. sig_view_value v) signature.entry)) }
 {
     let Some(signature) = signature else {
@@ -78,7 +106,7 @@ fn believed(
     };
     let verdicts = verdicts_of(alloc, numbers)?;
     let belief = believe(alloc, keyring, &verdicts, policy, at, signature, now)?;
-    Ok(belief_number(belief))
+    Ok(number_over(is_message, signature, belief_number(belief)))
 }
 
 /// Puts whether the signature of a row is believed; the status.
@@ -95,9 +123,11 @@ fn put_belief(
 ) -> u32
     ghost so_far: { List ℕ }
     requires { IsGiven so_far held.now }
-    ensures done { result ≡ 0 → believed_in keyring.now policy numbers.now at now
+    ensures done { result ≡ 0
+        → believed_in (is_message held.now) keyring.now policy numbers.now at now
         (held_value (bodies_in held.now) row) ≡ Some why.new }
-    ensures none { result ≡ 6 → believed_in keyring.now policy numbers.now at now
+    ensures none { result ≡ 6
+        → believed_in (is_message held.now) keyring.now policy numbers.now at now
         (held_value (bodies_in held.now) row) ≡ None }
     ensures kept { result ≢ 0 → why.new ≡ why.old }
     ensures status { (result ≡ 0) ⊎ ((result ≡ 3) ⊎ (result ≡ 6)) }
@@ -108,6 +138,7 @@ fn put_belief(
     };
     match believed(
         alloc,
+        is_message(held),
         keyring,
         numbers,
         policy,
@@ -127,8 +158,8 @@ fn put_belief(
 /// Puts whether the signature of a row over a document may be believed as one by the key at a place
 /// of the keyring, where arithmetic finds it good, and it is read now, in seconds since 1970: 0 if it
 /// may, else the number of the first reason why not. The verdicts, the policy and the component are
-/// as `opgp_ring_standing` takes them. The condition is that the document's handle was given so much
-/// of the document.
+/// as `opgp_ring_standing` takes them. Over the document of a cleartext message none is believed but
+/// those over text. The condition is that the document's handle was given so much of the document.
 ///
 /// The status says whether it is done; else the number is unchanged: there is no such key, or no such
 /// row, or the signature is malformed; there is no such policy; memory ran out; or a handle holds
@@ -149,11 +180,13 @@ pub extern "C" fn opgp_document_standing(
     ghost so_far: { List ℕ }
     requires { WasGiven so_far document.old }
     ensures done { result ≡ 0 → (p : Policy) × (policy_by policy ≡ Some p)
-        × (believed_in ring.old.slot.held.keyring p verdicts.now (place_by certificate component)
-        now (held_value (bodies_in document.old.slot.held) row) ≡ Some why.new) }
+        × (believed_in (is_message document.old.slot.held) ring.old.slot.held.keyring p
+        verdicts.now (place_by certificate component) now
+        (held_value (bodies_in document.old.slot.held) row) ≡ Some why.new) }
     ensures none { result ≡ 6 → (p : Policy) × (policy_by policy ≡ Some p)
-        × (believed_in ring.old.slot.held.keyring p verdicts.now (place_by certificate component)
-        now (held_value (bodies_in document.old.slot.held) row) ≡ None) }
+        × (believed_in (is_message document.old.slot.held) ring.old.slot.held.keyring p
+        verdicts.now (place_by certificate component) now
+        (held_value (bodies_in document.old.slot.held) row) ≡ None) }
     ensures limits { (result ≡ 4) ↔ (policy_by policy ≡ None) }
     ensures kept { result ≢ 0 → why.new ≡ why.old }
     ensures closed { result ≡ 5 → (document.old.is_open ≡ false) ⊎ (ring.old.is_open ≡ false) }

@@ -14,8 +14,8 @@ ghost use Rattle.opgp_tables.specs.FaultRow.{fault_row};
 ghost use Rattle.opgp_tables.specs.GivenLimits.{MayBeGiven};
 ghost use Rattle.opgp_c.specs.Calls.{IsFilled, mode_by};
 ghost use Rattle.opgp_c.specs.Documents.{IsEnded, IsGoing, KeepsItsOwn, PutsJobs, PutsSigned};
-ghost use Rattle.opgp_c.specs.Documents.{SignaturesBy, WasGiven, bodies_in, packets_in, side_of};
-ghost use Rattle.opgp_c.specs.Documents.{signed_by, signed_in};
+ghost use Rattle.opgp_c.specs.Documents.{SignaturesBy, WasGiven, bodies_in, is_message};
+ghost use Rattle.opgp_c.specs.Documents.{packets_in, side_of, signed_by, signed_in};
 
 use crate::calls::mode_by;
 use crate::document::Document;
@@ -104,7 +104,8 @@ pub extern "C" fn opgp_document_end(alloc: Global, document: &mut Document) -> u
     requires { WasGiven so_far document.old }
     ensures done { result ≡ 0 → (document.new.is_open ≡ true)
         × IsEnded so_far document.new.slot.held
-        × (packets_in document.new.slot.held ≡ packets_in document.old.slot.held) }
+        × (packets_in document.new.slot.held ≡ packets_in document.old.slot.held)
+        × (is_message document.new.slot.held ≡ is_message document.old.slot.held) }
     ensures ended { result ≡ 7 → IsEnded so_far document.old.slot.held }
     ensures going { result ≡ 0 → IsGoing so_far document.old.slot.held }
     ensures kept { result ≢ 0 → KeepsItsOwn document.old document.new }
@@ -121,7 +122,8 @@ pub extern "C" fn opgp_document_end(alloc: Global, document: &mut Document) -> u
 
 /// Fills the tables with the signatures over a document that has ended, in order, and the octets
 /// that their algorithms made; their issuers' keys are named by their rows in the table of keys of
-/// a keyring. The condition is that the handle was given so much of the document.
+/// a keyring. The condition is that the handle was given so much of the document. Over that of a
+/// cleartext message only signatures over text have a digest.
 ///
 /// Beside the statuses of `opgp_ring_packets` there is one for a document that hasn't ended. Both
 /// handles hold what they held.

@@ -8,8 +8,8 @@ ghost use Rattle.opgp_ring.specs.Signed.{signature_bodies};
 ghost use Rattle.opgp_octets.specs.declared.fault.Fault.{Fault};
 ghost use Rattle.opgp_tables.specs.FaultRow.{fault_row};
 ghost use Rattle.opgp_tables.specs.GivenLimits.{MayBeGiven};
-ghost use Rattle.opgp_c.specs.Documents.{IsEnded, IsGiven, IsGoing, SignaturesBy, packets_in};
-ghost use Rattle.opgp_c.specs.Documents.{signed_in};
+ghost use Rattle.opgp_c.specs.Documents.{IsEnded, IsGiven, IsGoing, SignaturesBy, is_message};
+ghost use Rattle.opgp_c.specs.Documents.{packets_in, signed_in};
 
 use crate::document::Document;
 use crate::slot::Signed;
@@ -127,7 +127,7 @@ pub(crate) fn push_octets(held: &mut Signed, piece: &[u8]) -> u32
             document.push(piece);
             DONE
         }
-        Signed::Ended(_, _) => ENDED,
+        Signed::Ended(_, _) | Signed::Message(_, _) => ENDED,
         Signed::Lost => unreachable!(),
     }
 }
@@ -137,12 +137,14 @@ fn end(held: Signed) -> Signed
     ghost so_far: { List ℕ }
     requires { IsGiven so_far held }
     ensures ended { IsEnded so_far result }
-    ensures same { packets_in result ≡ packets_in held }
+    ensures same { (packets_in result ≡ packets_in held)
+        × (is_message result ≡ is_message held) }
     ensures again { IsEnded so_far held → result ≡ held }
 {
     match held {
         Signed::Going(signatures, document) => Signed::Ended(signatures, document.finish()),
         Signed::Ended(signatures, answers) => Signed::Ended(signatures, answers),
+        Signed::Message(signatures, answers) => Signed::Message(signatures, answers),
         Signed::Lost => unreachable!(),
     }
 }
@@ -156,7 +158,7 @@ fn has_ended(held: &Signed) -> bool
 {
     match held {
         Signed::Going(_, _) => false,
-        Signed::Ended(_, _) => true,
+        Signed::Ended(_, _) | Signed::Message(_, _) => true,
         Signed::Lost => unreachable!(),
     }
 }
@@ -168,7 +170,8 @@ pub(crate) fn end_document(held: &mut Signed) -> u32
     ensures done { result ≡ 0 → IsGoing so_far held.old }
     ensures again { result ≡ 7 → IsEnded so_far held.old × (held.new ≡ held.old) }
     ensures ended { IsEnded so_far held.new }
-    ensures same { packets_in held.new ≡ packets_in held.old }
+    ensures same { (packets_in held.new ≡ packets_in held.old)
+        × (is_message held.new ≡ is_message held.old) }
     ensures status { (result ≡ 0) ⊎ (result ≡ 7) }
 {
     let status = if has_ended(held) { ENDED } else { DONE };

@@ -14,7 +14,7 @@ ghost use Rattle.opgp_tables.specs.DocumentJobs.{document_subpacket_bytes};
 ghost use Rattle.opgp_tables.specs.DocumentJobs.{document_subpacket_rows};
 ghost use Rattle.opgp_c.specs.Calls.{AreSized, IsFilled, IsShort};
 ghost use Rattle.opgp_c.specs.Documents.{FillsJobs, IsEnded, IsGiven, IsGoing, bodies_in};
-ghost use Rattle.opgp_c.specs.Documents.{side_of, signed_by, signed_in};
+ghost use Rattle.opgp_c.specs.Documents.{is_message, side_of, signed_by, signed_in};
 
 use crate::calls::put_octets;
 use crate::sizes::Sizes;
@@ -55,6 +55,7 @@ fn status_of(wanted: TableSizes, rows: usize, bytes: usize, sizes: &mut Sizes) -
 /// Fills the front of two tables that have the room.
 fn fill_jobs(
     alloc: Global,
+    is_message: bool,
     keyring: &Keyring,
     signatures: &DetachedSignatures,
     answers: &DocumentAnswers,
@@ -68,7 +69,7 @@ fn fill_jobs(
         ≤ length rows.old }
     requires bytes { length (document_job_bytes (signature_bodies
         (detached_packets signatures.now))) ≤ length bytes.old }
-    ensures done { result ≡ 0 → FillsJobs so_far
+    ensures done { result ≡ 0 → FillsJobs so_far is_message
         (signature_bodies (detached_packets signatures.now)) keyring.now rows.old rows.new
         bytes.old bytes.new }
     ensures kept { result ≢ 0 → (rows.new ≡ rows.old) × (bytes.new ≡ bytes.old) }
@@ -78,7 +79,7 @@ fn fill_jobs(
         Ok(found) => found,
         Err(_) => return MEMORY,
     };
-    match fill_document_jobs(alloc, keyring, signatures, &found, rows, bytes) {
+    match fill_document_jobs(alloc, is_message, keyring, signatures, &found, rows, bytes) {
         Ok(()) => DONE,
         Err(_) => MEMORY,
     }
@@ -95,8 +96,8 @@ pub(crate) fn put_jobs(
 ) -> u32
     ghost so_far: { List ℕ }
     requires { IsGiven so_far held.now }
-    ensures done { result ≡ 0 → FillsJobs so_far (bodies_in held.now) keyring.now rows.old rows.new
-        bytes.old bytes.new }
+    ensures done { result ≡ 0 → FillsJobs so_far (is_message held.now) (bodies_in held.now)
+        keyring.now rows.old rows.new bytes.old bytes.new }
     ensures ended { (result ≡ 0) ⊎ (result ≡ 2) → IsEnded so_far held.now }
     ensures room { result ≡ 2 → (length rows.old < length (bodies_in held.now))
         ⊎ (length bytes.old < length (document_job_bytes (bodies_in held.now))) }
@@ -108,9 +109,10 @@ pub(crate) fn put_jobs(
     ensures before { IsGoing so_far held.now → result ≡ 9 }
     ensures status { (result ≡ 0) ⊎ ((result ≡ 2) ⊎ ((result ≡ 3) ⊎ (result ≡ 9))) }
 {
-    let (signatures, answers) = match held {
+    let (is_message, signatures, answers) = match held {
         Signed::Going(_, _) => return GOING,
-        Signed::Ended(signatures, answers) => (signatures, answers),
+        Signed::Ended(signatures, answers) => (false, signatures, answers),
+        Signed::Message(signatures, answers) => (true, signatures, answers),
         Signed::Lost => unreachable!(),
     };
     let status = status_of(
@@ -122,7 +124,7 @@ pub(crate) fn put_jobs(
     if status != DONE {
         return status;
     }
-    fill_jobs(alloc, keyring, signatures, answers, rows, bytes)
+    fill_jobs(alloc, is_message, keyring, signatures, answers, rows, bytes)
 }
 
 /// The signatures that are held.
@@ -132,7 +134,9 @@ pub(crate) fn signatures_in(held: &Signed) -> &DetachedSignatures
     ensures { signature_bodies (detached_packets result.now) ≡ bodies_in held.now }
 {
     match held {
-        Signed::Going(signatures, _) | Signed::Ended(signatures, _) => signatures,
+        Signed::Going(signatures, _)
+        | Signed::Ended(signatures, _)
+        | Signed::Message(signatures, _) => signatures,
         Signed::Lost => unreachable!(),
     }
 }

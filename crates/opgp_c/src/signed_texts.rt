@@ -9,7 +9,7 @@ ghost use Rattle.opgp_ring.specs.Signed.{signature_bodies};
 ghost use Rattle.opgp_tables.specs.FaultRow.{fault_row};
 ghost use Rattle.opgp_tables.specs.GivenLimits.{MayBeGiven};
 ghost use Rattle.opgp_c.specs.Calls.{IsFilled};
-ghost use Rattle.opgp_c.specs.Documents.{IsEnded, bodies_in, packets_in};
+ghost use Rattle.opgp_c.specs.Documents.{IsEnded, bodies_in, is_message, packets_in};
 ghost use Rattle.opgp_c.specs.SignedTexts.{MessageBy};
 ghost use Rattle.opgp_cleartext.specs.Cleartext.{joined};
 ghost use Rattle.opgp_cleartext.specs.View.{document_of};
@@ -27,11 +27,13 @@ use std::alloc::Global;
 
 /// Reads a cleartext message (RFC 9580, 7), puts its document into the octets, and keeps its
 /// signatures in the handle, over that document, which has ended; what the handle held before is let
-/// go. The size says how many octets the document has.
+/// go. The size says how many octets the document has. The handle knows that its document is a
+/// message's, and that only signatures over text count there.
 ///
 /// The status says whether it is done; else the octets and the handle are unchanged: the text is
 /// refused, and the fault says where and why; the octets are too few; there are more signatures than
-/// 64; a limit is out of its range; or memory ran out.
+/// 64; a limit is out of its range; or memory ran out. Where nothing says how much there is, the
+/// size is unchanged.
 #[unsafe(no_mangle)]
 pub extern "C" fn opgp_cleartext_open(
     alloc: Global,
@@ -45,7 +47,8 @@ pub extern "C" fn opgp_cleartext_open(
     ensures done { result ≡ 0 → (text : List (List ℕ)) × MessageBy limits.now input.now
         (Ok (text, packets_in document.new.slot.held))
         × IsFilled (joined text) octets.old octets.new × (size.new ≡ length (joined text))
-        × (document.new.is_open ≡ true) × IsEnded (joined text) document.new.slot.held }
+        × (document.new.is_open ≡ true) × IsEnded (joined text) document.new.slot.held
+        × (is_message document.new.slot.held ≡ true) }
     ensures few { result ≡ 0 → length (bodies_in document.new.slot.held) ≤ 64 }
     ensures refused { result ≡ 1 → (f : Fault) × MessageBy limits.now input.now (Err f)
         × (fault.new ≡ fault_row f) }
@@ -58,6 +61,8 @@ pub extern "C" fn opgp_cleartext_open(
     ensures limits { (result ≡ 4) → MayBeGiven limits.now → ⊥ }
     ensures allowed { result ≢ 4 → MayBeGiven limits.now }
     ensures kept { result ≢ 0 → (octets.new ≡ octets.old) × (document.new ≡ document.old) }
+    ensures size { (result ≡ 1) ⊎ ((result ≡ 3) ⊎ ((result ≡ 4) ⊎ (result ≡ 8)))
+        → size.new ≡ size.old }
     ensures fault { result ≢ 1 → fault.new ≡ fault.old }
     ensures status { (result ≡ 0) ⊎ ((result ≡ 1) ⊎ ((result ≡ 2) ⊎ ((result ≡ 3)
         ⊎ ((result ≡ 4) ⊎ (result ≡ 8))))) }
@@ -112,15 +117,18 @@ fn keep_message(
         × (into.new.is_open ≡ true)
         × IsEnded (joined (document_of message.entry)) into.new.slot.held
         × (packets_in into.new.slot.held ≡ detached_packets signatures)
-        × (length (signature_bodies (detached_packets signatures)) ≤ 64) }
+        × (length (signature_bodies (detached_packets signatures)) ≤ 64)
+        × (is_message into.new.slot.held ≡ true) }
     ensures room { result ≡ 2 → length octets.old < length (joined (document_of message.entry)) }
     ensures many { result ≡ 8 → 64 < length (signature_bodies (detached_packets signatures)) }
-    ensures size { size.new ≡ length (joined (document_of message.entry)) }
+    ensures size { (result ≡ 0) ⊎ (result ≡ 2)
+        → size.new ≡ length (joined (document_of message.entry)) }
+    ensures same { (result ≡ 3) ⊎ (result ≡ 8) → size.new ≡ size.old }
     ensures kept { result ≢ 0 → (octets.new ≡ octets.old) × (into.new ≡ into.old) }
     ensures status { (result ≡ 0) ⊎ ((result ≡ 2) ⊎ ((result ≡ 3) ⊎ (result ≡ 8))) }
 {
-    *size = message.document_len() as u64;
     if message.document_len() > octets.len() {
+        *size = message.document_len() as u64;
         return ROOM;
     }
     let mut hashed = match open(alloc, &signatures) {
@@ -132,7 +140,7 @@ fn keep_message(
         return MEMORY;
     }
     hashed.push(&document);
-    match keep(alloc, into, Signed::Ended(signatures, hashed.finish())) {
+    match keep(alloc, into, Signed::Message(signatures, hashed.finish())) {
         DONE => put_octets(&document, octets, size),
         status => status,
     }

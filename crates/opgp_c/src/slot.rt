@@ -43,6 +43,8 @@ pub enum Signed {
     Going(DetachedSignatures, SignedDocument),
     /// The document has ended.
     Ended(DetachedSignatures, DocumentAnswers),
+    /// The document is that of a cleartext message (RFC 9580, 7), and has ended.
+    Message(DetachedSignatures, DocumentAnswers),
     /// What stands in the place of these while the document ends.
     Lost,
 }

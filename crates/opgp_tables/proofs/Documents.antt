@@ -1,5 +1,5 @@
 -- The tables of signatures over a document.
-use Rattle.std.proofs.Common.{◌≡◌, ◌∙◌, ℕ, ◌+◌, ◌≤◌, List, [], ◌∷◌, ◌++◌, length, map, drop, Result, Ok, Err, refl, sym, ap, subst, arith, append_assoc, append-nil, zero-add, suc, length-append}
+use Rattle.std.proofs.Common.{◌≡◌, ◌∙◌, Bool, ℕ, ◌+◌, ◌≤◌, List, [], ◌∷◌, ◌++◌, length, map, drop, Result, Ok, Err, refl, sym, ap, subst, arith, append_assoc, append-nil, zero-add, suc, length-append}
 use Rattle.std.specs.List.{flat_map}
 use Rattle.std.proofs.lemmas.List.{map-append}
 use Rattle.opgp_octets.specs.declared.fault.BodyFault.{BodyFault}
@@ -40,34 +40,34 @@ read_is body (Ok view) e = ap signature_at (sym e) ∙ read_view view
 read_is body (Err fault) e = e
 
 -- ---- the table of signatures
-pub jobs_end : (prints : List Fingerprint) (n : ℕ) (all : List (List ℕ)) (answers : List Answer) (here : TableSizes) (rows : List JobRow) (bytes : List ℕ) → all ≡ []
-    → here.rows ≤ length rows → here.bytes ≤ length bytes → Fills (document_jobs_from prints n here.bytes all answers) (document_job_bytes all) here here rows rows bytes bytes
-jobs_end prints n [] answers here rows bytes e h k = nothing here rows bytes h k
-jobs_end prints n (body ∷ bodies) answers here rows bytes e h k = cc
+pub jobs_end : (is_message : Bool) (prints : List Fingerprint) (n : ℕ) (all : List (List ℕ)) (answers : List Answer) (here : TableSizes) (rows : List JobRow) (bytes : List ℕ) → all ≡ []
+    → here.rows ≤ length rows → here.bytes ≤ length bytes → Fills (document_jobs_from is_message prints n here.bytes all answers) (document_job_bytes all) here here rows rows bytes bytes
+jobs_end is_message prints n [] answers here rows bytes e h k = nothing here rows bytes h k
+jobs_end is_message prints n (body ∷ bodies) answers here rows bytes e h k = cc
 
 -- a signature, and all behind it
-pub jobs_step : (prints : List Fingerprint) (n : ℕ) (read : Result SignatureValue BodyFault) (body : List ℕ) (all bodies : List (List ℕ)) (answer : Answer) (answers_left answers : List Answer)
+pub jobs_step : (is_message : Bool) (prints : List Fingerprint) (n : ℕ) (read : Result SignatureValue BodyFault) (body : List ℕ) (all bodies : List (List ℕ)) (answer : Answer) (answers_left answers : List Answer)
     (here mid there : TableSizes) (rows mid_rows rows' : List JobRow) (bytes mid_bytes bytes' : List ℕ)
     → all ≡ body ∷ bodies → answers_left ≡ answer ∷ answers → signature_at body ≡ read
-    → Fills (document_row prints n here.bytes read answer ∷ []) (made_read read) here mid rows mid_rows bytes mid_bytes
-    → Fills (document_jobs_from prints (n + 1) mid.bytes bodies answers) (document_job_bytes bodies) mid there mid_rows rows' mid_bytes bytes'
-    → Fills (document_jobs_from prints n here.bytes all answers_left) (document_job_bytes all) here there rows rows' bytes bytes'
-jobs_step prints n read body all bodies answer answers_left answers here mid there rows mid_rows rows' bytes mid_bytes bytes' e a r f g =
-    let first : Fills (document_row prints n here.bytes (signature_at body) answer ∷ []) (made_octets body) here mid rows mid_rows bytes mid_bytes =
-    subst (λ (s : Result SignatureValue BodyFault). Fills (document_row prints n here.bytes s answer ∷ []) (made_read s) here mid rows mid_rows bytes mid_bytes) (sym r) f in
-    let h : Fills (document_jobs_from prints (n + 1) (here.bytes + length (made_octets body)) bodies answers) (document_job_bytes bodies) mid there mid_rows rows' mid_bytes bytes' =
-    subst (λ (at : ℕ). Fills (document_jobs_from prints (n + 1) at bodies answers) (document_job_bytes bodies) mid there mid_rows rows' mid_bytes bytes') first.bytes_there g in
-    let whole : Fills (document_jobs_from prints n here.bytes (body ∷ bodies) (answer ∷ answers)) (document_job_bytes (body ∷ bodies)) here there rows rows' bytes bytes' =
-    both (document_row prints n here.bytes (signature_at body) answer ∷ []) (document_jobs_from prints (n + 1) (here.bytes + length (made_octets body)) bodies answers) (made_octets body) (document_job_bytes bodies)
+    → Fills (document_row is_message prints n here.bytes read answer ∷ []) (made_read read) here mid rows mid_rows bytes mid_bytes
+    → Fills (document_jobs_from is_message prints (n + 1) mid.bytes bodies answers) (document_job_bytes bodies) mid there mid_rows rows' mid_bytes bytes'
+    → Fills (document_jobs_from is_message prints n here.bytes all answers_left) (document_job_bytes all) here there rows rows' bytes bytes'
+jobs_step is_message prints n read body all bodies answer answers_left answers here mid there rows mid_rows rows' bytes mid_bytes bytes' e a r f g =
+    let first : Fills (document_row is_message prints n here.bytes (signature_at body) answer ∷ []) (made_octets body) here mid rows mid_rows bytes mid_bytes =
+    subst (λ (s : Result SignatureValue BodyFault). Fills (document_row is_message prints n here.bytes s answer ∷ []) (made_read s) here mid rows mid_rows bytes mid_bytes) (sym r) f in
+    let h : Fills (document_jobs_from is_message prints (n + 1) (here.bytes + length (made_octets body)) bodies answers) (document_job_bytes bodies) mid there mid_rows rows' mid_bytes bytes' =
+    subst (λ (at : ℕ). Fills (document_jobs_from is_message prints (n + 1) at bodies answers) (document_job_bytes bodies) mid there mid_rows rows' mid_bytes bytes') first.bytes_there g in
+    let whole : Fills (document_jobs_from is_message prints n here.bytes (body ∷ bodies) (answer ∷ answers)) (document_job_bytes (body ∷ bodies)) here there rows rows' bytes bytes' =
+    both (document_row is_message prints n here.bytes (signature_at body) answer ∷ []) (document_jobs_from is_message prints (n + 1) (here.bytes + length (made_octets body)) bodies answers) (made_octets body) (document_job_bytes bodies)
     here mid there rows mid_rows rows' bytes mid_bytes bytes' first h in
-    subst (λ (l : List (List ℕ)). Fills (document_jobs_from prints n here.bytes l answers_left) (document_job_bytes l) here there rows rows' bytes bytes') (sym e)
-    (subst (λ (l : List Answer). Fills (document_jobs_from prints n here.bytes (body ∷ bodies) l) (document_job_bytes (body ∷ bodies)) here there rows rows' bytes bytes') (sym a) whole)
+    subst (λ (l : List (List ℕ)). Fills (document_jobs_from is_message prints n here.bytes l answers_left) (document_job_bytes l) here there rows rows' bytes bytes') (sym e)
+    (subst (λ (l : List Answer). Fills (document_jobs_from is_message prints n here.bytes (body ∷ bodies) l) (document_job_bytes (body ∷ bodies)) here there rows rows' bytes bytes') (sym a) whole)
 
 -- there is a row for each
-pub jobs_many : (prints : List Fingerprint) (n at : ℕ) (bodies : List (List ℕ)) (answers : List Answer) → length answers ≡ length bodies → length (document_jobs_from prints n at bodies answers) ≡ length bodies
-jobs_many prints n at [] answers e = refl
-jobs_many prints n at (body ∷ bodies) [] e = absurd (omega (arith, e))
-jobs_many prints n at (body ∷ bodies) (answer ∷ answers) e = ap (λ (k : ℕ). suc k) (jobs_many prints (n + 1) (at + length (made_octets body)) bodies answers (omega (arith, e)))
+pub jobs_many : (is_message : Bool) (prints : List Fingerprint) (n at : ℕ) (bodies : List (List ℕ)) (answers : List Answer) → length answers ≡ length bodies → length (document_jobs_from is_message prints n at bodies answers) ≡ length bodies
+jobs_many is_message prints n at [] answers e = refl
+jobs_many is_message prints n at (body ∷ bodies) [] e = absurd (omega (arith, e))
+jobs_many is_message prints n at (body ∷ bodies) (answer ∷ answers) e = ap (λ (k : ℕ). suc k) (jobs_many is_message prints (n + 1) (at + length (made_octets body)) bodies answers (omega (arith, e)))
 
 -- all from the front on
 pub all_put : {A : Type 0} (items : List A) (octets : List ℕ) (there : TableSizes) (rows rows' : List A) (bytes bytes' : List ℕ)
@@ -136,28 +136,28 @@ subs_left_many body all bodies read e r =
     ∙ ap (λ (s : Result SignatureValue BodyFault). length (subs_read s) + length (flat_map document_subs bodies)) r
 
 -- ---- what the rows say
-pub rows_many : (r : KeyringValue) (bodies : List (List ℕ)) (answers : List Answer) → length answers ≡ length bodies → length (document_job_rows r bodies answers) ≡ length bodies
-rows_many r bodies answers e = jobs_many (prints_in r) 0 0 bodies answers e
+pub rows_many : (is_message : Bool) (r : KeyringValue) (bodies : List (List ℕ)) (answers : List Answer) → length answers ≡ length bodies → length (document_job_rows is_message r bodies answers) ≡ length bodies
+rows_many is_message r bodies answers e = jobs_many is_message (prints_in r) 0 0 bodies answers e
 
-module _ (bytes : List ℕ) (prints : List Fingerprint) where
+module _ (bytes : List ℕ) (is_message : Bool) (prints : List Fingerprint) where
   abbrev cut : JobRow → List (List ℕ)
   cut row = cuts bytes row.at (sizes_in row)
 
-  cut_one : (n at : ℕ) (read : Result SignatureValue BodyFault) (answer : Answer) (rest : List ℕ) → drop at bytes ≡ made_read read ++ rest → cut (document_row prints n at read answer) ≡ parts_read read
+  cut_one : (n at : ℕ) (read : Result SignatureValue BodyFault) (answer : Answer) (rest : List ℕ) → drop at bytes ≡ made_read read ++ rest → cut (document_row is_message prints n at read answer) ≡ parts_read read
   cut_one n at (Ok v) answer rest e =
       ap (λ (sizes : List ℕ). cuts bytes at sizes) (sym (map-append length (signature_parts v) (issuer_in v ∷ []))) ∙ cut_all bytes at (parts_read (Ok v)) rest e
   cut_one n at (Err fault) answer rest e = cut_all bytes at (parts_read (Err fault)) rest e
 
   cut_each : (n at : ℕ) (bodies : List (List ℕ)) (answers : List Answer) (rest : List ℕ) → length answers ≡ length bodies → drop at bytes ≡ document_job_bytes bodies ++ rest
-      → map cut (document_jobs_from prints n at bodies answers) ≡ map (λ (body : List ℕ). parts_read (signature_at body)) bodies
+      → map cut (document_jobs_from is_message prints n at bodies answers) ≡ map (λ (body : List ℕ). parts_read (signature_at body)) bodies
   cut_each n at [] answers rest many e = refl
   cut_each n at (body ∷ bodies) [] rest many e = absurd (omega (arith, many))
   cut_each n at (body ∷ bodies) (answer ∷ answers) rest many e =
       let more : List ℕ = document_job_bytes bodies in
       let f : drop at bytes ≡ made_octets body ++ (more ++ rest) = e ∙ append_assoc (made_octets body) more rest in
-      ap (λ (x : List (List ℕ)). x ∷ map cut (document_jobs_from prints (n + 1) (at + length (made_octets body)) bodies answers)) (cut_one n at (signature_at body) answer (more ++ rest) f)
+      ap (λ (x : List (List ℕ)). x ∷ map cut (document_jobs_from is_message prints (n + 1) (at + length (made_octets body)) bodies answers)) (cut_one n at (signature_at body) answer (more ++ rest) f)
       ∙ ap (λ (l : List (List (List ℕ))). parts_read (signature_at body) ∷ l) (cut_each (n + 1) (at + length (made_octets body)) bodies answers rest (omega (arith, many)) (next bytes at (made_octets body) (more ++ rest) f))
 
-pub made_lies : (r : KeyringValue) (bodies : List (List ℕ)) (answers : List Answer) → length answers ≡ length bodies
-    → map (λ row. cuts (document_job_bytes bodies) row.at (sizes_in row)) (document_job_rows r bodies answers) ≡ map (λ body. parts_read (signature_at body)) bodies
-made_lies r bodies answers many = cut_each (document_job_bytes bodies) (prints_in r) 0 0 bodies answers [] many (sym (append-nil (document_job_bytes bodies)))
+pub made_lies : (is_message : Bool) (r : KeyringValue) (bodies : List (List ℕ)) (answers : List Answer) → length answers ≡ length bodies
+    → map (λ row. cuts (document_job_bytes bodies) row.at (sizes_in row)) (document_job_rows is_message r bodies answers) ≡ map (λ body. parts_read (signature_at body)) bodies
+made_lies is_message r bodies answers many = cut_each (document_job_bytes bodies) is_message (prints_in r) 0 0 bodies answers [] many (sym (append-nil (document_job_bytes bodies)))

@@ -76,16 +76,16 @@ pub(crate) fn parts_of<'a>(view: SigView<'a>) -> [&'a [u8]; 2]
 
 /// The numbers that a signature states.
 #[derive(Clone, Copy)]
-struct Stated {
+pub(crate) struct Stated {
     version: u8,
-    kind: u8,
+    pub(crate) kind: u8,
     algorithm: u8,
     hash: u8,
     left: [u8; 2],
 }
 
 /// The numbers that a signature states.
-fn stated_in(view: SigView<'_>) -> Stated
+pub(crate) fn stated_in(view: SigView<'_>) -> Stated
     ensures version { result.version ≡ version_in (sig_view_value view.entry) }
     ensures kind { result.kind ≡ kind_in (sig_view_value view.entry) }
     ensures algorithm { result.algorithm ≡ algorithm_in (sig_view_value view.entry) }

@@ -1,6 +1,6 @@
 //! What the definitions of the tables imply.
 
-ghost use Rattle.std.specs.Prelude.{◌≡◌, ℕ, List, Some, length, map};
+ghost use Rattle.std.specs.Prelude.{◌≡◌, Bool, ℕ, List, Some, length, map};
 ghost use Rattle.std.specs.List.{flat_map};
 ghost use Rattle.opgp_octets.specs.declared.fault.Fault.{Fault};
 ghost use Rattle.opgp_packet.specs.Forms.{Fields, Form, IsOf};
@@ -88,12 +88,12 @@ pub fn fields_of_octets_lie_in_the_data()
 /// algorithm made, and the name of its issuer, are in the octets.
 #[tactic(auto, using(crate::proofs::Documents::rows_many, crate::proofs::Documents::made_lies))]
 pub fn rows_of_documents_are_those_of_signatures()
-    ensures many { (r : KeyringValue) (bodies : List (List ℕ)) (answers : List Answer)
-        → length answers ≡ length bodies
-        → length (document_job_rows r bodies answers) ≡ length bodies }
-    ensures made { (r : KeyringValue) (bodies : List (List ℕ)) (answers : List Answer)
-        → length answers ≡ length bodies
+    ensures many { (is_message : Bool) (r : KeyringValue) (bodies : List (List ℕ))
+        (answers : List Answer) → length answers ≡ length bodies
+        → length (document_job_rows is_message r bodies answers) ≡ length bodies }
+    ensures made { (is_message : Bool) (r : KeyringValue) (bodies : List (List ℕ))
+        (answers : List Answer) → length answers ≡ length bodies
         → map (λ row. cuts (document_job_bytes bodies) row.at (sizes_in row))
-        (document_job_rows r bodies answers)
+        (document_job_rows is_message r bodies answers)
         ≡ map (λ body. parts_read (signature_at body)) bodies }
 {}

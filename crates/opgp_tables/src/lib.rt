@@ -33,7 +33,7 @@ mod subpacket_values;
 mod table_sizes;
 
 pub use copying::fill;
-pub use document_jobs::{document_job_sizes, fill_document_jobs};
+pub use document_jobs::{document_job_sizes, fill_document_jobs, is_over_text};
 pub use document_subpackets::{document_subpacket_sizes, fill_document_subpackets};
 pub use fault_row::FaultRow;
 pub use given_limits::GivenLimits;

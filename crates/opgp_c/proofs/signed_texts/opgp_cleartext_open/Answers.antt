@@ -1,4 +1,4 @@
-use Rattle.std.proofs.Common.{List, Ok, subst, sym}
+use Rattle.std.proofs.Common.{List, Ok, inl, subst, sym}
 use Rattle.opgp_frame.specs.Packet.{PacketValue}
 use Rattle.opgp_cleartext.specs.View.{document_of}
 use Rattle.opgp_codec.specs.Cleartext.{CleartextAnswer}
@@ -13,7 +13,8 @@ returns-in-Ok-clause-done c = λ done.
       text,
       (read.0, read.1, subst (λ (ps : List PacketValue). CleartextAnswer read.0 c.args.input.now (Ok (text, ps))) (sym kept.3) read.2),
       kept.0,
-      c.keep_message.ensures.size,
+      c.keep_message.ensures.size (inl done),
       kept.1,
       kept.2,
+      kept.5,
     )

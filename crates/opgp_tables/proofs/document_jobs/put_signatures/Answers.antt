@@ -21,7 +21,7 @@ signatures-preserved c =
     let e : signatures_left c.signatures.signatures ≡ body ∷ signatures_left c.next.new.self = c.in-Some.ensures.1 in
     let r : signature_at body ≡ read_shown c.in-Some.read = read_is body c.in-Some.read c.in-Some.ensures.2 in record {
       all = λ there rows bytes f. c.signatures.invariant.all there rows bytes
-          (jobs_step (prints_shown c.args.names.now) c.signatures.number (read_shown c.in-Some.read) body (signatures_left c.signatures.signatures) (signatures_left c.next.new.self) _ _ _
+          (jobs_step c.args.is_message (prints_shown c.args.names.now) c.signatures.number (read_shown c.in-Some.read) body (signatures_left c.signatures.signatures) (signatures_left c.next.new.self) _ _ _
           c.signatures.reached c.put_signature-reached.result there c.signatures.rows c.put_signature-reached.new.rows rows c.signatures.bytes c.put_signature-reached.new.bytes bytes
           e (drop_more c.args.answers.now c.signatures.number _ (search rules)) r c.put_signature-reached.ensures f);
       rows_room = omega (arith, c.signatures.invariant.rows_room, c.put_signature-reached.ensures.rows_there, c.put_signature-reached.auto.rows, ap (λ (l : List (List ℕ)). length l) e);
@@ -31,14 +31,14 @@ signatures-preserved c =
 
 pub returns-clause-rows : goal.returns-clause-rows
 returns-clause-rows c =
-    (all_put (document_jobs_from (prints_shown c.args.names.now) 0 0 (signatures_left c.args.signatures) c.args.answers.now) (document_job_bytes (signatures_left c.args.signatures))
+    (all_put (document_jobs_from c.args.is_message (prints_shown c.args.names.now) 0 0 (signatures_left c.args.signatures) c.args.answers.now) (document_job_bytes (signatures_left c.args.signatures))
     c.signatures.reached c.args.rows.now c.signatures.rows c.args.bytes.now c.signatures.bytes
     (c.signatures.invariant.all c.signatures.reached c.signatures.rows c.signatures.bytes
-    (jobs_end (prints_shown c.args.names.now) c.signatures.number (signatures_left c.signatures.signatures) _ c.signatures.reached c.signatures.rows c.signatures.bytes (search rules) (search rules) (search rules)))).0
+    (jobs_end c.args.is_message (prints_shown c.args.names.now) c.signatures.number (signatures_left c.signatures.signatures) _ c.signatures.reached c.signatures.rows c.signatures.bytes (search rules) (search rules) (search rules)))).0
 
 pub returns-clause-bytes : goal.returns-clause-bytes
 returns-clause-bytes c =
-    (all_put (document_jobs_from (prints_shown c.args.names.now) 0 0 (signatures_left c.args.signatures) c.args.answers.now) (document_job_bytes (signatures_left c.args.signatures))
+    (all_put (document_jobs_from c.args.is_message (prints_shown c.args.names.now) 0 0 (signatures_left c.args.signatures) c.args.answers.now) (document_job_bytes (signatures_left c.args.signatures))
     c.signatures.reached c.args.rows.now c.signatures.rows c.args.bytes.now c.signatures.bytes
     (c.signatures.invariant.all c.signatures.reached c.signatures.rows c.signatures.bytes
-    (jobs_end (prints_shown c.args.names.now) c.signatures.number (signatures_left c.signatures.signatures) _ c.signatures.reached c.signatures.rows c.signatures.bytes (search rules) (search rules) (search rules)))).1
+    (jobs_end c.args.is_message (prints_shown c.args.names.now) c.signatures.number (signatures_left c.signatures.signatures) _ c.signatures.reached c.signatures.rows c.signatures.bytes (search rules) (search rules) (search rules)))).1

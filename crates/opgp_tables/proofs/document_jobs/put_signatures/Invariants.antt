@@ -11,8 +11,8 @@ use Rattle.opgp_tables.proofs.document_jobs.put_signatures.Given as goal
 abbrev pub invariant-signatures : goal.invariant-signatures
 invariant-signatures l = record {
   all : (there : TableSizes) (rows : List JobRow) (bytes : List ℕ)
-      → Fills (document_jobs_from (prints_shown l.names) l.number l.reached.bytes (signatures_left l.signatures) (drop l.number l.answers)) (document_job_bytes (signatures_left l.signatures)) l.reached there l.rows rows l.bytes bytes
-      → Fills (document_jobs_from (prints_shown l.names) 0 0 (signatures_left l.initial.signatures) l.answers) (document_job_bytes (signatures_left l.initial.signatures)) (record { rows = 0; bytes = 0 }) there l.fn.rows rows l.fn.bytes bytes;
+      → Fills (document_jobs_from l.is_message (prints_shown l.names) l.number l.reached.bytes (signatures_left l.signatures) (drop l.number l.answers)) (document_job_bytes (signatures_left l.signatures)) l.reached there l.rows rows l.bytes bytes
+      → Fills (document_jobs_from l.is_message (prints_shown l.names) 0 0 (signatures_left l.initial.signatures) l.answers) (document_job_bytes (signatures_left l.initial.signatures)) (record { rows = 0; bytes = 0 }) there l.fn.rows rows l.fn.bytes bytes;
   rows_room : l.reached.rows + length (signatures_left l.signatures) ≤ length l.rows;
   bytes_room : l.reached.bytes + length (document_job_bytes (signatures_left l.signatures)) ≤ length l.bytes;
   count : l.number + length (signatures_left l.signatures) ≡ length l.answers;

@@ -30,9 +30,11 @@ import ctypes
 import dataclasses
 import enum
 import functools
+import importlib
 import mmap
 import operator
 import os
+import sys
 import threading
 from typing import Any, BinaryIO, Callable, Iterable, Iterator, NamedTuple, Optional, TypeVar, Union
 
@@ -1516,3 +1518,12 @@ def _piece(read_octets: Optional[Octets]) -> bytes:
     if read_octets is None:
         raise BlockingIOError("the source has nothing to read yet")
     return _bytes(read_octets)
+
+
+# As a package (`opgp/__init__.py`) this file has opgp.everyday and others beside it. As one file it has them in the folder wheel/.
+if "__path__" not in globals():
+    __path__ = [os.path.join(os.path.dirname(os.path.abspath(__file__)), "wheel")]
+
+if __name__ == "__main__":
+    # A package's __main__.py is run by `python3 -m opgp`; of one file that is the file itself.
+    sys.exit(importlib.import_module("opgp.__main__").main())

@@ -1,4 +1,5 @@
-"""The wheel: opgp.py as the package opgp, so that it has a place for py.typed (PEP 561). pyproject.toml has the rest."""
+"""The wheel: opgp.py as the package opgp, with what is in wheel/ beside it: its other modules, and py.typed (PEP 561). pyproject.toml has
+the rest."""
 
 import os
 

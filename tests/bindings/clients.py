@@ -571,7 +571,7 @@ def with_inrelease():
 
 
 def with_debian():
-    """Debian's InRelease files that are here: the same lines as gpgv's, and the same document but for its last line end."""
+    """Debian's InRelease files that are here: the same lines as gpgv's, and the same document."""
     rings = [it for it in ("/usr/share/keyrings/debian-archive-keyring.gpg", "/usr/share/keyrings/debian-archive-keyring.pgp") if os.path.exists(it)]
     paths = sorted(glob.glob("/var/lib/apt/lists/*InRelease"))
     if not paths or not rings or not shutil.which("gpgv"):
@@ -587,15 +587,16 @@ def with_debian():
             with open(f"{ROOM}/{name}", "rb") as it:
                 documents.append(it.read())
             os.remove(f"{ROOM}/{name}")
-        verdict(f"gpgv's document, {os.path.basename(path)}", documents[0] == documents[1] + b"\n" and len(documents[1]) > 1000)
+        verdict(f"gpgv's document, {os.path.basename(path)}", documents[0] == documents[1] and len(documents[1]) > 1000)
+        document = documents[1][:-1]  # the last line end isn't signed
         with open(path, "rb") as it:
             octets = it.read()
         # apt's own form: the document and the signatures in two files.
         block = octets[octets.index(b"-----BEGIN PGP SIGNATURE-----") :]
-        split = run(f"{ROOM}/opgp-gpgv", *asked, kept("split.sig", block), kept("split.data", documents[1]))
+        split = run(f"{ROOM}/opgp-gpgv", *asked, kept("split.sig", block), kept("split.data", document))
         verdict(f"apt's split, {os.path.basename(path)}", split.stdout == ours.stdout and split.returncode == 0, split)
         ended = run(f"{ROOM}/opgp-sopv", "inline-verify", rings[0], given=octets)
-        verdict(f"opgp-sopv, {os.path.basename(path)}", (ended.returncode, ended.stdout) == (0, documents[1]), ended.stderr)
+        verdict(f"opgp-sopv, {os.path.basename(path)}", (ended.returncode, ended.stdout) == (0, document), ended.stderr)
         ended = run(f"{ROOM}/opgp-sqv", "--keyring", rings[0], "--cleartext", "--output", f"{ROOM}/ours", path)
         verdict(f"opgp-sqv, {os.path.basename(path)}", ended.returncode == 0 and ended.stdout.count(b"\n") >= 1, ended)
         os.remove(f"{ROOM}/ours")

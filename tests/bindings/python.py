@@ -2185,7 +2185,8 @@ def packed(_, room):
     if ended.returncode == 0:
         made = run(python[0], "-m", "zipfile", "-l", f"{copied}/out/opgp-{version}-py3-none-any.whl").stdout.decode()
         modules = [it.split()[0] for it in made.splitlines()[1:] if ".dist-info/" not in it]
-        verdict("what is in it", modules == ["opgp/__init__.py", "opgp/py.typed"], made)
+        beside = [it for it in os.listdir(f"{HERE}/python/wheel") if it.endswith((".py", ".typed"))]
+        verdict("what is in it", sorted(modules) == sorted(f"opgp/{it}" for it in ("__init__.py", *beside)), made)
 
 
 def examples(opgp, env):

@@ -42,8 +42,9 @@ COPIES = {
 }
 COPIES |= {f"share/man/man1/{it}.1": f"man/{it}.1" for it in NAMES}
 # What a tarball has besides, as it stands here.
-MORE = ["CHANGELOG.md", "README.md", "SECURITY.md", "python/opgp.py",
-        *sorted(f"docs/{it}" for it in os.listdir(f"{HERE}/docs") if it.endswith((".md", ".svg")))]
+MODULES = sorted(it for it in os.listdir(f"{HERE}/python/wheel") if it.endswith((".py", ".typed")))  # beside opgp.py in the package
+MORE = ["CHANGELOG.md", "README.md", "SECURITY.md", "python/opgp.py", *(f"python/wheel/{it}" for it in MODULES),
+        *sorted(f"docs/{it}" for it in os.listdir(f"{HERE}/docs") if it.endswith((".md", ".svg"))), *(f"docs/images/{it}" for it in sorted(os.listdir(f"{HERE}/docs/images")))]
 TOLD = ("SOURCE_DATE_EPOCH", "MAKEFLAGS", "MAKELEVEL", "DESTDIR", "PREFIX")
 passed = failed = 0
 
@@ -325,10 +326,12 @@ def by_cmake(room, what, prefix, number, wanted):
 
 
 def by_python(what, place, library, wanted):
-    """A user's program with the module for Python that is in a folder."""
+    """A user's program with the module for Python that is in a folder, and the module's own commands."""
     env = {"PYTHONPATH": place, "OPGP_LIBRARY": library, "PYTHONDONTWRITEBYTECODE": "1"}
     ended = run(sys.executable, f"{HERE}/python/examples/keys.py", source=KEY, env=env)
     verdict(what, (ended.returncode, ended.stdout) == (0, wanted), ended)
+    ended = run(sys.executable, "-m", "opgp", "hkp", "--unverified", source=KEY, env=env)
+    verdict(f"the commands of {what}", ended.returncode == 0 and ended.stdout.startswith("info:1:1\npub:"), ended)
 
 
 # ---- The packages of Debian
@@ -432,7 +435,7 @@ def wheel(room, tree, number):
     site = run(inside, "-c", "import sysconfig; print(sysconfig.get_path('purelib'))").stdout.strip()
     run(python[0], "-m", "zipfile", "-e", file, site)
     have = sorted(it for it in below(site) if ".dist-info/" not in it)
-    verdict("what is in it", have == ["opgp/__init__.py", "opgp/py.typed"], have)
+    verdict("what is in it", have == sorted(f"opgp/{it}" for it in ("__init__.py", *MODULES)), have)
     verdict("its module is python/opgp.py", octets_of(f"{site}/opgp/__init__.py") == octets_of(f"{HERE}/python/opgp.py"))
     run("make", "-C", tree, "library", f"made={room}/library")
     listed = text_of(f"{HERE}/tests/cases/list/armored_key_of_the_standard/stdout")

@@ -1,0 +1,322 @@
+"""The command line of `python3 -m opgp`: everyday work on a keyring. docs/EVERYDAY.md has the commands and what they print.
+
+The exit statuses are those of the program `opgp`: 1 says also that an audit found a key that falls short, or that nothing was found.
+"""
+
+from __future__ import annotations
+
+import argparse
+import datetime
+import json
+import os
+import re
+import shutil
+import sys
+import time
+from typing import Any, NoReturn, Optional, Sequence
+
+import opgp
+from opgp import everyday
+
+_VERIFIER = "opgp-verify"
+_LAST = 2**32 - 1  # the last time that a date may be
+
+
+class _End(Exception):
+    """Ends the program with a status, and perhaps a line on standard error."""
+
+    def __init__(self, status: int, said: str = "") -> None:
+        super().__init__(status, said)
+        self.status, self.said = status, said
+
+
+class _Words(argparse.ArgumentParser):
+    """A command line. What is wrong with it has no octet that steers a terminal."""
+
+    def error(self, message: str) -> NoReturn:
+        raise _End(2, f"{self.format_usage()}{self.prog}: error: {everyday.escaped(message)}")
+
+
+class _Help(argparse.Action):
+    """Writes the help to standard error, and ends with 2, as `opgp` does."""
+
+    def __call__(self, parser: argparse.ArgumentParser, *_: Any) -> NoReturn:
+        raise _End(2, parser.format_help().rstrip("\n"))
+
+
+# ---- What commands write
+
+
+def _json(told: argparse.Namespace) -> tuple[int, bytes]:
+    _, entries = _surveyed(told, told.FILE)
+    found = everyday.json_of(entries, told.at)
+    # A certificate a line, for programs that read lines. Escapes keep all but ASCII away from terminals.
+    lines = ",\n".join(json.dumps(it) for it in found.pop("certificates"))
+    return 0, f'{json.dumps(found)[:-1]}, "certificates": [\n{lines}\n]}}\n'.encode("ascii")
+
+
+def _audit(told: argparse.Namespace) -> tuple[int, bytes]:
+    policy = everyday.Policy() if told.policy is None else _policy(told.policy)
+    _, entries = _surveyed(told, told.FILE)
+    rows = everyday.audit(entries, told.at, policy)
+    short = sum(bool(it.short) for it in rows)
+    if not rows:
+        _tell("opgp: the keyring has no certificate")
+    elif short:
+        _tell(f"opgp: {short} of {len(rows)} keys fall short")
+    return int(bool(short) or not rows), _lines(it.line() for it in rows)
+
+
+def _policy(path: str) -> everyday.Policy:
+    try:
+        return everyday.policy_in(_read(path).decode("utf-8"))
+    except UnicodeDecodeError as why:
+        raise _End(2, f"opgp: {everyday.escaped(path)}: it isn't UTF-8") from why
+    except everyday.PolicyError as why:
+        raise _End(2, f"opgp: {everyday.escaped(path)}: {why}") from why
+
+
+def _hkp(told: argparse.Namespace) -> tuple[int, bytes]:
+    _, entries = _surveyed(told, told.FILE)
+    return 0, everyday.hkp_index(entries if not told.find else _found(entries, told.find)[1])
+
+
+def _emails(told: argparse.Namespace) -> tuple[int, bytes]:
+    _, entries = _surveyed(told, told.FILE)
+    return 0, _lines(it.line() for it in everyday.emails(entries))
+
+
+def _find(told: argparse.Namespace) -> tuple[int, bytes]:
+    keyring, entries = _surveyed(told, told.keyring)
+    status, found = _found(entries, told.NAME)
+    if told.out is None:
+        return status, _lines(line for it in found for line in _listed(it))
+    octets = b"".join(keyring.certificate(it.number).write() for it in found)
+    return status, opgp.read(octets, mode="binary").write(told.out == "armor") if found else b""
+
+
+def _found(entries: Sequence[everyday.CertificateEntry], names: Sequence[str]) -> tuple[int, list[everyday.CertificateEntry]]:
+    """The certificates of these names, each once and in order; 1 if there is none for one of them."""
+    status, numbers = 0, set()
+    for name in names:
+        try:
+            them = everyday.find(entries, name)
+        except ValueError as why:
+            raise _End(2, f"opgp: {why}") from why
+        if not them:
+            status = 1
+            _tell(f"opgp: no certificate for {everyday.escaped(name)}")
+        numbers |= {it.number for it in them}
+    return status, [it for it in entries if it.number in numbers]
+
+
+def _listed(it: everyday.CertificateEntry) -> Sequence[str]:
+    """The lines of `find` for a certificate."""
+    word = "verified" if it.is_verified else "unverified"
+    first = f"pub {it.primary.key.fingerprint.hex().upper()} {word} {it.primary.how}"
+    return [first, *(f'uid {word} {at.how} "{everyday.escaped(at.text)}"' for at in it.user_ids)]
+
+
+def _wkd_hash(told: argparse.Namespace) -> tuple[int, bytes]:
+    try:
+        return 0, _lines(f"{everyday.wkd_hash(it)} {everyday.wkd_path(it, told.method)} {it}" for it in told.ADDRESS)
+    except ValueError as why:
+        raise _End(2, f"opgp: {why}") from why
+
+
+def _wkd_tree(told: argparse.Namespace) -> tuple[int, bytes]:
+    keyring, entries = _surveyed(told, told.keyring, must_be_verified=True)
+    try:
+        files = list(everyday.wkd_files(keyring, entries, told.DOMAIN, told.method))
+    except ValueError as why:
+        raise _End(2, f"opgp: {why}") from why
+    try:
+        if os.path.isdir(told.FOLDER) and os.listdir(told.FOLDER):
+            raise _End(3, f"opgp: write failed: {everyday.escaped(told.FOLDER)} isn't empty")
+        for it in files:
+            path = os.path.join(told.FOLDER, *it.path.split("/"))
+            os.makedirs(os.path.dirname(path), exist_ok=True)
+            with open(path, "xb") as file:
+                file.write(it.octets)
+    except OSError as why:
+        raise _End(3, f"opgp: write failed: {_reason(why)}") from why
+    word = "verified" if all(it.is_verified for it in entries) else "unverified"
+    return 0, _lines(f"{it.path} {word} {_prints(it)} {it.address}" for it in files if it.address)
+
+
+def _prints(it: everyday.WkdFile) -> str:
+    return ",".join(at.hex().upper() for at in it.fingerprints)
+
+
+def _lines(lines: Any) -> bytes:
+    return "".join(f"{it}\n" for it in lines).encode("utf-8")
+
+
+# ---- What commands read
+
+
+def _surveyed(
+    told: argparse.Namespace, path: Optional[str], must_be_verified: bool = False
+) -> tuple[opgp.Keyring, list[everyday.CertificateEntry]]:
+    """The keyring in a file, or on standard input, and its entries. A certificate that is there twice is merged: one copy may lack a
+    revocation."""
+    octets = _read(path)
+    if not octets:
+        _tell("opgp: the input is empty")
+    given = opgp.read(octets)
+    keyring = everyday.once(given)
+    if told.verdicts is not None:
+        if keyring is not given:
+            raise _End(1, "opgp: a certificate is there twice: merge the keyring (opgp join --merge), and verify that")
+        verdicts: Optional[list[opgp.Verdict]] = everyday.verdicts_in(keyring, _read(told.verdicts))
+    else:
+        verdicts = _verified(told, keyring, must_be_verified)
+    return keyring, everyday.survey(keyring, told.at, verdicts, told.rely)
+
+
+def _verified(told: argparse.Namespace, keyring: opgp.Keyring, must_be: bool) -> Optional[list[opgp.Verdict]]:
+    """The verdicts of the verifier; None: it isn't to be asked, or there is none."""
+    if told.unverified:
+        return None
+    if told.verifier is None and shutil.which(_VERIFIER) is None:
+        if must_be:
+            raise _End(3, f"opgp: {_VERIFIER} isn't found: name one by --verifier, or publish what is --unverified")
+        _tell(f"opgp: nothing is verified: {_VERIFIER} isn't found")
+        return None
+    return everyday.verdicts_by(keyring, told.verifier or _VERIFIER)
+
+
+def _read(path: Optional[str]) -> bytes:
+    """The octets of a file, or of standard input."""
+    try:
+        if path is None:
+            return sys.stdin.buffer.read()
+        with open(path, "rb") as file:
+            return file.read()
+    except AttributeError as why:  # it is closed
+        raise _End(3, "opgp: read failed: standard input is closed") from why
+    except OSError as why:
+        raise _End(3, f"opgp: read failed: {_reason(why)}") from why
+
+
+def _reason(why: OSError) -> str:
+    name = f"{everyday.escaped(os.fsdecode(why.filename))}: " if why.filename else ""
+    return f"{name}{why.strerror or why}"
+
+
+# ---- The command line
+
+
+def _time(word: str) -> int:
+    """A time: seconds since 1970, or a date in UTC."""
+    if re.fullmatch("[0-9]{1,18}", word):
+        return int(word)
+    for form in ("%Y-%m-%d", "%Y-%m-%dT%H:%M:%SZ"):
+        try:
+            found = datetime.datetime.strptime(word, form).replace(tzinfo=datetime.timezone.utc)
+        except ValueError:
+            continue
+        if found.strftime(form) == word and 0 <= found.timestamp() <= _LAST:
+            return int(found.timestamp())
+    raise argparse.ArgumentTypeError("a time is seconds since 1970, or a date such as 2026-11-20 or 2026-11-20T08:30:00Z")
+
+
+def _words() -> argparse.ArgumentParser:
+    """The command line."""
+    about = "Everyday work on an OpenPGP keyring, armored or binary, in FILE or on standard input."
+    parser = _Words("python3 -m opgp", description=about, add_help=False, allow_abbrev=False)
+    _add_help(parser)
+    commands = parser.add_subparsers(metavar="COMMAND", required=True)
+    _add(commands, "json", _json, "write the keyring as JSON").add_argument("FILE", nargs="?")
+    it = _add(commands, "audit", _audit, "say of each key where it falls short of a policy")
+    it.add_argument("--policy", metavar="FILE", help="what keys must be")
+    it.add_argument("FILE", nargs="?")
+    it = _add(commands, "hkp", _hkp, "write a key server's answer to op=index")
+    it.add_argument("--find", metavar="NAME", action="append", help="only certificates of this fingerprint, key ID or address")
+    it.add_argument("FILE", nargs="?")
+    _add(commands, "emails", _emails, "list the addresses of user IDs").add_argument("FILE", nargs="?")
+    it = _add(commands, "find", _find, "find certificates by fingerprint, key ID or address")
+    it.add_argument("--keyring", metavar="FILE", help="else standard input")
+    it.add_argument("--out", choices=("armor", "binary"), help="write the certificates, and no lines")
+    it.add_argument("NAME", nargs="+")
+    wkd = _add(commands, "wkd", None, "make a Web Key Directory").add_subparsers(metavar="COMMAND", required=True)
+    method: dict[str, Any] = {"choices": ("advanced", "direct"), "default": "advanced", "help": "how clients ask: advanced"}
+    it = _add(wkd, "hash", _wkd_hash, "write the hash and the path of addresses", is_survey=False)
+    it.add_argument("--method", **method)
+    it.add_argument("ADDRESS", nargs="+")
+    it = _add(wkd, "tree", _wkd_tree, "write a domain's directory into a folder that is empty or isn't there")
+    it.add_argument("--method", **method)
+    it.add_argument("--keyring", metavar="FILE", help="else standard input")
+    it.add_argument("DOMAIN")
+    it.add_argument("FOLDER")
+    return parser
+
+
+def _add(commands: Any, name: str, call: Any, about: str, is_survey: bool = True) -> Any:
+    """A command, and the options of those that say how keys stand."""
+    it = commands.add_parser(name, help=about, description=about, add_help=False, allow_abbrev=False)
+    _add_help(it)
+    if call is not None:
+        it.set_defaults(call=call)
+    if call is not None and is_survey:
+        it.add_argument("--at", metavar="TIME", type=_time, default=int(time.time()), help="the present time; else that of the clock")
+        it.add_argument("--rely", choices=("usual", "any"), default="usual", help="the hash algorithms and keys that are relied on")
+        how = it.add_mutually_exclusive_group()
+        how.add_argument("--verifier", metavar="PROGRAM", help=f"verify by this program; else {_VERIFIER}, if it is found")
+        how.add_argument("--verdicts", metavar="FILE", help=f"what {_VERIFIER} --policy none wrote of the keyring")
+        how.add_argument("--unverified", action="store_true", help="say what signatures claim")
+    return it
+
+
+def _add_help(it: argparse.ArgumentParser) -> None:
+    it.add_argument("-h", "--help", action=_Help, nargs=0, help="this help")
+
+
+def _tell(line: str) -> None:
+    """Writes a line to standard error, if there is one."""
+    try:
+        if sys.stderr is not None:
+            print(line, file=sys.stderr, flush=True)
+    except (OSError, ValueError):
+        pass
+
+
+def _write(octets: bytes) -> None:
+    """Writes to standard output. Whoever reads a pipe may have enough: of that nothing is said."""
+    try:
+        sys.stdout.buffer.write(octets)
+        sys.stdout.buffer.flush()
+    except (OSError, AttributeError) as why:
+        os.dup2(os.open(os.devnull, os.O_WRONLY), 1)  # else Python flushes again at its end
+        raise _End(3, "" if isinstance(why, BrokenPipeError) else "opgp: write failed") from why
+
+
+def main(words: Optional[Sequence[str]] = None) -> int:
+    """Runs a command by these words, or those of the command line; the exit status."""
+    try:
+        told = _words().parse_args(words)
+        status, octets = told.call(told)
+        _write(octets)
+        return int(status)
+    except _End as it:
+        if it.said:
+            _tell(it.said)
+        return it.status
+    except everyday.VerifierFailed as why:
+        _tell(f"opgp: the verifier failed: {why}")
+        return 3
+    except everyday.WrongVerdicts as why:
+        _tell(f"opgp: {why}")
+        return 1
+    except opgp.Fault as fault:
+        _tell(str(fault))
+        return 1
+    except MemoryError:
+        _tell("opgp: out of memory")
+        return 3
+    except KeyboardInterrupt:
+        return 130
+
+
+if __name__ == "__main__":
+    sys.exit(main())

@@ -112,6 +112,18 @@ IS_AT(opgp_revocation, digest_size, 8);
 IS_AT(opgp_revocation, digest, 9);
 IS_AT(opgp_revocation, reserved, 73);
 
+_Static_assert(sizeof(opgp_found_block) == 32, "opgp_found_block");
+IS_AT(opgp_found_block, at, 0);
+IS_AT(opgp_found_block, size, 8);
+IS_AT(opgp_found_block, octets_at, 16);
+IS_AT(opgp_found_block, octets_size, 24);
+
+_Static_assert(sizeof(opgp_user_id_facts) == 24, "opgp_user_id_facts");
+IS_AT(opgp_user_id_facts, address_at, 0);
+IS_AT(opgp_user_id_facts, address_size, 8);
+IS_AT(opgp_user_id_facts, is_utf8, 16);
+IS_AT(opgp_user_id_facts, has_address, 20);
+
 _Static_assert(sizeof(opgp_ring) == 2 * sizeof(void *), "opgp_ring");
 IS_AT(opgp_ring, is_open, 0);
 IS_AT(opgp_ring, at, sizeof(void *));
@@ -301,6 +313,14 @@ uint32_t opgp_merge(const opgp_keyring *keyring, opgp_keyring **made)
 {
     opgp_keyring *it = new_keyring(), *from = enter(keyring);
     return give_keyring(leave(from, it ? opgp_ring_merge(&from->ring, &it->ring) : OPGP_MEMORY), it, made);
+}
+
+uint32_t opgp_choose(const opgp_keyring *keyring, bool own_signatures, bool no_attributes, const uint64_t *user_ids, size_t count,
+                     opgp_keyring **made)
+{
+    opgp_keyring *it = new_keyring(), *from = enter(keyring);
+    uint32_t status = it ? opgp_ring_choose(&from->ring, own_signatures, no_attributes, user_ids, count, &it->ring) : OPGP_MEMORY;
+    return give_keyring(leave(from, status), it, made);
 }
 
 uint32_t opgp_certificate(const opgp_keyring *keyring, uint64_t number, opgp_keyring **made)
@@ -859,18 +879,36 @@ static uint32_t make_revocations(const opgp_keyring *keyring, opgp_revocation **
     return leave(it, *rows || status != OPGP_DONE ? status : OPGP_MEMORY);
 }
 
-/* Finds the verdicts on the rows of a keyring, for free(): of these certificates alone, or of all if that is NULL. The tables don't
- * change any more, so no lock is held while the verifier is called. */
+/* Whether a signature certifies a user ID or an attribute, or revokes that (types 10 to 13, and 30), and another key made it than the
+ * primary one. However good it is, that says nothing of how keys and user IDs stand. */
+static bool is_foreign(const opgp_keyring *it, const opgp_job *job, const opgp_key *primary)
+{
+    bool certifies = job->kind >= OPGP_SIGNATURE_GENERIC_CERTIFICATION && job->kind <= OPGP_SIGNATURE_POSITIVE_CERTIFICATION;
+    if (job->signer == OPGP_NONE || !(certifies || job->kind == OPGP_SIGNATURE_CERTIFICATION_REVOCATION)) {
+        return false;
+    }
+    const opgp_key *signer = &it->keys[job->signer];
+    return signer->version != primary->version || memcmp(signer->print, primary->print, sizeof primary->print) != 0;
+}
+
+/* Finds the verdicts on the rows of a keyring, for free(): of these certificates alone, or of all if that is NULL. Those that say nothing
+ * stay undecided. The tables don't change any more, so no lock is held while the verifier is called. */
 static uint32_t find_verdicts(const opgp_keyring *keyring, const bool *of_certificate, opgp_verifier *verify, void *context,
                               uint8_t **verdicts)
 {
     opgp_revocation *revocations = NULL;
     uint64_t count = 0, next = 0;
+    size_t primary = 0; /* the first key of the row's certificate */
     uint32_t status = make_revocations(keyring, &revocations, &count);
     *verdicts = status == OPGP_DONE ? room_for(keyring->job_sizes.rows, sizeof **verdicts) : NULL;
     for (size_t row = 0; *verdicts && row < keyring->job_sizes.rows; row++) {
         bool is_one = next < count && revocations[next].row == row;
-        if (!of_certificate || of_certificate[keyring->jobs[row].certificate]) {
+        const opgp_job *job = &keyring->jobs[row];
+        while (keyring->keys[primary].certificate < job->certificate) {
+            primary++;
+        }
+        bool counts = !of_certificate || of_certificate[job->certificate];
+        if (counts && !is_foreign(keyring, job, &keyring->keys[primary])) {
             (*verdicts)[row] = (uint8_t)verdict_in(keyring, row, is_one ? &revocations[next] : NULL, verify, context);
         }
         next += is_one;

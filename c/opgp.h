@@ -42,7 +42,8 @@ extern "C" {
 /* The version of the structs and calls below. opgp_abi() of the library must return it. It changes where one of them does, not where
  * one is added. New in 3: opgp_document and its calls, opgp_signatures, opgp_canonical, opgp_state and opgp_ring_states,
  * opgp_revocation and opgp_ring_revocations, opgp_ring_standing, opgp_document_standing, opgp_judge, opgp_states and
- * opgp_revocations, and opgp_cleartext_open; the statuses 8 and 9; and the why 6. */
+ * opgp_revocations, and opgp_cleartext_open; opgp_ring_choose, opgp_choose, opgp_find_blocks and opgp_user_id; the statuses 8 and 9;
+ * and the why 6. */
 #define OPGP_ABI 3
 
 /* The version of the library, for people. */
@@ -357,6 +358,22 @@ typedef struct opgp_state {
     uint8_t reserved[7];
 } opgp_state;
 
+/* An armored block in a text. */
+typedef struct opgp_found_block {
+    uint64_t at;          /* where it begins in the text: the first octet of its `-----BEGIN` */
+    uint64_t size;        /* how many octets of the text it has, up to the end of its last line's content */
+    uint64_t octets_at;   /* its cleaned octets, among those of all blocks */
+    uint64_t octets_size; /* how many these are */
+} opgp_found_block;
+
+/* What the octets of a user ID say. */
+typedef struct opgp_user_id_facts {
+    uint64_t address_at;   /* where its mail address begins; 0 where it has none */
+    uint64_t address_size; /* how many octets that has */
+    uint32_t is_utf8;      /* 1: the octets are UTF-8, as they should be (5.11) */
+    uint32_t has_address;  /* 1: it has a mail address */
+} opgp_user_id_facts;
+
 /* A handle of a keyring. Begin with all zeros; only the proved calls may change it. */
 typedef struct opgp_ring {
     bool is_open;
@@ -610,6 +627,10 @@ OPGP_API uint32_t opgp_ring_write(opgp_ring *ring, uint32_t armor, uint8_t *text
  *
  * - normalise: the packets, each in the current format and its shortest length (4.2.1);
  * - merge: certificates of the same primary key become one, and equal packets of a place appear once (10.1);
+ * - choose: chosen parts of each certificate, as `opgp write` with --own-signatures, --no-attributes and --user-id does. Where
+ *   own_signatures isn't 0, only those signatures that name their certificate's primary key as the issuer. Where no_attributes isn't
+ *   0, no user attributes (5.12). Where count isn't 0, only the user IDs (5.11) whose numbers are among user_ids[0 .. count), which
+ *   are counted from 0 in each certificate;
  * - certificate: only the certificate of this number, from 0;
  * - join: the packets of ring, and behind them those of other.
  *
@@ -622,6 +643,8 @@ OPGP_API uint32_t opgp_ring_write(opgp_ring *ring, uint32_t armor, uint8_t *text
  * - The other handles hold what they held. */
 OPGP_API uint32_t opgp_ring_normalise(opgp_ring *ring, opgp_ring *into);
 OPGP_API uint32_t opgp_ring_merge(opgp_ring *ring, opgp_ring *into);
+OPGP_API uint32_t opgp_ring_choose(opgp_ring *ring, uint32_t own_signatures, uint32_t no_attributes, const uint64_t *user_ids,
+                                   size_t count, opgp_ring *into);
 OPGP_API uint32_t opgp_ring_certificate(opgp_ring *ring, uint64_t number, opgp_ring *into);
 OPGP_API uint32_t opgp_ring_join(opgp_ring *ring, opgp_ring *other, opgp_ring *into);
 
@@ -696,7 +719,8 @@ OPGP_API void opgp_reader_clear(opgp_reader *reader);
  *   OPGP_ROOM, OPGP_MEMORY, OPGP_CLOSED. With the last two *sizes means nothing.
  * - octets: writes what the signature in a row hashes beside the document to octets[0 .. room), for who hashes elsewhere: if behind
  *   is 0 what comes in front of it, which is the salt in version 6 and nothing in version 4; else what comes behind it. *size is
- *   how much that is. OPGP_DONE, OPGP_ROOM; OPGP_NO_ROW: there is no such row, or its signature is malformed, or of another version
+ *   how much that is. Over a cleartext message this is also given for other types than 01: ask opgp_document_standing, which never
+ *   believes them. OPGP_DONE, OPGP_ROOM; OPGP_NO_ROW: there is no such row, or its signature is malformed, or of another version
  *   than 4 and 6; OPGP_MEMORY, OPGP_CLOSED. With the last three *size is unchanged.
  * - close, clear: free what the handle holds, as opgp_ring_close and opgp_ring_clear do.
  *
@@ -802,6 +826,44 @@ typedef struct opgp_text {
 OPGP_API uint32_t opgp_canonical(opgp_text *text, const uint8_t *piece, size_t n, uint8_t *octets, size_t room, uint64_t *size,
                                  opgp_fault *fault);
 OPGP_API uint32_t opgp_canonical_end(const opgp_text *text, opgp_fault *fault);
+
+/* Finds the armored blocks in text[0 .. size) as mail programs meet it: quoted by `> `, indented, with a break of HTML at the end of a
+ * line, behind a byte order mark, among other text. Fills the caller's tables: blocks[0 .. count) with a row for each block, in order;
+ * octets[0 .. room) with the blocks cleaned, one behind the other, each of which a strict reader can take; and *sizes with the room
+ * that they need. Room for size + 1 octets is always enough.
+ *
+ * - A line ends in a line feed, or with the text. Its content is what is left without the spaces, tabs and `>` that it begins with, and
+ *   without the spaces, tabs, carriage returns, `<br>`, `<br/>` and `<br />`, in either case, that it ends in. The first line begins
+ *   behind a byte order mark (EF BB BF), if the text begins with one.
+ * - A content `-----BEGIN PGP label-----` begins a block, and `-----END PGP label-----` ends one. A label is one or more printable
+ *   ASCII characters other than `-`. `SIGNED MESSAGE` begins none, since the text of a cleartext message must stay as it is (7); its
+ *   block of signatures is found by itself.
+ * - Each line that begins a block makes one. It goes up to the first line behind it that ends one; but only to before the next line
+ *   that begins one, or to the end of the text, if that comes first. So nothing is passed over in silence: the reader says then what
+ *   is missing.
+ * - A block's cleaned octets are the contents of its lines, each with a line feed.
+ *
+ * OPGP_DONE; OPGP_ROOM: one of the tables is too short; OPGP_MEMORY, and *sizes means nothing.
+ *
+ * Proved:
+ *
+ * - OPGP_DONE: each table begins with these rows or octets, which crates/opgp_blocks/specs and crates/opgp_c/specs define, and is
+ *   otherwise as it was.
+ * - OPGP_ROOM: one of them has less room than *sizes says, and *sizes is how much they are.
+ * - *sizes never wants more than size + 1 octets.
+ * - With any status but OPGP_DONE both tables are unchanged. */
+OPGP_API uint32_t opgp_find_blocks(const uint8_t *text, size_t size, opgp_found_block *blocks, size_t count, uint8_t *octets,
+                                   size_t room, opgp_sizes *sizes);
+
+/* Says in *facts of a user ID, octets[0 .. size), whether it is UTF-8 (5.11), and where its mail address is. All of the user ID is the
+ * address; or the address stands at its end, in `<` and `>`, and there is no other `<` or `>`.
+ *
+ * An address is a local part, `@` and a domain, in UTF-8: each is one or more octets with dots between some of them (RFC 5322, 3.2.3).
+ * These are neither spaces nor control octets, nor one of `()<>[]:;@\,"`; and in the domain none is `_`. A user ID that could be read
+ * in two ways, such as one with two addresses, has none.
+ *
+ * Proved: these are the facts, which crates/opgp_c/specs/UserIds.antt defines. */
+OPGP_API void opgp_user_id(const uint8_t *octets, size_t size, opgp_user_id_facts *facts);
 
 /* ---- On top. Not proved. */
 
@@ -910,12 +972,14 @@ OPGP_API uint32_t opgp_write(const opgp_keyring *keyring, bool armor, uint8_t **
 OPGP_API uint32_t opgp_signatures(opgp_document *document, const opgp_keyring *keyring, opgp_job **rows, size_t *count,
                                   uint8_t **bytes);
 
-/* The keyrings that opgp_ring_normalise, opgp_ring_merge, opgp_ring_certificate and opgp_ring_join make. other may be keyring.
- * Give *made to opgp_close.
+/* The keyrings that opgp_ring_normalise, opgp_ring_merge, opgp_ring_choose, opgp_ring_certificate and opgp_ring_join make. other may
+ * be keyring. Give *made to opgp_close.
  *
  * OPGP_DONE, OPGP_MEMORY; of a certificate also OPGP_NO_ROW. With any but OPGP_DONE *made is NULL. */
 OPGP_API uint32_t opgp_normalise(const opgp_keyring *keyring, opgp_keyring **made);
 OPGP_API uint32_t opgp_merge(const opgp_keyring *keyring, opgp_keyring **made);
+OPGP_API uint32_t opgp_choose(const opgp_keyring *keyring, bool own_signatures, bool no_attributes, const uint64_t *user_ids,
+                              size_t count, opgp_keyring **made);
 OPGP_API uint32_t opgp_certificate(const opgp_keyring *keyring, uint64_t number, opgp_keyring **made);
 OPGP_API uint32_t opgp_join(const opgp_keyring *keyring, const opgp_keyring *other, opgp_keyring **made);
 
@@ -965,8 +1029,9 @@ typedef int opgp_judge_reporter(void *context, const opgp_question *question, op
  * The verifier is called as opgp_check calls it:
  *
  * - for each signature over the document, whose job has OPGP_NONE as certificate;
- * - if one of them is good, for those in the certificates that have its signer. There only arithmetic is asked for, since the rule
- *   looks at the policy itself. What isn't found good counts for nothing, revocations too.
+ * - if one of them is good, for those in the certificates that have its signer, but for what another key certified (types 10 to 13
+ *   and 30), which says nothing. There only arithmetic is asked for, since the rule looks at the policy itself. What isn't found
+ *   good counts for nothing, revocations too.
  *
  * Then the reporter is called for each signature over the document, in order. Where a key is in several places, one at which it is
  * believed is enough; else the reason is that of the first.
@@ -988,9 +1053,10 @@ OPGP_API uint32_t opgp_revocations(const opgp_keyring *keyring, opgp_revocation 
  * the rows of opgp_ring_states, for free(). docs/VALIDITY.md has the rule.
  *
  * The verifier is called as opgp_check calls it, and for key revocations that stand behind another part: they are over the primary
- * key alone (5.2.1.11), so their job has the digest of that. Only arithmetic is asked for, since the rule looks at the policy itself.
- * What isn't found good counts for nothing, revocations too; with NULL as verify nothing is. It may make calls on the keyring, but
- * not close it. Each certificate is judged alone: merge a keyring that may have one twice.
+ * key alone (5.2.1.11), so their job has the digest of that; but not for what another key certified (types 10 to 13 and 30), which
+ * says nothing. Only arithmetic is asked for, since the rule looks at the policy itself. What isn't found good counts for nothing,
+ * revocations too; with NULL as verify nothing is. It may make calls on the keyring, but not close it. Each certificate is judged
+ * alone: merge a keyring that may have one twice.
  *
  * OPGP_DONE; or *rows is NULL and *count 0: OPGP_LIMITS: there is no such policy; OPGP_MEMORY. */
 OPGP_API uint32_t opgp_states(const opgp_keyring *keyring, uint32_t policy, uint64_t at, opgp_verifier *verify, void *context,

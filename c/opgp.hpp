@@ -166,6 +166,14 @@ public:
         return Keyring(found);
     }
 
+    /* Chosen parts of each certificate: own signatures alone, no attributes, user IDs of these numbers; with none given, all. */
+    Keyring chosen(bool own_signatures, bool attributes = true, const std::vector<uint64_t> &user_ids = {}) const
+    {
+        opgp_keyring *found = nullptr;
+        check(opgp_choose(get(), own_signatures, !attributes, user_ids.data(), user_ids.size(), &found));
+        return Keyring(found);
+    }
+
     Keyring certificate(uint64_t number) const
     {
         opgp_keyring *found = nullptr;
@@ -422,6 +430,51 @@ public:
 private:
     opgp_text state = {};
 };
+
+/* An armored block in a text: where it is there, and its cleaned octets. */
+struct FoundBlock {
+    std::size_t at, size;
+    std::string octets;
+};
+
+/* The armored blocks in a text as mail programs meet it. */
+inline std::vector<FoundBlock> find_blocks(std::string_view text)
+{
+    const uint8_t *in = reinterpret_cast<const uint8_t *>(text.data());
+    std::vector<opgp_found_block> rows;
+    std::string octets(text.size() + 1, '\0');
+    opgp_sizes sizes = {};
+    uint32_t status = OPGP_ROOM;
+    while (status == OPGP_ROOM) {
+        rows.resize(static_cast<std::size_t>(sizes.rows));
+        status = opgp_find_blocks(in, text.size(), rows.data(), rows.size(), reinterpret_cast<uint8_t *>(&octets[0]), octets.size(),
+                                  &sizes);
+    }
+    check(status);
+    std::vector<FoundBlock> found;
+    for (const opgp_found_block &row : rows) {
+        found.push_back({static_cast<std::size_t>(row.at), static_cast<std::size_t>(row.size),
+                         octets.substr(static_cast<std::size_t>(row.octets_at), static_cast<std::size_t>(row.octets_size))});
+    }
+    return found;
+}
+
+/* What the octets of a user ID say (5.11): whether they are UTF-8, and their mail address, which is a part of them. */
+struct UserIdFacts {
+    bool is_utf8;
+    std::optional<std::string_view> address;
+};
+
+inline UserIdFacts user_id(std::string_view octets)
+{
+    opgp_user_id_facts facts = {};
+    opgp_user_id(reinterpret_cast<const uint8_t *>(octets.data()), octets.size(), &facts);
+    UserIdFacts found = {facts.is_utf8 != 0, std::nullopt};
+    if (facts.has_address) {
+        found.address = octets.substr(static_cast<std::size_t>(facts.address_at), static_cast<std::size_t>(facts.address_size));
+    }
+    return found;
+}
 
 } // namespace opgp
 

@@ -11,6 +11,13 @@
 /* In place of a signature's number: all of them. */
 #define ALL SIZE_MAX
 
+/* What arithmetic said of a signature of the keyring, and to which question, as octets_of has it. */
+struct answer {
+    uint8_t *asked;
+    size_t size;
+    opgp_verdict verdict;
+};
+
 struct judging {
     const char *program;
     FILE *(*open)(const char *name);
@@ -22,6 +29,9 @@ struct judging {
 
     opgp_subpacket *subpackets; /* of the document's signatures, in order */
     size_t subpacket_count;
+
+    struct answer *answers; /* of the first call of opgp_judge, in order */
+    size_t answer_count, answer_room;
 
     /* Of the call of opgp_judge that is made now. */
     struct arithmetic *arithmetic;
@@ -94,6 +104,10 @@ void judging_free(struct judging *it)
         for (size_t row = 0; row < it->count; row++) {
             free(it->texts[row]);
         }
+        for (size_t i = 0; i < it->answer_count; i++) {
+            free(it->answers[i].asked);
+        }
+        free(it->answers);
         free(it->subpackets);
         free(it->text);
         opgp_close(it->keyring);
@@ -306,6 +320,71 @@ static const opgp_subpacket *subpackets_of(const struct judging *it, size_t row,
     return begin < end ? &it->subpackets[begin] : NULL;
 }
 
+/* Puts octets, behind how many they are. */
+static uint8_t *put_octets(uint8_t *room, const void *octets, size_t size)
+{
+    memcpy(room, &size, sizeof size);
+    if (size > 0) {
+        memcpy(room + sizeof size, octets, size);
+    }
+    return room + sizeof size + size;
+}
+
+/* All that the answer to a question depends on, for free(): numbers of algorithms, the digest, what the signature's algorithm made, and
+ * the key's material. NULL if memory ran out. */
+static uint8_t *octets_of(const opgp_question *question, size_t *size)
+{
+    const uint8_t numbers[] = {question->job->algorithm, question->job->hash, question->signer->algorithm};
+    const opgp_span spans[] = {
+        {numbers, sizeof numbers}, {question->job->digest, question->job->digest_size},
+        question->made[0],         question->made[1],
+        question->key[0],          question->key[1],
+        question->key[2],          question->key[3],
+    };
+    *size = 0;
+    for (size_t i = 0; i < sizeof spans / sizeof *spans; i++) {
+        *size += sizeof *size + spans[i].size;
+    }
+    uint8_t *octets = malloc(*size), *end = octets;
+    for (size_t i = 0; octets && i < sizeof spans / sizeof *spans; i++) {
+        end = put_octets(end, spans[i].octets, spans[i].size);
+    }
+    return octets;
+}
+
+/* Keeps the answer to a question. Where there is no memory for it, it isn't kept: the question can be asked again. */
+static void keep_answer(struct judging *it, const opgp_question *question, opgp_verdict verdict)
+{
+    if (it->answer_count == it->answer_room) {
+        size_t room = 2 * it->answer_room + 16;
+        struct answer *more = realloc(it->answers, room * sizeof *more);
+        if (!more) {
+            return;
+        }
+        it->answers = more;
+        it->answer_room = room;
+    }
+    struct answer answer = {NULL, 0, verdict};
+    answer.asked = octets_of(question, &answer.size);
+    if (answer.asked) {
+        it->answers[it->answer_count++] = answer;
+    }
+}
+
+/* Finds the answer to a question among those kept, from this one on, which is then the next one; NULL if it isn't there. */
+static const struct answer *find_answer(const struct judging *it, size_t *next, const opgp_question *question)
+{
+    size_t size;
+    uint8_t *asked = octets_of(question, &size);
+    const struct answer *found = NULL;
+    while (asked && !found && *next < it->answer_count) {
+        const struct answer *one = &it->answers[(*next)++];
+        found = one->size == size && memcmp(one->asked, asked, size) == 0 ? one : NULL;
+    }
+    free(asked);
+    return found;
+}
+
 /* Asks the key of a signature. Doubts decide over the document's alone: the rule has its own about those of the keyring. */
 static opgp_verdict verify(void *context, const opgp_question *question)
 {
@@ -315,7 +394,11 @@ static opgp_verdict verify(void *context, const opgp_question *question)
     }
     if (question->job->certificate != OPGP_NONE) {
         bool counts = it->certificate == OPGP_NONE || it->certificate == question->job->certificate;
-        return counts ? arithmetic_of(it->arithmetic, question, 0, 0).verdict : OPGP_UNDECIDED;
+        opgp_verdict verdict = counts ? arithmetic_of(it->arithmetic, question, 0, 0).verdict : OPGP_UNDECIDED;
+        if (it->only == ALL) {
+            keep_answer(it, question, verdict);
+        }
+        return verdict;
     }
     size_t count;
     const opgp_subpacket *subpackets = subpackets_of(it, question->row, &count);
@@ -554,16 +637,24 @@ static enum outcome find_home(struct judging *it, size_t row, uint32_t policy, c
     return STEP_DONE;
 }
 
-/* The verdicts on the rows of a keyring, by arithmetic alone. */
+/* The verdicts on the rows of a certificate, by arithmetic alone. */
 struct verdicts {
+    const struct judging *judging;
     struct arithmetic *arithmetic;
+    size_t next; /* the next of the answers that are kept */
     uint8_t *found;
 };
 
+/* Asks the key of a signature, unless it was asked just that before, since arithmetic takes longer than all else. The signatures of a
+ * certificate come in one order: behind one that isn't found none is looked for, so that the work is linear. */
 static opgp_verdict verify_own(void *context, const opgp_question *question)
 {
     struct verdicts *it = context;
-    return memory_ran_out() ? OPGP_UNDECIDED : arithmetic_of(it->arithmetic, question, 0, 0).verdict;
+    if (memory_ran_out()) {
+        return OPGP_UNDECIDED;
+    }
+    const struct answer *answer = find_answer(it->judging, &it->next, question);
+    return answer ? answer->verdict : arithmetic_of(it->arithmetic, question, 0, 0).verdict;
 }
 
 static int take_own(void *context, size_t row, const opgp_job *job, opgp_verdict verdict)
@@ -680,12 +771,13 @@ static uint32_t pick_user_id(const opgp_keyring *keyring, const struct verdicts 
 }
 
 /* The same, with what it takes. */
-static uint32_t find_user_id(const opgp_keyring *keyring, uint32_t policy, uint64_t now, char **text, size_t *size)
+static uint32_t find_user_id(const struct judging *it, const opgp_keyring *keyring, uint32_t policy, uint64_t now, char **text,
+                             size_t *size)
 {
     const opgp_job *jobs;
     size_t count;
     uint32_t status = opgp_jobs(keyring, &jobs, &count);
-    struct verdicts verdicts = {NULL, NULL};
+    struct verdicts verdicts = {it, NULL, 0, NULL};
     if (status == OPGP_DONE) {
         verdicts.arithmetic = arithmetic_new();
         verdicts.found = calloc(count + 1, 1);
@@ -718,7 +810,7 @@ static uint32_t name_row(struct judging *it, size_t row, const opgp_keyring *mer
         put_digits(judged->primary, keys[0].print, keys[0].print_size);
         status = opgp_certificate(merged, it->homes[row], &one);
     }
-    status = status == OPGP_DONE ? find_user_id(one, policy, now, &it->texts[row], &judged->user_id_size) : status;
+    status = status == OPGP_DONE ? find_user_id(it, one, policy, now, &it->texts[row], &judged->user_id_size) : status;
     judged->user_id = it->texts[row] ? it->texts[row] : "";
     opgp_close(one);
     return status;

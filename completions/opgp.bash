@@ -27,7 +27,7 @@ _opgp() {
                 compopt +o default # a number, a key or a time, and no file
                 return
                 ;;
-            --signatures | --verdicts)
+            --signatures | --verdicts | --keys)
                 compopt -o default
                 return
                 ;;
@@ -43,7 +43,7 @@ _opgp() {
                     octets) words="--row --all --of $limits" ;;
                     write) words="--out --own-signatures --no-attributes --user-id $limits" ;;
                     normalise) words="--out $limits" ;;
-                    split) words="--out --nth --key $limits" ;;
+                    split) words="--out --nth --key --keys --except $limits" ;;
                     join) words="--out --merge $limits" ;;
                     signatures | canonical) words=$limits ;;
                     cleartext) words="--of $limits" ;;

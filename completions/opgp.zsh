@@ -39,13 +39,13 @@ _opgp() {
     fi
     case $words[2] in
         show) shift words; ((CURRENT--)); _arguments $limits '--values[show the fields of each packet, and what each subpacket means]' ;;
-        list) shift words; ((CURRENT--)); _arguments $limits '--values[show the left 16 bits, the creation time and the issuer of each signature]' ;;
+        list) shift words; ((CURRENT--)); _arguments $limits '--values[show how large each key is, and who made each signature, and when]' ;;
         check) shift words; ((CURRENT--)); _arguments $limits '--fingerprints[show the fingerprints of each signature'"'"'s certificate and signer]' ;;
         state) shift words; ((CURRENT--)); _arguments $limits '--at=[the time, in seconds since 1970 or as a UTC date]:time:' '--policy=[which hash algorithms and keys to rely on]:policy:(usual any)' '--verdicts=[the file of verdicts of a verifier on the signatures]:file:_files' ;;
         octets) shift words; ((CURRENT--)); _arguments $limits '--row=[the number of the row]:number:' '--all[write those of every row, each after a line of its own]' '--of=[what to read the input as]:top:(ring literal)' ;;
-        write) shift words; ((CURRENT--)); _arguments $limits $out '--own-signatures[leave out signatures that do not name the primary key as their issuer]' '--no-attributes[leave out user attributes]' '--user-id=[the number of the one user ID to keep in each certificate, from 0]:number:' ;;
+        write) shift words; ((CURRENT--)); _arguments $limits $out '--own-signatures[leave out signatures that do not name the primary key as their issuer]' '--no-attributes[leave out user attributes]' '*--user-id=[the number of a user ID to keep in each certificate, from 0]:number:' ;;
         normalise) shift words; ((CURRENT--)); _arguments $limits $out ;;
-        split) shift words; ((CURRENT--)); _arguments $limits $out '--nth=[the number of the certificate]:number:' '--key=[the fingerprint or key ID of a key]:key:' ;;
+        split) shift words; ((CURRENT--)); _arguments $limits $out '--nth=[the number of the certificate]:number:' '*--key=[the fingerprint or key ID of a key]:key:' '--keys=[a file of fingerprints and key IDs, one in each line]:file:_files' '--except[write all certificates but those]' ;;
         join) shift words; ((CURRENT--)); _arguments $limits $out '--merge[merge certificates of the same primary key]' ;;
         signatures | canonical) shift words; ((CURRENT--)); _arguments $limits ;;
         cleartext) shift words; ((CURRENT--)); _arguments $limits '--of=[what to write of the message]:part:(document hashed signatures)' ;;

@@ -38,8 +38,9 @@ import sys
 import threading
 from typing import Any, BinaryIO, Callable, Iterable, Iterator, NamedTuple, Optional, TypeVar, Union
 
-__all__ = ["Certificate", "Document", "Fault", "Judgement", "Key", "KeyFlags", "Keyring", "Limits", "Packet", "Question", "Reader"]
-__all__ += ["Signature", "State", "Subpacket", "Verdict", "Why", "cleartext", "document", "parts", "read"]
+__all__ = ["Certificate", "Document", "Fault", "FoundBlock", "Judgement", "Key", "KeyFlags", "Keyring", "Limits", "Packet", "Question"]
+__all__ += ["Reader", "Signature", "State", "Subpacket", "UserIdFacts", "Verdict", "Why", "cleartext", "document", "find_blocks", "parts"]
+__all__ += ["read", "user_id"]
 
 _ABI = 3
 _NONE = 2**64 - 1
@@ -161,6 +162,17 @@ class _State(ctypes.Structure):
     ]
 
 
+class _FoundBlock(ctypes.Structure):
+    _fields_ = [(name, ctypes.c_uint64) for name in ("at", "size", "octets_at", "octets_size")]
+
+
+class _UserIdFacts(ctypes.Structure):
+    _fields_ = [(name, ctypes.c_uint64) for name in ("address_at", "address_size")] + [
+        ("is_utf8", ctypes.c_uint32),
+        ("has_address", ctypes.c_uint32),
+    ]
+
+
 class _Reader(ctypes.Structure):
     _fields_ = [("is_open", ctypes.c_bool), ("at", ctypes.c_void_p)]
 
@@ -210,6 +222,7 @@ def _load() -> ctypes.CDLL:
         ("write", status, keyring, ctypes.c_bool, pointer(octets), pointer(size)),
         ("normalise", status, keyring, pointer(keyring)),
         ("merge", status, keyring, pointer(keyring)),
+        ("choose", status, keyring, ctypes.c_bool, ctypes.c_bool, pointer(number), size, pointer(keyring)),
         ("certificate", status, keyring, number, pointer(keyring)),
         ("join", status, keyring, keyring, pointer(keyring)),
         ("reader_open", status, pointer(_Limits), pointer(_Reader)),
@@ -232,6 +245,8 @@ def _load() -> ctypes.CDLL:
         ("ring_states", status, pointer(_Ring), *verdicts, number, pointer(_State), size, pointer(number)),
         ("document_standing", status, pointer(_Document), pointer(_Ring), *verdicts, *[number] * 4, octets),
         ("check", status, keyring, _Verifier, _Reporter, ctypes.c_void_p),
+        ("find_blocks", status, ctypes.c_char_p, size, pointer(_FoundBlock), size, octets, size, pointer(_Sizes)),
+        ("user_id", None, ctypes.c_char_p, size, pointer(_UserIdFacts)),
         ("status_text", ctypes.c_char_p, status),
         ("name", status, status, ctypes.c_uint8, octets, size, pointer(number)),
     ):
@@ -1080,6 +1095,14 @@ class Keyring(_Held):
         handle = self._open()
         return self._made(lambda made: _library.opgp_merge(handle, made))
 
+    def choose(self, own_signatures: bool = False, attributes: bool = True, user_ids: Iterable[int] = ()) -> Keyring:
+        """A keyring of chosen parts of each certificate, in their order, as `opgp write` chooses them. With `own_signatures` only
+        those signatures stay that name their certificate's primary key as the issuer. Without `attributes` user attributes (5.12) go.
+        With `user_ids` only the user IDs (5.11) of these numbers stay, which are counted from 0 in each certificate."""
+        handle, chosen = self._open(), [_row(it) for it in user_ids]
+        numbers = (ctypes.c_uint64 * len(chosen))(*chosen)
+        return self._made(lambda made: _library.opgp_choose(handle, own_signatures, not attributes, numbers, len(chosen), made))
+
     def certificate(self, number: int) -> Keyring:
         """The certificate of this number, from 0, as a keyring. Raises IndexError if there is none."""
         handle, at = self._open(), _row(number)
@@ -1504,6 +1527,52 @@ def cleartext(message: Octets, limits: Optional[Limits] = None) -> tuple[bytes, 
         raise ValueError(f"there are more than {_MOST_SIGNATURES} signatures")
     _raise_if_refused(status, fault)
     return bytes(memoryview(text)[: size.value]), made
+
+
+class FoundBlock(NamedTuple):
+    """An armored block in a text."""
+
+    at: int
+    """Where it begins in the text: the first octet of its `-----BEGIN`."""
+    size: int
+    """How many octets of the text it has, up to the end of its last line's content."""
+    octets: bytes
+    """The block, cleaned: the contents of its lines, each with a line feed. `read` and the other readers take it."""
+
+
+def find_blocks(text: Octets) -> list[FoundBlock]:
+    """The armored blocks in a text as mail programs meet it, in order: quoted by `> `, indented, with `<br>` at the end of a line,
+    behind a byte order mark, among other text. Each line that begins a block makes one, even if its end is missing: a reader says
+    then what is. Only `SIGNED MESSAGE` begins none, since the text of a cleartext message must stay as it is (7)."""
+    octets, found, sizes = _bytes(text), (_FoundBlock * 16)(), _Sizes()
+    cleaned = (ctypes.c_uint8 * (len(octets) + 1))()
+    while (status := _library.opgp_find_blocks(octets, len(octets), found, len(found), cleaned, len(cleaned), sizes)) == _ROOM:
+        found = (_FoundBlock * sizes.rows)()
+    _raise_but_for_done(status)
+    whole = memoryview(cleaned)
+    return [FoundBlock(it.at, it.size, bytes(whole[it.octets_at : it.octets_at + it.octets_size])) for it in found[: sizes.rows]]
+
+
+class UserIdFacts(NamedTuple):
+    """What the octets of a user ID say."""
+
+    is_utf8: bool
+    """They are UTF-8, as they should be (5.11)."""
+    address_at: Optional[int]
+    """Where the mail address begins; None if there is none."""
+    address: Optional[bytes]
+    """The address."""
+
+
+def user_id(octets: Octets) -> UserIdFacts:
+    """What the octets of a user ID say: whether they are UTF-8, and where their mail address is. All of them are the address; or it
+    stands at their end, in `<` and `>`, and there is no other `<` or `>`. One that could be read in two ways has none."""
+    whole, facts = _bytes(octets), _UserIdFacts()
+    _library.opgp_user_id(whole, len(whole), facts)
+    if not facts.has_address:
+        return UserIdFacts(bool(facts.is_utf8), None, None)
+    at, size = facts.address_at, facts.address_size
+    return UserIdFacts(bool(facts.is_utf8), at, whole[at : at + size])
 
 
 def _pieces(source: BinaryIO, size: int) -> Iterator[bytes]:

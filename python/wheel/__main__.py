@@ -163,7 +163,7 @@ def _surveyed(
     octets = _read(path)
     if not octets:
         _tell("opgp: the input is empty")
-    given = opgp.read(octets)
+    given = opgp.read(octets, _limits(told), told.mode)
     keyring = everyday.once(given)
     if told.verdicts is not None:
         if keyring is not given:
@@ -172,6 +172,12 @@ def _surveyed(
     else:
         verdicts = _verified(told, keyring, must_be_verified)
     return keyring, everyday.survey(keyring, told.at, verdicts, told.rely)
+
+
+def _limits(told: argparse.Namespace) -> opgp.Limits:
+    """The limits of what is read, and what becomes of lines outside of armored blocks and of malformed signatures."""
+    numbers = (told.line, told.body, told.cert, told.input, told.pieces)
+    return opgp.Limits(*numbers, refuse_outside=told.outside == "refuse", keep_malformed=told.malformed == "keep")
 
 
 def _verified(told: argparse.Namespace, keyring: opgp.Keyring, must_be: bool) -> Optional[list[opgp.Verdict]]:
@@ -221,6 +227,37 @@ def _time(word: str) -> int:
     raise argparse.ArgumentTypeError("a time is seconds since 1970, or a date such as 2026-11-20 or 2026-11-20T08:30:00Z")
 
 
+# The limits of `opgp`, with their ranges.
+_RANGES = {
+    "line": (2**7, 2**20, "octets of an armored line"),
+    "body": (2**9, 2**32 - 1, "octets of a packet's body"),
+    "cert": (2**9, 2**40, "octets of a certificate"),
+    "input": (0, 2**62, "octets of the input"),
+    "pieces": (1, 2**24, "partial lengths of a packet"),
+}
+
+
+def _within(least: int, most: int) -> Any:
+    """What reads a number within these bounds."""
+
+    def read(word: str) -> int:
+        if re.fullmatch("[0-9]{1,20}", word) and least <= int(word) <= most:
+            return int(word)
+        raise argparse.ArgumentTypeError(f"a number from {least} to {most} is wanted")
+
+    return read
+
+
+def _add_limits(it: Any) -> None:
+    """How the input is read, by the options of `opgp`."""
+    it.add_argument("--mode", choices=("auto", "armor", "binary"), default="auto", help="how to read the input")
+    it.add_argument("--outside", choices=("skip", "refuse"), default="skip", help="what to do with lines outside of armored blocks")
+    it.add_argument("--malformed", choices=("refuse", "keep"), default="refuse", help="what to do with malformed signatures")
+    for name, (least, most, what) in _RANGES.items():
+        usual = getattr(opgp.Limits(), name)
+        it.add_argument(f"--{name}", metavar="N", type=_within(least, most), default=usual, help=f"the most {what}; else {usual}")
+
+
 def _words() -> argparse.ArgumentParser:
     """The command line."""
     about = "Everyday work on an OpenPGP keyring, armored or binary, in FILE or on standard input."
@@ -265,6 +302,7 @@ def _add(commands: Any, name: str, call: Any, about: str, is_survey: bool = True
         how.add_argument("--verifier", metavar="PROGRAM", help=f"verify by this program; else {_VERIFIER}, if it is found")
         how.add_argument("--verdicts", metavar="FILE", help=f"what {_VERIFIER} --policy none wrote of the keyring")
         how.add_argument("--unverified", action="store_true", help="say what signatures claim")
+        _add_limits(it)
     return it
 
 

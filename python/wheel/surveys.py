@@ -115,31 +115,28 @@ class Name(NamedTuple):
     address: Optional[str]
 
 
-_ADDRESS = re.compile(r'[^\s@<>()\[\]\\,;:"]+@[^\s@<>()\[\]\\,;:"_]+')
-
-
 def name_in(text: str) -> Name:
     """The name, comment and address in the text of a user ID (5.11); each None if it isn't there. A text that could be read in
     two ways, such as one with two addresses, has no address."""
     whole = text.strip()
-    if _is_address(whole):
-        return Name(None, None, whole)
-    front, _, address = whole.partition("<")
-    if not address.endswith(">") or not _is_address(address[:-1]) or ">" in front:
+    address = _address_in(whole)
+    if not address:
         return Name(whole or None, None, None)
-    name, comment = front.strip(), ""
+    if address == whole:
+        return Name(None, None, whole)
+    name, comment = whole[: -len(address) - 2].strip(), ""
     if name.endswith(")"):
         before, is_open, inside = name[:-1].rpartition("(")
         if is_open and ")" not in inside and (not before or before[-1].isspace()):
             name, comment = before.rstrip(), inside
-    return Name(name or None, comment or None, address[:-1])
+    return Name(name or None, comment or None, address)
 
 
-def _is_address(text: str) -> bool:
-    """Whether a text is a mail address, by the plain form of addr-spec (RFC 5322, 3.4.1), without quotes and comments."""
-    if not _ADDRESS.fullmatch(text) or not text.isprintable():
-        return False
-    return not any(not it or it.startswith(".") or it.endswith(".") or ".." in it for it in text.split("@"))
+def _address_in(text: str) -> str:
+    """The mail address in a text, by the library's rule, if all of it can be printed; else nothing."""
+    found = opgp.user_id(text.encode("utf-8", "surrogatepass")).address or b""
+    address = found.decode("utf-8")
+    return address if address.isprintable() else ""
 
 
 def escaped(text: str) -> str:

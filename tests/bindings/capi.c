@@ -3,11 +3,13 @@
  *     --line=N --body=N --cert=N --input=N --pieces=N --policies=N   the limits of `told`
  *     told      prints the tables, or the fault
  *     named     prints each name of a number
- *     normalise, merge, join, nth=N   write the packets of the keyring that is made; joined with itself
+ *     normalise, merge, join, nth=N, chosen=OWN,NONE,N..   write the packets of the keyring that is made; joined with itself; of own
+ *               signatures, no attributes, and user IDs of these numbers
  *     document=PIECE,SIGNATURES,KEYRING   prints what is told of signatures over a document that comes in pieces of so many octets
  *               (0: in one): standard input has so many octets of signatures, and of a keyring, and then the document
  *     canonical=PIECE     writes the canonical text of standard input in pieces of so many octets (0: in one), or prints the fault
  *     canonical_texts     canonical text: each status, each room that is too small
+ *     blocks              blocks in a text, and user IDs: each status, each room that is too small, each allocation failed in turn
  *     documents           signatures over a document: each status, each room that is too small
  *     documents_wanting   the same, with each allocation failed in turn
  *     rooms     each room that is too small; each status
@@ -390,6 +392,17 @@ static int named(void)
     return 0;
 }
 
+/* Chooses parts of a keyring, by numbers with commas between them. */
+static uint32_t chosen(const char *numbers, const opgp_keyring *keyring, opgp_keyring **it)
+{
+    uint64_t each[64];
+    size_t count = 0;
+    for (char *next; count < 64 && *numbers != '\0'; numbers = *next == ',' ? next + 1 : next) {
+        each[count++] = strtoull(numbers, &next, 10);
+    }
+    return opgp_choose(keyring, each[0] != 0, each[1] != 0, count > 2 ? each + 2 : NULL, count - 2, it);
+}
+
 /* Writes the packets of the keyring that this word makes. */
 static int made(const char *word)
 {
@@ -402,6 +415,7 @@ static int made(const char *word)
     uint32_t status = strcmp(word, "normalise") == 0 ? opgp_normalise(keyring, &it)
                       : strcmp(word, "merge") == 0   ? opgp_merge(keyring, &it)
                       : strcmp(word, "join") == 0    ? opgp_join(keyring, again, &it)
+                      : word[0] == 'c'               ? chosen(word + 7, keyring, &it)
                                                      : opgp_certificate(keyring, strtoull(word + 4, NULL, 10), &it);
     opgp_close(keyring);
     opgp_close(again);
@@ -757,6 +771,73 @@ static void canonical_texts(void)
     holds(opgp_canonical(&text, (const uint8_t *)"\nab", 3, octets, 3, &n, &fault) == OPGP_DONE && text.given == UINT64_MAX
               && opgp_canonical_end(&text, &fault) == OPGP_DONE,
           "behind the last place");
+}
+
+/* A text with two blocks, the second of which lacks its end. */
+static const char TEXT[] = "\xEF\xBB\xBF> -----BEGIN PGP X-----<br>\r\n> a <BR />\n>> -----END PGP Y----- \t\ntext\n"
+                           " -----BEGIN PGP SIGNED MESSAGE-----\n\t-----BEGIN PGP SIGNATURE-----\r\nb";
+static const char CLEANED[] = "-----BEGIN PGP X-----\na\n-----END PGP Y-----\n-----BEGIN PGP SIGNATURE-----\nb\n";
+enum { FIRST_CLEANED = 44, FOUND_CLEANED = sizeof CLEANED - 1 };
+
+/* The blocks of the text, with room for so many rows and octets; whether the call is right. */
+static bool blocks_fit(size_t rows, size_t room)
+{
+    opgp_found_block found[3];
+    uint8_t octets[FOUND_CLEANED + 1];
+    opgp_sizes sizes;
+    memset(found, 0xA5, sizeof found);
+    memset(octets, 0xA5, sizeof octets);
+    memset(&sizes, 0xA5, sizeof sizes);
+    uint32_t status = opgp_find_blocks((const uint8_t *)TEXT, sizeof TEXT - 1, rows ? found : NULL, rows, room ? octets : NULL, room,
+                                       &sizes);
+    if (status == OPGP_MEMORY) {
+        return is_blank(found, 0, sizeof found) && is_blank(octets, 0, sizeof octets) && fails_at > 0;
+    }
+    bool is_sized = sizes.rows == 2 && sizes.bytes == FOUND_CLEANED;
+    if (status == OPGP_ROOM) {
+        return is_sized && (rows < 2 || room < FOUND_CLEANED) && is_blank(found, 0, sizeof found) && is_blank(octets, 0, sizeof octets);
+    }
+    const char *first = strstr(TEXT, "-----BEGIN PGP X"), *ends = strstr(TEXT, " \t\ntext");
+    const char *second = strstr(TEXT, "-----BEGIN PGP SIGNATURE");
+    return status == OPGP_DONE && is_sized && rows >= 2 && room >= FOUND_CLEANED && memcmp(octets, CLEANED, FOUND_CLEANED) == 0
+        && is_blank(octets, FOUND_CLEANED, sizeof octets) && is_blank(found, 2 * sizeof *found, sizeof found)
+        && found[0].at == (uint64_t)(first - TEXT) && found[0].size == (uint64_t)(ends - first) && found[0].octets_at == 0
+        && found[0].octets_size == FIRST_CLEANED && found[1].at == (uint64_t)(second - TEXT)
+        && found[1].size == (uint64_t)(TEXT + sizeof TEXT - 1 - second) && found[1].octets_at == FIRST_CLEANED
+        && found[1].octets_size == FOUND_CLEANED - FIRST_CLEANED;
+}
+
+/* What is said of the octets of a user ID. */
+static bool user_id_fits(const char *octets, uint32_t is_utf8, uint64_t at, uint64_t n)
+{
+    opgp_user_id_facts facts;
+    memset(&facts, 0xA5, sizeof facts);
+    opgp_user_id((const uint8_t *)octets, strlen(octets), &facts);
+    return facts.is_utf8 == is_utf8 && facts.has_address == (n > 0) && facts.address_at == at && facts.address_size == n;
+}
+
+static void blocks(void)
+{
+    opgp_sizes sizes;
+    for (size_t rows = 0; rows <= 3; rows++) {
+        for (size_t room = 0; room <= FOUND_CLEANED + 1; room++) {
+            holds(blocks_fit(rows, room), "blocks with room for so much");
+        }
+    }
+    holds(opgp_find_blocks(NULL, 0, NULL, 0, NULL, 0, &sizes) == OPGP_DONE && sizes.rows == 0 && sizes.bytes == 0, "no text");
+    unsigned long wanted = 1;
+    for (fails_at = 1; fails_at <= wanted; fails_at++) {
+        calls = 0;
+        holds(blocks_fit(3, FOUND_CLEANED + 1), "blocks where memory runs out");
+        wanted = calls >= fails_at ? fails_at + 1 : wanted;
+    }
+    fails_at = 0;
+    holds(wanted > 2 && held == 0, "allocations for blocks");
+    holds(user_id_fits("", 1, 0, 0) && user_id_fits("a@b", 1, 0, 3) && user_id_fits("\xFF <a.b@c.d>", 0, 3, 7),
+          "user IDs with an address");
+    holds(user_id_fits("a@b@c", 1, 0, 0) && user_id_fits("<a@b> ", 1, 0, 0) && user_id_fits("x<a@b", 1, 0, 0) && user_id_fits("<", 1, 0, 0)
+              && user_id_fits("<>", 1, 0, 0) && user_id_fits(">", 1, 0, 0) && user_id_fits("<a@\xC3>", 0, 0, 0),
+          "user IDs without one");
 }
 
 /* A signature of version 4 by hand: of this type, with nothing in its areas. */
@@ -1302,7 +1383,18 @@ static opgp_verdict answer(void *context, const opgp_question *question)
     return (opgp_verdict)it->answer;
 }
 
-/* Finds the verdicts on the rows of a keyring, where each that is asked about has this one; and how many are asked about. */
+/* Whether another key than the primary one certified something, or revoked that: nobody is asked, since it says nothing of states. */
+static bool is_of_another(const opgp_job *job, const opgp_key *table)
+{
+    const opgp_key *primary = table, *signer = &table[job->signer];
+    while (primary->certificate != job->certificate) {
+        primary++;
+    }
+    bool is_kind = (job->kind >= 0x10 && job->kind <= 0x13) || job->kind == 0x30;
+    return is_kind && memcmp(primary->print, signer->print, sizeof signer->print) != 0;
+}
+
+/* Finds the verdicts on the rows of a keyring, where each that may be asked about has this one; and how many are asked about. */
 static size_t verdicts_by(const opgp_keyring *keyring, opgp_ring *ring, int given, uint8_t *verdicts)
 {
     static opgp_revocation revocations[MOST / 64];
@@ -1319,7 +1411,7 @@ static size_t verdicts_by(const opgp_keyring *keyring, opgp_ring *ring, int give
         bool is_hashed = jobs[row].why == OPGP_WHY_HASHED || alone;
         bool is_bad = alone ? memcmp(alone->digest, jobs[row].left, 2) != 0 : jobs[row].is_bad;
         bool is_asked = is_hashed && !is_bad && jobs[row].signer < keys && table[jobs[row].signer].version == jobs[row].version;
-        asked += is_asked;
+        asked += is_asked && !is_of_another(&jobs[row], table);
         verdicts[row] = is_bad ? OPGP_BAD : is_asked && (given == OPGP_GOOD || given == OPGP_BAD) ? (uint8_t)given : OPGP_UNDECIDED;
     }
     return asked;
@@ -1506,8 +1598,10 @@ static bool everything(void)
     }
     opgp_keyring *other, *made;
     status = opgp_normalise(keyring, &other);
-    for (int way = 0; way < 5 && status == OPGP_DONE; way++) {
-        status = way == 0   ? opgp_merge(keyring, &made)
+    const uint64_t numbers[] = {1, 0};
+    for (int way = -1; way < 5 && status == OPGP_DONE; way++) {
+        status = way < 0    ? opgp_choose(keyring, true, true, numbers, 2, &made)
+                 : way == 0 ? opgp_merge(keyring, &made)
                  : way == 1 ? opgp_join(keyring, other, &made)
                  : way == 2 ? opgp_join(keyring, keyring, &made)
                  : way == 3 ? opgp_certificate(keyring, 0, &made)
@@ -2069,7 +2163,7 @@ int main(int argc, char **argv)
         void (*run)(void);
     } runs[] = {{"rooms", rooms}, {"on_top", on_top}, {"memory", memory}, {"pieces", pieces}, {"wanting", wanting},
                 {"holding", holding}, {"threads", threads}, {"documents", documents}, {"documents_wanting", documents_wanting},
-                {"canonical_texts", canonical_texts}};
+                {"canonical_texts", canonical_texts}, {"blocks", blocks}};
     opgp_limits limits;
     const struct {
         const char *word;
@@ -2087,7 +2181,7 @@ int main(int argc, char **argv)
             return named();
         }
         if (strcmp(argv[i], "normalise") == 0 || strcmp(argv[i], "merge") == 0 || strcmp(argv[i], "join") == 0
-            || strncmp(argv[i], "nth=", 4) == 0) {
+            || strncmp(argv[i], "nth=", 4) == 0 || strncmp(argv[i], "chosen=", 7) == 0) {
             making = argv[i];
             is_known = true;
         }

@@ -590,6 +590,10 @@ def made(program):
             (["normalise"], run(PROGRAM, "normalise", "--out", "binary", input=octets.stdout)),
             (["merge"], run(PROGRAM, "join", "--merge", "--out", "binary", input=octets.stdout)),
             (["join"], run(*twice[0], input=twice[1])),
+            *(([f"chosen={own},{none}" + "".join(f",{it}" for it in ids)],
+               run(PROGRAM, "write", "--out", "binary", *["--own-signatures"][:own], *["--no-attributes"][:none],
+                   *(it for number in ids for it in ("--user-id", str(number))), input=octets.stdout))
+              for own in (0, 1) for none in (0, 1) for ids in ((), (0,), (1,), (7,))),
             *(([f"nth={n}"], run(PROGRAM, "split", "--nth", str(n), "--out", "binary", input=octets.stdout)) for n in (0, 1, 7)),
         ):
             ended = opens(program, *words, source=source)
@@ -752,7 +756,7 @@ def documents(program):
     for octets, line in ((keys, b"composition: NotASignature"), (b"", b"composition: NotASignature"), (short, b"body: ")):
         ended = run(program, f"document=1,{len(octets)},0", input=octets)
         verdict(f"{octets[:4]} as signatures", ended.returncode == 1 and ended.stderr.startswith(line), ended)
-    counted("calls on documents", run(program, "documents", "documents_wanting", "canonical_texts", stdin=subprocess.DEVNULL))
+    counted("calls on documents", run(program, "documents", "documents_wanting", "canonical_texts", "blocks", stdin=subprocess.DEVNULL))
     for text in texts:
         place = text.replace(b"\r\n", b"..").find(b"\r")
         line = f"text: StrayReturn block 0 at {place} inner 0\n".encode()

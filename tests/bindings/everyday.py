@@ -806,6 +806,7 @@ def wrong_words(made):
                   ("wkd", "hash", "-h"), ("wkd", "tree", "-h")):  # fmt: skip
         ended = command(*words)
         verdict(f"help by {words}", ended[:2] == (2, b"") and ended[2].startswith("usage: python3 -m opgp ") and "--help" in ended[2], ended)
+    limited(made)
     fault = "armor: NoBlock block 0 at 4 inner 0\n"
     for words in (("json",), ("audit",), ("hkp",), ("emails",), ("find", "a@b"), ("wkd", "tree", "b", f"{ENV['ROOM']}/none")):
         ended = command(*words, "--unverified", given=b"text")
@@ -823,6 +824,33 @@ def wrong_words(made):
         said = "opgp: the input is empty\n" + "opgp: the keyring has no certificate\n" * (words[0] == "audit")
         verdict(f"an empty input to {words}", ended == (status, out, said), ended)
     verdict("the JSON of nothing", json.loads(command("json", "--unverified")[1])["certificates"] == [])
+
+
+def limited(made):
+    """The limits and policies of reading, by the options of `opgp`: the faults are its own."""
+    armored = importlib.import_module("opgp").read(made.of_dave).write(True)
+    program = f"{HERE}/crates/opgp_tool/out/opgp_tool"
+    cases = [
+        (("--mode", "binary"), armored, "framing: NotAPacket block 0 at 0 inner 0"),
+        (("--mode", "armor"), made.of_dave, "armor: NoBlock block 0 at"),
+        (("--outside", "refuse"), b"before\n" + armored, "armor: Outside block 0 at 0 inner 0"),
+        (("--body", "512"), packet(13, b"u" * 513), "framing: BodyTooLong block 0 at 0 inner 1"),
+        (("--cert", "512"), made.of_dave + packet(13, b"u" * 511), "composition: CertTooLong block 0 at "),
+        (("--input", "9"), made.of_dave, "input: InputTooLong"),
+        (("--line", "128"), armored.replace(b"\n\n", b"\nComment: " + b"c" * 129 + b"\n\n", 1), "armor: LineTooLong"),
+    ]
+    for words, given, said in cases:
+        ended = command("emails", "--unverified", *words, given=given)
+        verdict(f"{words}", ended[:2] == (1, b"") and ended[2].startswith(said), ended)
+        theirs = run(program, "list", "--quiet", *words, input=given) if os.path.exists(program) else None
+        verdict(f"{words} beside opgp", not theirs or (theirs.returncode, theirs.stderr.decode()) == (1, ended[2]), theirs)
+    for words in (("--line", "127"), ("--body", "511"), ("--cert", "0"), ("--input", "-1"), ("--pieces", "0"), ("--pieces", "16777217"),
+                  ("--line", "1e3"), ("--mode", "text"), ("--outside", "keep"), ("--malformed", "skip")):  # fmt: skip
+        ended = command("emails", "--unverified", *words, given=made.of_dave)
+        verdict(f"the words {words}", ended[:2] == (2, b"") and ended[2].startswith("usage: python3 -m opgp "), ended)
+    for words in (("--line", "1048576"), ("--body", "4294967295"), ("--cert", "1099511627776"), ("--input", str(2**62)), ("--pieces", "16777216")):
+        ended = command("emails", "--unverified", *words, given=made.of_alice)
+        verdict(f"the words {words}", ended[0] == 0 and ended[1], ended)
 
 
 def devices(made):

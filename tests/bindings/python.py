@@ -296,6 +296,151 @@ def keyrings_made(opgp):
             verdict(f"{name} of a closed keyring", raised(ValueError, call))
 
 
+def keyrings_chosen(opgp):
+    """Chosen parts are those that the program writes, or that a model of the packets leaves."""
+    for source in SOURCES:
+        try:
+            keyring = opgp.read(octets_of(source))
+        except ValueError:
+            continue
+        for own in (False, True):
+            for attributes in (False, True):
+                for ids in ((), (0,), (1,), (9,)):
+                    words = ["--own-signatures"] * own + ["--no-attributes"] * (not attributes)
+                    words += [word for it in ids for word in ("--user-id", str(it))]
+                    wanted = program(keyring.write(), "write", "--out", "binary", *words).stdout
+                    verdict(f"choose {own} {attributes} {ids} of {source}", keyring.choose(own, attributes, ids).write() == wanted)
+        for ids in ((0, 1), (1, 0, 1), (2, 0), range(64)):
+            numbers, left, last = {}, [], None
+            for it in keyring.packets():
+                if it.kind == 13 and it.hang is None:
+                    numbers[it.certificate] = numbers.get(it.certificate, -1) + 1
+                if it.hang is None:
+                    last = it.kind != 13 or numbers[it.certificate] in ids
+                if last or it.certificate is None:
+                    left.append((it.kind, it.body))
+            found = [(it.kind, it.body) for it in keyring.choose(user_ids=ids).packets()]
+            verdict(f"choose {[*ids][:3]} of {source}", found == left, (len(found), len(left)))
+    keyring = opgp.read(octets_of(A1))
+    verdict("choose everything", keyring.choose().write() == keyring.write())
+    for ids, kind in (((-1,), IndexError), ((2**64,), IndexError), (("0",), TypeError), (0, TypeError)):
+        verdict(f"choose {ids}", raised(kind, lambda ids=ids: keyring.choose(user_ids=ids)) is not None)
+
+
+# The rule of opgp.h, by regular expressions.
+BEGINS = re.compile(rb"-----BEGIN PGP (?!SIGNED MESSAGE-----\Z)[ -,.-~]+-----")
+ENDS = re.compile(rb"-----END PGP [ -,.-~]+-----")
+CONTENT = re.compile(rb"[ \t>]*(.*?)(?:[ \t\r]|<[bB][rR](?: ?/)?>)*", re.S)
+PART = rb"[^\x00-\x20\x7F()<>\[\]:;@\\,\".%b]+"
+ADDRESS = rb"%b(?:\.%b)*@%b(?:\.%b)*" % (*[PART % b""] * 2, *[PART % b"_"] * 2)
+WITH_ADDRESS = re.compile(rb"(%b)|[^<>]*<(%b)>" % (ADDRESS, ADDRESS))
+
+
+def blocks_by_rule(text):
+    first = 3 if text.startswith(b"\xef\xbb\xbf") else 0
+    found, them = [], []
+    for line in re.compile(rb"[^\n]*\n|[^\n]+").finditer(text, first):
+        content = CONTENT.fullmatch(line[0].removesuffix(b"\n"))
+        them.append((line.start() + content.start(1), content[1]))
+    for number, (at, content) in enumerate(them):
+        if BEGINS.fullmatch(content):
+            these = [(at, content)]
+            for it in them[number + 1 :]:
+                if BEGINS.fullmatch(it[1]):
+                    break
+                these.append(it)
+                if ENDS.fullmatch(it[1]):
+                    break
+            found.append((at, these[-1][0] + len(these[-1][1]) - at, b"".join(it + b"\n" for _, it in these)))
+    return found
+
+
+def mailed(octets, front, end):
+    return b"".join(front + line + end for line in octets.splitlines())
+
+
+def blocks_found(opgp):
+    """Blocks in texts of mails are those of the rule, wherever a text is cut, and are read as they were."""
+    def fits(what, text):
+        found = [tuple(it) for it in opgp.find_blocks(text)]
+        verdict(f"blocks of {what}", found == blocks_by_rule(text), (text[:200], found[:2]))
+        verdict(f"how long blocks of {what} are", sum(len(it[2]) for it in found) <= len(text) + 1)
+        return found
+
+    a1, a3 = octets_of(A1), octets_of(A3)
+    for front in (b"", b"> ", b">", b"  ", b"\t", b">> > ", b" \t>"):
+        for end in (b"\n", b"\r\n", b"<br>\n", b"<BR />\r\n", b" <bR/> <br>\t\n"):
+            text = b"On Monday you wrote:\n" + mailed(a1, front, end) + b"--\n" + mailed(a3, front, end).rstrip() + b"\n"
+            for mark in (b"", b"\xef\xbb\xbf"):
+                found = fits(f"{mark} {front} {end}", mark + text)
+                holds = [opgp.read(it[2]).write() for it in found] == [opgp.read(it).write() for it in (a1, a3)]
+                verdict(f"what is read of {mark} {front} {end}", holds, found)
+    text = b"\xef\xbb\xbf" + mailed(a1, b"> ", b"<br>\r\n") + b"text\n" + mailed(a3, b"\t", b"\n")
+    for at in range(len(text) + 1):
+        fits(f"a text cut at {at}", text[:at])
+        fits(f"a text from {at} on", text[at:])
+    mails = sorted(glob.glob(f"{HERE}/tests/vectors/cleartext/mails/*"))
+    for source in mails:
+        fits(os.path.basename(source), octets_of(source))
+    verdict("there are mails", mails)
+    message = b"-----BEGIN PGP SIGNED MESSAGE-----\nHash: SHA256\n\n> a\n"
+    message += b"-----BEGIN PGP SIGNATURE-----\n\nwnUE\n-----END PGP SIGNATURE-----\n"
+    found = fits("a cleartext message", message)
+    verdict("a cleartext message's block", [it[2][:29] for it in found] == [b"-----BEGIN PGP SIGNATURE-----"], found)
+    words = [b"-----BEGIN PGP ", b"-----END PGP ", b"-----", b"X", b"SIGNED MESSAGE", b"PUBLIC KEY BLOCK", b">", b" ", b"\t",
+             b"\r", b"\n", b"\n", b"<br>", b"<BR", b"/>", b" />", b"<", b"br", b"-", b"\x1f", b"\x7f", b"\x80", b"~", b"\0", b"\xef\xbb\xbf",
+             b"-----BEGIN PGP X-----\n", b"-----END PGP Y-----<Br />", b"-----BEGIN PGP SIGNED MESSAGE-----"]
+    draw = random.Random(9580)
+    for turn in range(4000):
+        fits(f"text {turn}", b"".join(draw.choices(words, k=draw.randrange(30))))
+    begin = b"-----BEGIN PGP X-----"
+    found = opgp.find_blocks(100_000 * (begin + b"\n"))
+    verdict("many blocks", len(found) == 100_000 and found[-1] == (99_999 * 22, 21, begin + b"\n"), found[-1:])
+    for front, behind in ((b"> " * 2_000_000, b""), (b"", b"<br>" * 1_000_000), (b"", b" " * 4_000_000), (b"", b"\n" * 1_000_000)):
+        found = opgp.find_blocks(front + begin + behind)
+        wanted = begin + b"\n" * (1 + max(0, behind.count(b"\n") - 1))
+        verdict("a long text", [(it.at, it.octets) for it in found] == [(len(front), wanted)], found[0][:2] if found else found)
+    for it in ("text", 1, None, [1]):
+        verdict(f"no blocks in {it!r}", raised(TypeError, lambda it=it: opgp.find_blocks(it)) is not None)
+    verdict("blocks in a bytearray", opgp.find_blocks(bytearray(a1)) == opgp.find_blocks(a1) == opgp.find_blocks(memoryview(a1)))
+
+
+def user_ids_say(opgp):
+    """What the octets of a user ID say is what Python's own decoder and the rule say."""
+    def fits(octets):
+        try:
+            octets.decode()
+            is_utf8 = True
+        except UnicodeDecodeError:
+            is_utf8 = False
+        found, number = WITH_ADDRESS.fullmatch(octets), 0
+        if found:
+            number = 1 if found[1] is not None else 2
+            try:
+                found[number].decode()
+            except UnicodeDecodeError:
+                found = None
+        wanted = (is_utf8, found.start(number), found[number]) if found else (is_utf8, None, None)
+        verdict(f"what {octets} says", tuple(opgp.user_id(octets)) == wanted, (opgp.user_id(octets), wanted))
+
+    for octets in (b"", b"a@b", b"Alice <alice@example.org>", b"Alice (x) <alice@example.org> ", b"<a@b>", b"<a@b", b"a@b>",
+                   b"a@b <c@d>", b"<a@b><c@d>", b"a.b@c.d", b".a@b", b"a.@b", b"a..b@c", b"a@b.", b"a@.b", b"a@b..c", b"a@", b"@b", b"a@b@c",
+                   b"a_b@c", b"a@b_c", b"a b@c", b"a@b\n", "J\u00fcrgen <j\u00fc@b\u00fccher.example>".encode(), b"J\xfcrgen <j@b>",
+                   b"J <j\xfc@b>", b"> <a@b>", b"<", b">", b"<>", b"x<@>"):
+        fits(octets)
+    for octet in range(256):
+        it = bytes([octet])
+        for octets in (it, b"a" + it + b"@b", b"a@b" + it, it + b"<a@b>", b"<a@b>" + it, b"<a" + it + b"@b>"):
+            fits(octets)
+    words = [b"a", b"b", b"@", b"@", b".", b"<", b">", b" ", b"_", b"-", b"+", b"(", b"\"", b"\0", b"\x7f", b"\xc3\xbc",
+             b"\xc3", b"\xf0\x9f\x94\x91", b"\xed\xa0\x80"]
+    draw = random.Random(5322)
+    for _ in range(4000):
+        fits(b"".join(draw.choices(words, k=draw.randrange(12))))
+    for it in ("a@b", 1, None):
+        verdict(f"no user ID in {it!r}", raised(TypeError, lambda it=it: opgp.user_id(it)) is not None)
+
+
 def pieces(opgp):
     """The parts of an input in pieces are those of the whole; or its fault is."""
     for source in SOURCES:
@@ -2561,7 +2706,7 @@ def main():
                 test(opgp, env)
             for test in (sent, little_memory, documented, verified, judged_by_arithmetic, expiry_beside_gpg, stated_beside_gpg, without_library):
                 test(opgp, env, room)
-            for test in (names, faults, keyrings_made, pieces, short_reads, moments, limits, limits_in_pieces, policies, errors, large, inputs,
+            for test in (names, faults, keyrings_made, keyrings_chosen, blocks_found, user_ids_say, pieces, short_reads, moments, limits, limits_in_pieces, policies, errors, large, inputs,
                          modes, long_octets, searches, rows_refused, closed, copies, verifiers, flags, stated, named_signers, documents,
                          document_pieces, document_refused, document_uses, document_files, document_signers, cleartexts, cleartext_refused,
                          standings, states, states_refused, judgements, judgement_refused, judgement_verifiers, judged_in_places,

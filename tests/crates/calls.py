@@ -407,7 +407,7 @@ def rows_of(packets, sizes=(61, 65_537)):
     merged = model.written("merge", blocks, found, lead, certificates, 0, True)[1]
     line = ring_line(len(lead), len([*model.merged(found, certificates)]), merged)
     yield words("merge", given), f"{line} {line}"
-    for choice, name in (((True, True, 0), "own bare 0"), ((True, False, None), "own"), ((False, False, None), "")):
+    for choice, name in (((True, True, (0,)), "own bare 0"), ((True, False, ()), "own"), ((False, False, (2, 0, 2)), "2 0 2"), ((False, False, ()), "")):
         chosen = model.written(choice, blocks, found, lead, certificates, 0, True)[1]
         yield words("choose", name, given), ring_line(len(lead), len(certificates), chosen)
     line = words("block 0", *placed(packets), "end")

@@ -374,6 +374,37 @@ def key_material(body):
     return [curve, *point, rest[1:]][: 3 if algorithm == 18 else 2]
 
 
+# The curves of 9.2, and secp256k1 (SEC 2), by their object identifiers, and the algorithms of one curve: as gpg names them.
+CURVES = {
+    "1.2.840.10045.3.1.7": "nistp256", "1.3.132.0.34": "nistp384", "1.3.132.0.35": "nistp521", "1.3.132.0.10": "secp256k1",
+    "1.3.36.3.3.2.8.1.1.7": "brainpoolP256r1", "1.3.36.3.3.2.8.1.1.11": "brainpoolP384r1", "1.3.36.3.3.2.8.1.1.13": "brainpoolP512r1",
+    "1.3.6.1.4.1.11591.15.1": "ed25519", "1.3.6.1.4.1.3029.1.5.1": "cv25519",
+}  # fmt: skip
+OWN_CURVES = {25: "x25519", 26: "x448", 27: "ed25519", 28: "ed448"}
+
+
+def identifier_octets(dotted):
+    """An object identifier as DER has it, without its tag and its length."""
+    first, second, *others = map(int, dotted.split("."))
+    octets = b""
+    for arc in (40 * first + second, *others):
+        groups = [arc & 127]
+        while arc := arc >> 7:
+            groups.append(128 | arc & 127)
+        octets += bytes(reversed(groups))
+    return octets
+
+
+def key_size(body):
+    """How large a key is, as list --values has it."""
+    algorithm, first = body[5], key_material(body)[0]
+    if algorithm in (1, 2, 3, 16, 17):
+        return str(number(first).bit_length())
+    if algorithm in (18, 19, 22):
+        return next((name for it, name in CURVES.items() if identifier_octets(it) == first), f"oid:{first.hex().upper()}")
+    return OWN_CURVES.get(algorithm, "-")
+
+
 def made_by(it):
     """What the algorithm of a signature made (5.2.3): integers without their counts of bits, or octets."""
     counts = {1: 1, 3: 1, 17: 2, 19: 2, 22: 2}
@@ -628,7 +659,7 @@ def listed(kind, body, values=False):
     if kind in (6, 14):
         names = f"{fingerprint(body).hex().upper()} {key_id(body).hex().upper()}"
         line = f"{'pub' if kind == 6 else 'sub'} v{body[0]} alg {body[5]} created {number(body[1:5])} {names}"
-        return f"{line} {date(body[1:5])}" if values else line
+        return f"{line} {date(body[1:5])} size {key_size(body)}" if values else line
     if kind == 13:
         return f"uid {quoted(body)}"
     if kind == 17:
@@ -709,8 +740,8 @@ def merged(packets, certificates):
     return [[(head, [*kept.values()]) for head, kept in places.values()] for places in keys.values()]
 
 
-def chosen(packets, certificates, own, bare, number):
-    """What stays of each certificate: of its signatures those that name its primary key, no attribute, the user ID of this number."""
+def chosen(packets, certificates, own, bare, numbers):
+    """What stays of each certificate: of its signatures those that name its primary key, no attribute, the user IDs of these numbers."""
 
     def stays(index, key):
         *_, kind, _, body, _ = packets[index]
@@ -721,7 +752,7 @@ def chosen(packets, certificates, own, bare, number):
         for head, hangs in parts:
             kind = packets[head][2]
             names += kind == 13
-            if kind == 13 and number not in (None, names) or kind == 17 and bare:
+            if kind == 13 and numbers and names not in numbers or kind == 17 and bare:
                 continue
             kept.append((head, [it for it in hangs if stays(it, key)]))
         yield kept
@@ -729,7 +760,7 @@ def chosen(packets, certificates, own, bare, number):
 
 def written(command, blocks, packets, lead, certificates, nth, binary):
     """What write, normalise, split, nth (split --nth), join and merge (join --merge) write, in binary or in armor; and what write does
-    of chosen parts: the command is then whether only own signatures stay, whether no attributes, and the number of a user ID."""
+    of chosen parts: the command is then whether only own signatures stay, whether no attributes, and the numbers of user IDs, or none."""
     spelled = in_normal_form if command == "normalise" else lambda it: as_it_is(blocks, it)
     if isinstance(command, tuple):
         certificates = [*chosen(packets, certificates, *command)]

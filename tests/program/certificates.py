@@ -19,7 +19,7 @@ import sys
 sys.dont_write_bytecode = True
 sys.path.insert(0, f"{sys.path[0]}/../lib")
 
-from model import armor, quoted  # noqa: E402
+from model import armor, key_size, quoted  # noqa: E402
 from running import HERE, Runner, built  # noqa: E402
 
 FOLDER = f"{HERE}/tests/vectors/sq"
@@ -42,14 +42,14 @@ class Packet:
         self.at, self.kind, self.n = int(at), int(kind), int(n)
         self.head = {"new1": 2, "new2": 3, "new5": 6, "old1": 2, "old2": 3, "old4": 5}[self.form]
         self.words = words[0] if words else ""
-        self.subpackets = []
+        self.subpackets, self.size = [], ""
 
     def shown(self):
         return f"block 0 at {self.at} type {self.kind} form {self.form} length {self.n}"
 
     def dated(self):
-        """Its line in a listing, that of a key with its date."""
-        return f"{self.listed()} {date(self.words.split(' ')[3])}" if self.kind in ROLES else self.listed()
+        """Its line in a listing, that of a key with its date and its size, of which sq's line says nothing."""
+        return f"{self.listed()} {date(self.words.split(' ')[3])} size {self.size}" if self.kind in ROLES else self.listed()
 
     def listed(self):
         what, *it = self.words.split(" ")
@@ -237,6 +237,9 @@ class Comparing:
 def keyring(it, name, octets, packets):
     whole = binary(octets)
     it.told(f"{name}: its length", packets[-1].at + packets[-1].head + packets[-1].n == len(whole))
+    for one in packets:
+        body = whole[one.at + one.head :][: one.n]
+        one.size = key_size(body) if one.kind in ROLES else ""
     it.says(name, "show", octets, shown(packets, False))
     it.says(name, "show --values", octets, shown(packets, True))
     it.says(name, "list", octets, (one.listed() for one in packets))

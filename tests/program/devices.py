@@ -36,62 +36,62 @@ INPUTS = {
 # The growths of each command over each input. More are a failure: an answer would have come to cost more memory.
 GROWTHS = """
 command                                                       key  certificate  blocks  literal
-show                                                          207          210     210      204
-list                                                          209          214     216      206
-list --values                                                 213          218     220      210
-check                                                         211          218     221      204
-state --at 0                                                  229          237     242      214
-state --at 2026-11-20 --policy any                            238          246     251      223
-check --fingerprints                                          217          224     227      209
-octets --row 0                                                222          229     231      218
-octets --row 1                                                222          229     231      218
-octets --all                                                  218          225     228      214
-octets --row 0 --of literal                                   230          236     237      230
-octets --row 9 --of literal                                   230          236     237      229
-write                                                         217          222     224      214
-write --out binary                                            223          228     230      220
-write --own-signatures --no-attributes                        229          236     240      224
-write --user-id 0 --own-signatures --out binary               242          249     253      237
-normalise                                                     209          214     216      206
-normalise --out binary                                        215          220     222      212
-split                                                         209          214     216      206
-split --out binary                                            215          220     222      212
-split --nth 0                                                 218          223     225      214
-split --nth 1 --out binary                                    226          231     233      222
-split --nth 9                                                 218          223     225      214
-split --key 8CFDE12197965A9A                                  219          225     226      216
-split --key CB186C4F0609A697 --out binary                     228          232     234      224
-split --key 0000000000000000                                  220          225     227      216
-join                                                          213          218     220      210
-join --out binary                                             219          224     226      216
-join --merge                                                  222          233     240      212
-join --merge --out binary                                     230          241     248      220
-list --progress                                               217          222     224      214
-list --malformed keep                                         216          221     223      213
-list --spool DIR                                              221          226     228      218
-write --out binary --spool DIR                                237          242     244      234
-write --no-attributes --spool DIR                             238          245     249      233
-split --spool DIR                                             221          226     228      218
-octets --all --spool DIR                                      232          239     242      228
-check --spool DIR                                             224          231     234      217
-list --mode armor                                             215          220     222      213
-list --mode binary                                            212          212     212      212
-show --line 128 --body 512 --cert 512 --pieces 1              235          238     238      232
-show --values                                                 211          214     214      208
-signatures                                                    204          210     211      203
-signatures --malformed keep                                   211          217     218      210
-canonical                                                     201          201     201      202
-canonical --spool DIR                                         213          213     213      214
-cleartext                                                     205          205     205      205
-cleartext --of signatures                                     211          211     211      211
---help                                                        202          202     202      202
-help list                                                     320          320     320      320
-list --help                                                   321          321     321      321
-lists                                                         254          254     254      254
-octets                                                        206          206     206      206
-octets --all --row 0                                          222          222     222      222
-list --body 511                                               170          170     170      170
-list list                                                     163          163     163      163
+show                                                          208          211     211      205
+list                                                          210          215     217      207
+list --values                                                 214          219     221      211
+check                                                         212          219     222      205
+state --at 0                                                  229          237     242      215
+state --at 2026-11-20 --policy any                            238          246     251      224
+check --fingerprints                                          218          225     228      210
+octets --row 0                                                223          230     232      219
+octets --row 1                                                223          230     232      219
+octets --all                                                  219          226     229      215
+octets --row 0 --of literal                                   231          237     238      231
+octets --row 9 --of literal                                   231          237     238      230
+write                                                         218          223     225      215
+write --out binary                                            224          229     231      221
+write --own-signatures --no-attributes                        230          237     241      225
+write --user-id 0 --own-signatures --out binary               244          251     255      239
+normalise                                                     210          215     217      207
+normalise --out binary                                        216          221     223      213
+split                                                         214          219     221      211
+split --out binary                                            220          225     227      217
+split --nth 0                                                 223          228     230      219
+split --nth 1 --out binary                                    231          236     238      227
+split --nth 9                                                 223          228     230      219
+split --key 8CFDE12197965A9A                                  226          232     233      223
+split --key CB186C4F0609A697 --out binary                     235          239     241      231
+split --key 0000000000000000                                  227          232     234      223
+join                                                          214          219     221      211
+join --out binary                                             220          225     227      217
+join --merge                                                  223          234     241      213
+join --merge --out binary                                     231          242     249      221
+list --progress                                               218          223     225      215
+list --malformed keep                                         217          222     224      214
+list --spool DIR                                              222          227     229      219
+write --out binary --spool DIR                                238          243     245      235
+write --no-attributes --spool DIR                             239          246     250      234
+split --spool DIR                                             226          231     233      223
+octets --all --spool DIR                                      233          240     243      229
+check --spool DIR                                             225          232     235      218
+list --mode armor                                             216          221     223      214
+list --mode binary                                            213          213     213      213
+show --line 128 --body 512 --cert 512 --pieces 1              236          239     239      233
+show --values                                                 212          215     215      209
+signatures                                                    205          211     212      204
+signatures --malformed keep                                   212          218     219      211
+canonical                                                     202          202     202      203
+canonical --spool DIR                                         214          214     214      215
+cleartext                                                     206          206     206      206
+cleartext --of signatures                                     212          212     212      212
+--help                                                        203          203     203      203
+help list                                                     321          321     321      321
+list --help                                                   322          322     322      322
+lists                                                         255          255     255      255
+octets                                                        207          207     207      207
+octets --all --row 0                                          223          223     223      223
+list --body 511                                               171          171     171      171
+list list                                                     164          164     164      164
 """
 # How many refused growths of a run over an input change nothing: that for the vector of the words, which is made again, and that for
 # the first octets, which serve what is told alone.

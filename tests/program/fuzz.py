@@ -278,7 +278,8 @@ def split_and_joined(program, rng, octets):
 
 
 def chosen_by_key(program, rng, octets):
-    """The certificates with a key are those of the split under which it is listed, whether by its fingerprint or its key ID."""
+    """The certificates with one of some keys are those of the split under which it is listed, whether by its fingerprint or its key ID;
+    so are all but those. Each key must be there."""
     answer = program.run("split", octets)
     if answer.status == 0:
         alone = [b"-----BEGIN" + it for it in answer.out.split(b"-----BEGIN")[1:]]
@@ -288,12 +289,13 @@ def chosen_by_key(program, rng, octets):
                 names.append([])
             if line.startswith(("pub ", "sub ")):
                 names[-1] += line.split(" ")[6:8]
-        some = sum(names, [])
-        name = rng.choice(some) if some and rng.random() < 0.9 else rng.choice((16, 40, 64)) * "0"
-        chosen = b"".join(one for one, found in zip(alone, names) if name in found)
-        said = rng.choice((name, name.lower(), f"0x{name}"))
-        one = program.run(f"split --key {said}", octets)
-        same("split --key", (one.status, one.out, one.err), (0, chosen, b"") if chosen else (1, b"", b"opgp: no such certificate\n"))
+        some, leaves = sum(names, []), rng.random() < 0.4
+        keys = [rng.choice(some) if some and rng.random() < 0.9 else rng.choice((16, 40, 64)) * "0" for _ in range(rng.choice((1, 1, 2, 3)))]
+        chosen = b"".join(one for one, found in zip(alone, names) if leaves == (not {*keys} & {*found}))
+        said = "".join(f" --key {rng.choice((it, it.lower(), f'0x{it}'))}" for it in keys)
+        one = program.run(f"split{said}{' --except' * leaves}", octets)
+        wanted = (0, chosen, b"") if {*keys} <= {*some} else (1, b"", b"opgp: no such certificate\n")
+        same("split --key", (one.status, one.out, one.err), wanted)
 
 
 def chosen_parts(program, rng, octets):
@@ -447,10 +449,11 @@ def hashed_by_all(program, rng, octets):
 
 
 DATE = r" \d{4}-\d\d-\d\dT\d\d:\d\d:\d\dZ"
+SIZE = r"(\d+|[a-z]+[0-9]\w*|oid:[0-9A-F]+|-)"
 # What a line of list goes on with in list --values, by what it begins with.
 MORE = {
-    "pub ": DATE,
-    "sub ": DATE,
+    "pub ": f"{DATE} size {SIZE}",
+    "sub ": f"{DATE} size {SIZE}",
     "sig v": rf" left [0-9A-F]{{4}} created (\d+ issuer NAME{DATE}|- issuer NAME -)".replace("NAME", "([0-9A-F]{16}|[0-9A-F]{40}|[0-9A-F]{64}|-)"),
 }
 
@@ -703,8 +706,8 @@ def as_the_model_says(program, rng, octets):
         "octets": f"octets --row {row}", "all": "octets --all", "literal": f"octets --row {row} --of literal", "write": "write" + out, "normalise": "normalise" + out,
         "split": "split" + out, "nth": f"split --nth {row}" + out, "join": "join" + out, "merge": "join --merge" + out,
     }  # fmt: skip
-    own, no_attributes, number = chosen = (rng.random() < 0.6, rng.random() < 0.4, rng.choice((None, None, 0, 0, 1, 2)))
-    given = (" --own-signatures" * own, " --no-attributes" * no_attributes, "" if number is None else f" --user-id {number}")
+    own, no_attributes, numbers = chosen = (rng.random() < 0.6, rng.random() < 0.4, rng.choice(((), (), (0,), (0,), (1,), (2,), (1, 0), (0, 2, 0))))
+    given = (" --own-signatures" * own, " --no-attributes" * no_attributes, "".join(f" --user-id {it}" for it in numbers))
     words[chosen] = words["write"] + "".join(rng.sample(given, 3))
     for command in ("values", chosen, *rng.sample(tuple(it for it in words if it not in ("values", chosen)), 4)):
         line = words[command] + options

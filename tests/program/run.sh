@@ -135,6 +135,31 @@ for name in "$print" "0x$print" "${print,,}" "0x${print,,}"; do
     "$here/opgp" split --key "$name" < "$here/examples/rfc9580-a3.asc" > "$work/stdout" 2> "$work/stderr"
     verdict "key_of_version_6 ${name:0:6}" [ "$? ${#print} $(cmp "$work/usual" "$work/stdout" 2>&1)" = "0 64 " ]
 done
+# Keys that a file names, one in each line; and files that name none.
+two=$here/tests/cases/split/two_blocks_split
+by_keys() { # name, words, wanted status, line on standard error, file that standard output is
+    fresh
+    # shellcheck disable=SC2086
+    "$here/opgp" split $2 < "$two/stdin" > "$work/stdout" 2> "$work/stderr"
+    verdict "$1" [ "$? $(cat "$work/stderr") $(cmp "${5:-/dev/null}" "$work/stdout" 2>&1)" = "$3 $4 " ]
+}
+printf '# two keys\r\n\r\n\t12C8 3F1E 706F 6308 \n   \n#\n0xC959BDBAFA32A2F89A153B678CFDE12197965A9A' > "$work/keys"
+by_keys keys_of_a_file "--keys $work/keys" 0 "" "$two/stdout"
+by_keys all_but_the_keys_of_a_file "--except --keys $work/keys" 0 ""
+echo 12C83F1E706F6308 > "$work/one"
+by_keys key_of_a_file "--keys $work/one" 0 "" "$here/tests/cases/split/certificate_of_a_subkey/stdout"
+by_keys key_beside_a_file "--keys $work/one --key 8CFDE12197965A9A" 0 "" "$two/stdout"
+by_keys key_in_no_certificate_beside_a_file "--keys $work/one --key 8CFDE12197965A9B" 1 "opgp: no such certificate"
+printf '\n# nothing\n' > "$work/none"
+by_keys no_key_in_a_file "--keys $work/none" 0 ""
+by_keys all_but_no_key "--except --keys $work/none" 0 "" "$two/stdout"
+for line in 12C83F1E706F630 "12C83F1E706F6308 # mine" Alice $'12C83F1E\t706F6308' $'\xff'; do
+    printf '12C83F1E706F6308\n\n%s\n' "$line" > "$work/bad"
+    by_keys "line_of_a_file_that_is_no_key $line" "--keys $work/bad" 2 "opgp: $work/bad, line 3: a fingerprint has 40 or 64 hexadecimal digits, a key ID 16"
+done
+by_keys file_of_keys_that_is_missing "--keys $work/missing --quiet" 3 "opgp: read failed"
+by_keys file_of_keys_that_is_long "--keys $work/literal --input 99999 --quiet" 1 "input: InputTooLong block 0 at 99999 inner 0"
+by_keys keys_on_standard_input "--keys -" 2 "opgp: standard input is the keyring; the keys are in a file"
 # Rows and certificates whose numbers are past those that there are, by one and by as much as may be.
 for number in 1 256 4294967295 4294967296 18446744073709551615; do
     fresh

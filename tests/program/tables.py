@@ -644,6 +644,49 @@ def named_keys():
         yield f"versions and sizes in subpackets of kind {kind}", "show", octets, written_lines(lines)
 
 
+# The names that gpg has for curves, by their object identifiers in RFC 9580, 9.2; and one of SEC 2.
+CURVES = {
+    "2A8648CE3D030107": "nistp256", "2B81040022": "nistp384", "2B81040023": "nistp521", "2B2403030208010107": "brainpoolP256r1",
+    "2B240303020801010B": "brainpoolP384r1", "2B240303020801010D": "brainpoolP512r1", "2B06010401DA470F01": "ed25519",
+    "2B060104019755010501": "cv25519", "2B8104000A": "secp256k1",
+}  # fmt: skip
+
+
+def key_sizes():
+    """Integers of each size up to 24 bits, around those that keys have, and the largest; in version 4 also with a count that is too
+    large. Each curve, and identifiers that are one octet off. Each other algorithm."""
+    octets, lines = b"", []
+
+    def add(version, algorithm, material, size):
+        nonlocal octets
+        body = key_body(version, algorithm, material)
+        octets += new_packet(6, body)
+        lines.append(f"{model.listed(6, body)} 1970-01-01T00:04:16Z size {size}")
+
+    for algorithm, others in ((1, 1), (2, 1), (3, 1), (16, 2), (17, 3)):
+        for bits in (*range(25), *(it + more for it in (1024, 2048, 3072, 4096, 8192) for more in (-1, 0, 1)), 65535):
+            for octet in (0, 255):  # behind the highest bit that is set
+                value = 1 << bits >> 1 | (octet and (1 << bits >> 1) - 1) if bits else 0
+                counts = {bits, *(it for it in (bits + 1, bits + 7, bits + 8, bits + 64) if it < 65536)}
+                for count in sorted(counts):
+                    material = number(2, count) + value.to_bytes((count + 7) // 8, "big") + b"\0\1\1" * others
+                    add(4, algorithm, material, bits)
+                    if count == bits:
+                        add(6, algorithm, material, bits)
+    for algorithm in (18, 19, 22):
+        for digits, name in CURVES.items():
+            curve = bytes.fromhex(digits)
+            for it in (curve, curve[:-1], curve + b"\0", curve[:-1] + bytes([curve[-1] ^ 1])):
+                size = name if it == curve else CURVES.get(it.hex().upper(), f"oid:{it.hex().upper()}")
+                add(4, algorithm, bytes([len(it)]) + it + b"\0\7\x40" + (b"\3\1\10\7" if algorithm == 18 else b""), size)
+    own = {25: (32, "x25519"), 26: (56, "x448"), 27: (32, "ed25519"), 28: (57, "ed448")}
+    for algorithm in set(range(256)) - {1, 2, 3, 16, 17, 18, 19, 22}:
+        size, name = own.get(algorithm, (9, "-"))
+        for version in (4, 6):
+            add(version, algorithm, bytes(size), name)
+    yield "how large keys are", "list --values", octets, written_lines(lines)
+
+
 def date(time):
     """A time in UTC."""
     return datetime.datetime.fromtimestamp(time, datetime.timezone.utc).strftime("%Y-%m-%dT%H:%M:%SZ")
@@ -691,7 +734,7 @@ def stated():
         ([], [(33, four)], "-", "-"), ([(16, one)], [(33, four)], "-", ids[0]), ([(35, four)], [(16, one)], "-", ids[0]),
         ([(33, b"\x06" + four[1:]), (33, b"\x05" + four[1:]), (33, b""), (16, one)], [], "-", ids[0]), ([(33, b"\x04" + six[1:]), (33, six)], [], "-", prints[1]),
     ]  # fmt: skip
-    ring, lines = KEY, [f"{LINE_OF_THE_KEY} 2014-08-19T14:28:27Z"]
+    ring, lines = KEY, [f"{LINE_OF_THE_KEY} 2014-08-19T14:28:27Z size ed25519"]
     for version, width in ((4, 2), (6, 4)):
         for hashed, unhashed, created, issuer in rows:
             areas = [b"".join(subpacket_octets(*it) for it in area) for area in (hashed, unhashed)]
@@ -1002,8 +1045,8 @@ def of_packets(parts):
     keys = [it[4] for it in packets if it[2] in (6, 14)]
     for binary, out in ((False, ""), (True, " --out binary")):
         for words, command in (("write", "write"), ("normalise", "normalise"), ("split", "split"), ("join", "join"), ("join --merge", "merge"),
-                               ("write --own-signatures --no-attributes --user-id 0", (True, True, 0)),
-                               (f"write --user-id {names - 1}", (False, False, names - 1)), ("write --own-signatures", (True, False, None))):
+                               ("write --own-signatures --no-attributes --user-id 0", (True, True, (0,))),
+                               (f"write --user-id {names - 1}", (False, False, (names - 1,))), ("write --own-signatures", (True, False, ()))):
             said_so.append((words + out, written(command, binary)))
         said_so.append((f"split --nth {len(certificates) - 1}{out}", written("nth", binary, len(certificates) - 1)))
         for name in (fingerprint(keys[-1]), key_id(keys[0])):
@@ -1121,7 +1164,7 @@ def rows():
         yield from rows_of(name)
     for it in (
         packet_types, key_algorithms, signature_algorithms, other_versions, hash_algorithms, signature_types, subpackets,
-        values, literals, dates, named_keys, stated, first_octets, octets_before_armor,
+        values, literals, dates, named_keys, key_sizes, stated, first_octets, octets_before_armor,
         large_sizes, ends_of_lines, beginnings, beginnings_of_packets, real_certificates, samples, user_ids_of_each_octet, each_size,
         each_small_size, each_number,
     ):  # fmt: skip

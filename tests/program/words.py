@@ -24,6 +24,9 @@ KEY = f"{HERE}/examples/rfc9580-a1.asc"
 COMMANDS = ["show", "list", "check", "state", "octets", "write", "normalise", "split", "join", "signatures", "digest", "canonical", "cleartext"]
 ARMOR, BINARY = b"-----BEGIN PGP PUBLIC KEY BLOCK-----\n\nxjME", b"\xc6\x33\x04"
 NO_ROW, NO_CERTIFICATE = "opgp: no such row", "opgp: no such certificate"
+KEYS = f"{ROOM.name}/keys"
+with open(KEYS, "w", encoding="utf-8") as file:
+    file.write("# a key\n\n\tC959BDBAFA32A2F89A15 3B678CFDE12197965A9A \r\n  #\n0x8CFDE12197965A9A")
 SIGNATURE = f"--signatures {HERE}/examples/rfc9580-a2.asc"
 NO_LITERAL = "composition: BlockLabel block 0 at 0 inner 0"
 # What --progress shows: within the limit 10 one octet more is read, else all of the key.
@@ -58,6 +61,7 @@ ACCEPTED = {
     "write --user-id 0": ARMOR,
     "write --user-id +007 --no-attributes --own-signatures --out=binary": BINARY,
     "write --user-id=18446744073709551615 --spool " + ROOM.name: ARMOR,
+    "write --user-id 0 --user-id 7 --user-id=0": ARMOR,
     "write --progress --own-signatures --malformed keep": ARMOR,
     "write --own-signatures --input 10": "input: InputTooLong block 0 at 10 inner 0",
     "normalise --out binary": BINARY,
@@ -73,6 +77,15 @@ ACCEPTED = {
     "split --key 8CFDE12197965A9B": NO_CERTIFICATE,
     "split --key C959BDBAFA32A2F89A153B678CFDE12197965A9B": NO_CERTIFICATE,
     "split --key " + 64 * "0": NO_CERTIFICATE,
+    "split --key 8CFDE12197965A9A --key=0x8cfde12197965a9a": ARMOR,
+    "split --key 8CFDE12197965A9A --key 8CFDE12197965A9B": NO_CERTIFICATE,
+    "split --key 8CFDE12197965A9B --out binary --key 8CFDE12197965A9A": NO_CERTIFICATE,
+    "split --except --key C959BDBAFA32A2F89A153B678CFDE12197965A9A": b"",
+    "split --key 8CFDE12197965A9B --except": NO_CERTIFICATE,
+    f"split --keys {KEYS}": ARMOR,
+    f"split --out binary --keys={KEYS} --key 8CFDE12197965A9A": BINARY,
+    f"split --keys {KEYS} --except --spool {ROOM.name}": b"",
+    f"split --keys {KEYS} --key 8CFDE12197965A9B": NO_CERTIFICATE,
     "show --values": USUAL["show"],
     "list --values": USUAL["list"],
     "list --values --progress": USUAL["list"],
@@ -150,7 +163,11 @@ REFUSED = [
         "x", "0x", "97965A9A", "8CFDE12197965A9", "8CFDE12197965A9AA", "8CFDE12197965A9G", 39 * "0", 41 * "0", 42 * "0", 63 * "0", 65 * "0",
         66 * "0", "0x" + 66 * "0", "0x0x8CFDE12197965A9A", 1000 * "0", "x8CFDE12197965A9A", "8CFDE121:97965A9A", "\t8CFDE12197965A9A")),
     ("split --key", "--key"), ("split --key=", "--key"), ("list --key 8CFDE12197965A9A", "--key"),
-    ("split --key 8CFDE12197965A9A --key 8CFDE12197965A9A", "--key"), ("split --key x --nth y", "'y'"),
+    ("split --key 8CFDE12197965A9A --key x", "invalid value 'x' for '--key <KEY>'"), ("split --key x --nth y", "'y'"),
+    ("split --except", "'--except' wants '--key <KEY>' or '--keys <FILE>'"), ("split --nth 0 --except", "'--except' wants '--key <KEY>' or '--keys <FILE>'"),
+    ("split --keys", "--keys"), ("split --keys=", "--keys"), ("split --keys x --keys y", "--keys"), ("split --keys x --key y", "invalid value 'y' for '--key <KEY>'"),
+    ("split --keys x --nth 0", "'--nth <N>' cannot be used with '--keys <FILE>'"), ("split --keys x --nth 0 --key y", "'--nth <N>' cannot be used with '--key <KEY>'"),
+    (f"split --keys {KEYS} --except --except", "--except"), ("split --except=true --key 8CFDE12197965A9A", "--except"), ("list --except", "--except"), ("write --keys x", "--keys"),
     ("split --nth 0 --key 8CFDE12197965A9A", "'--nth <N>' cannot be used with '--key <KEY>'"),
     ("split --key x --nth 0", "'--nth <N>' cannot be used with '--key <KEY>'"),
     (None, "'opgp' requires a subcommand but one was not provided"), ("", "unrecognized subcommand ''"),
@@ -170,7 +187,7 @@ REFUSED = [
     ("write --attributes", "--attributes"),
     ("write --user-id", "--user-id"), ("write --user-id=", "--user-id"), ("write --user-id -1", "-1"),
     ("write --user-id 18446744073709551616", "18446744073709551616"),
-    ("write --user-id Alice", "Alice"), ("write --user-id 0 --user-id 1", "--user-id"), ("normalise --user-id 0", "--user-id"),
+    ("write --user-id Alice", "Alice"), ("write --user-id 0 --user-id x", "x"), ("write --user-id 0 --user-id", "--user-id"), ("normalise --user-id 0", "--user-id"),
     ("split --own-signatures", "--own-signatures"), ("join --no-attributes", "--no-attributes"), ("list --user-id 0", "--user-id"),
     ("list --merge", "--merge"), ("check --values", "--values"), ("list --fingerprints", "--fingerprints"),
     ("check --fingerprints --fingerprints", "--fingerprints"), ("check --fingerprints=true", "--fingerprints"),
@@ -208,7 +225,7 @@ for line in ("list --help", "list -h", "help list"):
         "--outside <POLICY>", "[possible values: skip, refuse]", "[default: skip]",
         "--malformed <POLICY>", "[possible values: refuse, keep]", "[default: refuse]", "--values",
         "--line <N>", "--body <N>", "--cert <N>", "--input <N>", "--pieces <N>", "--progress", "--quiet", "--spool <DIR>")]
-REFUSED += [("octets --help", "--of <TOP>"), ("octets --help", "--row <N>"), ("octets --help", "--all"), ("show --help", "--values"), ("check --help", "--fingerprints"), ("split --help", "--nth <N>"), ("write --help", "--own-signatures"), ("write --help", "--no-attributes"), ("write --help", "--user-id <N>"), ("split --help", "--key <KEY>"), ("join --help", "--merge")]
+REFUSED += [("octets --help", "--of <TOP>"), ("octets --help", "--row <N>"), ("octets --help", "--all"), ("show --help", "--values"), ("check --help", "--fingerprints"), ("split --help", "--nth <N>"), ("write --help", "--own-signatures"), ("write --help", "--no-attributes"), ("write --help", "--user-id <N>"), ("split --help", "--key <KEY>"), ("split --help", "--keys <FILE>"), ("split --help", "--except"), ("join --help", "--merge")]
 # A line that is refused, and the whole text.
 TEXTS = {
     "list --body 511": "error: invalid value '511' for '--body <N>': 511 is not in 512..=4294967295\n\n"
@@ -228,6 +245,8 @@ TEXTS = {
                             "\n\nFor more information, try '--help'.\n",
     "split --key 97965A9A --nth 0": "error: the argument '--nth <N>' cannot be used with '--key <KEY>'\n\n"
                                     "For more information, try '--help'.\n",
+    "split --except": "error: the argument '--except' wants '--key <KEY>' or '--keys <FILE>'\n\nFor more information, try '--help'.\n",
+    "split --keys x --nth 0": "error: the argument '--nth <N>' cannot be used with '--keys <FILE>'\n\nFor more information, try '--help'.\n",
     "list extra": "error: unexpected argument 'extra' found\n\nUsage: opgp list [OPTIONS]\n\n"
                   "For more information, try '--help'.\n\nopgp reads standard input: opgp COMMAND < FILE\n",
 }

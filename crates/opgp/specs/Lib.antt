@@ -1,4 +1,5 @@
 pub mod Armor
+pub mod Blocks
 pub mod Cleartext
 pub mod Codec
 pub mod Document

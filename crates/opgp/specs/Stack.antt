@@ -5,6 +5,7 @@ pub use Rattle.opgp_stack.specs.Documents
 pub use Rattle.opgp_stack.specs.Faults
 pub use Rattle.opgp_stack.specs.Hashing
 pub use Rattle.opgp_stack.specs.CleartextRun
+pub use Rattle.opgp_stack.specs.KeyFile
 pub use Rattle.opgp_stack.specs.KeyName
 pub use Rattle.opgp_stack.specs.KeyText
 pub use Rattle.opgp_stack.specs.Listing

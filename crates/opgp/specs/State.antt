@@ -1,7 +1,10 @@
 -- The definitions of `opgp_state`, and its types as they are declared.
 pub use Rattle.opgp_state.specs.declared
 pub use Rattle.opgp_state.specs.Claimed
+pub use Rattle.opgp_state.specs.Claiming
+pub use Rattle.opgp_state.specs.Claims
 pub use Rattle.opgp_state.specs.KeyringStates
+pub use Rattle.opgp_state.specs.Reordered
 pub use Rattle.opgp_state.specs.Report
 pub use Rattle.opgp_state.specs.StateLines
 pub use Rattle.opgp_state.specs.VerdictFile

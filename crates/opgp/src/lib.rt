@@ -11,6 +11,11 @@ pub mod armor {
     pub use opgp_armor::{ArmorEvent, Block, Dearmor, Label, armor, dearmor, encode_row, laws};
 }
 
+/// Armored blocks in texts as mail programs meet them.
+pub mod blocks {
+    pub use opgp_blocks::{Blocks, FoundBlock, laws};
+}
+
 /// Messages in the cleartext signature framework (RFC 9580, 7): documents with their signatures.
 pub mod cleartext {
     pub use opgp_cleartext::{Cleartext, laws};
@@ -103,10 +108,10 @@ pub mod ring {
 /// What the program does: its lines, its tasks, and a run of one.
 pub mod stack {
     pub use opgp_stack::{
-        Action, Around, CleartextPart, KeyName, RunFault, StateTask, Task, Top, laws, read_octets,
-        run, run_around, run_canonical, run_cleartext, run_digests, run_last, run_signatures,
-        run_spooled, run_states, time_in, write_fingerprinted_report, write_listing, write_report,
-        write_shown,
+        Action, Around, CleartextPart, KeyName, RunFault, StateTask, Task, Top, keys_in, laws,
+        read_octets, run, run_around, run_canonical, run_cleartext, run_digests, run_last,
+        run_signatures, run_spooled, run_states, time_in, write_fingerprinted_report,
+        write_listing, write_report, write_shown,
     };
 }
 
@@ -114,7 +119,7 @@ pub mod stack {
 pub mod state {
     pub use opgp_state::{
         Basis, KeyringStates, add_fingerprinted_report, add_report, add_states, claimed_verdicts,
-        left_of, read_verdicts, verdict_words,
+        laws, left_of, read_verdicts, verdict_words,
     };
 }
 

@@ -1,6 +1,6 @@
 -- What the calls of the library say.
 use Rattle.std.specs.Prelude.{◌≡◌, ◌≢◌, ◌<◌, ◌↔◌, ◌⊎◌, ◌++◌, ◌==◌, if◌then◌else◌, ℕ, List, length, drop}
-use Rattle.std.specs.Prelude.{true, false, Err, Option, Some, None}
+use Rattle.std.specs.Prelude.{Bool, not, true, false, Err, Option, Some, None}
 use Rattle.opgp_octets.specs.declared.fault.Fault.{Fault}
 use Rattle.opgp_octets.specs.declared.limits.Limits.{Limits}
 use Rattle.opgp_ring.specs.Keyring.{KeyringValue}
@@ -12,6 +12,7 @@ use Rattle.opgp_codec.specs.declared.mode.Mode.TheVariants.{Auto, Armor, Binary}
 use Rattle.opgp_codec.specs.declared.out.Out.{Out}
 use Rattle.opgp_codec.specs.declared.out.Out.TheVariants as written
 use Rattle.opgp_merge.specs.Merged.{merged_of}
+use Rattle.opgp_merge.specs.declared.choice.Choice.{Choice}
 use Rattle.opgp_tables.specs.declared.fault_row.FaultRow.{FaultRow}
 use Rattle.opgp_tables.specs.declared.given_limits.GivenLimits.{GivenLimits}
 use Rattle.opgp_tables.specs.FaultRow.{fault_row}
@@ -95,6 +96,18 @@ pub record KeepsMade (made : KeyringValue → KeyringValue) (ring ring' into int
   pub closed : (status ≡ 5) ↔ (ring.is_open ≡ false)
   pub holds : HoldsTheSame ring ring'
   pub one_of : (status ≡ 0) ⊎ ((status ≡ 3) ⊎ (status ≡ 5))
+
+-- any number but 0 says yes
+abbrev pub is_set : ℕ → Bool
+is_set n = not (n == 0)
+
+-- the choice that these numbers ask for: own signatures alone, no attributes, user IDs of these
+-- numbers
+pub record IsChoice (own_signatures no_attributes : ℕ) (user_ids : List ℕ)
+    (choice : Choice) : Type 0 where
+  pub own : choice.own_signatures ≡ is_set own_signatures
+  pub attributes : choice.no_attributes ≡ is_set no_attributes
+  pub named : choice.user_ids.now ≡ user_ids
 
 -- any number but 0 asks for armor
 abbrev pub out_of : ℕ → Out

@@ -17,12 +17,14 @@ ghost use Rattle.opgp_tables.specs.Subpackets.{subpacket_bytes, subpacket_rows};
 ghost use Rattle.opgp_hash.specs.Hashed.{hashed};
 ghost use Rattle.opgp_hash.specs.QuestionValue.{QuestionValue};
 ghost use Rattle.opgp_report.specs.Asked.{asked_of, question_in};
+ghost use Rattle.opgp_merge.specs.Chosen.{chosen_keyring};
 ghost use Rattle.opgp_merge.specs.Merged.{merged_of};
+ghost use Rattle.opgp_merge.specs.declared.choice.Choice.{Choice};
 ghost use Rattle.opgp_ring.specs.Joining.{nth_of};
 ghost use Rattle.opgp_ring.specs.Keyring.{flat};
 ghost use Rattle.opgp_ring.specs.Normal.{normal_of};
-ghost use Rattle.opgp_c.specs.Calls.{Answers, AnswersBy, HoldsTheSame, IsFilled, KeepsMade};
-ghost use Rattle.opgp_c.specs.Calls.{PutsTables, Refuses, RefusesBy, mode_by, out_of};
+ghost use Rattle.opgp_c.specs.Calls.{Answers, AnswersBy, HoldsTheSame, IsChoice, IsFilled};
+ghost use Rattle.opgp_c.specs.Calls.{KeepsMade, PutsTables, Refuses, RefusesBy, mode_by, out_of};
 ghost use Rattle.opgp_c.specs.declared.slot.Reading.TheVariants.{Lost};
 ghost use Rattle.opgp_codec.specs.declared.mode.Mode.{Mode};
 ghost use Rattle.opgp_tables.specs.HashedRows.{hashed_bytes, hashed_rows};
@@ -41,6 +43,7 @@ mod beliefs;
 mod calls;
 mod document;
 pub mod documents;
+pub mod finding;
 pub mod laws;
 mod making;
 mod parts;
@@ -60,10 +63,11 @@ mod status;
 mod tables;
 mod text;
 pub mod texts;
+pub mod user_ids;
 mod whys;
 
 use crate::calls::{mode_by, put_octets, put_text, read_ring};
-use crate::making::{Making, joined, keep, keep_found, keep_made};
+use crate::making::{Making, joined, keep, keep_chosen, keep_found, keep_made};
 use crate::reader::Reader;
 use crate::reading::{begin, end_input, push_piece, take_part};
 use crate::ring::Ring;
@@ -72,6 +76,7 @@ use crate::status::{CLOSED, DONE, LIMITS, MEMORY, NO_ROW};
 use crate::tables::{Window, put_hashed, put_row_octets, put_table};
 use crate::whys::unbelieved_name;
 use opgp_codec::Mode;
+use opgp_merge::Choice;
 use opgp_ring::nth;
 use opgp_tables::{
     FaultRow, GivenLimits, HashedRow, JobRow, KeyRow, NumberTable, PacketRow, SubpacketRow,
@@ -417,6 +422,33 @@ pub extern "C" fn opgp_ring_merge(alloc: Global, ring: &mut Ring, into: &mut Rin
     ensures { KeepsMade merged_of ring.old ring.new into.old into.new result }
 {
     keep_made(alloc, Making::Merged, ring, into)
+}
+
+/// Keeps the chosen parts of each certificate, in their order and as they are framed: of the
+/// signatures only those that name their certificate's primary key as the issuer, if
+/// `own_signatures` isn't 0; no user attributes (RFC 9580, 5.12), if `no_attributes` isn't 0; and
+/// of the user IDs (5.11) those of these numbers, counted from 0 in each certificate, or all where
+/// no number is given. What precedes the first certificate stays.
+///
+/// The handles and the statuses are those of [`opgp_ring_normalise`].
+#[unsafe(no_mangle)]
+pub extern "C" fn opgp_ring_choose(
+    alloc: Global,
+    ring: &mut Ring,
+    own_signatures: u32,
+    no_attributes: u32,
+    user_ids: &[u64],
+    into: &mut Ring,
+) -> u32
+    ensures { (choice : Choice) × IsChoice own_signatures no_attributes user_ids.now choice
+        × KeepsMade (chosen_keyring choice) ring.old ring.new into.old into.new result }
+{
+    let choice = Choice {
+        own_signatures: own_signatures != 0,
+        no_attributes: no_attributes != 0,
+        user_ids,
+    };
+    keep_chosen(alloc, choice, ring, into)
 }
 
 /// Keeps the certificate of this number, counted from 0, as a keyring.

@@ -2,12 +2,13 @@
 
 ghost use Rattle.std.specs.Prelude.{◌≡◌, ◌≢◌, ◌⊎◌, ◌++◌, true, Some, None, Ok, IfOk};
 ghost use Rattle.opgp_ring.specs.Keyring.{flat};
+ghost use Rattle.opgp_merge.specs.Chosen.{chosen_keyring};
 ghost use Rattle.opgp_c.specs.Calls.{KeepsMade, made_by};
 
 use crate::ring::Ring;
 use crate::slot::Held;
 use crate::status::{CLOSED, DONE, MEMORY, NO_ROW};
-use opgp_merge::merge;
+use opgp_merge::{Choice, choose, merge};
 use opgp_octets::OutOfMemory;
 use opgp_ring::{Keyring, join, normalise};
 use std::alloc::Global;
@@ -62,6 +63,33 @@ pub(crate) fn keep_made(alloc: Global, making: Making, ring: &mut Ring, into: &m
         Ok(made) => keep(alloc, into, made),
         Err(_) => MEMORY,
     }
+}
+
+/// Keeps in another handle the chosen parts of the keyring that a handle holds.
+pub(crate) fn keep_chosen(
+    alloc: Global,
+    choice: Choice<'_>,
+    ring: &mut Ring,
+    into: &mut Ring,
+) -> u32
+    ensures { KeepsMade (chosen_keyring choice.entry) ring.old ring.new into.old into.new result }
+{
+    let Some(held) = ring.take(alloc) else {
+        return CLOSED;
+    };
+    let made = chosen(alloc, choice, &held.keyring);
+    ring.give(held);
+    match made {
+        Ok(made) => keep(alloc, into, made),
+        Err(_) => MEMORY,
+    }
+}
+
+/// The chosen parts of a copy. Fails only when out of memory.
+fn chosen(alloc: Global, choice: Choice<'_>, keyring: &Keyring) -> Result<Keyring, OutOfMemory>
+    ensures { IfOk result (λ r. r ≡ chosen_keyring choice.entry keyring.now) }
+{
+    choose(keyring.copy(alloc)?, choice)
 }
 
 /// Keeps the certificate of this number, if there is one, as a keyring.

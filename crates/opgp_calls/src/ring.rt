@@ -193,9 +193,9 @@ fn merged(alloc: Global, given: &Given, answer: &mut Answer) {
     }
 }
 
-/// `own` and `bare` say which signatures and whether attributes are left out, a number which user
-/// ID stays.
-fn choice_of(given: &Given) -> Choice {
+/// `own` and `bare` say which signatures and whether attributes are left out, numbers which user IDs
+/// stay.
+fn choice_of<'a>(given: &'a Given<'_>) -> Choice<'a> {
     let mut choice = Choice::everything();
     for name in given.names() {
         match *name {
@@ -204,9 +204,7 @@ fn choice_of(given: &Given) -> Choice {
             _ => (),
         }
     }
-    if let Some(number) = given.numbers().first() {
-        choice.user_id = Some(*number);
-    }
+    choice.user_ids = given.numbers();
     choice
 }
 

@@ -4,6 +4,7 @@ pub mod Filling
 pub mod Given
 pub mod OneAnswer
 pub mod OneDocument
+pub mod Lending
 pub mod Pairs
 pub mod Places
 pub mod Reading

@@ -31,6 +31,15 @@ module _ {A B : Type 0} (P Q : A → B → Type 0) where
   step zero (a ∷ xs) (b ∷ ys) x y h e f m = (f b (subst (λ (z : A). Q z b) (sym e) m.0), m.1)
   step (suc n) (a ∷ xs) (b ∷ ys) x y h e f m = (m.0, step n xs ys x y (omega arith) e f m.1)
 
+  -- the second list has one for each of the first n, of which P holds
+  pub earlier : (n i : ℕ) (xs : List A) (ys : List B) → i < n → i < length xs → Mixed n xs ys
+      → (a : A) × (b : B) × (slice_get xs i ≡ Some a) × P a b
+  earlier n i [] ys h l m = absurd (omega arith)
+  earlier n i (a ∷ xs) [] h l m = absurd m
+  earlier zero i (a ∷ xs) (b ∷ ys) h l m = absurd (omega arith)
+  earlier (suc n) zero (a ∷ xs) (b ∷ ys) h l m = (a, b, refl, m.0)
+  earlier (suc n) (suc i) (a ∷ xs) (b ∷ ys) h l m = earlier n i xs ys (omega arith) (omega arith) m.1
+
 -- ---- pairs of two lists, all of them
 module _ {A B : Type 0} (R : A → B → Type 0) where
   pub as_long : (xs : List A) (ys : List B) → AllZip R xs ys → length xs ≡ length ys
@@ -51,6 +60,11 @@ module _ {A B : Type 0} (R : A → B → Type 0) where
   paired (a ∷ xs) [] i x z h e = absurd z
   paired (a ∷ xs) (b ∷ ys) zero x z h e = (b, refl, subst (λ (v : A). R v b) (sym e) z.0)
   paired (a ∷ xs) (b ∷ ys) (suc i) x z h e = paired xs ys i x z.1 (omega arith) e
+
+pub got : {A : Type 0} (xs : List A) (n : ℕ) (x : A) → n < length xs → x ≡ get_or xs n x → slice_get xs n ≡ Some x
+got [] n x h e = absurd (omega arith)
+got (a ∷ xs) zero x h e = ap (λ (y : _). Some y) (sym e)
+got (a ∷ xs) (suc n) x h e = got xs n x (omega arith) e
 
 -- of what each of the first list has
 pub of_each : {A B C : Type 0} (R : C → B → Type 0) (f : A → C) (xs : List A) (ys : List B) → AllZip (λ (a : A) (b : B). R (f a) b) xs ys → AllZip R (map f xs) ys

@@ -1,5 +1,5 @@
 -- What the hasher of a signature over a document was given.
-use Rattle.std.specs.Prelude.{◌≡◌, ℕ, ◌==◌, Bool, true, List, []}
+use Rattle.std.specs.Prelude.{◌≡◌, ℕ, ◌==◌, Bool, true, false, List, []}
 use Rattle.std.specs.declared.option.Option.{Option}
 use Rattle.std.specs.declared.option.Option.TheVariants.{None, Some}
 use Rattle.sha2.specs.Hashers.{Holds224, Holds256, Holds384, Holds512}
@@ -28,6 +28,9 @@ RunsAs (running.Sha512 h) hash is_text front document =
 
 -- The hasher of this signature was given these octets of a document.
 pub record IsOver (h : SignatureHasher) (s : SignedValue) (document : List ℕ) : Type 0 where
+  pub algorithm : h.hash ≡ s.hash
+  pub of_kind : h.kind ≡ s.kind
+  pub unsalted : h.is_salted ≡ false → s.salt ≡ []
   pub own : h.behind.items ≡ closing s
   pub kind : IsDocumentKind s.kind
   pub supported : is_hash s.version s.hash ≡ true

@@ -95,3 +95,21 @@ impl<D: Digest> DocumentHasher<D> {
         }
     }
 }
+
+impl<D: Digest + Clone> DocumentHasher<D> {
+    /// A copy; None if none can be made.
+    pub(crate) fn copy(&self) -> Option<DocumentHasher<D>>
+        requires copies { (h c : D) → D.is_clone h c → c ≡ h }
+        ensures { IfSome result (λ copy. copy ≡ self.now) }
+    {
+        match self.hasher.clone() {
+            Ok(hasher) => Some(DocumentHasher {
+                hasher,
+                is_text: self.is_text,
+                after_cr: self.after_cr,
+                has_stray: self.has_stray,
+            }),
+            Err(_) => None,
+        }
+    }
+}

@@ -1,12 +1,12 @@
 //! One signature's place among those over a document: what becomes its answer.
 
-ghost use Rattle.std.specs.Prelude.{◌≡◌, ◌++◌, [], ℕ, List, Option, Ok, IfOk};
+ghost use Rattle.std.specs.Prelude.{◌≡◌, ◌++◌, [], ℕ, List, Option, Ok, IfOk, IfSome};
 ghost use Rattle.opgp_hash.specs.SignedValue.{SignedValue};
 ghost use Rattle.opgp_document.specs.Answer.{asked_of};
-ghost use Rattle.opgp_document.specs.Place.{IsEnded, IsPlace};
+ghost use Rattle.opgp_document.specs.Place.{IsEnded, IsPlace, RunsFor};
 
 use crate::document_why::DocumentWhy;
-use crate::signature_hasher::SignatureHasher;
+use crate::signature_hasher::{AlgorithmHasher, SignatureHasher};
 use opgp_hash::Digest;
 use opgp_octets::{BodyFault, OutOfMemory};
 use opgp_packet::SigView;
@@ -59,6 +59,30 @@ impl Place {
     {
         if let Some(hasher) = &mut self.hasher {
             hasher.push(piece);
+        }
+    }
+
+    /// What runs for this signature, copied for another one for which the same is hashed of a
+    /// document; None if it isn't the same.
+    pub(crate) fn running_for(&self, other: &Place) -> Option<AlgorithmHasher>
+        ensures { IfSome result (λ running. (s t : Option SignedValue)
+            (document begun : List ℕ) → IsPlace self.now s document → IsPlace other.now t begun
+            → RunsFor running t document) }
+    {
+        match (&self.hasher, &other.hasher) {
+            (Some(one), Some(two)) => one.running_for(two),
+            _ => None,
+        }
+    }
+
+    /// Takes over what ran for another signature.
+    pub(crate) fn put(&mut self, running: AlgorithmHasher)
+        ensures { (signature : Option SignedValue) (document begun : List ℕ)
+            → IsPlace self.old signature begun → RunsFor running signature document
+            → IsPlace self.new signature document }
+    {
+        if let Some(hasher) = &mut self.hasher {
+            hasher.put(running);
         }
     }
 

@@ -1,6 +1,6 @@
 //! The document of one signature, hashed (RFC 9580, 5.2.4).
 
-ghost use Rattle.std.specs.Prelude.{◌≡◌, ◌++◌, ℕ, List, [], true};
+ghost use Rattle.std.specs.Prelude.{◌≡◌, ◌==◌, ◌++◌, ℕ, List, [], true, false};
 ghost use Rattle.std.specs.Prelude.{IfSome, IfNone, IfOk, IfErr, Ok};
 ghost use Rattle.opgp_hash.specs.Digest.{digest_under};
 ghost use Rattle.opgp_hash.specs.QuestionValue.{is_hash};
@@ -30,6 +30,21 @@ pub(crate) enum AlgorithmHasher {
     Sha512(DocumentHasher<Sha512>),
 }
 
+impl AlgorithmHasher {
+    /// A copy; None if none can be made.
+    fn copy(&self) -> Option<AlgorithmHasher>
+        ensures { IfSome result (λ copy. copy ≡ self.now) }
+    {
+        match self {
+            AlgorithmHasher::Sha1(hasher) => Some(AlgorithmHasher::Sha1(hasher.copy()?)),
+            AlgorithmHasher::Sha224(hasher) => Some(AlgorithmHasher::Sha224(hasher.copy()?)),
+            AlgorithmHasher::Sha256(hasher) => Some(AlgorithmHasher::Sha256(hasher.copy()?)),
+            AlgorithmHasher::Sha384(hasher) => Some(AlgorithmHasher::Sha384(hasher.copy()?)),
+            AlgorithmHasher::Sha512(hasher) => Some(AlgorithmHasher::Sha512(hasher.copy()?)),
+        }
+    }
+}
+
 /// Begins a hasher by the algorithm of this number, which is supported.
 #[tactic(auto, unfolding(opgp_octets::specs::HashAlgorithm::hash_algorithm_of))]
 fn begin(version: u8, hash: u8, is_text: bool, salt: &[u8]) -> AlgorithmHasher
@@ -45,6 +60,16 @@ fn begin(version: u8, hash: u8, is_text: bool, salt: &[u8]) -> AlgorithmHasher
     }
 }
 
+/// Whether there is a salt.
+fn is_salted(salt: &[u8]) -> bool
+    ensures { result ≡ false → salt.now ≡ [] }
+{
+    match salt {
+        [] => false,
+        _ => true,
+    }
+}
+
 /// Hashes what a signature over a document hashes (RFC 9580, 5.2.4), of which the document comes
 /// in pieces of any size: as it is for type 00, as canonical text for type 01.
 ///
@@ -52,6 +77,9 @@ fn begin(version: u8, hash: u8, is_text: bool, salt: &[u8]) -> AlgorithmHasher
 /// signature hashes behind the document.
 #[derive(Drop)]
 pub struct SignatureHasher {
+    hash: u8,
+    kind: u8,
+    is_salted: bool,
     behind: Vec<u8>,
     running: AlgorithmHasher,
 }
@@ -82,7 +110,13 @@ impl SignatureHasher {
         }
         let behind = own.behind(alloc)?;
         let running = begin(own.version(), own.hash(), kind == 1, own.salt());
-        Ok(Ok(SignatureHasher { behind, running }))
+        Ok(Ok(SignatureHasher {
+            hash: own.hash(),
+            kind,
+            is_salted: is_salted(own.salt()),
+            behind,
+            running,
+        }))
     }
 
     /// Takes the next piece of the document.
@@ -99,6 +133,39 @@ impl SignatureHasher {
         }
     }
 
+    /// Whether the same is hashed of a document for another signature: by the same algorithm, for
+    /// the same type, and behind no salt.
+    fn is_like(&self, other: &SignatureHasher) -> bool
+        ensures { result ≡ true → (s t : SignedValue) (document begun : List ℕ)
+            → IsOver self.now s document → IsOver other.now t begun
+            → (s.hash ≡ t.hash) × (s.kind ≡ t.kind) × (s.salt ≡ t.salt) }
+    {
+        self.hash == other.hash && self.kind == other.kind && !self.is_salted && !other.is_salted
+    }
+
+    /// What runs, copied for another signature for which the same is hashed of a document; None if
+    /// it isn't the same, or if no copy can be made.
+    pub(crate) fn running_for(&self, other: &SignatureHasher) -> Option<AlgorithmHasher>
+        ensures { IfSome result (λ running. (s t : SignedValue) (document begun : List ℕ)
+            → IsOver self.now s document → IsOver other.now t begun
+            → RunsAs running t.hash (t.kind == 1) t.salt document) }
+    {
+        if self.is_like(other) {
+            self.running.copy()
+        } else {
+            None
+        }
+    }
+
+    /// Takes over what ran for another signature.
+    pub(crate) fn put(&mut self, running: AlgorithmHasher)
+        ensures { (s : SignedValue) (document begun : List ℕ) → IsOver self.old s begun
+            → RunsAs running s.hash (s.kind == 1) s.salt document
+            → IsOver self.new s document }
+    {
+        self.running = running;
+    }
+
     /// The digest of what the signature hashes, over the whole document, however it was cut into
     /// pieces; None if and only if the signature is of type 01, and the document has no canonical
     /// text.
@@ -111,7 +178,13 @@ impl SignatureHasher {
             → IsOver self s document
             → (s.kind ≡ 1) × ((text : List ℕ) → HasText document text → ⊥)) }
     {
-        let SignatureHasher { behind, running } = self;
+        let SignatureHasher {
+            hash: _,
+            kind: _,
+            is_salted: _,
+            behind,
+            running,
+        } = self;
         let octets = behind.as_slice();
         match running {
             AlgorithmHasher::Sha1(hasher) => match hasher.finish(octets) {

@@ -1,28 +1,30 @@
 //! One document, hashed for several signatures.
 
 ghost use Rattle.std.specs.Prelude.{◌≡◌, ◌≤◌, ◌<◌, ◌↔◌, ◌++◌, [], ℕ, List, length, map};
-ghost use Rattle.std.specs.Prelude.{Option, IfOk, IfErr, MatchOption};
+ghost use Rattle.std.specs.Prelude.{Option, IfOk, IfErr, IfSome, MatchOption};
 ghost use Rattle.std.specs.List.{AllZip};
 ghost use Rattle.opgp_hash.specs.SignedValue.{SignedValue};
 ghost use Rattle.opgp_document.specs.Answer.{IsAnswer, IsAnswerAt, asked_of};
-ghost use Rattle.opgp_document.specs.Place.{IsPlace, IsEnded};
+ghost use Rattle.opgp_document.specs.Place.{IsLent, IsPlace, IsEnded};
 ghost use Rattle.opgp_document.specs.SignedDocument.{AreAnswers, IsSignedBy};
 ghost use Rattle.opgp_document.specs.declared.open_fault.OpenFault.TheVariants.{TooManySignatures};
 
 use crate::document_why::DocumentWhy;
 use crate::open_fault::OpenFault;
 use crate::place::Place;
+use crate::signature_hasher::AlgorithmHasher;
 use opgp_hash::Digest;
 use opgp_octets::{BodyFault, OutOfMemory};
 use opgp_packet::SigView;
 use std::alloc::Global;
 
-/// The most signatures that one document is hashed for: a document is hashed once for each of
-/// them, so their number multiplies the work.
+/// The most signatures that one document is hashed for: it is hashed once for each salt, in version
+/// 6, so their number multiplies the work.
 pub const MOST_SIGNATURES: usize = 64;
 
 /// A document that comes in pieces of any size, hashed for several signatures in one pass: as it
-/// is for those of type 00, as canonical text for those of type 01 (RFC 9580, 5.2.1, 5.2.4).
+/// is for those of type 00, as canonical text for those of type 01 (RFC 9580, 5.2.1, 5.2.4). It is
+/// hashed once for all of version 4 that have the same type and hash algorithm.
 ///
 /// It owns all that it needs. Only [`SignedDocument::open`] allocates: one list, and for each
 /// signature that has a digest a copy of what it hashes behind the document.
@@ -140,14 +142,34 @@ fn places_of(
     Ok(places)
 }
 
-/// Gives each place the next piece of the document.
+/// What runs at an earlier place, copied for the place of this index, for which the same is hashed
+/// of the document; None if there is none.
+fn running_of(places: &[Place], next: usize) -> Option<AlgorithmHasher>
+    requires { next < length places.now }
+    ensures { IfSome result (IsLent places.now next) }
+{
+    for i in 0..next {
+        if let Some(running) = places[i].running_for(&places[next]) {
+            return Some(running);
+        }
+    }
+    None
+}
+
+/// Gives each place the next piece of the document. Where the same is hashed for several of them,
+/// it is hashed once.
 fn push_all(places: &mut [Place], piece: &[u8])
     ensures { (signatures : List (Option SignedValue)) (document : List ℕ)
         → AllZip (λ p s. IsPlace p s document) places.old signatures
         → AllZip (λ p s. IsPlace p s (document ++ piece.now)) places.new signatures }
 {
-    for place in places.iter_mut() {
-        place.push(piece);
+    let mut next = 0;
+    'places: while next < places.len() {
+        match running_of(places, next) {
+            Some(running) => places[next].put(running),
+            None => places[next].push(piece),
+        }
+        next += 1;
     }
 }
 

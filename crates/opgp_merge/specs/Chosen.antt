@@ -1,7 +1,7 @@
 -- Certificates of which chosen parts stay.
-use Rattle.std.specs.Prelude.{ℕ, ◌+◌, Bool, true, false, ◌&&◌, ◌||◌, not, ◌==◌, if◌then◌else◌}
-use Rattle.std.specs.Prelude.{List, [], ◌∷◌, ◌++◌, map, Option, Some, None, is_none, Result, Ok, Err}
-use Rattle.std.specs.List.{filter}
+use Rattle.std.specs.Prelude.{ℕ, ◌+◌, Bool, false, ◌&&◌, ◌||◌, not, ◌==◌, if◌then◌else◌}
+use Rattle.std.specs.Prelude.{List, [], ◌∷◌, ◌++◌, length, map, Option, Some, None, Result, Ok, Err}
+use Rattle.std.specs.List.{filter, list_any}
 use Rattle.opgp_octets.specs.declared.fault.BodyFault.{BodyFault}
 use Rattle.opgp_octets.specs.declared.packet_type.PacketType.TheVariants as packet
 use Rattle.opgp_frame.specs.Header.{is_type}
@@ -48,15 +48,14 @@ is_user_id c = is_type packet.UserId c.head.kind
 abbrev pub is_attribute : ComponentValue → Bool
 is_attribute c = is_type packet.UserAttribute c.head.kind
 
--- the number of a user ID is the chosen one, if one is chosen
-abbrev pub is_chosen : Option ℕ → ℕ → Bool
-is_chosen None number = true
-is_chosen (Some n) number = number == n
+-- the number of a user ID is among those that are named, or none is named
+abbrev pub is_chosen : List ℕ → ℕ → Bool
+is_chosen named number = length named == 0 || list_any (λ n. n == number) named
 
--- a component stays that is a user ID (5.11) of the chosen number, an attribute (5.12) where they
+-- a component stays that is a user ID (5.11) of a chosen number, an attribute (5.12) where they
 -- stay, or a subkey; `number` user IDs are before it
 abbrev pub component_stays : Choice → ℕ → ComponentValue → Bool
-component_stays choice number c = if is_user_id c then is_chosen choice.user_id number
+component_stays choice number c = if is_user_id c then is_chosen choice.user_ids.now number
     else not (choice.no_attributes && is_attribute c)
 
 abbrev pub next_number : ℕ → ComponentValue → ℕ
@@ -93,9 +92,6 @@ chosen_part choice (of_lead ps) = of_lead ps
 chosen_part choice (of_certificate c) = of_certificate (chosen_certificate choice c)
 
 -- ---- the choice of all parts
-abbrev pub everything : Choice
-everything = record { own_signatures = false; no_attributes = false; user_id = None }
-
 abbrev pub is_everything : Choice → Bool
 is_everything choice = not choice.own_signatures
-    && (not choice.no_attributes && is_none choice.user_id)
+    && (not choice.no_attributes && length choice.user_ids.now == 0)

@@ -7,7 +7,8 @@ ghost use Rattle.opgp_ring.specs.Grouped.{component_of, components_left};
 ghost use Rattle.opgp_ring.specs.Keyring.{IsCertificate, IsComponent, certificate_packets};
 ghost use Rattle.opgp_ring.specs.Keyring.{component_packets};
 ghost use Rattle.opgp_merge.specs.Chosen.{chosen_certificate, chosen_component, chosen_keyring};
-ghost use Rattle.opgp_merge.specs.Chosen.{component_stays, components_from, next_number, owner};
+ghost use Rattle.opgp_merge.specs.Chosen.{component_stays, components_from, is_chosen};
+ghost use Rattle.opgp_merge.specs.Chosen.{next_number, owner};
 
 use crate::choice::Choice;
 use crate::own::add_own;
@@ -21,8 +22,8 @@ use std::alloc::Global;
 ///
 /// What stays of a certificate is copied, and then the certificate is freed. Fails only when out of
 /// memory.
-pub fn choose(ring: Keyring, choice: Choice) -> Result<Keyring, OutOfMemory>
-    ensures { IfOk result (λ r. r ≡ chosen_keyring choice ring) }
+pub fn choose(ring: Keyring, choice: Choice<'_>) -> Result<Keyring, OutOfMemory>
+    ensures { IfOk result (λ r. r ≡ chosen_keyring choice.entry ring) }
 {
     let (lead, certificates, alloc) = ring.into_parts();
     let mut chosen = Vec::new(alloc);
@@ -38,9 +39,9 @@ pub fn choose(ring: Keyring, choice: Choice) -> Result<Keyring, OutOfMemory>
 pub fn choose_certificate(
     alloc: Global,
     certificate: Certificate,
-    choice: Choice,
+    choice: Choice<'_>,
 ) -> Result<Certificate, OutOfMemory>
-    ensures value { IfOk result (λ c. c ≡ chosen_certificate choice certificate) }
+    ensures value { IfOk result (λ c. c ≡ chosen_certificate choice.entry certificate) }
     ensures certificate { IfOk result (λ c. IsCertificate c) }
 {
     let own = owner(&certificate, choice);
@@ -54,8 +55,8 @@ pub fn choose_certificate(
 }
 
 /// The key whose signatures alone stay, if all others go: the primary key.
-fn owner(certificate: &Certificate, choice: Choice) -> Option<Fingerprint>
-    ensures { result ≡ owner choice certificate.now }
+fn owner(certificate: &Certificate, choice: Choice<'_>) -> Option<Fingerprint>
+    ensures { result ≡ owner choice.entry certificate.now }
 {
     if !choice.own_signatures {
         return None;
@@ -71,14 +72,14 @@ fn owner(certificate: &Certificate, choice: Choice) -> Option<Fingerprint>
 fn add_components(
     chosen: &mut Certificate,
     mut components: Components<'_>,
-    choice: Choice,
+    choice: Choice<'_>,
     own: Option<Fingerprint>,
 ) -> Result<(), OutOfMemory>
     requires few { length (components_left components) < 2 ^ 64 }
     requires sound { All IsComponent (components_left components) }
     ensures { OnOk result (certificate_packets chosen.new ≡ certificate_packets chosen.old
         ++ flat_map component_packets (map (chosen_component own)
-        (components_from 0 choice (components_left components.entry)))) }
+        (components_from 0 choice.entry (components_left components.entry)))) }
 {
     let mut number = 0;
     'components: while let Some(component) = components.next() {
@@ -90,20 +91,24 @@ fn add_components(
 }
 
 /// Whether a component stays, before which this many user IDs are.
-fn component_stays(choice: Choice, number: u64, component: Component<'_>) -> bool
-    ensures { result ≡ component_stays choice number (component_of component.entry) }
+fn component_stays(choice: Choice<'_>, number: u64, component: Component<'_>) -> bool
+    ensures { result ≡ component_stays choice.entry number (component_of component.entry) }
 {
     let kind = component.head().kind();
     if kind == PacketType::UserId.number() {
-        match choice.user_id {
-            None => true,
-            Some(chosen) => number == chosen,
-        }
+        is_chosen(choice.user_ids, number)
     } else if kind == PacketType::UserAttribute.number() {
         !choice.no_attributes
     } else {
         true
     }
+}
+
+/// Whether the user ID of a number stays: the number is among those that are named, or none is.
+fn is_chosen(named: &[u64], number: u64) -> bool
+    ensures { result ≡ is_chosen named.now number }
+{
+    named.is_empty() || named.contains(&number)
 }
 
 /// How many user IDs there are up to a component, before which this many are.

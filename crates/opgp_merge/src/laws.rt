@@ -1,13 +1,13 @@
 //! What the definitions imply.
 
-ghost use Rattle.std.specs.Prelude.{◌≡◌, ◌&&◌, not, true, ℕ, List, Some, slice_get};
-ghost use Rattle.std.specs.List.{Contains, filter};
+ghost use Rattle.std.specs.Prelude.{◌≡◌, ◌&&◌, ◌∷◌, [], not, true, ℕ, List, map, slice_get};
+ghost use Rattle.std.specs.List.{Contains, enumerate_from, filter};
 ghost use Rattle.std.specs.Option.{option_to_list};
 ghost use Rattle.opgp_ring.specs.Keyring.{ComponentValue, KeyringValue, IsKeyring};
 ghost use Rattle.opgp_report.specs.Asked.{Asked, asked_of};
 ghost use Rattle.opgp_report.specs.Report.{keys_in};
 ghost use Rattle.opgp_merge.specs.Chosen.{chosen_keyring, components_from};
-ghost use Rattle.opgp_merge.specs.Chosen.{is_attribute, is_everything, is_user_id};
+ghost use Rattle.opgp_merge.specs.Chosen.{is_attribute, is_chosen, is_everything, is_user_id};
 ghost use Rattle.opgp_merge.specs.Merged.{merged_of};
 ghost use Rattle.opgp_merge.specs.declared.choice.Choice.{Choice};
 
@@ -51,10 +51,19 @@ pub fn everything_stays()
         → chosen_keyring choice r ≡ r }
 {}
 
+/// Of the user IDs of a certificate, numbered from 0, those of the chosen numbers stay, in order.
+#[tactic(auto, using(crate::proofs::Staying::chosen_stay))]
+pub fn chosen_user_ids_stay()
+    ensures { (choice : Choice) (cs : List ComponentValue)
+        → filter is_user_id (components_from 0 choice cs)
+        ≡ map (λ p. p.1) (filter (λ p. is_chosen choice.user_ids.now p.0)
+        (enumerate_from 0 (filter is_user_id cs))) }
+{}
+
 /// Of the user IDs of a certificate the one of the chosen number stays, if it has one.
 #[tactic(auto, using(crate::proofs::Staying::one_stays))]
 pub fn one_user_id_stays()
-    ensures { (choice : Choice) (n : ℕ) (cs : List ComponentValue) → choice.user_id ≡ Some n
+    ensures { (choice : Choice) (n : ℕ) (cs : List ComponentValue) → choice.user_ids.now ≡ n ∷ []
         → filter is_user_id (components_from 0 choice cs)
         ≡ option_to_list (slice_get (filter is_user_id cs) n) }
 {}

@@ -1,17 +1,17 @@
 -- Times written as dates.
 use Rattle.std.proofs.Common.{◌≡◌, ◌∙◌, ℕ, ◌+◌, ◌*◌, ◌/◌, ◌%◌, ◌<◌, List, ◌++◌, codes, refl, sym, ap, arith, append_assoc, ◌^◌, get_or}
-use Rattle.opgp_stack.specs.Date.{DateValue, IsDate, clock_text, date_of, date_text, date_words, day_text, days_before, seconds_text, time_of}
+use Rattle.opgp_stack.specs.Date.{DateValue, IsDate, clock_text, date_of, date_text, date_word, day_text, days_before, seconds_text, time_of}
 use Rattle.opgp_stack.proofs.Calendar.{date_found, dated, day_of, month_bounds, year_bound}
 
 text_is : (n : ℕ) → date_text n ≡ day_text (date_of (n / 86400)) ++ seconds_text (n % 86400)
 unfolding date_text
 text_is n = refl
 
--- the end of a line, written as two texts
-pub date_line : (n : ℕ) (day clock : List ℕ) → day ≡ day_text (date_of (n / 86400)) → clock ≡ seconds_text (n % 86400) → date_words n ≡ codes " " ++ (day ++ (clock ++ codes "\n"))
-date_line n day clock a b =
+-- the field of a line, written as two texts
+pub date_field : (n : ℕ) (day clock : List ℕ) → day ≡ day_text (date_of (n / 86400)) → clock ≡ seconds_text (n % 86400) → date_word n ≡ codes " " ++ (day ++ clock)
+date_field n day clock a b =
     let both : date_text n ≡ day ++ clock = text_is n ∙ ap (λ (o : List ℕ). o ++ seconds_text (n % 86400)) (sym a) ∙ ap (λ (o : List ℕ). day ++ o) (sym b) in
-    ap (λ (o : List ℕ). codes " " ++ o ++ codes "\n") both ∙ ap (λ (o : List ℕ). codes " " ++ o) (append_assoc day clock (codes "\n"))
+    ap (λ (o : List ℕ). codes " " ++ o) both
 
 -- a date with so many days before it is the one so many days after 1970-01-01
 pub date_of_before : (d : DateValue) → IsDate d → date_of (days_before d) ≡ d

@@ -17,6 +17,9 @@ mod ShownTexts
 mod SoundLines
 pub mod Times
 mod States
+mod KeyFiles
 mod Named
 mod NumberTexts
 mod OtherValues
+pub mod Zips
+mod Wanted

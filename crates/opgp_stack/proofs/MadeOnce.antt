@@ -55,7 +55,7 @@ by_top P packets ring literal (action.WriteChosen out choice) = ring _
 by_top P packets ring literal (action.Normalise out) = ring _
 by_top P packets ring literal (action.Split out None) = ring _
 by_top P packets ring literal (action.Split out (Some n)) = ring _
-by_top P packets ring literal (action.SplitKey out key) = ring _
+by_top P packets ring literal (action.SplitKeys out keys except) = ring _
 by_top P packets ring literal (action.Join out false) = ring _
 by_top P packets ring literal (action.Join out true) = ring _
 

@@ -1,5 +1,6 @@
 -- What an action made of all parts of a keyring is what it makes of the keyring.
-use Rattle.std.proofs.Common.{◌≡◌, ℕ, Bool, List, Option, Some, None, true, false, refl, sym, ap, subst}
+use denote.Ref.{Bor}
+use Rattle.std.proofs.Common.{◌≡◌, ℕ, Bool, List, map, Option, Some, None, true, false, refl, sym, ap, subst}
 use Rattle.std.specs.List.{flat_map}
 use Rattle.opgp_ring.specs.Composed.{parts_of}
 use Rattle.opgp_ring.specs.Keyring.{CertificateValue, KeyringValue, flat}
@@ -20,7 +21,8 @@ use Rattle.opgp_codec.specs.declared.out.Out.{Out}
 use Rattle.opgp_codec.specs.Writing.{certificates_text, octets_text, packets_text}
 use Rattle.opgp_stack.specs.AllOctets.{octets_rows}
 use Rattle.opgp_stack.specs.ByKey.{HasNamed}
-use Rattle.opgp_stack.specs.KeyName.{certificates_with, name_octets}
+use Rattle.opgp_stack.specs.WantedKeys.{AreNotes, keys_of}
+use Rattle.opgp_stack.specs.KeyName.{are_there, name_octets, picked}
 use Rattle.opgp_stack.specs.Making.{HasMade, HasNames, HasTexts, is_of_parts, out_of, ring_made}
 use Rattle.opgp_stack.specs.OnePart.{asked_among, found_question}
 use Rattle.opgp_stack.specs.PartText.{text_of_part}
@@ -60,7 +62,7 @@ makes_ring (action.WriteChosen out choice) is task octets made h = h
 makes_ring (action.Normalise out) is task octets made h = h
 makes_ring (action.Split out None) is task octets made h = h
 makes_ring (action.Split out (Some n)) is task octets made h = h
-makes_ring (action.SplitKey out key) is task octets made h = h
+makes_ring (action.SplitKeys out keys except) is task octets made h = h
 makes_ring (action.Join out false) is task octets made h = h
 makes_ring (action.Join out true) is task octets made h = h
 
@@ -91,27 +93,34 @@ module _ {S : Type 0} (has : Draft S → List ℕ → Type 0) where
   text_made (action.Octets row top.Literal) k r h = absurd h
   text_made action.OctetsAll k r h = absurd h
   text_made (action.Split out (Some n)) k r h = absurd h
-  text_made (action.SplitKey out key) k r h = absurd h
+  text_made (action.SplitKeys out keys except) k r h = absurd h
   text_made (action.Join out true) k r h = absurd h
 
   -- certificates with a key of a name
   abbrev Finds : Action → Bool → Draft S → KeyringValue → Type 0
   Finds a found draft r = (text : List ℕ) × has draft text × (found_made found text ≡ ring_made a r)
 
-  names_made : (out : Out) (key : KeyName) (k : NamedCertificates S) (r : KeyringValue) → HasNames has out key k (parts_of r) → Finds (action.SplitKey out key) k.found k.draft r
-  names_made out key k r h =
-      let named : HasNamed has out (name_octets key) k.found k.draft r.certificates = subst (HasNamed has out (name_octets key) k.found k.draft) (ring_certificates r) h.2 in
-      (certificates_text out (certificates_with (name_octets key) r.certificates), named.text, ap (λ (b : Bool). found_made b (certificates_text out (certificates_with (name_octets key) r.certificates))) named.any)
+  -- what was found of them, as it is told once all certificates came
+  abbrev FoundOf : NamedCertificates S → Bool → Type 0
+  FoundOf k found = (cs : List CertificateValue) → AreNotes (map name_octets k.wanted.names.now) (keys_of cs) k.wanted.notes → found ≡ are_there (map name_octets k.wanted.names.now) cs
 
-  pub named_made_by : (a : Action) (k : NamedCertificates S) (r : KeyringValue) → HasMade has a (making.Named k) (parts_of r) → Finds a k.found k.draft r
-  named_made_by (action.SplitKey out key) k r h = names_made out key k r h
-  named_made_by (action.Octets row top.Ring) k r h = absurd h
-  named_made_by (action.Octets row top.Literal) k r h = absurd h
-  named_made_by (action.Split out None) k r h = absurd h
-  named_made_by (action.Split out (Some n)) k r h = absurd h
-  named_made_by (action.Join out false) k r h = absurd h
-  named_made_by (action.Join out true) k r h = absurd h
-  named_made_by other k r h = absurd h
+  names_made : (out : Out) (keys : Bor (List KeyName)) (except : Bool) (k : NamedCertificates S) (found : Bool) (r : KeyringValue) → FoundOf k found → HasNames has out keys except k (parts_of r) → Finds (action.SplitKeys out keys except) found k.draft r
+  names_made out keys except k found r is h =
+      let names = map name_octets keys.now in
+      let named : HasNamed has out names except k.wanted.notes k.draft r.certificates = subst (HasNamed has out names except k.wanted.notes k.draft) (ring_certificates r) h.3 in
+      let there : found ≡ are_there names r.certificates =
+      subst (λ (ks : Bor (List KeyName)). AreNotes (map name_octets ks.now) (keys_of r.certificates) k.wanted.notes → found ≡ are_there (map name_octets ks.now) r.certificates) h.2 (is r.certificates) named.noted in
+      (certificates_text out (picked names except r.certificates), named.text, ap (λ (b : Bool). found_made b (certificates_text out (picked names except r.certificates))) there)
+
+  pub named_made_by : (a : Action) (k : NamedCertificates S) (found : Bool) (r : KeyringValue) → FoundOf k found → HasMade has a (making.Named k) (parts_of r) → Finds a found k.draft r
+  named_made_by (action.SplitKeys out keys except) k found r is h = names_made out keys except k found r is h
+  named_made_by (action.Octets row top.Ring) k found r is h = absurd h
+  named_made_by (action.Octets row top.Literal) k found r is h = absurd h
+  named_made_by (action.Split out None) k found r is h = absurd h
+  named_made_by (action.Split out (Some n)) k found r is h = absurd h
+  named_made_by (action.Join out false) k found r is h = absurd h
+  named_made_by (action.Join out true) k found r is h = absurd h
+  named_made_by other k found r is h = absurd h
 
   -- the certificate of a number
   nth_made : (a : Action) (k : NthCertificate) (r : KeyringValue) → HasMade has a (making.Nth k) (parts_of r) → one_text (out_of a) k.found ≡ ring_made a r

@@ -6,7 +6,9 @@ use Rattle.opgp_ring.specs.Keyring.{KeyringValue}
 use Rattle.opgp_report.specs.declared.verifier.Verdict.{Verdict}
 use Rattle.opgp_valid.specs.declared.policy.Policy.{Policy}
 use Rattle.opgp_state.specs.Claimed.{claims_of}
-use Rattle.opgp_state.specs.StateLines.{state_lines}
+use Rattle.opgp_valid.specs.declared.states.PartState.{PartState}
+use Rattle.opgp_state.specs.KeyringStates.{keyring_states}
+use Rattle.opgp_state.specs.StateLines.{lines_from}
 use Rattle.opgp_state.specs.VerdictFile.{HasVerdicts}
 use Rattle.opgp_state.specs.declared.basis.Basis.TheVariants.{Claims, Verdicts}
 use Rattle.opgp_codec.specs.Keyrings.{ComposesTo, key_label}
@@ -39,13 +41,15 @@ module _ {R W : Type 0} (left : R → Option (List ℕ)) (has_failed : R → Boo
 
 -- ---- which states
 module _ (policy : Policy) (at : ℕ) (r : KeyringValue) where
-  pub claimed_states : (file : Option (Bor (List ℕ))) (verdicts : List Verdict) → file ≡ None → verdicts ≡ claims_of r → AreStates policy at (option_map (λ f. f.now) file) r (Text (state_lines Claims r verdicts policy at))
-  claimed_states None verdicts e is = ap (λ (v : List Verdict). Text (state_lines Claims r v policy at)) is
-  claimed_states (Some f) verdicts e is = cc e
+  pub claimed_states : (file : Option (Bor (List ℕ))) (states : List (List PartState)) → file ≡ None → states ≡ keyring_states r (claims_of r) policy at → AreStates policy at (option_map (λ f. f.now) file) r (Text (lines_from Claims 0 r.certificates states))
+  claimed_states None states e is = ap (λ (l : List (List PartState)). Text (lines_from Claims 0 r.certificates l)) is
+  claimed_states (Some f) states e is = cc e
 
-  pub said_states : (file : Option (Bor (List ℕ))) (f : Bor (List ℕ)) (verdicts : List Verdict) → file ≡ Some f → HasVerdicts f.now r verdicts → AreStates policy at (option_map (λ f. f.now) file) r (Text (state_lines Verdicts r verdicts policy at))
-  said_states None f verdicts e is = cc e
-  said_states (Some g) f verdicts e is = let same : g ≡ f = cc e in inl (verdicts, subst (λ (x : Bor (List ℕ)). HasVerdicts x.now r verdicts) (sym same) is, refl)
+  pub said_states : (file : Option (Bor (List ℕ))) (f : Bor (List ℕ)) (verdicts : List Verdict) (states : List (List PartState)) → file ≡ Some f → HasVerdicts f.now r verdicts → states ≡ keyring_states r verdicts policy at → AreStates policy at (option_map (λ f. f.now) file) r (Text (lines_from Verdicts 0 r.certificates states))
+  said_states None f verdicts states e has is = cc e
+  said_states (Some g) f verdicts states e has is =
+      let same : g ≡ f = cc e in
+      inl (verdicts, subst (λ (x : Bor (List ℕ)). HasVerdicts x.now r verdicts) (sym same) has, ap (λ (l : List (List PartState)). Text (lines_from Verdicts 0 r.certificates l)) is)
 
   pub other_states : (file : Option (Bor (List ℕ))) (f : Bor (List ℕ)) → file ≡ Some f → ((verdicts : List Verdict) → HasVerdicts f.now r verdicts → ⊥) → AreStates policy at (option_map (λ f. f.now) file) r OtherVerdicts
   other_states None f e is = cc e

@@ -89,9 +89,13 @@ seconds_text n = clock_text (n / 3600) (n / 60 % 60) (n % 60)
 unfoldable pub date_text : ℕ → List ℕ
 date_text n = day_text (date_of (n / 86400)) ++ seconds_text (n % 86400)
 
--- ---- the last field of a line that states a time: its date, `-` for none
+-- ---- a field of a line that states a time: its date
+abbrev pub date_word : ℕ → List ℕ
+date_word n = codes " " ++ date_text n
+
+-- ---- the last field of one, `-` for no time
 abbrev pub date_words : ℕ → List ℕ
-date_words n = codes " " ++ date_text n ++ codes "\n"
+date_words n = date_word n ++ codes "\n"
 
 abbrev pub date_words_or_none : Option ℕ → List ℕ
 date_words_or_none (Some n) = date_words n

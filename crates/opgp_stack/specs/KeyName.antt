@@ -1,6 +1,6 @@
 -- Keys by their names (RFC 9580, 5.5.4), and the certificates that have them.
-use Rattle.std.specs.Prelude.{ℕ, Bool, ◌||◌, List, filter}
-use Rattle.std.specs.List.{list_any}
+use Rattle.std.specs.Prelude.{ℕ, Bool, ◌||◌, not, if◌then◌else◌, List, filter}
+use Rattle.std.specs.List.{list_all, list_any}
 use Rattle.std.specs.Str.{bytes_eq}
 use Rattle.opgp_hash.specs.declared.fingerprints.Fingerprint.{Fingerprint}
 use Rattle.opgp_hash.specs.Fingerprint.{print_octets}
@@ -29,6 +29,23 @@ is_any_named name bodies = list_any (λ body. is_named name (print_of body)) bod
 abbrev pub has_key : List ℕ → CertificateValue → Bool
 has_key name c = is_any_named name (certificate_keys c)
 
--- the certificates with a key of this name, in order
-abbrev pub certificates_with : List ℕ → List CertificateValue → List CertificateValue
-certificates_with name cs = filter (has_key name) cs
+-- ---- keys of several names
+-- a key has one of these names
+abbrev pub has_one_of : List (List ℕ) → Fingerprint → Bool
+has_one_of names print = list_any (λ name. is_named name print) names
+
+-- the primary key or a subkey has one of these names
+abbrev pub has_any : List (List ℕ) → CertificateValue → Bool
+has_any names c = list_any (λ body. has_one_of names (print_of body)) (certificate_keys c)
+
+-- a certificate is picked that has a key of one of these names, or, but for those, one that has none
+abbrev pub is_picked : List (List ℕ) → Bool → CertificateValue → Bool
+is_picked names except c = if except then not (has_any names c) else has_any names c
+
+-- those that are picked, in order
+abbrev pub picked : List (List ℕ) → Bool → List CertificateValue → List CertificateValue
+picked names except cs = filter (is_picked names except) cs
+
+-- each of these names is that of a key of one of the certificates
+abbrev pub are_there : List (List ℕ) → List CertificateValue → Bool
+are_there names cs = list_all (λ name. list_any (has_key name) cs) names

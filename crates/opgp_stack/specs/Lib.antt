@@ -7,7 +7,9 @@ pub mod Digits
 pub mod Documents
 pub mod Faults
 pub mod Hashing
+pub mod KeyFile
 pub mod KeyName
+pub mod KeySize
 pub mod KeyText
 pub mod Listing
 pub mod Making
@@ -25,3 +27,4 @@ pub mod Stating
 pub mod Time
 pub mod ValuedListing
 pub mod Values
+pub mod WantedKeys

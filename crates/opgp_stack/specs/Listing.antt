@@ -16,7 +16,8 @@ use Rattle.opgp_packet.specs.KeyBody.{key}
 use Rattle.opgp_frame.specs.Header.{is_type}
 use Rattle.opgp_packet.specs.SignatureBody.{SignatureValue, of_three, of_four, of_six, of_other}
 use Rattle.opgp_packet.specs.SignatureBody.{signature_at}
-use Rattle.opgp_stack.specs.Date.{date_words}
+use Rattle.opgp_stack.specs.Date.{date_word}
+use Rattle.opgp_stack.specs.KeySize.{key_size, size_words}
 use Rattle.opgp_stack.specs.declared.listing.Behind.{Behind}
 use Rattle.opgp_stack.specs.declared.listing.Behind.TheVariants.{End, Left}
 use Rattle.opgp_io.specs.Texts.{escaped}
@@ -68,9 +69,10 @@ key_start word body = let fields = key_fields_in body in
 abbrev pub key_line : List ℕ → List ℕ → List ℕ
 key_line word body = key_start word body ++ codes "\n"
 
--- the same with the date of its creation at the end
+-- the same with the date of its creation and its size at the end
 abbrev pub dated_key_line : List ℕ → List ℕ → List ℕ
-dated_key_line word body = key_start word body ++ date_words (number_at (key_fields_in body) 1)
+dated_key_line word body = key_start word body
+    ++ (date_word (number_at (key_fields_in body) 1) ++ size_words (key_size body))
 
 -- `sig v<version> type <T> alg <n> hash <n>`, the type in two hexadecimal digits
 abbrev pub typed_start : ℕ → ℕ → ℕ → ℕ → List ℕ

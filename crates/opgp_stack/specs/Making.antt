@@ -1,5 +1,7 @@
 -- What an action makes of a keyring, and what is made of the parts that came so far.
-use Rattle.std.specs.Prelude.{◌≡◌, ℕ, Bool, true, false, List, [], slice_get, Some, None, Ok, Err, MatchResult}
+use denote.Ref.{Bor}
+use Rattle.std.specs.Prelude.{◌≡◌, ℕ, Bool, true, false, List, [], map, slice_get, Some, None, Ok, Err}
+use Rattle.std.specs.Prelude.{MatchResult}
 use Rattle.std.specs.List.{flat_map}
 use Rattle.opgp_ring.specs.Composed.{PartValue, parts_of}
 use Rattle.opgp_ring.specs.Keyring.{KeyringValue, flat}
@@ -53,11 +55,12 @@ abbrev pub HasTexts : {S : Type 0} → (Draft S → List ℕ → Type 0) → Par
     → List PartValue → Type 0
 HasTexts has text k parts = (k.text ≡ text) × has k.draft (flat_map (text_of_part text) parts)
 
--- the certificates with a key of this name are written in this way, each on its own
-abbrev pub HasNames : {S : Type 0} → (Draft S → List ℕ → Type 0) → Out → KeyName
+-- the certificates with keys of these names, or the others, are written in this way, each on its own
+abbrev pub HasNames : {S : Type 0} → (Draft S → List ℕ → Type 0) → Out → Bor (List KeyName) → Bool
     → NamedCertificates S → List PartValue → Type 0
-HasNames has out key k parts = (k.out ≡ out) × (k.key ≡ key)
-    × HasNamed has out (name_octets key) k.found k.draft (certificates_in parts)
+HasNames has out keys except k parts = (k.out ≡ out) × (k.except ≡ except)
+    × (k.wanted.names ≡ keys) × HasNamed has out (map name_octets keys.now) except k.wanted.notes
+    k.draft (certificates_in parts)
 
 -- what an action has made of them, where a draft has a text by `has`
 abbrev pub HasMade : {S : Type 0} → (Draft S → List ℕ → Type 0) → Action → Making S
@@ -78,7 +81,8 @@ HasMade has (action.Normalise out) (making.Text k) parts = HasTexts has texts.No
 HasMade has (action.Split out None) (making.Text k) parts = HasTexts has (texts.Alone out) k parts
 HasMade has (action.Split out (Some number)) (making.Nth k) parts =
     IsNth number k.left k.found (certificates_in parts)
-HasMade has (action.SplitKey out key) (making.Named k) parts = HasNames has out key k parts
+HasMade has (action.SplitKeys out keys except) (making.Named k) parts =
+    HasNames has out keys except k parts
 HasMade has (action.Join out false) (making.Text k) parts = HasTexts has texts.AsTheyAre k parts
 HasMade has (action.Join out true) (making.Ring ring) parts = HasParts ring parts
 HasMade has other k parts = ⊥
@@ -108,7 +112,7 @@ ring_made (action.WriteChosen out choice) r =
 ring_made (action.Normalise out) r = Text (packets_text out (flat (normal_of r)))
 ring_made (action.Split out None) r = Text (certificates_text out r.certificates)
 ring_made (action.Split out (Some number)) r = one_text out (slice_get r.certificates number)
-ring_made (action.SplitKey out key) r = named_made out (name_octets key) r.certificates
+ring_made (action.SplitKeys out keys except) r = named_made out keys.now except r.certificates
 ring_made (action.Join out false) r = Text (packets_text out (flat r))
 ring_made (action.Join out true) r = Text (packets_text out (flat (merged_of r)))
 ring_made other r = Text []

@@ -1,7 +1,6 @@
 -- What a run of the program makes of an input.
 use Rattle.std.specs.Prelude.{◌≡◌, ◌⊎◌, ℕ, Bool, true, false, List, Option, Some, None, Result, Ok, Err}
-use Rattle.std.specs.Prelude.{slice_get}
-use Rattle.std.specs.List.{list_any}
+use Rattle.std.specs.Prelude.{map, slice_get}
 use Rattle.opgp_octets.specs.declared.fault.Fault.{Fault}
 use Rattle.opgp_octets.specs.declared.limits.Limits.{Limits}
 use Rattle.opgp_frame.specs.Packet.{PacketValue}
@@ -31,7 +30,8 @@ use Rattle.opgp_stack.specs.AllOctets.{octets_rows}
 use Rattle.opgp_stack.specs.Hashing.{message_asked}
 use Rattle.opgp_codec.specs.Draft.{IsDrafted}
 use Rattle.opgp_codec.specs.Keyrings.{ComposesTo, key_label}
-use Rattle.opgp_stack.specs.KeyName.{certificates_with, has_key, name_octets}
+use Rattle.opgp_stack.specs.KeyName.{are_there, name_octets, picked}
+use Rattle.opgp_stack.specs.declared.key_name.KeyName.{KeyName}
 use Rattle.opgp_stack.specs.Listing.{listing}
 use Rattle.opgp_codec.specs.Packets.{ArePackets, BlockValue, any_label}
 use Rattle.opgp_codec.specs.Pulled.{OfAll}
@@ -68,10 +68,11 @@ abbrev pub found_made : Bool → List ℕ → Made
 found_made true text = Text text
 found_made false text = NoSuchCertificate
 
--- the certificates with a key of a name, each on its own
-abbrev pub named_made : Out → List ℕ → List CertificateValue → Made
-named_made out name cs =
-    found_made (list_any (has_key name) cs) (certificates_text out (certificates_with name cs))
+-- the certificates with a key of one of some names, or but for those, the others, each on its own;
+-- nothing, if one of the names is that of no key
+abbrev pub named_made : Out → List KeyName → Bool → List CertificateValue → Made
+named_made out keys except cs = found_made (are_there (map name_octets keys) cs)
+    (certificates_text out (picked (map name_octets keys) except cs))
 
 -- what is made of an answer: a refusal stays one
 abbrev pub on_value : {A : Type 0} → (A → Made) → Outcome A → Made
@@ -115,7 +116,8 @@ MakesBy (action.WriteChosen out choice) =
 MakesBy (action.Normalise out) = OfRing (λ r. Text (packets_text out (flat (normal_of r))))
 MakesBy (action.Split out None) = OfRing (λ r. Text (certificates_text out r.certificates))
 MakesBy (action.Split out (Some n)) = OfRing (λ r. one_text out (slice_get r.certificates n))
-MakesBy (action.SplitKey out key) = OfRing (λ r. named_made out (name_octets key) r.certificates)
+MakesBy (action.SplitKeys out keys except) =
+    OfRing (λ r. named_made out keys.now except r.certificates)
 MakesBy (action.Join out false) = OfRing (λ r. Text (packets_text out (flat r)))
 MakesBy (action.Join out true) = OfRing (λ r. Text (packets_text out (flat (merged_of r))))
 

@@ -1,7 +1,7 @@
 //! Times as dates of the Gregorian calendar in UTC, without an allocation.
 
 ghost use Rattle.std.specs.Prelude.{◌≡◌, ◌+◌, ◌++◌, ◌<◌, codes, false};
-ghost use Rattle.opgp_stack.specs.Date.{date_of, date_words, date_words_or_none};
+ghost use Rattle.opgp_stack.specs.Date.{date_of, date_word, date_words, date_words_or_none};
 ghost use Rattle.opgp_stack.specs.Date.{day_text, digit, seconds_text};
 ghost use Rattle.opgp_stack.specs.March.{date_value, march_days};
 ghost use Rattle.opgp_io.specs.Output.{Extends, sink_of};
@@ -115,17 +115,26 @@ pub(crate) fn seconds_text(seconds: u32) -> [u8; 10]
     ]
 }
 
-/// Adds the date of a time, in seconds since 1970 (RFC 3339, 5.6), and the line's end.
-pub(crate) fn add_date<W: Sink>(output: &mut Output<'_, W>, time: u32) -> io::Result<()>
+/// Adds the date of a time, in seconds since 1970 (RFC 3339, 5.6).
+pub(crate) fn add_date_word<W: Sink>(output: &mut Output<'_, W>, time: u32) -> io::Result<()>
     requires { W.has_failed (sink_of output.old) ≡ false }
-    ensures { Extends W.held W.has_failed output.old output.new result (date_words time) }
+    ensures { Extends W.held W.has_failed output.old output.new result (date_word time) }
 {
     let day = day_text(date_of(time / DAY));
     let clock = seconds_text(time % DAY);
     add_texts(output, &day, &clock)
 }
 
-/// Adds the texts of a day and of a time of that day, and the line's end.
+/// Adds the date of a time, and the line's end.
+pub(crate) fn add_date<W: Sink>(output: &mut Output<'_, W>, time: u32) -> io::Result<()>
+    requires { W.has_failed (sink_of output.old) ≡ false }
+    ensures { Extends W.held W.has_failed output.old output.new result (date_words time) }
+{
+    add_date_word(output, time)?;
+    output.add(b"\n")
+}
+
+/// Adds the texts of a day and of a time of that day.
 fn add_texts<'a, W: Sink>(
     output: &mut Output<'_, W>,
     day: &'a [u8],
@@ -133,14 +142,9 @@ fn add_texts<'a, W: Sink>(
 ) -> io::Result<()>
     requires { W.has_failed (sink_of output.old) ≡ false }
     ensures { Extends W.held W.has_failed output.old output.new result
-        (codes " " ++ (day.now ++ (clock.now ++ codes "\n"))) }
+        (codes " " ++ (day.now ++ clock.now)) }
 {
-    output.add_words(&[
-        Word::Text(b" "),
-        Word::Text(day),
-        Word::Text(clock),
-        Word::Text(b"\n"),
-    ])
+    output.add_words(&[Word::Text(b" "), Word::Text(day), Word::Text(clock)])
 }
 
 /// Adds the date of a time, or `-` for none, and the line's end.

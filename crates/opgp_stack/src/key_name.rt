@@ -35,7 +35,15 @@ impl KeyName {
         ensures some { IfSome result (IsKeyText text.now) }
         ensures none { IfNone result ((key : KeyName) → IsKeyText text.now key → ⊥) }
     {
-        match Digits::of(text.as_bytes()) {
+        KeyName::read(text.as_bytes())
+    }
+
+    /// The name that the octets of a text say, as [`KeyName::parse`] reads it.
+    pub(crate) fn read(octets: &[u8]) -> Option<KeyName>
+        ensures some { IfSome result (IsKeyText octets.now) }
+        ensures none { IfNone result ((key : KeyName) → IsKeyText octets.now key → ⊥) }
+    {
+        match Digits::of(octets) {
             Some(digits) => name_of(digits.digits()),
             None => None,
         }
@@ -83,7 +91,7 @@ impl KeyName {
 }
 
 /// The fingerprint of a key.
-fn print_of(key: &KeyView<'_>) -> Fingerprint
+pub(crate) fn print_of(key: &KeyView<'_>) -> Fingerprint
     ensures { result ≡ print_of (body_octets key.now) }
 {
     // Called for their contracts, which tie the version that is hashed to the body's first octet.

@@ -15,22 +15,22 @@ use std::alloc::Global;
 
 /// What is written of the parts of a keyring that came so far, each in the same way. None is kept.
 #[derive(Drop)]
-pub(crate) struct KeyringText<S> {
+pub(crate) struct KeyringText<'a, S> {
     alloc: Global,
-    text: PartText,
+    text: PartText<'a>,
     draft: Draft<S>,
 }
 
-impl<S: Spool + Drop> KeyringText<S> {
+impl<'a, S: Spool + Drop> KeyringText<'a, S> {
     /// Nothing yet, to be held in this spool, which is empty, or in memory. Fails only when out of
     /// memory.
     pub(crate) fn new(
         alloc: Global,
         spool: Option<S>,
-        text: PartText,
-    ) -> Result<KeyringText<S>, OutOfMemory>
+        text: PartText<'a>,
+    ) -> Result<KeyringText<'a, S>, OutOfMemory>
         requires { IfSome spool (λ s. (S.serves ≡ true) × (S.tells ≡ true → S.holds s ≡ [])) }
-        ensures text { IfOk result (λ k. k.text ≡ text) }
+        ensures text { IfOk result (λ k. k.text ≡ text.entry) }
         ensures empty { IfOk result (λ k.
             DraftHas S.serves S.tells S.holds S.has_failed k.draft []) }
     {
@@ -53,7 +53,7 @@ impl<S: Spool + Drop> KeyringText<S> {
 
     /// What is written.
     pub(crate) fn into_draft(self) -> Draft<S>
-        ensures { result ≡ self.draft }
+        ensures { result ≡ self.entry.draft }
     {
         self.draft
     }

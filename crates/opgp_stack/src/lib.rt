@@ -12,7 +12,9 @@ mod date;
 mod digest_lines;
 mod digesting;
 mod hashing;
+mod key_file;
 mod key_name;
+mod key_size;
 mod key_text;
 mod keyring_text;
 pub mod laws;
@@ -37,6 +39,7 @@ mod time;
 mod valued;
 mod valued_listing;
 mod values;
+mod wanted_keys;
 mod writing_listing;
 mod writing_report;
 mod writing_shown;
@@ -45,6 +48,7 @@ pub use around::{Around, run_around};
 pub use canonical::run_canonical;
 pub use cleartext::{CleartextPart, run_cleartext};
 pub use digesting::run_digests;
+pub use key_file::keys_in;
 pub use key_name::KeyName;
 pub use opgp_codec::{
     Answer, Draft, DraftError, EngineError, Mode, NoSpool, Out, PacketsText, ReadError, Sink,

@@ -9,14 +9,17 @@ ghost use Rattle.opgp_ring.specs.Content.{IsKept, content_kind, content_octets};
 ghost use Rattle.opgp_ring.specs.Packets.{packets_left};
 ghost use Rattle.opgp_packet.specs.SigView.{sig_view_value};
 ghost use Rattle.opgp_stack.specs.Listing.{attribute_line, behind_text, dated_key_line, filler_line};
-ghost use Rattle.opgp_stack.specs.Listing.{key_line, key_start, listing};
+ghost use Rattle.opgp_stack.specs.Listing.{key_fields_in, key_line, key_start, listing, number_at};
 ghost use Rattle.opgp_stack.specs.Listing.{opaque_text, packet_line, signature_line};
 ghost use Rattle.opgp_stack.specs.Listing.{signature_text, typed_start};
 ghost use Rattle.opgp_stack.specs.Listing.{key_names, key_numbers, user_id_line};
+ghost use Rattle.opgp_stack.specs.Date.{date_word};
+ghost use Rattle.opgp_stack.specs.KeySize.{key_size, size_words};
 ghost use Rattle.opgp_stack.specs.Role.{role_name};
 ghost use Rattle.opgp_io.specs.Output.{Extends, sink_of};
 
-use crate::date::add_date;
+use crate::date::add_date_word;
+use crate::key_size::{add_size, size_of};
 use opgp_hash::{KeyId, fingerprint_of_view};
 use opgp_io::{Output, Sink, Word};
 use opgp_packet::{AttributeView, KeyView, SigView};
@@ -114,7 +117,20 @@ pub(crate) fn add_key<W: Sink>(
     output.add(b"\n")
 }
 
-/// Adds the line of a key, with the date of its creation.
+/// Adds the date of a key's creation, how large it is, and the line's end.
+fn add_date_and_size<W: Sink>(output: &mut Output<'_, W>, key: KeyView<'_>) -> io::Result<()>
+    requires { W.has_failed (sink_of output.old) ≡ false }
+    ensures { Extends W.held W.has_failed output.old output.new result
+        (date_word (number_at (key_fields_in (body_octets key.entry)) 1)
+        ++ size_words (key_size (body_octets key.entry))) }
+{
+    opgp_packet::key_laws::written(&key);
+    let size = size_of(key);
+    add_date_word(output, key.created())?;
+    add_size(output, size)
+}
+
+/// Adds the line of a key, with the date of its creation and how large it is.
 pub(crate) fn add_dated_key<W: Sink>(
     output: &mut Output<'_, W>,
     role: Role,
@@ -124,9 +140,8 @@ pub(crate) fn add_dated_key<W: Sink>(
     ensures { Extends W.held W.has_failed output.old output.new result
         (dated_key_line (role_name role) (body_octets key.entry)) }
 {
-    opgp_packet::key_laws::written(&key);
     add_key_start(output, role, key)?;
-    add_date(output, key.created())
+    add_date_and_size(output, key)
 }
 
 /// Adds the line of a user ID.

@@ -27,7 +27,7 @@ use opgp_report::{FingerprintedReport, Report, question_at};
 use opgp_ring::{Certificate, Keyring};
 use std::alloc::Global;
 
-impl<S: Spool + Drop> Making<S> {
+impl<'a, S: Spool + Drop> Making<'a, S> {
     /// Writes it, once all parts of a keyring have come, and frees or leaks what was read. The
     /// condition is that the sink hasn't failed.
     ///
@@ -36,16 +36,16 @@ impl<S: Spool + Drop> Making<S> {
     pub(crate) fn write<W: Sink>(
         self,
         alloc: Global,
-        action: Action,
+        action: Action<'_>,
         writer: &mut W,
         after: After,
     ) -> Result<(), RunFault>
         requires { W.has_failed writer.old ≡ false }
         ensures { (r : KeyringValue)
-            → HasMade (DraftHas S.serves S.tells S.holds S.has_failed) action self (parts_of r)
-            → IsMade W.held W.has_failed writer.old writer.new result (ring_made action r)
+            → HasMade (DraftHas S.serves S.tells S.holds S.has_failed) action.entry self.entry (parts_of r)
+            → IsMade W.held W.has_failed writer.old writer.new result (ring_made action.entry r)
             ⊎ IsSpooled S.serves S.tells W.held W.has_failed writer.old writer.new result
-            (ring_made action r) }
+            (ring_made action.entry r) }
     {
         let out = out_of(action);
         match self {
@@ -77,8 +77,8 @@ impl<S: Spool + Drop> Making<S> {
 }
 
 /// How what an action made of a keyring is written.
-fn out_of(action: Action) -> Out
-    ensures { result ≡ out_of action }
+fn out_of(action: Action<'_>) -> Out
+    ensures { result ≡ out_of action.entry }
 {
     match action {
         Action::Write { out } => out,

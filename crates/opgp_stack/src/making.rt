@@ -26,11 +26,11 @@ use std::alloc::Global;
 
 /// What an action makes of a keyring, of the parts that came so far.
 #[derive(Drop)]
-pub(crate) enum Making<S> {
+pub(crate) enum Making<'a, S> {
     /// What is written of each part.
-    Text(KeyringText<S>),
-    /// The certificates with a key of a name.
-    Named(NamedCertificates<S>),
+    Text(KeyringText<'a, S>),
+    /// The certificates with keys of some names, or the others.
+    Named(NamedCertificates<'a, S>),
     /// The certificate of a number.
     Nth(NthCertificate),
     /// The certificate that has the row of a number.
@@ -45,18 +45,18 @@ pub(crate) enum Making<S> {
     Ring(Keyring),
 }
 
-impl<S: Spool + Drop> Making<S> {
+impl<'a, S: Spool + Drop> Making<'a, S> {
     /// Nothing yet, to be held in this spool, which is empty, or in memory. The condition is that
     /// the action makes something of a keyring. Fails only when out of memory.
     pub(crate) fn new(
         alloc: Global,
-        action: Action,
+        action: Action<'a>,
         spool: Option<S>,
-    ) -> Result<Making<S>, OutOfMemory>
+    ) -> Result<Making<'a, S>, OutOfMemory>
         requires parts { is_of_parts action ≡ true }
         requires empty { IfSome spool (λ s. (S.serves ≡ true) × (S.tells ≡ true → S.holds s ≡ [])) }
         ensures { IfOk result (λ m.
-            HasMade (DraftHas S.serves S.tells S.holds S.has_failed) action m []) }
+            HasMade (DraftHas S.serves S.tells S.holds S.has_failed) action.entry m []) }
     {
         match action {
             Action::Show | Action::ShowValues => unreachable!(),
@@ -69,8 +69,8 @@ impl<S: Spool + Drop> Making<S> {
             Action::Normalise { .. } => texts(alloc, spool, PartText::Normalised),
             Action::Split { out, nth: None } => texts(alloc, spool, PartText::Alone(out)),
             Action::Split { nth: Some(n), .. } => Ok(Making::Nth(NthCertificate::new(n as usize))),
-            Action::SplitKey { out, key } => {
-                let named = NamedCertificates::new(alloc, spool, out, key)?;
+            Action::SplitKeys { out, keys, except } => {
+                let named = NamedCertificates::new(alloc, spool, out, keys, except)?;
                 Ok(Making::Named(named))
             }
             Action::Check => Ok(Making::Report(Checking::new(alloc))),
@@ -113,14 +113,14 @@ impl<S: Spool + Drop> Making<S> {
 }
 
 /// No text yet. Fails only when out of memory.
-fn texts<S: Spool + Drop>(
+fn texts<'a, S: Spool + Drop>(
     alloc: Global,
     spool: Option<S>,
-    text: PartText,
-) -> Result<Making<S>, OutOfMemory>
+    text: PartText<'a>,
+) -> Result<Making<'a, S>, OutOfMemory>
     requires { IfSome spool (λ s. (S.serves ≡ true) × (S.tells ≡ true → S.holds s ≡ [])) }
     ensures { IfOk result (λ m. (k : KeyringText S) × (m ≡ making.Text k)
-        × HasTexts (DraftHas S.serves S.tells S.holds S.has_failed) text k []) }
+        × HasTexts (DraftHas S.serves S.tells S.holds S.has_failed) text.entry k []) }
 {
     let text = KeyringText::new(alloc, spool, text)?;
     Ok(Making::Text(text))

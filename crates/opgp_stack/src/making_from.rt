@@ -18,12 +18,12 @@ use std::alloc::Global;
 /// failed, and that a spool is empty.
 ///
 /// The errors are `Refused`: the input is refused, `Read`: the source has failed, and `Memory`.
-pub(crate) fn make<R: Source, S: Spool + Drop>(
+pub(crate) fn make<'a, R: Source, S: Spool + Drop>(
     alloc: Global,
-    task: &Task,
+    task: &Task<'a>,
     spool: Option<S>,
     source: &mut R,
-) -> Result<Making<S>, RunFault>
+) -> Result<Making<'a, S>, RunFault>
     requires parts { is_of_parts task.now.action ≡ true }
     requires sound { R.has_failed source.old ≡ false }
     requires empty { IfSome spool (λ s. (S.serves ≡ true) × (S.tells ≡ true → S.holds s ≡ [])) }

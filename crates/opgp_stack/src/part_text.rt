@@ -19,7 +19,7 @@ use std::alloc::Global;
 
 /// What is written of each part of a keyring: its lead, and each certificate.
 #[derive(Clone, Copy)]
-pub(crate) enum PartText {
+pub(crate) enum PartText<'a> {
     /// A line for each packet.
     Lines,
     /// The same, with values.
@@ -31,10 +31,10 @@ pub(crate) enum PartText {
     /// A certificate on its own, written so; nothing of the lead.
     Alone(Out),
     /// What is chosen of a certificate, and all of the lead, as they are.
-    Chosen(Choice),
+    Chosen(Choice<'a>),
 }
 
-impl PartText {
+impl<'a> PartText<'a> {
     /// Adds it to a draft, and gives back a part whose memory the next one may use. Fails only when
     /// out of memory; nothing is known of the draft then.
     pub(crate) fn add<S: Spool + Drop>(
@@ -46,7 +46,7 @@ impl PartText {
         ensures { OnOk result ((given : List ℕ)
             → DraftHas S.serves S.tells S.holds S.has_failed draft.old given
             → DraftHas S.serves S.tells S.holds S.has_failed draft.new
-            (given ++ text_of_part self (part_of part))) }
+            (given ++ text_of_part self.entry (part_of part))) }
     {
         match self {
             PartText::Lines => {
@@ -127,8 +127,12 @@ pub(crate) fn add_alone<S: Spool + Drop>(
 }
 
 /// What is chosen of a part. Fails only when out of memory.
-pub(crate) fn chosen_of(alloc: Global, part: Ready, choice: Choice) -> Result<Ready, OutOfMemory>
-    ensures { IfOk result (λ p. part_of p ≡ chosen_part choice (part_of part)) }
+pub(crate) fn chosen_of(
+    alloc: Global,
+    part: Ready,
+    choice: Choice<'_>,
+) -> Result<Ready, OutOfMemory>
+    ensures { IfOk result (λ p. part_of p ≡ chosen_part choice.entry (part_of part)) }
 {
     match part {
         Ready::Lead(lead) => Ok(Ready::Lead(lead)),

@@ -3,7 +3,7 @@
 ghost use Rattle.std.specs.Prelude.{◌≡◌, ◌⊎◌, false, Err};
 ghost use Rattle.std.specs.Option.{option_map};
 ghost use Rattle.opgp_state.specs.KeyringStates.{states_in};
-ghost use Rattle.opgp_state.specs.StateLines.{lines_from, state_lines};
+ghost use Rattle.opgp_state.specs.StateLines.{lines_from};
 ghost use Rattle.opgp_stack.specs.Running.{IsMade, Made, RunsOf};
 ghost use Rattle.opgp_stack.specs.Stating.{AreStates, OfStates};
 ghost use Rattle.opgp_stack.specs.declared.run_fault.RunFault.TheVariants as run;
@@ -13,9 +13,8 @@ use crate::running::{After, done, end};
 use opgp_codec::{Answer, Mode, Text, read_keyring, write};
 use opgp_io::{Output, Sink, Source};
 use opgp_octets::Limits;
-use opgp_report::Verdict;
 use opgp_ring::Keyring;
-use opgp_state::{Basis, KeyringStates, add_states, claimed_verdicts, read_verdicts};
+use opgp_state::{Basis, KeyringStates, add_states, read_verdicts};
 use opgp_valid::Policy;
 use std::alloc::Global;
 use std::io;
@@ -103,36 +102,35 @@ fn write_states<W: Sink>(
 {
     match file {
         None => {
-            let verdicts = claimed_verdicts(alloc, keyring)?;
-            write_lines(alloc, keyring, Basis::Claims, &verdicts, task, writer)
+            let states = KeyringStates::claimed(alloc, keyring, task.policy, task.at)?;
+            write_lines(alloc, keyring, Basis::Claims, &states, writer)
         }
         Some(file) => match read_verdicts(alloc, keyring, file)? {
             Some(verdicts) => {
-                write_lines(alloc, keyring, Basis::Verdicts, &verdicts, task, writer)
+                let states = KeyringStates::of(alloc, keyring, &verdicts, task.policy, task.at)?;
+                write_lines(alloc, keyring, Basis::Verdicts, &states, writer)
             }
             None => Err(RunFault::OtherVerdicts),
         },
     }
 }
 
-/// Writes how the parts of a keyring stand by these verdicts.
+/// Writes that the parts of a keyring stand so.
 fn write_lines<W: Sink>(
     alloc: Global,
     keyring: &Keyring,
     basis: Basis,
-    verdicts: &[Verdict],
-    task: &StateTask,
+    states: &KeyringStates,
     writer: &mut W,
 ) -> Result<(), RunFault>
     requires { W.has_failed writer.old ≡ false }
     ensures { IsMade W.held W.has_failed writer.old writer.new result
-        (Made.Text (state_lines basis keyring.now verdicts.now task.now.policy task.now.at)) }
+        (Made.Text (lines_from basis 0 keyring.now.certificates (states_in states.now))) }
 {
-    let states = KeyringStates::of(alloc, keyring, verdicts, task.policy, task.at)?;
     let text = StatesText {
         basis,
         keyring,
-        states: &states,
+        states,
     };
     end(write(alloc, text, writer))
 }

@@ -16,7 +16,7 @@ pub enum Top {
 
 /// What is made of an input.
 #[derive(Clone, Copy, Debug, PartialEq, Eq)]
-pub enum Action {
+pub enum Action<'a> {
     /// A line for each packet, and one for each subpacket of a signature.
     Show,
     /// The same, with the fields of each packet, and what each subpacket means.
@@ -51,7 +51,7 @@ pub enum Action {
         /// How they are written.
         out: Out,
         /// Which parts they are.
-        choice: Choice,
+        choice: Choice<'a>,
     },
     /// The keyring, each packet in the current format with its shortest length.
     Normalise {
@@ -65,12 +65,15 @@ pub enum Action {
         /// The number of the certificate, from 0; None: every one.
         nth: Option<u64>,
     },
-    /// The certificates that have a key of this name, each as a block of its own.
-    SplitKey {
+    /// The certificates that have one of these keys, or all but those, each as a block of its own.
+    /// Where a key is in none of the certificates, nothing is made: there is no such certificate.
+    SplitKeys {
         /// How each is written.
         out: Out,
-        /// The key: a primary key or a subkey.
-        key: KeyName,
+        /// The names of the keys, in any order: each of a primary key or a subkey.
+        keys: &'a [KeyName],
+        /// Whether the certificates that have one of the keys are left out, and the others written.
+        except: bool,
     },
     /// All blocks of the input as one keyring.
     Join {
@@ -83,11 +86,11 @@ pub enum Action {
 
 /// What the program is to do, how it reads its input, and within which limits.
 #[derive(Clone, Copy, Debug)]
-pub struct Task {
+pub struct Task<'a> {
     /// How the input is read.
     pub mode: Mode,
     /// The limits of what is read.
     pub limits: Limits,
     /// What is made of it.
-    pub action: Action,
+    pub action: Action<'a>,
 }

@@ -7,7 +7,7 @@ use opgp_stack::{Action, KeyName, Mode, Out, RunFault, Task, Watched, run};
 use std::alloc::Global;
 use std::test::Fail;
 
-pub const ACTIONS: [Action; 16] = [
+pub const ACTIONS: [Action<'static>; 17] = [
     Action::Show,
     Action::ShowValues,
     Action::List,
@@ -33,9 +33,15 @@ pub const ACTIONS: [Action; 16] = [
         out: Out::Binary,
         nth: Some(1),
     },
-    Action::SplitKey {
+    Action::SplitKeys {
         out: Out::Armor,
-        key: KeyName::Id([0x8C, 0xFD, 0xE1, 0x21, 0x97, 0x96, 0x5A, 0x9A]),
+        keys: &[KeyName::Id([0x8C, 0xFD, 0xE1, 0x21, 0x97, 0x96, 0x5A, 0x9A])],
+        except: false,
+    },
+    Action::SplitKeys {
+        out: Out::Binary,
+        keys: &[KeyName::Id([0x8C, 0xFD, 0xE1, 0x21, 0x97, 0x96, 0x5A, 0x9A])],
+        except: true,
     },
     Action::Join {
         out: Out::Armor,
@@ -47,7 +53,7 @@ pub const ACTIONS: [Action; 16] = [
     },
 ];
 
-pub fn task_of(action: Action) -> Task {
+pub fn task_of(action: Action<'_>) -> Task<'_> {
     Task {
         mode: Mode::Auto,
         limits: Limits::usual(),

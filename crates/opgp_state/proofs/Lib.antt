@@ -1,4 +1,10 @@
+mod AllClaims
+mod Blocks
 mod Fronts
+mod Gathered
+mod Heard
 mod Lines
+mod Renumbered
+mod Reordered
 mod StateTexts
 mod Verdicts

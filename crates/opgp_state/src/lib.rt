@@ -2,8 +2,10 @@
 #![tactic(auto)]
 
 mod basis;
+mod claiming;
 mod claims;
 mod keyring_states;
+pub mod laws;
 mod line_sink;
 mod reporting;
 mod row_front;

@@ -3,3 +3,4 @@ mod OneTask
 mod Parsing
 mod Reading
 mod SameLimits
+mod Texts

@@ -8,8 +8,7 @@ use Rattle.clap.specs.Walk.{row_text}
 use Rattle.clap.specs.Words.{App, Row, Text, read_as}
 use Rattle.opgp_octets.specs.declared.limits.Limits.{Limits}
 use Rattle.opgp_codec.specs.declared.mode.Mode.{Mode}
-use Rattle.opgp_merge.specs.Chosen.{everything, is_everything}
-use Rattle.opgp_merge.specs.declared.choice.Choice.{Choice}
+use Rattle.opgp_codec.specs.declared.out.Out.{Out}
 use Rattle.opgp_stack.specs.declared.task.Action.{Action}
 use Rattle.opgp_stack.specs.declared.task.Action.TheVariants as action
 use Rattle.opgp_stack.specs.declared.task.Task.{Task}
@@ -18,13 +17,13 @@ use Rattle.opgp_stack.specs.Time.{IsTime}
 use Rattle.opgp_stack.specs.declared.stating.StateTask.{StateTask}
 use Rattle.opgp_valid.specs.declared.policy.Policy.{Policy}
 use Rattle.opgp_stack.specs.declared.key_name.KeyName.{KeyName}
-use Rattle.opgp_merge.proofs.Staying.{choice_with}
 use Rattle.opgp_stack.proofs.KeyTexts.{one_name}
 use Rattle.opgp_stack.proofs.Times.{one_time_said}
+use Rattle.opgp_stack.proofs.Zips.{zip_same}
 use Rattle.opgp_tool.specs.Program.{SaysTask}
-use Rattle.opgp_tool.specs.Words.{Asked, AskedWork, DocumentWork, HasKey, HasLimits, HasNumber, HasTime, IsAction, IsChoice, IsDocumentWork, IsGivenNumber, IsRequest, IsStatesWith, IsTask, IsWork}
-use Rattle.opgp_tool.specs.Words.{of_around, of_canonical, of_cleartext, of_digests, of_document, of_signatures, of_states, of_task}
-use Rattle.opgp_tool.proofs.Reading.{apart}
+use Rattle.opgp_tool.specs.Words.{Asked, AskedWork, Chosen, DocumentWork, HasKeys, HasLimits, HasNumber, HasNumbers, HasTime, IsAction, IsChosen, IsDocumentWork, IsGivenNumber, IsNumber, IsRequest, IsSplitWork, IsStatesWith, IsTask, IsWork, SplitWork, texts_of}
+use Rattle.opgp_tool.specs.Words.{of_around, of_canonical, of_cleartext, of_digests, of_document, of_keys, of_number, of_signatures, of_split, of_states, of_task, of_write}
+use Rattle.opgp_tool.proofs.Reading.{apart, not_both, other_apart, split_named, write_named}
 use Rattle.opgp_tool.proofs.SameLimits.{same_limits}
 
 one_number : (options : List Row) (id : Text) (m n : ℕ) → HasNumber options id m
@@ -45,15 +44,11 @@ one_given options id None (Some n) a b = absurd (no_text _ b.0 a b.1)
 one_given options id (Some m) None a b = absurd (no_text _ a.0 b a.1)
 one_given options id (Some m) (Some n) a b = ap {B = Option ℕ} Some (one_number options _ m n a b)
 
-one_choice : (options : List Row) (x y : Choice) → IsChoice options x → IsChoice options y → x ≡ y
-one_choice options x y a b =
-    ap (λ (own : Bool). choice_with own x.no_attributes x.user_id) (a.own_signatures ∙ sym b.own_signatures)
-    ∙ ap (λ (none : Bool). choice_with y.own_signatures none x.user_id) (a.no_attributes ∙ sym b.no_attributes)
-    ∙ ap (choice_with y.own_signatures y.no_attributes) (one_given options _ x.user_id y.user_id a.user_id b.user_id)
+one_list : (options : List Row) (id : Text) (m n : List ℕ) → HasNumbers options id m → HasNumbers options id n → m ≡ n
+one_list options id m n a b = zip_same IsNumber (texts_of id options) m n (λ text x y p q. p.value ∙ sym q.value) a b
 
-one_key : (options : List Row) (a b : KeyName) → HasKey options a → HasKey options b → a ≡ b
-one_key options a b x y =
-    one_name y.0 a b (subst (λ (t : Text). IsKeyText t a) (same_Some x.0 y.0 (sym x.1 ∙ y.1)) x.2) y.2
+keys_once : (options : List Row) (a b : List KeyName) → HasKeys options a → HasKeys options b → a ≡ b
+keys_once options a b x y = zip_same IsKeyText (texts_of (codes "key") options) a b (λ text k l p q. one_name text k l p q) x y
 
 -- the command of an action
 abbrev name_of : Action → Text
@@ -69,7 +64,7 @@ name_of (action.Write out) = codes "write"
 name_of (action.WriteChosen out choice) = codes "write"
 name_of (action.Normalise out) = codes "normalise"
 name_of (action.Split out nth) = codes "split"
-name_of (action.SplitKey out key) = codes "split"
+name_of (action.SplitKeys out keys except) = codes "split"
 name_of (action.Join out merge) = codes "join"
 
 named : (name : Text) (options : List Row) (a : Action) → IsAction name options a → name ≡ name_of a
@@ -81,11 +76,11 @@ named name options action.Check said = said.0
 named name options action.CheckFingerprints said = said.0
 named name options (action.Octets row top) said = said.0
 named name options action.OctetsAll said = said.0
-named name options (action.Write out) said = said.0
-named name options (action.WriteChosen out choice) said = said.0
+named name options (action.Write out) said = absurd said
+named name options (action.WriteChosen out choice) said = absurd said
 named name options (action.Normalise out) said = said.0
-named name options (action.Split out nth) said = said.0
-named name options (action.SplitKey out key) said = said.0
+named name options (action.Split out nth) said = absurd said
+named name options (action.SplitKeys out keys except) said = absurd said
 named name options (action.Join out merge) said = said.0
 
 one_action : (name : Text) (options : List Row) (a b : Action) → IsAction name options a
@@ -107,20 +102,11 @@ one_action name options (action.Octets row top) (action.Octets more other) a b =
 one_action name options action.OctetsAll action.OctetsAll a b = refl
 one_action name options (action.Octets row top) action.OctetsAll a b = absurd (cc (a.3, b.1))
 one_action name options action.OctetsAll (action.Octets row top) a b = absurd (cc (a.1, b.3))
-one_action name options (action.Write out) (action.Write other) a b = cc (a.1, b.1)
-one_action name options (action.WriteChosen out choice) (action.WriteChosen other c) a b =
-    let same : choice ≡ c = one_choice options choice c a.2 b.2 in cc (same, a.1, b.1)
-one_action name options (action.Write out) (action.WriteChosen other c) a b =
-    absurd (apart (ap is_everything (one_choice options everything c a.2 b.2) ∙ b.3))
-one_action name options (action.WriteChosen out choice) (action.Write other) a b =
-    absurd (apart (ap is_everything (one_choice options everything choice b.2 a.2) ∙ a.3))
+one_action name options (action.Write out) y a b = absurd a
+one_action name options (action.WriteChosen out choice) y a b = absurd a
+one_action name options (action.Split out nth) y a b = absurd a
+one_action name options (action.SplitKeys out keys except) y a b = absurd a
 one_action name options (action.Normalise out) (action.Normalise other) a b = cc (a.1, b.1)
-one_action name options (action.Split out nth) (action.Split other m) a b =
-    let same : nth ≡ m = one_given options _ nth m a.2 b.2 in cc (same, a.1, b.1)
-one_action name options (action.SplitKey out key) (action.SplitKey other k) a b =
-    let same : key ≡ k = one_key options key k a.2 b.2 in cc (same, a.1, b.1)
-one_action name options (action.Split out nth) (action.SplitKey other k) a b = absurd (none-some b.2.0 (sym a.3 ∙ b.2.1))
-one_action name options (action.SplitKey out key) (action.Split other m) a b = absurd (none-some a.2.0 (sym b.3 ∙ a.2.1))
 one_action name options (action.Join out merge) (action.Join other m) a b = cc (a.1, a.2, b.1, b.2)
 one_action name options x y a b =
     let same : name_of x ≡ name_of y = sym (named name options x a) ∙ named name options y b in
@@ -192,7 +178,7 @@ of_no_task (action.Write out) = refl
 of_no_task (action.WriteChosen out choice) = refl
 of_no_task (action.Normalise out) = refl
 of_no_task (action.Split out nth) = refl
-of_no_task (action.SplitKey out key) = refl
+of_no_task (action.SplitKeys out keys except) = refl
 of_no_task (action.Join out merge) = refl
 
 of_documents : (w : DocumentWork) → is_document (document_name w) ≡ true
@@ -233,6 +219,25 @@ one_judged options a b m n =
     ∙ ap (λ (x : Policy). states_with b.mode b.limits x a.at) (m.policy ∙ sym n.policy)
     ∙ ap (states_with b.mode b.limits b.policy) (one_at options a.at b.at m.at n.at)
 
+-- ---- the commands `write` and `split`
+abbrev chosen_with : Out → Bool → Bool → List ℕ → Chosen
+chosen_with out own none ids = record { out = out; own_signatures = own; no_attributes = none; user_ids = ids }
+
+one_chosen : (options : List Row) (x y : Chosen) → IsChosen options x → IsChosen options y → x ≡ y
+one_chosen options x y a b =
+    ap (λ (out : Out). chosen_with out x.own_signatures x.no_attributes x.user_ids) (a.out ∙ sym b.out)
+    ∙ ap (λ (own : Bool). chosen_with y.out own x.no_attributes x.user_ids) (a.own_signatures ∙ sym b.own_signatures)
+    ∙ ap (λ (none : Bool). chosen_with y.out y.own_signatures none x.user_ids) (a.no_attributes ∙ sym b.no_attributes)
+    ∙ ap (chosen_with y.out y.own_signatures y.no_attributes) (one_list options _ x.user_ids y.user_ids a.user_ids b.user_ids)
+
+one_split : (options : List Row) (x y : SplitWork) → IsSplitWork options x → IsSplitWork options y → x ≡ y
+one_split options (of_number out nth) (of_number other m) a b =
+    let same : nth ≡ m = one_given options _ nth m a.2 b.2 in cc (same, a.1, b.1)
+one_split options (of_keys out keys file except) (of_keys other others f e) a b =
+    let same : keys ≡ others = keys_once options keys others a.2 b.2 in cc (same, a.1, b.1, a.3, b.3, a.4, b.4)
+one_split options (of_number out nth) (of_keys other others f e) a b = absurd (apart (sym b.0 ∙ a.0))
+one_split options (of_keys out keys file except) (of_number other m) a b = absurd (apart (sym a.0 ∙ b.0))
+
 abbrev document_with : Mode → Limits → DocumentWork → AskedWork
 document_with mode limits work = of_document mode limits work
 
@@ -252,6 +257,26 @@ one_work name options (of_task a) (of_states b g) m n = absurd (state_clash a.ac
 one_work name options (of_states a f) (of_task b) m n = absurd (state_clash b.action (sym (named name options b.action n.action) ∙ m.named))
 one_work name options (of_document x l w) (of_states b g) m n = absurd (document_clash w (sym (document_named name options w m.made) ∙ n.named))
 one_work name options (of_states a f) (of_document y k v) m n = absurd (document_clash v (sym (document_named name options v n.made) ∙ m.named))
+one_work name options (of_write x l c) (of_write y k d) m n =
+    ap (λ (z : Mode). of_write z l c) (m.read ∙ sym n.read) ∙ ap (λ (z : Limits). of_write y z c) (one_limits options l k m.within n.within)
+    ∙ ap (of_write y k) (one_chosen options c d m.made n.made)
+one_work name options (of_split x l w) (of_split y k v) m n =
+    ap (λ (z : Mode). of_split z l w) (m.read ∙ sym n.read) ∙ ap (λ (z : Limits). of_split y z w) (one_limits options l k m.within n.within)
+    ∙ ap (of_split y k) (one_split options w v m.made n.made)
+one_work name options (of_write x l c) (of_split y k v) m n = not_both name m.named n.named
+one_work name options (of_split x l w) (of_write y k d) m n = not_both name n.named m.named
+one_work name options (of_write x l c) (of_task b) m n = absurd (apart (sym (write_named name options x l c m) ∙ other_apart name options (of_task b) refl n))
+one_work name options (of_write x l c) (of_document y k v) m n = absurd (apart (sym (write_named name options x l c m) ∙ other_apart name options (of_document y k v) refl n))
+one_work name options (of_write x l c) (of_states b g) m n = absurd (apart (sym (write_named name options x l c m) ∙ other_apart name options (of_states b g) refl n))
+one_work name options (of_split x l w) (of_task b) m n = absurd (apart (sym (split_named name options x l w m) ∙ other_apart name options (of_task b) refl n))
+one_work name options (of_split x l w) (of_document y k v) m n = absurd (apart (sym (split_named name options x l w m) ∙ other_apart name options (of_document y k v) refl n))
+one_work name options (of_split x l w) (of_states b g) m n = absurd (apart (sym (split_named name options x l w m) ∙ other_apart name options (of_states b g) refl n))
+one_work name options (of_task a) (of_write y k d) m n = absurd (apart (sym (write_named name options y k d n) ∙ other_apart name options (of_task a) refl m))
+one_work name options (of_document x l w) (of_write y k d) m n = absurd (apart (sym (write_named name options y k d n) ∙ other_apart name options (of_document x l w) refl m))
+one_work name options (of_states a f) (of_write y k d) m n = absurd (apart (sym (write_named name options y k d n) ∙ other_apart name options (of_states a f) refl m))
+one_work name options (of_task a) (of_split y k v) m n = absurd (apart (sym (split_named name options y k v n) ∙ other_apart name options (of_task a) refl m))
+one_work name options (of_document x l w) (of_split y k v) m n = absurd (apart (sym (split_named name options y k v n) ∙ other_apart name options (of_document x l w) refl m))
+one_work name options (of_states a f) (of_split y k v) m n = absurd (apart (sym (split_named name options y k v n) ∙ other_apart name options (of_states a f) refl m))
 
 abbrev asked_with : AskedWork → Bool → Bool → Option Text → Asked
 asked_with work progress quiet spool = record { work = work; progress = progress; quiet = quiet; spool = spool }

@@ -1,7 +1,7 @@
 -- What a parse by the program gives.
 use Rattle.std.proofs.Common.{◌≡◌, ◌⊎◌, inl, inr, ap, subst, ◌∙◌, refl, ◌&&◌, Bool, true, false, List, Option}
-use Rattle.std.proofs.Common.{Some, None}
-use Rattle.std.specs.Prelude.{IfSome, option_map}
+use Rattle.std.proofs.Common.{Some, None, Result, Ok}
+use Rattle.std.specs.Prelude.{IfNone, IfOk, IfSome, option_map}
 use Rattle.clap.specs.Words.{App, Row, Text, is_simple, is_simple_and_free, subcommand_of, takes}
 use Rattle.clap.proofs.OnLiterals.{clap_on_literals}
 use Rattle.opgp_tool.specs.Program.{Choice, Choices, IsProgram, SaysNone, program_of}
@@ -36,8 +36,12 @@ pub both : {A : Type 0} (o : Option A) (f : A → Text) (g : A → List Row)
 both None f g n rows named rowed = cc
 both (Some b) f g n rows named rowed = cc
 
-pub given : {A : Type 0} (P : A → Type 0) (o : Option A) (x : A) → o ≡ Some x → IfSome o P → P x
-given P o x is holds = subst (λ t. IfSome t P) is holds
+-- what was found, and what is known where nothing was
+pub found_given : {A E : Type 0} (P : A → Type 0) (r : Result (Option A) E) (o : Option A) (x : A) → r ≡ Ok o → o ≡ Some x → IfOk r (λ o. IfSome o P) → P x
+found_given P r o x is found holds = subst (λ s. IfSome s P) found (subst (λ s. IfOk s (λ o. IfSome o P)) is holds)
+
+pub found_none : {A E P : Type 0} (r : Result (Option A) E) (o : Option A) → r ≡ Ok o → o ≡ None → IfOk r (λ o. IfNone o P) → P
+found_none {P = P} r o is none holds = subst (λ s. IfNone s P) none (subst (λ s. IfOk s (λ o. IfNone o P)) is holds)
 
 -- words that aren't taken say no task
 pub refused_or : (app : App) (words : List Text) (M : Type 0) → IsProgram app

@@ -1,24 +1,21 @@
 -- What an option's text says as a number, and limits that are said.
 use Rattle.std.proofs.lemmas.Option.{none-some, same_Some}
-use Rattle.std.proofs.Common.{◌≡◌, ◌∙◌, ap, subst, sym, refl, Bool, true, false, ℕ, List, Option, Some, None, Result}
+use Rattle.std.proofs.Common.{◌≡◌, ◌∙◌, ap, subst, sym, refl, Bool, true, false, ◌||◌, is_some, ℕ, List, Option, Some, None, Result}
 use Rattle.std.specs.Prelude.{IfSome, IfNone, codes}
 use Rattle.std.specs.Str.{bytes_eq}
 use Rattle.std.specs.Str.Parse.{ParsesUnsigned}
 use Rattle.clap.specs.Words.{Row, Text, first_of, one_of}
 use Rattle.clap.specs.Matches.{ReadsOne}
-use Rattle.opgp_merge.specs.Chosen.{everything}
-use Rattle.opgp_merge.specs.declared.choice.Choice.{Choice}
 use Rattle.opgp_octets.specs.declared.limits.Limits.{Limits}
 use Rattle.opgp_codec.specs.declared.mode.Mode.{Mode}
 use Rattle.opgp_stack.specs.declared.task.Task.{Task}
 use Rattle.opgp_stack.specs.declared.task.Action.{Action}
 use Rattle.opgp_stack.specs.declared.task.Action.TheVariants as action
 use Rattle.opgp_stack.specs.declared.task.Top.TheVariants as top
-use Rattle.opgp_stack.specs.KeyText.{IsKeyText}
 use Rattle.opgp_stack.specs.declared.key_name.KeyName.{KeyName}
-use Rattle.opgp_tool.specs.Words.{HasKey, HasNumber, IsAction, IsChoice, IsGivenNumber, is_given, top_of}
+use Rattle.opgp_tool.specs.Words.{Chosen, HasKeys, HasNumber, IsAction, IsGivenNumber, IsSplit, IsSplitWork, IsWrite, SplitWork, is_given, is_other, names_keys, top_of}
 use Rattle.opgp_tool.specs.Words.{AskedWork, DocumentWork, IsDocument, IsDocumentWork, IsTask, IsWork}
-use Rattle.opgp_tool.specs.Words.{of_around, of_canonical, of_cleartext, of_digests, of_document, of_signatures, of_states, of_task}
+use Rattle.opgp_tool.specs.Words.{of_around, of_canonical, of_cleartext, of_digests, of_document, of_keys, of_number, of_signatures, of_split, of_states, of_task, of_write}
 use Rattle.opgp_tool.specs.Words.{HasTime, IsStates}
 use Rattle.opgp_stack.specs.Time.{IsTime}
 use Rattle.opgp_stack.specs.declared.stating.StateTask.{StateTask}
@@ -62,42 +59,6 @@ no_given_number options id word none is (Some n) said = none n said
 pub apart : true ≡ false → ⊥
 apart e = absurd cc
 
-abbrev is_split : Text → Bool
-is_split name = bytes_eq name (codes "split")
-
--- options of a split that say neither how many nor which certificates are no action
-pub no_split : (options : List Row) → ((nth : Option ℕ) → IsGivenNumber options (codes "nth") nth → first_of (codes "key") options ≡ None → ⊥)
-    → ((key : KeyName) → HasKey options key → first_of (codes "nth") options ≡ None → ⊥)
-    → (a : Action) → IsAction (codes "split") options a → ⊥
-no_split options whole by_key action.Show said = absurd (apart (ap is_split said.0))
-no_split options whole by_key action.ShowValues said = absurd (apart (ap is_split said.0))
-no_split options whole by_key action.List said = absurd (apart (ap is_split said.0))
-no_split options whole by_key action.ListValues said = absurd (apart (ap is_split said.0))
-no_split options whole by_key action.Check said = absurd (apart (ap is_split said.0))
-no_split options whole by_key action.CheckFingerprints said = absurd (apart (ap is_split said.0))
-no_split options whole by_key (action.Octets row top) said = absurd (apart (ap is_split said.0))
-no_split options whole by_key action.OctetsAll said = absurd (apart (ap is_split said.0))
-no_split options whole by_key (action.Write out) said = absurd (apart (ap is_split said.0))
-no_split options whole by_key (action.WriteChosen out choice) said = absurd (apart (ap is_split said.0))
-no_split options whole by_key (action.Normalise out) said = absurd (apart (ap is_split said.0))
-no_split options whole by_key (action.Split out nth) said = whole nth said.2 said.3
-no_split options whole by_key (action.SplitKey out key) said = by_key key said.2 said.3
-no_split options whole by_key (action.Join out merge) said = absurd (apart (ap is_split said.0))
-
--- where a key is given, and a number too, or its text names none
-pub no_named_split : (options : List Row) (text : Text) → first_of (codes "key") options ≡ Some text
-    → ((key : KeyName) → IsKeyText text key → first_of (codes "nth") options ≡ None → ⊥)
-    → (a : Action) → IsAction (codes "split") options a → ⊥
-no_named_split options text given none = no_split options
-    (λ nth is lacks. none-some text (sym lacks ∙ given))
-    (λ key has lacks. none key (subst (λ (t : Text). IsKeyText t key) (same_Some has.0 text (sym has.1 ∙ given)) has.2) lacks)
-
--- where no key is given, and no number is one
-pub no_numbered_split : (options : List Row) → first_of (codes "key") options ≡ None
-    → ((nth : Option ℕ) → IsGivenNumber options (codes "nth") nth → ⊥) → (a : Action) → IsAction (codes "split") options a → ⊥
-no_numbered_split options lacks none = no_split options (λ nth is no_key. none nth is)
-    (λ key has no_nth. none-some has.0 (sym lacks ∙ has.1))
-
 abbrev is_octets : Text → Bool
 is_octets name = bytes_eq name (codes "octets")
 
@@ -113,32 +74,12 @@ no_octets options one all action.Check said = absurd (apart (ap is_octets said.0
 no_octets options one all action.CheckFingerprints said = absurd (apart (ap is_octets said.0))
 no_octets options one all (action.Octets row top) said = one row said.1 said.3
 no_octets options one all action.OctetsAll said = all said.1 said.2 said.3
-no_octets options one all (action.Write out) said = absurd (apart (ap is_octets said.0))
-no_octets options one all (action.WriteChosen out choice) said = absurd (apart (ap is_octets said.0))
+no_octets options one all (action.Write out) said = absurd said
+no_octets options one all (action.WriteChosen out choice) said = absurd said
 no_octets options one all (action.Normalise out) said = absurd (apart (ap is_octets said.0))
-no_octets options one all (action.Split out nth) said = absurd (apart (ap is_octets said.0))
-no_octets options one all (action.SplitKey out key) said = absurd (apart (ap is_octets said.0))
+no_octets options one all (action.Split out nth) said = absurd said
+no_octets options one all (action.SplitKeys out keys except) said = absurd said
 no_octets options one all (action.Join out merge) said = absurd (apart (ap is_octets said.0))
-
-abbrev is_write : Text → Bool
-is_write name = bytes_eq name (codes "write")
-
--- options of write that choose nothing are no action
-pub no_write : (options : List Row) → ((choice : Choice) → IsChoice options choice → ⊥) → (a : Action) → IsAction (codes "write") options a → ⊥
-no_write options none action.Show said = absurd (apart (ap is_write said.0))
-no_write options none action.ShowValues said = absurd (apart (ap is_write said.0))
-no_write options none action.List said = absurd (apart (ap is_write said.0))
-no_write options none action.ListValues said = absurd (apart (ap is_write said.0))
-no_write options none action.Check said = absurd (apart (ap is_write said.0))
-no_write options none action.CheckFingerprints said = absurd (apart (ap is_write said.0))
-no_write options none (action.Octets row top) said = absurd (apart (ap is_write said.0))
-no_write options none action.OctetsAll said = absurd (apart (ap is_write said.0))
-no_write options none (action.Write out) said = none everything said.2
-no_write options none (action.WriteChosen out choice) said = none choice said.2
-no_write options none (action.Normalise out) said = absurd (apart (ap is_write said.0))
-no_write options none (action.Split out nth) said = absurd (apart (ap is_write said.0))
-no_write options none (action.SplitKey out key) said = absurd (apart (ap is_write said.0))
-no_write options none (action.Join out merge) said = absurd (apart (ap is_write said.0))
 
 abbrev is_digest : Text → Bool
 is_digest name = bytes_eq name (codes "digest")
@@ -156,10 +97,99 @@ no_digest options none (of_cleartext part) said = absurd (apart (ap is_digest sa
 pub no_work : (name : Text) (options : List Row) → ((task : Task) → IsTask name options task → ⊥)
     → ((mode : Mode) (limits : Limits) (work : DocumentWork) → IsDocument name options mode limits work → ⊥)
     → ((task : StateTask) (file : Option Text) → IsStates name options task file → ⊥)
-    → (work : AskedWork) → IsWork name options work → ⊥
-no_work name options tasks documents states (of_task task) said = tasks task said
-no_work name options tasks documents states (of_document mode limits work) said = documents mode limits work said
-no_work name options tasks documents states (of_states task file) said = states task file said
+    → (work : AskedWork) → is_other work ≡ true → IsWork name options work → ⊥
+no_work name options tasks documents states (of_task task) other said = tasks task said
+no_work name options tasks documents states (of_document mode limits work) other said = documents mode limits work said
+no_work name options tasks documents states (of_states task file) other said = states task file said
+no_work name options tasks documents states (of_write mode limits chosen) other said = absurd (cc other)
+no_work name options tasks documents states (of_split mode limits work) other said = absurd (cc other)
+
+-- ---- the commands `write` and `split`
+abbrev is_write : Text → Bool
+is_write name = bytes_eq name (codes "write")
+
+abbrev pub is_chooser : Text → Bool
+is_chooser name = bytes_eq name (codes "write") || bytes_eq name (codes "split")
+
+-- no action of a task is theirs
+pub task_apart : (name : Text) (options : List Row) (a : Action) → IsAction name options a → is_chooser name ≡ false
+task_apart name options action.Show said = ap is_chooser said.0
+task_apart name options action.ShowValues said = ap is_chooser said.0
+task_apart name options action.List said = ap is_chooser said.0
+task_apart name options action.ListValues said = ap is_chooser said.0
+task_apart name options action.Check said = ap is_chooser said.0
+task_apart name options action.CheckFingerprints said = ap is_chooser said.0
+task_apart name options (action.Octets row top) said = ap is_chooser said.0
+task_apart name options action.OctetsAll said = ap is_chooser said.0
+task_apart name options (action.Write out) said = absurd said
+task_apart name options (action.WriteChosen out choice) said = absurd said
+task_apart name options (action.Normalise out) said = ap is_chooser said.0
+task_apart name options (action.Split out nth) said = absurd said
+task_apart name options (action.SplitKeys out keys except) said = absurd said
+task_apart name options (action.Join out merge) said = ap is_chooser said.0
+
+document_apart : (name : Text) (options : List Row) (w : DocumentWork) → IsDocumentWork name options w → is_chooser name ≡ false
+document_apart name options of_signatures said = ap is_chooser said
+document_apart name options (of_digests file) said = ap is_chooser said.0
+document_apart name options (of_around file row part) said = ap is_chooser said.0
+document_apart name options of_canonical said = ap is_chooser said
+document_apart name options (of_cleartext part) said = ap is_chooser said.0
+
+pub other_apart : (name : Text) (options : List Row) (w : AskedWork) → is_other w ≡ true → IsWork name options w → is_chooser name ≡ false
+other_apart name options (of_task task) other said = task_apart name options task.action said.action
+other_apart name options (of_document mode limits work) other said = document_apart name options work said.made
+other_apart name options (of_states task file) other said = ap is_chooser said.named
+other_apart name options (of_write mode limits chosen) other said = absurd (cc other)
+other_apart name options (of_split mode limits work) other said = absurd (cc other)
+
+pub write_named : (name : Text) (options : List Row) (mode : Mode) (limits : Limits) (chosen : Chosen) → IsWrite name options mode limits chosen → is_chooser name ≡ true
+write_named name options mode limits chosen said = ap is_chooser said.named
+
+pub split_named : (name : Text) (options : List Row) (mode : Mode) (limits : Limits) (work : SplitWork) → IsSplit name options mode limits work → is_chooser name ≡ true
+split_named name options mode limits work said = ap is_chooser said.named
+
+pub not_both : {P : Type 0} (name : Text) → name ≡ codes "write" → name ≡ codes "split" → P
+not_both name write split = absurd (apart (sym (ap is_write write) ∙ ap is_write split))
+
+-- options of `write`, or of `split`, that say nothing are no work
+pub no_write : (name : Text) (options : List Row) → name ≡ codes "write" → ((mode : Mode) (limits : Limits) (chosen : Chosen) → IsWrite (codes "write") options mode limits chosen → ⊥) → (work : AskedWork) → IsWork name options work → ⊥
+no_write name options is none (of_task task) said = apart (sym (ap is_chooser is) ∙ other_apart name options (of_task task) refl said)
+no_write name options is none (of_document mode limits work) said = apart (sym (ap is_chooser is) ∙ other_apart name options (of_document mode limits work) refl said)
+no_write name options is none (of_states task file) said = apart (sym (ap is_chooser is) ∙ other_apart name options (of_states task file) refl said)
+no_write name options is none (of_write mode limits chosen) said = none mode limits chosen (subst (λ (n : Text). IsWrite n options mode limits chosen) is said)
+no_write name options is none (of_split mode limits work) said = not_both name is said.named
+
+pub no_split : (name : Text) (options : List Row) → name ≡ codes "split" → ((mode : Mode) (limits : Limits) (work : SplitWork) → IsSplit (codes "split") options mode limits work → ⊥) → (work : AskedWork) → IsWork name options work → ⊥
+no_split name options is none (of_task task) said = apart (sym (ap is_chooser is) ∙ other_apart name options (of_task task) refl said)
+no_split name options is none (of_document mode limits work) said = apart (sym (ap is_chooser is) ∙ other_apart name options (of_document mode limits work) refl said)
+no_split name options is none (of_states task file) said = apart (sym (ap is_chooser is) ∙ other_apart name options (of_states task file) refl said)
+no_split name options is none (of_write mode limits chosen) said = not_both name said.named is
+no_split name options is none (of_split mode limits work) said = none mode limits work (subst (λ (n : Text). IsSplit n options mode limits work) is said)
+
+-- nor is another command's, where it is none of those
+pub no_other : (name : Text) (options : List Row) → (name ≡ codes "write" → ⊥) → (name ≡ codes "split" → ⊥) → ((work : AskedWork) → is_other work ≡ true → IsWork name options work → ⊥) → (work : AskedWork) → IsWork name options work → ⊥
+no_other name options write split none (of_task task) said = none (of_task task) refl said
+no_other name options write split none (of_document mode limits work) said = none (of_document mode limits work) refl said
+no_other name options write split none (of_states task file) said = none (of_states task file) refl said
+no_other name options write split none (of_write mode limits chosen) said = write said.named
+no_other name options write split none (of_split mode limits work) said = split said.named
+
+pub on_none : {A P Q : Type 0} (o : Option A) → (P → Q) → IfNone o P → IfNone o Q
+on_none None f p = f p
+on_none (Some a) f p = tt
+
+-- options of `split` that name keys say no number, and the others no keys
+pub no_number_split : (options : List Row) → names_keys options ≡ false → ((nth : Option ℕ) → IsGivenNumber options (codes "nth") nth → is_given (first_of (codes "except") options) ≡ false → ⊥) → (work : SplitWork) → IsSplitWork options work → ⊥
+no_number_split options lacks none (of_number out nth) said = none nth said.2 said.3
+no_number_split options lacks none (of_keys out keys file except) said = apart (sym said.0 ∙ lacks)
+
+pub no_keys_split : (options : List Row) → names_keys options ≡ true → ((keys : List KeyName) → HasKeys options keys → first_of (codes "nth") options ≡ None → ⊥) → (work : SplitWork) → IsSplitWork options work → ⊥
+no_keys_split options has none (of_number out nth) said = apart (sym has ∙ said.0)
+no_keys_split options has none (of_keys out keys file except) said = none keys said.2 said.5
+
+pub nth_given : (o : Option Text) → is_some o ≡ true → o ≡ None → ⊥
+nth_given None given lacks = absurd (cc given)
+nth_given (Some t) given lacks = absurd (cc lacks)
 
 -- a text that says no time gives none
 pub no_time : (options : List Row) (text : Text) (r : Option ℕ) → Some text ≡ first_of (codes "at") options → IfNone r ((n : ℕ) → IsTime text n → ⊥) → IfNone r ((n : ℕ) → HasTime options n → ⊥)

@@ -4,7 +4,7 @@ use Rattle.std.specs.Borrow.{Bor}
 use Rattle.std.specs.List.{AllByRecursion}
 use Rattle.clap.specs.Words.{App, Row, Rule, Shape, Text, app_of, new_rule, subcommand_of, takes, with_rule}
 use Rattle.clap.specs.Simple.{new_shape}
-use Rattle.clap.specs.declared.builder.action.ArgAction.TheVariants.{Set, SetTrue}
+use Rattle.clap.specs.declared.builder.action.ArgAction.TheVariants.{Append, Set, SetTrue}
 use Rattle.clap.specs.declared.builder.command.Command.{Command}
 use Rattle.clap.specs.declared.builder.value_parser.ValueParser.{ValueParser}
 use Rattle.clap.specs.declared.builder.value_parser.ValueParser.TheVariants as parser
@@ -27,6 +27,10 @@ valued_rule name p = record (new_rule name) {
   value_names = 1;
   parser = Some p;
 }
+
+-- the same, which may be given again and again
+abbrev pub repeated_rule : Text → ValueParser → Rule
+repeated_rule name parser = record (valued_rule name parser) { action = Some Append }
 
 -- one of some values, `usual` if the option isn't given
 abbrev pub choice_rule : Text → Choice → Text → Rule
@@ -79,7 +83,7 @@ abbrev pub nth_rule : Rule
 nth_rule = number_rule (codes "nth")
 
 abbrev pub user_id_rule : Rule
-user_id_rule = number_rule (codes "user-id")
+user_id_rule = repeated_rule (codes "user-id") (parser.Unsigned 0 18446744073709551615)
 
 -- an option `--name` without a value
 abbrev pub flag_rule : Text → Rule
@@ -138,7 +142,13 @@ abbrev pub spool_rule : Rule
 spool_rule = text_rule (codes "spool")
 
 abbrev pub key_rule : Rule
-key_rule = text_rule (codes "key")
+key_rule = repeated_rule (codes "key") parser.NonEmptyString
+
+abbrev pub keys_rule : Rule
+keys_rule = text_rule (codes "keys")
+
+abbrev pub except_rule : Rule
+except_rule = flag_rule (codes "except")
 
 -- the values of `--mode`, `--outside`, `--malformed`, `--out`, `--of` and `--policy`
 abbrev pub AreModes : Choice → Type 0
@@ -224,7 +234,7 @@ program_of show list check state octets write normalise split join signatures di
           (out_rule write_outs ∷ own_signatures_rule ∷ no_attributes_rule ∷ user_id_rule ∷ [])
           ∷ command_shape (codes "normalise") normalise (out_rule normalise_outs ∷ [])
           ∷ command_shape (codes "split") split
-          (out_rule split_outs ∷ nth_rule ∷ key_rule ∷ [])
+          (out_rule split_outs ∷ nth_rule ∷ key_rule ∷ keys_rule ∷ except_rule ∷ [])
           ∷ command_shape (codes "join") join (out_rule join_outs ∷ merge_rule ∷ [])
           ∷ command_shape (codes "signatures") signatures []
           ∷ command_shape (codes "digest") digest

@@ -1,9 +1,10 @@
 -- What a command line says: the command's name, and its options, a row each, as `clap` finds them.
-use Rattle.std.specs.Prelude.{◌≡◌, ℕ, ◌<◌, ◌^◌, Bool, List, Option, Some, None, true, false, codes}
-use Rattle.std.specs.Prelude.{MatchOption, if◌then◌else◌, option_map}
+use Rattle.std.specs.Prelude.{◌≡◌, ℕ, ◌<◌, ◌^◌, ◌||◌, Bool, List, [], Option, Some, None, true, false}
+use Rattle.std.specs.Prelude.{MatchOption, codes, if◌then◌else◌, is_some, option_map, unwrap_or}
+use Rattle.std.specs.List.{AllZip}
 use Rattle.std.specs.Str.{bytes_eq}
 use Rattle.std.specs.Str.Parse.{IsNumeral, digits_value, without_leading_plus}
-use Rattle.clap.specs.Words.{Row, Text, first_of, one_of}
+use Rattle.clap.specs.Words.{Row, Text, all_of, first_of, one_of}
 use Rattle.opgp_octets.specs.declared.limits.Limits.{Limits}
 use Rattle.opgp_octets.specs.Limits.{line_limit, body_limit, cert_limit, input_limit, pieces_limit}
 use Rattle.opgp_octets.specs.Limits.{outside_of as policy_of, malformed_of as signature_policy_of}
@@ -15,8 +16,6 @@ use Rattle.opgp_codec.specs.declared.mode.Mode.{Mode}
 use Rattle.opgp_codec.specs.declared.mode.Mode.TheVariants as mode
 use Rattle.opgp_codec.specs.declared.out.Out.{Out}
 use Rattle.opgp_codec.specs.declared.out.Out.TheVariants as out
-use Rattle.opgp_merge.specs.Chosen.{everything, is_everything}
-use Rattle.opgp_merge.specs.declared.choice.Choice.{Choice}
 use Rattle.opgp_stack.specs.KeyText.{IsKeyText}
 use Rattle.opgp_stack.specs.Time.{IsTime}
 use Rattle.opgp_stack.specs.declared.key_name.KeyName.{KeyName}
@@ -35,6 +34,9 @@ use Rattle.opgp_stack.specs.declared.cleartext.CleartextPart.TheVariants as part
 use Rattle.opgp_tool.specs.declared.task.Request.{Request}
 use Rattle.opgp_tool.specs.declared.document.DocumentAction.{DocumentAction}
 use Rattle.opgp_tool.specs.declared.document.DocumentAction.TheVariants as said
+use Rattle.opgp_tool.specs.declared.split.SplitAction.{SplitAction}
+use Rattle.opgp_tool.specs.declared.split.SplitAction.TheVariants as split
+use Rattle.opgp_tool.specs.declared.write.WriteTask.{WriteTask}
 use Rattle.opgp_tool.specs.declared.task.Work.{Work}
 use Rattle.opgp_tool.specs.declared.task.Work.TheVariants as work
 
@@ -81,23 +83,22 @@ abbrev pub IsGivenNumber : List Row → Text → Option ℕ → Type 0
 IsGivenNumber options id given = MatchOption given (first_of id options ≡ None)
     (HasNumber options id)
 
--- `--key`: the key that its text names
-abbrev pub HasKey : List Row → KeyName → Type 0
-HasKey options key = (text : Text) × (first_of (codes "key") options ≡ Some text)
-    × IsKeyText text key
+-- the texts of an option that may be given again and again, in order
+abbrev pub texts_of : Text → List Row → List Text
+texts_of id options = unwrap_or (all_of id options) []
+
+-- the numbers that they are
+abbrev pub HasNumbers : List Row → Text → List ℕ → Type 0
+HasNumbers options id ns = AllZip IsNumber (texts_of id options) ns
+
+-- `--key`: the keys that its texts name
+abbrev pub HasKeys : List Row → List KeyName → Type 0
+HasKeys options keys = AllZip IsKeyText (texts_of (codes "key") options) keys
 
 -- a flag: given, for which `clap` writes the value `true`, or not
 abbrev pub is_given : Option Text → Bool
 is_given None = false
 is_given (Some word) = bytes_eq word (codes "true")
-
--- what `--own-signatures`, `--no-attributes` and `--user-id` choose
-pub record IsChoice (options : List Row) (choice : Choice) : Type 0 where
-  pub own_signatures : choice.own_signatures
-      ≡ is_given (first_of (codes "own-signatures") options)
-  pub no_attributes : choice.no_attributes
-      ≡ is_given (first_of (codes "no-attributes") options)
-  pub user_id : IsGivenNumber options (codes "user-id") choice.user_id
 
 -- each limit is the number of the option of its name, and the policies are those of `--outside` and
 -- `--malformed`
@@ -111,7 +112,7 @@ pub record HasLimits (options : List Row) (limits : Limits) : Type 0 where
   pub malformed : signature_policy_of limits
       ≡ malformed_of (first_of (codes "malformed") options)
 
--- the action of the command of this name with these options
+-- the action of the command of this name with these options; `write` and `split` come below
 abbrev pub IsAction : Text → List Row → Action → Type 0
 IsAction name options action.Show = (name ≡ codes "show")
     × (is_given (first_of (codes "values") options) ≡ false)
@@ -132,28 +133,80 @@ IsAction name options action.OctetsAll = (name ≡ codes "octets")
     × (is_given (first_of (codes "all") options) ≡ true)
     × (top_of (first_of (codes "of") options) ≡ top.Ring)
     × (first_of (codes "row") options ≡ None)
-IsAction name options (action.Write out) = (name ≡ codes "write")
-    × (out ≡ out_of (first_of (codes "out") options)) × IsChoice options everything
-IsAction name options (action.WriteChosen out choice) = (name ≡ codes "write")
-    × (out ≡ out_of (first_of (codes "out") options)) × IsChoice options choice
-    × (is_everything choice ≡ false)
 IsAction name options (action.Normalise out) = (name ≡ codes "normalise")
     × (out ≡ out_of (first_of (codes "out") options))
-IsAction name options (action.Split out nth) = (name ≡ codes "split")
-    × (out ≡ out_of (first_of (codes "out") options)) × IsGivenNumber options (codes "nth") nth
-    × (first_of (codes "key") options ≡ None)
-IsAction name options (action.SplitKey out key) = (name ≡ codes "split")
-    × (out ≡ out_of (first_of (codes "out") options)) × HasKey options key
-    × (first_of (codes "nth") options ≡ None)
 IsAction name options (action.Join out merge) = (name ≡ codes "join")
     × (out ≡ out_of (first_of (codes "out") options))
     × (merge ≡ is_given (first_of (codes "merge") options))
+IsAction name options other = ⊥
 
 -- the task of the command of this name with these options
 pub record IsTask (name : Text) (options : List Row) (task : Task) : Type 0 where
   pub mode : task.mode ≡ mode_of (first_of (codes "mode") options)
   pub limits : HasLimits options task.limits
   pub action : IsAction name options task.action
+
+-- ---- the command `write`
+-- which parts of certificates it writes, and how: `--own-signatures`, `--no-attributes`, `--user-id`
+pub record Chosen : Type 0 where
+  pub out : Out
+  pub own_signatures : Bool
+  pub no_attributes : Bool
+  pub user_ids : List ℕ
+
+pub record IsChosen (options : List Row) (chosen : Chosen) : Type 0 where
+  pub out : chosen.out ≡ out_of (first_of (codes "out") options)
+  pub own_signatures : chosen.own_signatures
+      ≡ is_given (first_of (codes "own-signatures") options)
+  pub no_attributes : chosen.no_attributes
+      ≡ is_given (first_of (codes "no-attributes") options)
+  pub user_ids : HasNumbers options (codes "user-id") chosen.user_ids
+
+pub record IsWrite (name : Text) (options : List Row) (mode : Mode) (limits : Limits)
+    (chosen : Chosen) : Type 0 where
+  pub named : name ≡ codes "write"
+  pub read : mode ≡ mode_of (first_of (codes "mode") options)
+  pub within : HasLimits options limits
+  pub made : IsChosen options chosen
+
+-- the action that writes these parts: all, or those of a choice
+abbrev pub Writes : Chosen → Action → Type 0
+Writes chosen (action.Write out) = (out ≡ chosen.out) × (chosen.own_signatures ≡ false)
+    × (chosen.no_attributes ≡ false) × (chosen.user_ids ≡ [])
+Writes chosen (action.WriteChosen out choice) = (out ≡ chosen.out)
+    × (choice.own_signatures ≡ chosen.own_signatures)
+    × (choice.no_attributes ≡ chosen.no_attributes) × (choice.user_ids.now ≡ chosen.user_ids)
+Writes chosen other = ⊥
+
+-- ---- the command `split`
+-- every certificate, or that of a number; or those with keys that are named, and that are named in a
+-- file, if there is one, or all but those
+pub data SplitWork : Type 0 where
+  of_number : Out → Option ℕ → SplitWork
+  of_keys : Out → List KeyName → Option Text → Bool → SplitWork
+
+-- `--key` or `--keys` is given
+abbrev pub names_keys : List Row → Bool
+names_keys options =
+    is_some (first_of (codes "key") options) || is_some (first_of (codes "keys") options)
+
+-- `--except` takes `--key` or `--keys`; these don't take `--nth`
+abbrev pub IsSplitWork : List Row → SplitWork → Type 0
+IsSplitWork options (of_number out nth) = (names_keys options ≡ false)
+    × (out ≡ out_of (first_of (codes "out") options)) × IsGivenNumber options (codes "nth") nth
+    × (is_given (first_of (codes "except") options) ≡ false)
+IsSplitWork options (of_keys out keys file except) = (names_keys options ≡ true)
+    × (out ≡ out_of (first_of (codes "out") options)) × HasKeys options keys
+    × (file ≡ first_of (codes "keys") options)
+    × (except ≡ is_given (first_of (codes "except") options))
+    × (first_of (codes "nth") options ≡ None)
+
+pub record IsSplit (name : Text) (options : List Row) (mode : Mode) (limits : Limits)
+    (work : SplitWork) : Type 0 where
+  pub named : name ≡ codes "split"
+  pub read : mode ≡ mode_of (first_of (codes "mode") options)
+  pub within : HasLimits options limits
+  pub made : IsSplitWork options work
 
 -- ---- the commands on detached signatures and their documents
 -- what each makes; the text is the name of the file of signatures
@@ -214,12 +267,14 @@ pub record IsStates (name : Text) (options : List Row) (task : StateTask) (file 
   pub verdicts : file ≡ first_of (codes "verdicts") options
 
 -- ---- all of them
--- a task; or how the input is read, within which limits, and what is made; or states, by the
--- verdicts of a file, if there is one
+-- a task; or how the input is read, within which limits, and what is made of signatures, or is
+-- written; or states, by the verdicts of a file, if there is one
 pub data AskedWork : Type 0 where
   of_task : Task → AskedWork
   of_document : Mode → Limits → DocumentWork → AskedWork
   of_states : StateTask → Option Text → AskedWork
+  of_write : Mode → Limits → Chosen → AskedWork
+  of_split : Mode → Limits → SplitWork → AskedWork
 
 pub record IsDocument (name : Text) (options : List Row) (mode : Mode) (limits : Limits)
     (work : DocumentWork) : Type 0 where
@@ -231,6 +286,14 @@ abbrev pub IsWork : Text → List Row → AskedWork → Type 0
 IsWork name options (of_task task) = IsTask name options task
 IsWork name options (of_document mode limits work) = IsDocument name options mode limits work
 IsWork name options (of_states task file) = IsStates name options task file
+IsWork name options (of_write mode limits chosen) = IsWrite name options mode limits chosen
+IsWork name options (of_split mode limits work) = IsSplit name options mode limits work
+
+-- it is neither that of `write` nor that of `split`
+abbrev pub is_other : AskedWork → Bool
+is_other (of_write mode limits chosen) = false
+is_other (of_split mode limits work) = false
+is_other other = true
 
 -- what a command line asks for: its work, whether `--progress` and `--quiet` are given, and the
 -- directory of `--spool`, if it is
@@ -247,12 +310,27 @@ document_said (said.Around file row part) = of_around file.now row part
 document_said said.Canonical = of_canonical
 document_said (said.Cleartext part) = of_cleartext part
 
+abbrev pub chosen_said : WriteTask → Chosen
+chosen_said task = record {
+  out = task.out;
+  own_signatures = task.own_signatures;
+  no_attributes = task.no_attributes;
+  user_ids = task.user_ids.items;
+}
+
+abbrev pub split_said : SplitAction → SplitWork
+split_said (split.Number out nth) = of_number out nth
+split_said (split.Keys out keys file except) =
+    of_keys out keys.items (option_map (λ word. word.now) file) except
+
 abbrev pub work_said : Work → AskedWork
 work_said (work.Task task) = of_task task
 work_said (work.Document task) =
     of_document task.mode task.limits (document_said task.action)
 work_said (work.States states) =
     of_states states.task (option_map (λ word. word.now) states.verdicts)
+work_said (work.Write task) = of_write task.mode task.limits (chosen_said task)
+work_said (work.Split task) = of_split task.mode task.limits (split_said task.action)
 
 abbrev pub asked_by : Request → Asked
 asked_by request = record {

@@ -12,6 +12,7 @@ ghost use Rattle.opgp_tool.specs.Program.{signatures_rule, signature_rule, salt_
 ghost use Rattle.opgp_tool.specs.Program.{AreParts, part_rule};
 ghost use Rattle.opgp_tool.specs.Program.{AreReliances, at_rule, policy_rule, verdicts_rule};
 ghost use Rattle.opgp_tool.specs.Program.{own_signatures_rule, no_attributes_rule, user_id_rule};
+ghost use Rattle.opgp_tool.specs.Program.{except_rule, keys_rule, repeated_rule};
 ghost use Rattle.opgp_tool.specs.Program.{IsCommand, IsProgram, bare_program};
 
 use crate::help::{
@@ -221,6 +222,20 @@ fn text_option<'a>(alloc: Global, name: &'a str, value: &'a str, help: &'a str) 
     valued_option(alloc, name, value, ValueParser::NonEmptyString, help)
 }
 
+/// An option with one value, which this parser checks, that may be given again and again.
+fn repeated_option<'a>(
+    alloc: Global,
+    name: &'a str,
+    value: &'a str,
+    parser: ValueParser<'a>,
+    help: &'a str,
+) -> Arg<'a>
+    ensures rule { rule_of result ≡ repeated_rule name.entry.now parser.entry }
+    ensures own { result.global ≡ false }
+{
+    valued_option(alloc, name, value, parser, help).action(ArgAction::Append)
+}
+
 /// The command with this option added, as its last, if it could be made.
 fn with_option<'a>(
     command: Result<Command<'a>, OutOfMemory>,
@@ -281,7 +296,7 @@ fn list_command<'a>(alloc: Global) -> Result<Command<'a>, OutOfMemory>
 {
     let about = "List the packets of a keyring";
     let command = new_command(alloc, "list", about, LIST_HELP);
-    let help = "Show the left 16 bits, the creation time and the issuer of each signature";
+    let help = "Show how large each key is, and who made each signature, and when";
     with_option(command, flag_option(alloc, "values", help))
 }
 
@@ -343,20 +358,28 @@ fn write_command<'a>(alloc: Global) -> Result<Command<'a>, OutOfMemory>
     let command = with_option(command, flag_option(alloc, "own-signatures", help));
     let help = "Leave out user attributes";
     let command = with_option(command, flag_option(alloc, "no-attributes", help));
-    let help = "The number of the one user ID to keep in each certificate, from 0";
-    with_option(command, number_option(alloc, "user-id", help))
+    let help = "The number of a user ID to keep in each certificate, from 0";
+    let numbers = ValueParser::Unsigned(0, u64::MAX);
+    let user_id = repeated_option(alloc, "user-id", "N", numbers, help);
+    with_option(command, user_id)
 }
 
 fn split_command<'a>(alloc: Global) -> Result<Command<'a>, OutOfMemory>
     ensures { IfOk result (λ c. (outs : Choice) × AreOuts outs
-        × IsCommand (codes "split") (out_rule outs ∷ nth_rule ∷ key_rule ∷ []) c) }
+        × IsCommand (codes "split")
+        (out_rule outs ∷ nth_rule ∷ key_rule ∷ keys_rule ∷ except_rule ∷ []) c) }
 {
     let about = "Write each certificate by itself, or some of them";
     let command = writing_command(alloc, "split", about, SPLIT_HELP);
     let help = "The number of the one certificate to write, from 0";
     let command = with_option(command, number_option(alloc, "nth", help));
     let help = "The fingerprint or key ID of a key of the certificates to write";
-    with_option(command, text_option(alloc, "key", "KEY", help))
+    let key = repeated_option(alloc, "key", "KEY", ValueParser::NonEmptyString, help);
+    let command = with_option(command, key);
+    let help = "A file of such fingerprints and key IDs, one in each line";
+    let command = with_option(command, text_option(alloc, "keys", "FILE", help));
+    let help = "Write all certificates but those";
+    with_option(command, flag_option(alloc, "except", help))
 }
 
 fn join_command<'a>(alloc: Global) -> Result<Command<'a>, OutOfMemory>

@@ -18,9 +18,9 @@ Example: opgp show --values < KEYRING | grep key-expires";
 
 pub const LIST_HELP: &str = "Each packet has a line: pub and sub with algorithm, creation time, \
 fingerprint and key
-ID, uid with its text, uat, sig, and pkt for any other packet. --values adds to a signature
-what it states: the left 16 bits of its hash, its creation time, and its issuer's fingerprint
-or key ID. It also adds the date to each time.
+ID, uid with its text, uat, sig, and pkt for any other packet. --values adds to a key its size
+or curve, and to a signature what it states: the left 16 bits of its hash, its creation time,
+and its issuer's fingerprint or key ID. It also adds the date to each time.
 
 Example: opgp list --values < KEYRING | grep '^sig'";
 
@@ -54,8 +54,8 @@ pub const WRITE_HELP: &str = "Each packet is written as it was framed. With --ou
 output is the octets of
 all packets of the input. Three options leave out parts of each certificate:
 --own-signatures the signatures that don't name its primary key as their issuer,
---no-attributes its user attributes, and --user-id all user IDs but one, with their
-signatures. No signature is verified.
+--no-attributes its user attributes, and --user-id all user IDs but those of the numbers
+that are given, with their signatures. No signature is verified.
 
 Example: opgp write --own-signatures --user-id 0 < KEYRING > MINIMAL.asc";
 
@@ -66,10 +66,13 @@ Example: opgp normalise < KEYRING > KEYRING.asc";
 
 pub const SPLIT_HELP: &str = "Each certificate is an armored block of its own, or with --out \
 binary its packets. Packets
-before the first certificate are left out. Certificates are numbered from 0. The key may be a
-primary key or a subkey. Spaces in it, and 0x at its start, are ignored.
+before the first certificate are left out. Certificates are numbered from 0. A key may be a
+primary key or a subkey. Spaces in it, and 0x at its start, are ignored. --key may be given
+again and again, and the file of --keys has one in each line; blank lines, and those that
+begin with #, are skipped. If the input lacks one of them, nothing is written. --except
+writes all certificates but those.
 
-Example: opgp split --nth 0 < KEYRING > FIRST.asc";
+Example: opgp split --key KEY --key OTHER-KEY < KEYRING > BOTH.asc";
 
 pub const JOIN_HELP: &str = "--merge makes one certificate of those with the same primary key, \
 and writes equal user

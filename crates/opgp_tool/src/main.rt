@@ -14,27 +14,30 @@ mod help;
 mod hint;
 pub mod laws;
 mod progress;
+mod split;
 mod spool_file;
 mod states;
 mod task;
+mod write;
 
 use advising::hint_of;
 use document::{DocumentAction, DocumentTask};
 use ending::end_of;
 use hint::Hint;
 use opgp_stack::{
-    Around, CleartextPart, Mode, NoSpool, RunFault, Source, StateTask, Task, Watched, read_octets,
-    read_signatures, run_around, run_canonical, run_cleartext, run_digests, run_last,
-    run_signatures, run_spooled, run_states,
+    Action, Around, CleartextPart, KeyName, Mode, NoSpool, Out, RunFault, Source, StateTask, Task,
+    Watched, keys_in, read_octets, read_signatures, run_around, run_canonical, run_cleartext,
+    run_digests, run_last, run_signatures, run_spooled, run_states,
 };
 use progress::Progress;
+use split::{SplitAction, SplitTask};
 use spool_file::{beside_streams, open_spool};
 use states::StatesTask;
 use std::fs::File;
 use std::io::{Stderr, Stdin, Write};
 use std::process::ExitCode;
 use std::{env, io};
-use task::{Request, Usage, Work, task_of};
+use task::{NAME, Request, Usage, Work, task_of};
 
 /// The exit status of an invalid command line.
 const USAGE: u8 = 2;
@@ -63,10 +66,12 @@ fn main(rt: HostRuntime) -> ExitCode {
 /// Runs what a command line asks for.
 fn run_words(rt: &HostRuntime, words: &[String]) -> u8 {
     match task_of(rt.alloc(), words) {
-        Ok(request) => match request.work {
-            Work::Task(task) => run_task(rt, &request, &task),
-            Work::Document(task) => run_document(rt, &request, &task),
-            Work::States(states) => list_states(rt, &request, &states),
+        Ok(request) => match &request.work {
+            Work::Task(task) => run_task(rt, &request, task),
+            Work::Document(task) => run_document(rt, &request, task),
+            Work::States(states) => list_states(rt, &request, states),
+            Work::Write(task) => run_task(rt, &request, &task.task()),
+            Work::Split(task) => run_split(rt, &request, task),
         },
         Err(Usage::Text(text)) => {
             let _ = eprint!(rt; "{text}");
@@ -101,6 +106,89 @@ fn run_task(rt: &HostRuntime, request: &Request, task: &Task) -> u8 {
     };
     reader.end();
     finish(rt, request, task.mode, &outcome, &reader)
+}
+
+/// Writes some of the certificates on standard input.
+fn run_split(rt: &HostRuntime, request: &Request, split: &SplitTask) -> u8 {
+    match &split.action {
+        SplitAction::Number { out, nth } => {
+            let action = Action::Split {
+                out: *out,
+                nth: *nth,
+            };
+            run_action(rt, request, split, action)
+        }
+        SplitAction::Keys {
+            out,
+            keys,
+            file,
+            except,
+        } => match file {
+            Some(file) => split_by_file(rt, request, split, *out, keys, file, *except),
+            None => split_by_keys(rt, request, split, *out, keys, *except),
+        },
+    }
+}
+
+/// Runs an action on the certificates on standard input.
+fn run_action(rt: &HostRuntime, request: &Request, split: &SplitTask, action: Action) -> u8 {
+    let task = Task {
+        mode: split.mode,
+        limits: split.limits,
+        action,
+    };
+    run_task(rt, request, &task)
+}
+
+/// Writes the certificates on standard input that have one of these keys, or all but those.
+fn split_by_keys(
+    rt: &HostRuntime,
+    request: &Request,
+    split: &SplitTask,
+    out: Out,
+    keys: &[KeyName],
+    except: bool,
+) -> u8 {
+    run_action(rt, request, split, Action::SplitKeys { out, keys, except })
+}
+
+/// The same, with the keys that a file names too.
+fn split_by_file(
+    rt: &HostRuntime,
+    request: &Request,
+    split: &SplitTask,
+    out: Out,
+    keys: &[KeyName],
+    file: &str,
+    except: bool,
+) -> u8 {
+    if is_input(file) {
+        let _ = eprintln!(rt; "opgp: standard input is the keyring; the keys are in a file");
+        return USAGE;
+    }
+    let mut source = match open_beside(rt, file) {
+        Ok(source) => source,
+        Err(_) => return unopened(rt, request, file),
+    };
+    let octets = match read_octets(rt.alloc(), &mut source, &split.limits) {
+        Ok(octets) => octets,
+        Err(error) => {
+            let outcome = Err(RunFault::from(error));
+            return finish(rt, request, split.mode, &outcome, &source);
+        }
+    };
+    let mut all = match keys_in(rt.alloc(), &octets) {
+        Ok(Ok(all)) => all,
+        Ok(Err(line)) => {
+            let _ = eprintln!(rt; "opgp: {file}, line {line}: {NAME}");
+            return USAGE;
+        }
+        Err(_) => return end(rt, &Err(RunFault::Memory)),
+    };
+    match all.extend_from_slice(keys) {
+        Ok(()) => split_by_keys(rt, request, split, out, &all, except),
+        Err(_) => end(rt, &Err(RunFault::Memory)),
+    }
 }
 
 /// Makes what is asked of detached signatures and their document, to standard output.

@@ -1,33 +1,35 @@
 //! The task that a command line names.
 
-ghost use Rattle.std.specs.Prelude.{◌≡◌, ◌⊎◌, ℕ, Option, IfSome, IfNone, IfOk, IfErr, []};
+ghost use Rattle.std.specs.Prelude.{◌≡◌, ◌⊎◌, ℕ, Option, IfSome, IfNone, IfOk, IfErr, [], true};
 ghost use Rattle.std.specs.Prelude.{codes, map, option_map};
 ghost use Rattle.clap.specs.Words.{App, fault_of, first_of, found_of, kind_of, rows_of};
 ghost use Rattle.clap.specs.declared.error.kind.ErrorKind.TheVariants.{OutOfMemory};
-ghost use Rattle.opgp_merge.specs.declared.choice.Choice.{Choice};
 ghost use Rattle.opgp_stack.specs.declared.task.Action.{Action};
 ghost use Rattle.opgp_stack.specs.declared.task.Task.{Task};
 ghost use Rattle.opgp_octets.specs.declared.limits.Limits.{Limits};
 ghost use Rattle.opgp_tool.specs.Words.{mode_of, outside_of, malformed_of, out_of, top_of};
-ghost use Rattle.opgp_tool.specs.Words.{is_given, HasNumber, HasLimits, Asked, IsAction, IsChoice};
+ghost use Rattle.opgp_tool.specs.Words.{is_given, HasNumber, HasLimits, Asked, IsAction};
 ghost use Rattle.opgp_tool.specs.Words.{DocumentWork, IsDocument, IsGivenNumber, IsRequest, IsTask};
-ghost use Rattle.opgp_tool.specs.Words.{AskedWork, IsWork, asked_by, document_said, work_said};
+ghost use Rattle.opgp_tool.specs.Words.{AskedWork, IsWork, asked_by, document_said, is_other};
+ghost use Rattle.opgp_tool.specs.Words.{work_said};
 ghost use Rattle.opgp_codec.specs.declared.mode.Mode.{Mode};
 ghost use Rattle.opgp_tool.specs.Program.{IsProgram, SaysNone, SaysTask};
 ghost use Rattle.opgp_tool.specs.declared.task.Usage.TheVariants.{Memory};
 
 use crate::command::program;
 use crate::document::{DocumentTask, document_action_of};
+use crate::split::{SplitTask, split_from};
 use crate::states::{StatesTask, states_from};
+use crate::write::{WriteTask, write_from};
 use clap::error::ErrorKind;
 use clap::{ArgMatches, Error};
 use opgp_octets::{Limits, Malformed, OutOfMemory, Outside};
-use opgp_stack::{Action, Choice, KeyName, Mode, Out, Task, Top};
+use opgp_stack::{Action, KeyName, Mode, Out, Task, Top};
 use std::alloc::Global;
 use std::convert::AsStr;
 
 /// What the name of a key is.
-const NAME: &str = "a fingerprint has 40 or 64 hexadecimal digits, a key ID 16";
+pub const NAME: &str = "a fingerprint has 40 or 64 hexadecimal digits, a key ID 16";
 
 /// What a time is.
 const TIME: &str = "a time is a number of seconds since 1970, or a UTC date until 2106, as \
@@ -47,14 +49,18 @@ pub struct Request<'a> {
 }
 
 /// What is to be made, and of what.
-#[derive(Clone, Copy)]
+#[derive(Drop)]
 pub enum Work<'a> {
     /// What a task makes of standard input.
-    Task(Task),
+    Task(Task<'a>),
     /// What is made of detached signatures and their document.
     Document(DocumentTask<'a>),
     /// How the parts of a keyring stand.
     States(StatesTask<'a>),
+    /// Which parts of the certificates on standard input are written.
+    Write(WriteTask),
+    /// Which of the certificates on standard input are written.
+    Split(SplitTask<'a>),
 }
 
 /// Why a command line names no task.
@@ -103,7 +109,7 @@ fn malformed_of(matches: &ArgMatches) -> Malformed
     }
 }
 
-fn out_of(matches: &ArgMatches) -> Out
+pub(crate) fn out_of(matches: &ArgMatches) -> Out
     ensures { result ≡ out_of (first_of (codes "out") (rows_of (found_of matches.now))) }
 {
     match word_of(matches, "out") {
@@ -167,59 +173,8 @@ pub(crate) fn limits_of(matches: &ArgMatches) -> Option<Limits>
     Some(limits.with_malformed(malformed_of(matches)))
 }
 
-/// What `split` writes: every certificate, that of a number, or those with a key.
-fn split_of(matches: &ArgMatches) -> Option<Action>
-    ensures some { IfSome result (IsAction (codes "split") (rows_of (found_of matches.now))) }
-    ensures none { IfNone result ((action : Action)
-        → IsAction (codes "split") (rows_of (found_of matches.now)) action → ⊥) }
-{
-    let out = out_of(matches);
-    let text = match word_of(matches, "key") {
-        None => {
-            let nth = given_number_of(matches, "nth")?;
-            return Some(Action::Split { out, nth });
-        }
-        Some(text) => text,
-    };
-    match word_of(matches, "nth") {
-        None => match KeyName::parse(text) {
-            Some(key) => Some(Action::SplitKey { out, key }),
-            None => None,
-        },
-        Some(_) => None,
-    }
-}
-
-/// Which parts of certificates `write` writes.
-fn choice_of(matches: &ArgMatches) -> Option<Choice>
-    ensures some { IfSome result (IsChoice (rows_of (found_of matches.now))) }
-    ensures none { IfNone result ((choice : Choice)
-        → IsChoice (rows_of (found_of matches.now)) choice → ⊥) }
-{
-    Some(Choice {
-        own_signatures: is_given(matches, "own-signatures"),
-        no_attributes: is_given(matches, "no-attributes"),
-        user_id: given_number_of(matches, "user-id")?,
-    })
-}
-
-/// What `write` writes: the keyring, or chosen parts of its certificates.
-fn write_of(matches: &ArgMatches) -> Option<Action>
-    ensures some { IfSome result (IsAction (codes "write") (rows_of (found_of matches.now))) }
-    ensures none { IfNone result ((action : Action)
-        → IsAction (codes "write") (rows_of (found_of matches.now)) action → ⊥) }
-{
-    let out = out_of(matches);
-    let choice = choice_of(matches)?;
-    if choice.is_everything() {
-        Some(Action::Write { out })
-    } else {
-        Some(Action::WriteChosen { out, choice })
-    }
-}
-
 /// What `octets` writes: the octets of one row, or of all rows of a keyring.
-fn octets_of(matches: &ArgMatches) -> Option<Action>
+fn octets_of<'a>(matches: &ArgMatches) -> Option<Action<'a>>
     ensures some { IfSome result (IsAction (codes "octets") (rows_of (found_of matches.now))) }
     ensures none { IfNone result ((action : Action)
         → IsAction (codes "octets") (rows_of (found_of matches.now)) action → ⊥) }
@@ -238,7 +193,7 @@ fn octets_of(matches: &ArgMatches) -> Option<Action>
     }
 }
 
-fn action_of(name: &str, matches: &ArgMatches) -> Option<Action>
+fn action_of<'a>(name: &str, matches: &ArgMatches) -> Option<Action<'a>>
     ensures some { IfSome result (IsAction name.now (rows_of (found_of matches.now))) }
     ensures none { IfNone result ((action : Action)
         → IsAction name.now (rows_of (found_of matches.now)) action → ⊥) }
@@ -260,11 +215,9 @@ fn action_of(name: &str, matches: &ArgMatches) -> Option<Action>
             Action::Check
         }),
         "octets" => octets_of(matches),
-        "write" => write_of(matches),
         "normalise" => Some(Action::Normalise {
             out: out_of(matches),
         }),
-        "split" => split_of(matches),
         "join" => Some(Action::Join {
             out: out_of(matches),
             merge: is_given(matches, "merge"),
@@ -274,7 +227,7 @@ fn action_of(name: &str, matches: &ArgMatches) -> Option<Action>
 }
 
 /// The task of a command of this name with these options.
-fn task_from(name: &str, matches: &ArgMatches) -> Option<Task>
+fn task_from<'a>(name: &str, matches: &ArgMatches) -> Option<Task<'a>>
     ensures some { IfSome result (IsTask name.now (rows_of (found_of matches.now))) }
     ensures none { IfNone result ((task : Task)
         → IsTask name.now (rows_of (found_of matches.now)) task → ⊥) }
@@ -304,11 +257,11 @@ fn document_from<'a>(name: &str, matches: &ArgMatches<'a>) -> Option<DocumentTas
     })
 }
 
-/// What the command of this name with these options makes.
-fn work_from<'a>(name: &str, matches: &ArgMatches<'a>) -> Option<Work<'a>>
+/// What the command of this name with these options makes, if it is neither `write` nor `split`.
+fn other_from<'a>(name: &str, matches: &ArgMatches<'a>) -> Option<Work<'a>>
     ensures some { IfSome result (λ work.
         IsWork name.now (rows_of (found_of matches.now)) (work_said work)) }
-    ensures none { IfNone result ((work : AskedWork)
+    ensures none { IfNone result ((work : AskedWork) → is_other work ≡ true
         → IsWork name.now (rows_of (found_of matches.now)) work → ⊥) }
 {
     match document_from(name, matches) {
@@ -320,19 +273,50 @@ fn work_from<'a>(name: &str, matches: &ArgMatches<'a>) -> Option<Work<'a>>
     }
 }
 
-/// What a command of this name with these options asks for.
-fn request_from<'a>(name: &str, matches: &ArgMatches<'a>) -> Option<Request<'a>>
-    ensures some { IfSome result (λ request.
-        IsRequest name.now (rows_of (found_of matches.now)) (asked_by request)) }
-    ensures none { IfNone result ((asked : Asked)
-        → IsRequest name.now (rows_of (found_of matches.now)) asked → ⊥) }
+/// What the command of this name with these options makes. Fails only when out of memory.
+fn work_from<'a>(
+    alloc: Global,
+    name: &str,
+    matches: &ArgMatches<'a>,
+) -> Result<Option<Work<'a>>, OutOfMemory>
+    ensures some { IfOk result (λ found. IfSome found (λ work.
+        IsWork name.now (rows_of (found_of matches.now)) (work_said work))) }
+    ensures none { IfOk result (λ found. IfNone found ((work : AskedWork)
+        → IsWork name.now (rows_of (found_of matches.now)) work → ⊥)) }
 {
-    Some(Request {
-        work: work_from(name, matches)?,
-        progress: is_given(matches, "progress"),
-        quiet: is_given(matches, "quiet"),
-        spool: word_of(matches, "spool"),
-    })
+    match name {
+        "write" => match write_from(alloc, matches)? {
+            Some(task) => Ok(Some(Work::Write(task))),
+            None => Ok(None),
+        },
+        "split" => match split_from(alloc, matches)? {
+            Some(task) => Ok(Some(Work::Split(task))),
+            None => Ok(None),
+        },
+        _ => Ok(other_from(name, matches)),
+    }
+}
+
+/// What a command of this name with these options asks for. Fails only when out of memory.
+fn request_from<'a>(
+    alloc: Global,
+    name: &str,
+    matches: &ArgMatches<'a>,
+) -> Result<Option<Request<'a>>, OutOfMemory>
+    ensures some { IfOk result (λ found. IfSome found (λ request.
+        IsRequest name.now (rows_of (found_of matches.now)) (asked_by request))) }
+    ensures none { IfOk result (λ found. IfNone found ((asked : Asked)
+        → IsRequest name.now (rows_of (found_of matches.now)) asked → ⊥)) }
+{
+    match work_from(alloc, name, matches)? {
+        Some(work) => Ok(Some(Request {
+            work,
+            progress: is_given(matches, "progress"),
+            quiet: is_given(matches, "quiet"),
+            spool: word_of(matches, "spool"),
+        })),
+        None => Ok(None),
+    }
 }
 
 /// The text to print for an error of `clap`.
@@ -367,8 +351,8 @@ fn no_task(alloc: Global, matches: &ArgMatches) -> Usage {
         Some(("octets", options)) => no_octets(alloc, options),
         Some(("digest", options)) => no_digest(alloc, options),
         Some(("state", options)) => no_states(alloc, options),
-        Some((_, options)) => no_split(alloc, options),
-        None => no_split(alloc, matches),
+        Some(("split", options)) => no_split(alloc, options),
+        _ => with_advice(String::from_str(alloc, "error: no task is named")),
     }
 }
 
@@ -410,18 +394,35 @@ fn no_states(alloc: Global, options: &ArgMatches) -> Usage {
     }
 }
 
-/// What to print where the options of `split` name no task: `clap` judges neither the text of
-/// `--key` nor two options that exclude each other.
+/// What to print where the options of `split` name no task: `clap` judges neither the texts of
+/// `--key`, nor options that exclude each other, nor that one wants another.
 fn no_split(alloc: Global, options: &ArgMatches) -> Usage {
-    let key = match word_of(options, "key") {
-        Some(key) => key,
-        None => return with_advice(String::from_str(alloc, "error: no task is named")),
+    let has_key = word_of(options, "key").is_some();
+    let text = if !has_key && word_of(options, "keys").is_none() {
+        "error: the argument '--except' wants '--key <KEY>' or '--keys <FILE>'"
+    } else if word_of(options, "nth").is_none() {
+        return no_key(alloc, options);
+    } else if !has_key {
+        "error: the argument '--nth <N>' cannot be used with '--keys <FILE>'"
+    } else {
+        "error: the argument '--nth <N>' cannot be used with '--key <KEY>'"
     };
-    if word_of(options, "nth").is_some() {
-        let text = "error: the argument '--nth <N>' cannot be used with '--key <KEY>'";
-        return with_advice(String::from_str(alloc, text));
+    with_advice(String::from_str(alloc, text))
+}
+
+/// What to print where a text of `--key` names no key.
+fn no_key(alloc: Global, options: &ArgMatches) -> Usage {
+    if let Some(texts) = options.get_strs("key") {
+        for text in texts {
+            if KeyName::parse(text).is_none() {
+                let line = format!(in alloc;
+                    "error: invalid value '{text}' for '--key <KEY>': {NAME}"
+                );
+                return with_advice(line);
+            }
+        }
     }
-    with_advice(format!(in alloc; "error: invalid value '{key}' for '--key <KEY>': {NAME}"))
+    with_advice(String::from_str(alloc, "error: no task is named"))
 }
 
 /// The text, if there was memory for it, and where to read on.
@@ -456,11 +457,12 @@ pub fn task_of<'a, S: AsStr>(alloc: Global, words: &'a [S]) -> Result<Request<'a
         Err(error) => return Err(usage_of(alloc, &error)),
     };
     let request = match matches.subcommand() {
-        Some((name, options)) => request_from(name, options),
-        None => None,
+        Some((name, options)) => request_from(alloc, name, options),
+        None => Ok(None),
     };
     match request {
-        Some(request) => Ok(request),
-        None => Err(no_task(alloc, &matches)),
+        Ok(Some(request)) => Ok(request),
+        Ok(None) => Err(no_task(alloc, &matches)),
+        Err(_) => Err(Usage::Memory),
     }
 }

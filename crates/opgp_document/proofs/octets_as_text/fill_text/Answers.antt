@@ -1,4 +1,4 @@
-use Rattle.std.proofs.Common.{◌≡◌, ◌+◌, ◌-◌, ◌++◌, ◌∷◌, [], ℕ, List, Bool, take, drop, length, ap, sym, refl, ◌∙◌, arith, length-drop, length-append}
+use Rattle.std.proofs.Common.{◌≡◌, ◌+◌, ◌-◌, ◌++◌, ◌∷◌, [], ℕ, List, Bool, take, drop, length, ap, sym, ◌∙◌, arith, length-drop, length-append}
 use Rattle.std.proofs.lemmas.List.{length-take-le, take_rest}
 use Rattle.opgp_document.specs.Text.{to_text}
 use Rattle.opgp_document.proofs.Feeding.{last_length, line_length, text_most}

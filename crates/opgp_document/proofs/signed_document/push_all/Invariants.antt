@@ -1,4 +1,4 @@
-use Rattle.std.proofs.Common.{◌++◌, ℕ, List, Option}
+use Rattle.std.proofs.Common.{length, ◌-◌, ◌≡◌, ◌++◌, ℕ, List, Option}
 use Rattle.std.specs.List.{AllZip}
 use Rattle.opgp_hash.specs.SignedValue.{SignedValue}
 use Rattle.opgp_document.specs.Place.{IsPlace}
@@ -7,6 +7,10 @@ use Rattle.opgp_document.proofs.Pairs.{Mixed}
 use Rattle.opgp_document.proofs.signed_document.push_all.Given as goal
 
 -- the places so far have the piece
-abbrev pub invariant-loop-place : goal.invariant-loop-place
-invariant-loop-place l = (signatures : List (Option SignedValue)) (document : List ℕ) → AllZip (λ (p : Place) (s : Option SignedValue). IsPlace p s document) l.fn.places signatures
-    → Mixed (λ (p : Place) (s : Option SignedValue). IsPlace p s (document ++ l.piece)) (λ (p : Place) (s : Option SignedValue). IsPlace p s document) l.place-index l.places signatures
+abbrev pub invariant-places : goal.invariant-places
+invariant-places l = (length l.places ≡ length l.fn.places)
+    × ((signatures : List (Option SignedValue)) (document : List ℕ) → AllZip (λ (p : Place) (s : Option SignedValue). IsPlace p s document) l.fn.places signatures
+    → Mixed (λ (p : Place) (s : Option SignedValue). IsPlace p s (document ++ l.piece)) (λ (p : Place) (s : Option SignedValue). IsPlace p s document) l.next l.places signatures)
+
+abbrev pub decreases-places : goal.decreases-places
+decreases-places l = length l.initial.places - l.next

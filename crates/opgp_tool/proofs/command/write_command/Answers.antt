@@ -10,4 +10,4 @@ returns c =
     let bare = behind_out c.with_option-command.result c.with_option-command-2.result (codes "write")
     (own_signatures_rule ∷ []) _ no_attributes_rule c.flag_option-2.ensures.rule own c.with_option-command-2.ensures in
     behind_out c.with_option-command-2.result c.with_option.result (codes "write")
-    (own_signatures_rule ∷ no_attributes_rule ∷ []) _ user_id_rule c.number_option.ensures.rule bare c.with_option.ensures
+    (own_signatures_rule ∷ no_attributes_rule ∷ []) _ user_id_rule c.repeated_option-user_id.ensures.rule bare c.with_option.ensures

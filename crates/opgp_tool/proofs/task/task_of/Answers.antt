@@ -1,13 +1,12 @@
 use Rattle.std.proofs.Common.{rules, ◌∙◌, sym, ◌≡◌, inr, List, map, Some, None}
 use Rattle.std.specs.Prelude.{option_map}
 use Rattle.clap.specs.Words.{Row, Text, app_of, subcommand_rows_of, rows_of, found_of}
-use Rattle.opgp_tool.proofs.Parsing.{simple, free, both, given, refused_or, none_said, nothing_said}
-use Rattle.opgp_tool.proofs.Reading.{where_none}
+use Rattle.opgp_tool.proofs.Parsing.{simple, free, both, found_given, found_none, refused_or, none_said, nothing_said}
 use Rattle.opgp_tool.proofs.task.task_of.Goals as goal
 use Rattle.opgp_tool.proofs.task.task_of.Goals.{in-Some, in-None}
 
-pub returns-in-Some-request-clause-said : goal.returns-in-Some-request-clause-said
-returns-in-Some-request-clause-said g c =
+pub returns-in-Ok-Some-clause-said : goal.returns-in-Ok-Some-clause-said
+returns-in-Ok-Some-clause-said g c =
     let made = c.in-Ok.ensures in
     let parsed = c.in-Ok-try_get_matches_from.ensures.matches (simple _ made) in
     elim c.match-subcommand.branch [
@@ -15,8 +14,8 @@ returns-in-Some-request-clause-said g c =
           let entered : subcommand_rows_of c.in-Ok-try_get_matches_from.matches
           ≡ Some (w.in-Some.name.now, rows_of (found_of w.in-Some.options.now)) =
           both _ _ _ _ _ (sym w.in-Some.ensures.name) (sym w.in-Some.ensures.rows) in
-          let request = given _ w.request_from-request.result c.in-Some-request.request
-          (sym w.request-is ∙ c.in-Some-request.is) w.request_from-request.ensures.some in (
+          let request = found_given _ w.request_from-request.result c.in-Ok-Some.field-0 c.in-Ok-Some.request
+          (sym w.request-is ∙ c.in-Ok-Some.is) c.in-Ok-Some.field-0-is w.request_from-request.ensures.some in (
             app_of c.in-Ok.program,
             made,
             c.in-Ok-try_get_matches_from.ensures.kinds (free _ made),
@@ -35,8 +34,8 @@ pub returns-in-Err-try_get_matches_from-clause-refused :
 returns-in-Err-try_get_matches_from-clause-refused g c = refused_or _ _ _ c.in-Ok.ensures
     (λ taken. c.usage_of.ensures (c.in-Err-try_get_matches_from.ensures.passes taken))
 
-pub returns-clause-refused : goal.returns-clause-refused
-returns-clause-refused g c =
+pub returns-in-Ok-None-clause-refused : goal.returns-in-Ok-None-clause-refused
+returns-in-Ok-None-clause-refused g c =
     let made = c.in-Ok.ensures in
     let app = app_of c.in-Ok.program in
     let words = map g.S.AsStr.text c.args.words.now in
@@ -49,7 +48,7 @@ returns-clause-refused g c =
             let entered : subcommand_rows_of c.in-Ok-try_get_matches_from.matches
             ≡ Some (w.in-Some.name.now, rows_of (found_of w.in-Some.options.now)) =
             both _ _ _ _ _ (sym w.in-Some.ensures.name) (sym w.in-Some.ensures.rows) in
-            let none = where_none _ (sym w.request-is ∙ c.in-None-request.is) w.request_from-request.ensures.none in
+            let none = found_none w.request_from-request.result c.in-Ok-None.field-0 (sym w.request-is ∙ c.in-Ok-None.is) c.in-Ok-None.field-0-is w.request_from-request.ensures.none in
             none_said app words _ _ (sym parsed.1 ∙ entered) none
         | in-None w ↦
             let rows : None ≡ option_map (λ (p : Text × List Row). p.1)

@@ -1,12 +1,14 @@
-use Rattle.std.proofs.Common.{◌≡◌, rules, None}
+use Rattle.std.proofs.Common.{◌≡◌, codes, rules}
 use Rattle.clap.specs.Words.{found_of, rows_of}
-use Rattle.opgp_tool.proofs.Reading.{always, no_work, where_none}
+use Rattle.opgp_tool.proofs.Reading.{no_split, no_write}
 use Rattle.opgp_tool.proofs.task.work_from.Goals as goal
 
-pub returns-in_err-task_from-in-None-states_from-clause-none : goal.returns-in_err-task_from-in-None-states_from-clause-none
-returns-in_err-task_from-in-None-states_from-clause-none c =
-    let no_document : c.document_from.result ≡ None = search rules in
-    let no_states : c.states_from.result ≡ None = search rules in
-    let no_task : c.task_from.result ≡ None = search rules in
-    always _ (no_work c.args.name.now (rows_of (found_of c.args.matches.now))
-    (where_none _ no_task c.task_from.ensures.none) (where_none _ no_document c.document_from.ensures.none) (where_none _ no_states c.states_from.ensures.none))
+pub returns-in-None-clause-none : goal.returns-in-None-clause-none
+returns-in-None-clause-none c =
+    let is : c.args.name.now ≡ codes "write" = search rules in
+    no_write c.args.name.now (rows_of (found_of c.args.matches.now)) is (rw c.in-None.is at c.in_ok-task-in-write.ensures.none)
+
+pub returns-in-None-2-clause-none : goal.returns-in-None-2-clause-none
+returns-in-None-2-clause-none c =
+    let is : c.args.name.now ≡ codes "split" = search rules in
+    no_split c.args.name.now (rows_of (found_of c.args.matches.now)) is (rw c.in-None-2.is at c.in_ok-task-in-split.ensures.none)

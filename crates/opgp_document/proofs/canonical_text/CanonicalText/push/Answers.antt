@@ -1,7 +1,6 @@
-use Rattle.std.proofs.Common.{◌≡◌, ◌+◌, ◌-◌, ◌++◌, Bool, true, false, List, ℕ, length, sym, ap, ◌∙◌}
-use Rattle.opgp_document.specs.Text.{before_stray, ends_cr, has_stray, to_text}
+use Rattle.std.proofs.Common.{◌≡◌, ◌++◌, Bool, false, List, ℕ, ap, ◌∙◌}
+use Rattle.opgp_document.specs.Text.{ends_cr, to_text}
 use Rattle.opgp_document.proofs.Reading.{after_so}
-use Rattle.opgp_document.proofs.Stray.{at_front, in_piece}
 use Rattle.opgp_document.proofs.canonical_text.CanonicalText.push.Goals as goal
 
 pub returns-clause-read : goal.returns-clause-read

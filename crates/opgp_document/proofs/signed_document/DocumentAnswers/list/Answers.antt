@@ -1,4 +1,4 @@
-use Rattle.std.proofs.Common.{◌≡◌, ◌∙◌, ◌++◌, ◌∷◌, ◌≤◌, [], List, map, take, take_all, length, get_or, subst, sym, ap, arith, Option, Result}
+use Rattle.std.proofs.Common.{◌≡◌, ◌∙◌, ◌++◌, ◌∷◌, [], List, map, take, take_all, get_or, subst, sym, ap, Option, Result}
 use Rattle.std.specs.List.{AllZip}
 use Rattle.opgp_hash.specs.SignedValue.{SignedValue}
 use Rattle.opgp_hash.specs.declared.digests.Digest.{Digest}

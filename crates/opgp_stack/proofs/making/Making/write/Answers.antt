@@ -11,8 +11,8 @@ returns-in-Text g c r h =
 
 pub returns-in-Named : goal.returns-in-Named
 returns-in-Named g c r h =
-    found_so (DraftHas g.S.Spool.serves g.S.Spool.tells g.S.Spool.holds g.S.Spool.has_failed) (λ (made : Made). IsMade g.W.Sink.held g.W.Sink.has_failed c.args.writer.now c.write_found.new.writer c.write_found.result made ⊎ IsSpooled g.S.Spool.serves g.S.Spool.tells g.W.Sink.held g.W.Sink.has_failed c.args.writer.now c.write_found.new.writer c.write_found.result made) c.args.action c.in-Named.named.found c.found-text.result.1 c.in-Named.named.draft c.found-text.result.0 r c.found-text.ensures.found c.found-text.ensures.draft
-    c.write_found.ensures (named_made_by (DraftHas g.S.Spool.serves g.S.Spool.tells g.S.Spool.holds g.S.Spool.has_failed) c.args.action c.in-Named.named r (rw c.in-Named.is at h))
+    found_so (DraftHas g.S.Spool.serves g.S.Spool.tells g.S.Spool.holds g.S.Spool.has_failed) (λ (made : Made). IsMade g.W.Sink.held g.W.Sink.has_failed c.args.writer.now c.write_found.new.writer c.write_found.result made ⊎ IsSpooled g.S.Spool.serves g.S.Spool.tells g.W.Sink.held g.W.Sink.has_failed c.args.writer.now c.write_found.new.writer c.write_found.result made) c.args.action c.found-text.result.1 c.found-text.result.1 c.in-Named.named.draft c.found-text.result.0 r refl c.found-text.ensures.draft
+    c.write_found.ensures (named_made_by (DraftHas g.S.Spool.serves g.S.Spool.tells g.S.Spool.holds g.S.Spool.has_failed) c.args.action c.in-Named.named c.found-text.result.1 r c.found-text.ensures.found (rw c.in-Named.is at h))
 
 pub returns-in-Nth : goal.returns-in-Nth
 returns-in-Nth g c r h =

@@ -1,0 +1,4 @@
+pub mod Contents
+pub mod Lines
+pub mod Rests
+pub mod Sizes

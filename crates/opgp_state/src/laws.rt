@@ -1,0 +1,33 @@
+//! What the rule implies of the order of a certificate's parts.
+
+ghost use Rattle.std.specs.Prelude.{◌≡◌, ◌∷◌, ◌++◌, ℕ, List, length};
+ghost use Rattle.std.specs.List.Sorted.{IsPermutation};
+ghost use Rattle.opgp_ring.specs.Keyring.{CertificateValue};
+ghost use Rattle.opgp_report.specs.declared.verifier.Verdict.{Verdict};
+ghost use Rattle.opgp_valid.specs.Standing.{standing_of};
+ghost use Rattle.opgp_valid.specs.declared.facts.Key.TheVariants.{Primary, Subkey};
+ghost use Rattle.opgp_valid.specs.declared.known_keys.Known.{Known};
+ghost use Rattle.opgp_valid.specs.declared.policy.Policy.{Policy};
+ghost use Rattle.opgp_state.specs.Reordered.{AreJudged, Judged, facts_with};
+
+/// The user IDs, user attributes and subkeys of a certificate in another order, each with its own
+/// signatures and the verdicts on them, change nothing: the primary key stands as before, and so
+/// does a subkey at each time, wherever it stands among the others.
+///
+/// The keys that are known are the same in both orders. Of two keys with the same key ID it is the
+/// first in the keyring that a key ID names (RFC 9580, 5.2.3.12).
+pub fn order_of_components_changes_nothing()
+    ensures primary { (known : List Known) (policy : Policy) (c : CertificateValue)
+        (founds : List Verdict) (parts others : List Judged) (made now : ℕ)
+        → AreJudged c founds parts → IsPermutation parts others
+        → standing_of (facts_with known policy c founds parts) Primary made now
+        ≡ standing_of (facts_with known policy c founds others) Primary made now }
+    ensures subkey { (known : List Known) (policy : Policy) (c : CertificateValue)
+        (founds : List Verdict) (x : Judged) (before behind before_it behind_it : List Judged)
+        (created made now : ℕ) → AreJudged c founds (before ++ x ∷ behind)
+        → IsPermutation (before ++ behind) (before_it ++ behind_it)
+        → standing_of (facts_with known policy c founds (before ++ x ∷ behind))
+        (Subkey (length before) created) made now
+        ≡ standing_of (facts_with known policy c founds (before_it ++ x ∷ behind_it))
+        (Subkey (length before_it) created) made now }
+{}

@@ -1,4 +1,4 @@
-"""The figures that bench/run, bench/library, bench/documents, bench/hostile and bench/compared write down, and how they measure.
+"""The figures that bench/run, bench/library, bench/documents, bench/release, bench/hostile and bench/compared write down, and how they measure.
 
 bench/figures.json is one object with sorted keys, a figure a line. A key is 'PART/WHAT/PROGRAM'; a figure may have "command", "ms"
 (processor time, user and system, the least of all runs), "mb" (the most memory that a run held, in MB of 2^20 octets) and "runs".

@@ -473,7 +473,7 @@ static int told_of_message(const struct judging *judging, const struct task *tas
     size_t size;
     struct output output = {0};
     const uint8_t *text = judging_text(judging, &size);
-    if (task->output && status_of_document(judging) == 0 && !output_write(&output, task->output, text, size, false)) {
+    if (task->output && status_of_document(judging) == 0 && !output_write(&output, task->output, text, size, false, true)) {
         return cannot_write(task->output);
     }
     int status = told_of_document(judging);
@@ -747,6 +747,8 @@ int main(int argc, char **argv)
     if (opgp_abi() != OPGP_ABI) {
         return said(3, "the library is of another version");
     }
+    static char line[BUFSIZ];
+    setvbuf(stderr, line, _IOLBF, sizeof line); /* a line in one call */
     arithmetic_begin();
     dialect *other = argc > 0 ? dialect_of(argv[0]) : NULL;
     if (other) {

@@ -164,6 +164,7 @@ struct opgp_keyring {
     uint64_t size;     /* octets that it was read from, or more than its packets have; 0: not known yet */
     uint64_t next_row; /* the row behind the one whose octets were asked for last; at first that of no job */
     struct batch batch;
+    opgp_keyring *merged; /* the same with its certificates merged; NULL: not made yet */
 };
 
 /* Room for so many things, at least one; NULL if there is none. */
@@ -298,6 +299,7 @@ void opgp_close(opgp_keyring *keyring)
         free(keyring->made);
         free(keyring->data);
         drop_batch(&keyring->batch);
+        opgp_close(keyring->merged);
         pthread_mutex_destroy(&keyring->lock);
         free(keyring);
     }
@@ -315,12 +317,30 @@ uint32_t opgp_merge(const opgp_keyring *keyring, opgp_keyring **made)
     return give_keyring(leave(from, it ? opgp_ring_merge(&from->ring, &it->ring) : OPGP_MEMORY), it, made);
 }
 
+uint32_t opgp_merged(const opgp_keyring *keyring, const opgp_keyring **merged)
+{
+    opgp_keyring *it = enter(keyring);
+    uint32_t status = OPGP_DONE;
+    if (!it->merged) {
+        opgp_keyring *made = new_keyring();
+        status = give_keyring(made ? opgp_ring_merge(&it->ring, &made->ring) : OPGP_MEMORY, made, &it->merged);
+    }
+    *merged = it->merged;
+    return leave(it, status);
+}
+
 uint32_t opgp_choose(const opgp_keyring *keyring, bool own_signatures, bool no_attributes, const uint64_t *user_ids, size_t count,
                      opgp_keyring **made)
 {
     opgp_keyring *it = new_keyring(), *from = enter(keyring);
     uint32_t status = it ? opgp_ring_choose(&from->ring, own_signatures, no_attributes, user_ids, count, &it->ring) : OPGP_MEMORY;
     return give_keyring(leave(from, status), it, made);
+}
+
+uint32_t opgp_pick(const opgp_keyring *keyring, const uint8_t *picked, size_t count, opgp_keyring **made)
+{
+    opgp_keyring *it = new_keyring(), *from = enter(keyring);
+    return give_keyring(leave(from, it ? opgp_ring_pick(&from->ring, picked, count, &it->ring) : OPGP_MEMORY), it, made);
 }
 
 uint32_t opgp_certificate(const opgp_keyring *keyring, uint64_t number, opgp_keyring **made)
@@ -813,9 +833,11 @@ uint32_t opgp_check(const opgp_keyring *keyring, opgp_verifier *verify, opgp_rep
 
 /* ---- Judging */
 
-/* The signatures over a document, and what is found of them by a keyring that is merged, and nobody else's. */
+/* The signatures over a document, and what is found of them by a keyring that is merged. */
 struct judging {
-    opgp_keyring *keyring;
+    const opgp_keyring *keyring;
+    const opgp_key *keys; /* of the keyring */
+    size_t key_count;
     opgp_job *jobs; /* of the document */
     uint8_t *made;
     size_t count, good;
@@ -828,22 +850,21 @@ struct judging {
 /* Whether the key in this row is the one that made a signature over the document. */
 static bool is_signer(const struct judging *it, size_t row, size_t key)
 {
-    const opgp_key *one = &it->keyring->keys[key], *other = &it->keyring->keys[it->jobs[row].signer];
+    const opgp_key *one = &it->keys[key], *other = &it->keys[it->jobs[row].signer];
     return one->version == other->version && memcmp(one->print, other->print, sizeof one->print) == 0;
 }
 
 /* Finds the verdicts on the document's signatures, and in which certificates the signers of good ones are. */
 static uint32_t find_signers(struct judging *it, opgp_verifier *verify, void *context)
 {
-    size_t keys = (size_t)it->keyring->key_sizes.rows;
-    it->has_signer = room_for(keys ? it->keyring->keys[keys - 1].certificate + 1 : 0, sizeof *it->has_signer);
+    it->has_signer = room_for(it->key_count ? it->keys[it->key_count - 1].certificate + 1 : 0, sizeof *it->has_signer);
     for (size_t row = 0; it->has_signer && row < it->count; row++) {
         opgp_question question = question_of(it->keyring, row, &it->jobs[row], it->made);
         it->found[row] = verdict_of(&question, verify, context);
         it->whys[row] = OPGP_NOT_GOOD;
         it->good += it->found[row] == OPGP_GOOD;
-        for (size_t key = 0; it->found[row] == OPGP_GOOD && key < keys; key++) {
-            it->has_signer[it->keyring->keys[key].certificate] |= is_signer(it, row, key);
+        for (size_t key = 0; it->found[row] == OPGP_GOOD && key < it->key_count; key++) {
+            it->has_signer[it->keys[key].certificate] |= is_signer(it, row, key);
         }
     }
     return it->has_signer ? OPGP_DONE : OPGP_MEMORY;
@@ -865,13 +886,25 @@ static opgp_verdict verdict_in(const opgp_keyring *it, size_t row, const opgp_re
     return verdict_of(&question, verify, context);
 }
 
+/* Whether a signature of a keyring is of the type of key revocations. */
+static bool has_revocation(const opgp_keyring *it)
+{
+    for (size_t row = 0; row < it->job_sizes.rows; row++) {
+        if (it->jobs[row].kind == OPGP_SIGNATURE_KEY_REVOCATION) {
+            return true;
+        }
+    }
+    return false;
+}
+
 /* Makes the table of what the key revocations of a keyring hash, for free(), and those that the verifier is asked by. */
 static uint32_t make_revocations(const opgp_keyring *keyring, opgp_revocation **rows, uint64_t *count)
 {
     opgp_keyring *it = enter(keyring);
     uint32_t status = want_keys(it);
     status = status == OPGP_DONE ? want_jobs(it) : status;
-    status = status == OPGP_DONE ? opgp_ring_revocations(&it->ring, NULL, 0, count) : status;
+    *count = 0;
+    status = status == OPGP_DONE && has_revocation(it) ? opgp_ring_revocations(&it->ring, NULL, 0, count) : status;
     *rows = status == OPGP_DONE || status == OPGP_ROOM ? room_for(*count, sizeof **rows) : NULL;
     if (status == OPGP_ROOM) {
         status = *rows ? opgp_ring_revocations(&it->ring, *rows, (size_t)*count, count) : OPGP_MEMORY;
@@ -920,24 +953,24 @@ static uint32_t find_verdicts(const opgp_keyring *keyring, const bool *of_certif
 /* Finds why a good signature isn't believed: at no place of its key, and then what is so at the first one. */
 static uint32_t find_why(struct judging *it, opgp_document *document, size_t row, uint32_t policy, uint64_t now)
 {
-    opgp_keyring *keyring = it->keyring;
+    opgp_keyring *keyring = enter(it->keyring);
     uint32_t status = OPGP_DONE;
-    for (size_t key = 0; status == OPGP_DONE && key < keyring->key_sizes.rows && it->whys[row] != OPGP_BELIEVED; key++) {
+    for (size_t key = 0; status == OPGP_DONE && key < it->key_count && it->whys[row] != OPGP_BELIEVED; key++) {
         uint8_t why = OPGP_NOT_GOOD;
         if (is_signer(it, row, key)) {
             status = opgp_document_standing(document, &keyring->ring, it->verdicts, (size_t)keyring->job_sizes.rows, policy, row,
-                                            keyring->keys[key].certificate, keyring->keys[key].component, now, &why);
+                                            it->keys[key].certificate, it->keys[key].component, now, &why);
         }
         it->whys[row] = why == OPGP_BELIEVED || it->whys[row] == OPGP_NOT_GOOD ? why : it->whys[row];
     }
-    return status;
+    return leave(keyring, status);
 }
 
 /* Finds all of that. */
 static uint32_t judge(struct judging *it, opgp_document *document, uint32_t policy, uint64_t now, opgp_verifier *verify,
                       void *context)
 {
-    uint32_t status = want_keys(it->keyring);
+    uint32_t status = opgp_keys(it->keyring, &it->keys, &it->key_count);
     status = status == OPGP_DONE ? opgp_signatures(document, it->keyring, &it->jobs, &it->count, &it->made) : status;
     status = status == OPGP_DONE ? find_signers(it, verify, context) : status;
     status = status == OPGP_DONE && it->good > 0 ? find_verdicts(it->keyring, it->has_signer, verify, context, &it->verdicts) : status;
@@ -951,7 +984,7 @@ uint32_t opgp_judge(opgp_document *document, const opgp_keyring *keyring, uint32
                     opgp_verifier *verify, opgp_judge_reporter *report, void *context)
 {
     struct judging it = {.count = 0};
-    uint32_t status = policy > OPGP_POLICY_ANY ? OPGP_LIMITS : opgp_merge(keyring, &it.keyring);
+    uint32_t status = policy > OPGP_POLICY_ANY ? OPGP_LIMITS : opgp_merged(keyring, &it.keyring);
     status = status == OPGP_DONE ? judge(&it, document, policy, now, verify, context) : status;
     for (size_t row = 0; status == OPGP_DONE && row < it.count; row++) {
         opgp_question question = question_of(it.keyring, row, &it.jobs[row], it.made);
@@ -961,7 +994,6 @@ uint32_t opgp_judge(opgp_document *document, const opgp_keyring *keyring, uint32
     free(it.made);
     free(it.has_signer);
     free(it.verdicts);
-    opgp_close(it.keyring);
     return status;
 }
 

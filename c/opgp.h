@@ -42,8 +42,8 @@ extern "C" {
 /* The version of the structs and calls below. opgp_abi() of the library must return it. It changes where one of them does, not where
  * one is added. New in 3: opgp_document and its calls, opgp_signatures, opgp_canonical, opgp_state and opgp_ring_states,
  * opgp_revocation and opgp_ring_revocations, opgp_ring_standing, opgp_document_standing, opgp_judge, opgp_states and
- * opgp_revocations, and opgp_cleartext_open; opgp_ring_choose, opgp_choose, opgp_find_blocks and opgp_user_id; the statuses 8 and 9;
- * and the why 6. */
+ * opgp_revocations, and opgp_cleartext_open; opgp_ring_choose, opgp_choose, opgp_ring_pick, opgp_pick, opgp_merged,
+ * opgp_find_blocks and opgp_user_id; the statuses 8 and 9; and the why 6. */
 #define OPGP_ABI 3
 
 /* The version of the library, for people. */
@@ -631,6 +631,8 @@ OPGP_API uint32_t opgp_ring_write(opgp_ring *ring, uint32_t armor, uint8_t *text
  *   own_signatures isn't 0, only those signatures that name their certificate's primary key as the issuer. Where no_attributes isn't
  *   0, no user attributes (5.12). Where count isn't 0, only the user IDs (5.11) whose numbers are among user_ids[0 .. count), which
  *   are counted from 0 in each certificate;
+ * - pick: only certificates, that of number n, from 0, if n < count and picked[n] isn't 0. opgp_find_key says which keys have a name,
+ *   and each key its certificate: so `opgp split` picks with --key, and with --except. What precedes the first one is left out;
  * - certificate: only the certificate of this number, from 0;
  * - join: the packets of ring, and behind them those of other.
  *
@@ -645,6 +647,7 @@ OPGP_API uint32_t opgp_ring_normalise(opgp_ring *ring, opgp_ring *into);
 OPGP_API uint32_t opgp_ring_merge(opgp_ring *ring, opgp_ring *into);
 OPGP_API uint32_t opgp_ring_choose(opgp_ring *ring, uint32_t own_signatures, uint32_t no_attributes, const uint64_t *user_ids,
                                    size_t count, opgp_ring *into);
+OPGP_API uint32_t opgp_ring_pick(opgp_ring *ring, const uint8_t *picked, size_t count, opgp_ring *into);
 OPGP_API uint32_t opgp_ring_certificate(opgp_ring *ring, uint64_t number, opgp_ring *into);
 OPGP_API uint32_t opgp_ring_join(opgp_ring *ring, opgp_ring *other, opgp_ring *into);
 
@@ -972,16 +975,23 @@ OPGP_API uint32_t opgp_write(const opgp_keyring *keyring, bool armor, uint8_t **
 OPGP_API uint32_t opgp_signatures(opgp_document *document, const opgp_keyring *keyring, opgp_job **rows, size_t *count,
                                   uint8_t **bytes);
 
-/* The keyrings that opgp_ring_normalise, opgp_ring_merge, opgp_ring_choose, opgp_ring_certificate and opgp_ring_join make. other may
- * be keyring. Give *made to opgp_close.
+/* The keyrings that opgp_ring_normalise, opgp_ring_merge, opgp_ring_choose, opgp_ring_pick, opgp_ring_certificate and opgp_ring_join
+ * make. other may be keyring. Give *made to opgp_close.
  *
  * OPGP_DONE, OPGP_MEMORY; of a certificate also OPGP_NO_ROW. With any but OPGP_DONE *made is NULL. */
 OPGP_API uint32_t opgp_normalise(const opgp_keyring *keyring, opgp_keyring **made);
 OPGP_API uint32_t opgp_merge(const opgp_keyring *keyring, opgp_keyring **made);
 OPGP_API uint32_t opgp_choose(const opgp_keyring *keyring, bool own_signatures, bool no_attributes, const uint64_t *user_ids,
                               size_t count, opgp_keyring **made);
+OPGP_API uint32_t opgp_pick(const opgp_keyring *keyring, const uint8_t *picked, size_t count, opgp_keyring **made);
 OPGP_API uint32_t opgp_certificate(const opgp_keyring *keyring, uint64_t number, opgp_keyring **made);
 OPGP_API uint32_t opgp_join(const opgp_keyring *keyring, const opgp_keyring *other, opgp_keyring **made);
+
+/* The keyring that opgp_merge makes, which this one keeps: it is made by the first call, or the first one of opgp_judge. opgp_close of
+ * keyring closes it; don't close it yourself.
+ *
+ * OPGP_DONE; OPGP_MEMORY: *merged is NULL. */
+OPGP_API uint32_t opgp_merged(const opgp_keyring *keyring, const opgp_keyring **merged);
 
 /* What a verifier finds. */
 typedef enum opgp_verdict { OPGP_UNDECIDED = 0, OPGP_GOOD = 1, OPGP_BAD = 2 } opgp_verdict;
@@ -1024,7 +1034,8 @@ OPGP_API uint32_t opgp_check(const opgp_keyring *keyring, opgp_verifier *verify,
 typedef int opgp_judge_reporter(void *context, const opgp_question *question, opgp_verdict verdict, uint8_t why);
 
 /* Judges the signatures over a document that has ended, by a policy (OPGP_POLICY_USUAL ..) and at a present time in seconds since
- * 1970. docs/VALIDITY.md has the rule. The keyring is merged first, as opgp_merge does it, since each certificate is judged alone.
+ * 1970. docs/VALIDITY.md has the rule. It judges by opgp_merged of the keyring, since each certificate is judged alone: a question's
+ * numbers are of rows of that. It is made once, so the next document takes less time.
  *
  * The verifier is called as opgp_check calls it:
  *
@@ -1037,7 +1048,7 @@ typedef int opgp_judge_reporter(void *context, const opgp_question *question, op
  * believed is enough; else the reason is that of the first.
  *
  * Both get the context. They may make calls on the keyring and the document, but not close them. What a question points to lives
- * until opgp_judge returns.
+ * until opgp_judge returns, but for the signer, which is a row of opgp_keys of opgp_merged.
  *
  * OPGP_DONE; OPGP_ENDED: the reporter ended it. Of these the reporter wasn't called: OPGP_LIMITS: there is no such policy;
  * OPGP_GOING, OPGP_MEMORY, OPGP_CLOSED. */

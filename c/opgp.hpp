@@ -174,6 +174,14 @@ public:
         return Keyring(found);
     }
 
+    /* Only certificates, that of number n if picked has a number other than 0 in place n. */
+    Keyring picked(const std::vector<uint8_t> &picked) const
+    {
+        opgp_keyring *found = nullptr;
+        check(opgp_pick(get(), picked.data(), picked.size(), &found));
+        return Keyring(found);
+    }
+
     Keyring certificate(uint64_t number) const
     {
         opgp_keyring *found = nullptr;

@@ -21,14 +21,19 @@ enum { SIZE_25519 = 32, SIZE_448 = 57 };
 /* The least bits of an RSA key, and of the strength of any other one, about which there is no doubt. */
 enum { LEAST_RSA = 2048, LEAST_STRENGTH = 112 };
 
-struct arithmetic {
-    const opgp_key *signer; /* whose key was asked last; NULL: nobody's */
+/* A key that was asked. */
+struct asked_key {
+    const opgp_key *signer; /* whose it is; NULL: nobody's */
     EVP_PKEY *key;          /* NULL: libcrypto doesn't take it, or it wasn't asked to */
     const char *why;        /* why it wasn't; NULL: it was */
     EVP_PKEY_CTX *ready;    /* what verifies digests by that key; NULL: nothing yet */
     int hash;               /* the hash function of those digests; -1: none yet */
-    unsigned decisive;      /* the doubts that decide */
-    struct finding found;   /* of the question that is answered now */
+};
+
+struct arithmetic {
+    struct asked_key now, before; /* the one that is asked, and the one before it: a primary key and a subkey take turns */
+    unsigned decisive;            /* the doubts that decide */
+    struct finding found;         /* of the question that is answered now */
 };
 
 /* ---- Memory */
@@ -67,10 +72,15 @@ static void *get_more(void *room, size_t size, const char *file, int line)
     return more;
 }
 
-/* A libcrypto that took memory when it was loaded keeps its own functions; then it must say itself what was refused. */
+/* A libcrypto that took memory when it was loaded keeps its own functions; then it must say itself what was refused. Its configuration
+ * isn't read, so that no file of a machine changes what is found. Nor does it list the names that its older calls go by, which are none
+ * of those below, and at the end it is left as it is: that would take a fifth of the time of a small document. */
 void arithmetic_begin(void)
 {
     is_asked_here = CRYPTO_set_mem_functions(get, get_more, let_go) == 1;
+    OPENSSL_init_crypto(OPENSSL_INIT_NO_LOAD_CONFIG | OPENSSL_INIT_NO_LOAD_CRYPTO_STRINGS | OPENSSL_INIT_NO_ADD_ALL_CIPHERS
+                            | OPENSSL_INIT_NO_ADD_ALL_DIGESTS | OPENSSL_INIT_NO_ATEXIT,
+                        NULL);
 }
 
 bool arithmetic_stands(void)
@@ -272,22 +282,25 @@ static EVP_PKEY *key_of_signer(const opgp_question *question, const char **why)
     }
 }
 
-static void drop_key(struct arithmetic *it)
+static void drop_key(struct asked_key *it)
 {
     EVP_PKEY_CTX_free(it->ready);
     EVP_PKEY_free(it->key);
-    it->ready = NULL;
-    it->key = NULL;
-    it->signer = NULL;
+    *it = (struct asked_key){NULL, NULL, NULL, NULL, -1};
 }
 
-/* Takes the key of a question's signer, if it isn't the one that was asked last. */
+/* Takes the key of a question's signer, if it isn't one of the two that were asked last. */
 static void take_key(struct arithmetic *it, const opgp_question *question)
 {
-    if (it->signer != question->signer) {
-        drop_key(it);
-        it->key = key_of_signer(question, &it->why);
-        it->signer = question->signer;
+    if (it->now.signer != question->signer) {
+        struct asked_key last = it->now;
+        it->now = it->before;
+        it->before = last;
+    }
+    if (it->now.signer != question->signer) {
+        drop_key(&it->now);
+        it->now.key = key_of_signer(question, &it->now.why);
+        it->now.signer = question->signer;
         failed(it, OPGP_UNDECIDED);
     }
 }
@@ -315,46 +328,46 @@ static bool is_small(const EVP_PKEY *key)
 /* Makes the key ready to verify digests, if it isn't; whether it is. */
 static bool is_ready(struct arithmetic *it)
 {
-    if (it->ready) {
+    if (it->now.ready) {
         return true;
     }
-    it->ready = EVP_PKEY_CTX_new(it->key, NULL);
-    it->hash = -1;
-    if (it->ready && EVP_PKEY_verify_init(it->ready) == 1
-        && (EVP_PKEY_get_base_id(it->key) != EVP_PKEY_RSA || EVP_PKEY_CTX_set_rsa_padding(it->ready, RSA_PKCS1_PADDING) == 1)) {
+    it->now.ready = EVP_PKEY_CTX_new(it->now.key, NULL);
+    it->now.hash = -1;
+    if (it->now.ready && EVP_PKEY_verify_init(it->now.ready) == 1
+        && (EVP_PKEY_get_base_id(it->now.key) != EVP_PKEY_RSA || EVP_PKEY_CTX_set_rsa_padding(it->now.ready, RSA_PKCS1_PADDING) == 1)) {
         return true;
     }
-    EVP_PKEY_CTX_free(it->ready);
-    it->ready = NULL;
+    EVP_PKEY_CTX_free(it->now.ready);
+    it->now.ready = NULL;
     return false;
 }
 
 /* The same for digests of this hash function. */
 static bool is_ready_for(struct arithmetic *it, uint8_t hash)
 {
-    if (is_ready(it) && it->hash != hash) {
-        it->hash = EVP_PKEY_CTX_set_signature_md(it->ready, hash_of(hash)) == 1 ? hash : -1;
+    if (is_ready(it) && it->now.hash != hash) {
+        it->now.hash = EVP_PKEY_CTX_set_signature_md(it->now.ready, hash_of(hash)) == 1 ? hash : -1;
     }
-    return it->ready && it->hash == hash;
+    return it->now.ready && it->now.hash == hash;
 }
 
 /* By RSA, DSA or ECDSA, in libcrypto's form: a signature over a digest. */
 static opgp_verdict over_digest(struct arithmetic *it, const opgp_job *job, const uint8_t *made, size_t size)
 {
-    it->found.doubts |= is_small(it->key) ? DOUBT_SMALL_KEY : 0;
+    it->found.doubts |= is_small(it->now.key) ? DOUBT_SMALL_KEY : 0;
     if (it->found.doubts & it->decisive & DOUBT_SMALL_KEY) {
         return undecided(it, "small-key");
     }
     if (!is_ready_for(it, job->hash)) {
         return failed(it, undecided(it, "refused"));
     }
-    return EVP_PKEY_verify(it->ready, made, size, job->digest, job->digest_size) == 1 ? OPGP_GOOD : failed(it, OPGP_BAD);
+    return EVP_PKEY_verify(it->now.ready, made, size, job->digest, job->digest_size) == 1 ? OPGP_GOOD : failed(it, OPGP_BAD);
 }
 
 /* By RSA (5.2.3.1), whose signature libcrypto wants as long as the modulus. */
 static opgp_verdict by_rsa(struct arithmetic *it, const opgp_question *question)
 {
-    int size_of_key = it->key ? EVP_PKEY_get_size(it->key) : 0;
+    int size_of_key = it->now.key ? EVP_PKEY_get_size(it->now.key) : 0;
     if (size_of_key <= 0) { /* such as that of the modulus 0 */
         return failed(it, undecided(it, "key"));
     }
@@ -373,7 +386,7 @@ static opgp_verdict by_rsa(struct arithmetic *it, const opgp_question *question)
 /* By DSA or ECDSA (5.2.3.2): r and s, which have the same form in libcrypto for both. */
 static opgp_verdict by_pair(struct arithmetic *it, const opgp_question *question)
 {
-    if (!it->key) {
+    if (!it->now.key) {
         return undecided(it, "key");
     }
     uint8_t *made = NULL;
@@ -402,7 +415,7 @@ static opgp_verdict by_edwards(struct arithmetic *it, const opgp_job *job, opgp_
 {
     EVP_MD_CTX *context = EVP_MD_CTX_new();
     opgp_verdict verdict;
-    if (!it->key || !context || EVP_DigestVerifyInit(context, NULL, NULL, NULL, it->key) != 1) {
+    if (!it->now.key || !context || EVP_DigestVerifyInit(context, NULL, NULL, NULL, it->now.key) != 1) {
         verdict = failed(it, undecided(it, "key"));
     } else if (EVP_DigestVerify(context, made.octets, made.size, job->digest, job->digest_size) == 1) {
         verdict = OPGP_GOOD;
@@ -434,8 +447,8 @@ static opgp_verdict verdict_of(struct arithmetic *it, const opgp_question *quest
 {
     ERR_clear_error();
     take_key(it, question);
-    if (it->why) {
-        return undecided(it, it->why);
+    if (it->now.why) {
+        return undecided(it, it->now.why);
     }
     switch (question->signer->algorithm) {
     case OPGP_KEY_RSA:
@@ -461,7 +474,8 @@ struct arithmetic *arithmetic_new(void)
 void arithmetic_free(struct arithmetic *it)
 {
     if (it) {
-        drop_key(it);
+        drop_key(&it->now);
+        drop_key(&it->before);
         free(it);
     }
 }

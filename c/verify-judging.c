@@ -654,37 +654,9 @@ static opgp_verdict verify_own(void *context, const opgp_question *question)
         return OPGP_UNDECIDED;
     }
     const struct answer *answer = find_answer(it->judging, &it->next, question);
-    return answer ? answer->verdict : arithmetic_of(it->arithmetic, question, 0, 0).verdict;
-}
-
-static int take_own(void *context, size_t row, const opgp_job *job, opgp_verdict verdict)
-{
-    struct verdicts *it = context;
-    (void)job;
-    it->found[row] = (uint8_t)verdict;
-    return 0;
-}
-
-/* Makes how the parts of a keyring stand at a time, for free(), by these verdicts. */
-static uint32_t make_states(const opgp_keyring *keyring, const uint8_t *verdicts, size_t count, uint32_t policy, uint64_t now,
-                            opgp_state **states, uint64_t *size)
-{
-    uint8_t *octets = NULL;
-    size_t octet_count = 0;
-    opgp_limits usual;
-    opgp_fault fault;
-    opgp_ring ring = {false, NULL};
-    opgp_usual_limits(&usual);
-    uint32_t status = opgp_write(keyring, false, &octets, &octet_count);
-    status = status == OPGP_DONE ? opgp_ring_open(octets, octet_count, &usual, &ring, &fault) : status;
-    status = status == OPGP_DONE ? opgp_ring_states(&ring, verdicts, count, policy, now, NULL, 0, size) : status;
-    if (status == OPGP_ROOM) {
-        *states = calloc((size_t)*size, sizeof **states);
-        status = *states ? opgp_ring_states(&ring, verdicts, count, policy, now, *states, (size_t)*size, size) : OPGP_MEMORY;
-    }
-    opgp_ring_clear(&ring);
-    free(octets);
-    return status;
+    opgp_verdict verdict = answer ? answer->verdict : arithmetic_of(it->arithmetic, question, 0, 0).verdict;
+    it->found[question->row] = (uint8_t)verdict;
+    return verdict;
 }
 
 /* Whether the certification in a row marks its user ID as primary (5.2.3.27). */
@@ -744,29 +716,26 @@ static uint32_t copy_user_id(const opgp_keyring *keyring, uint64_t component, ch
     return status;
 }
 
-/* Finds the text of the primary user ID of a keyring that is one certificate, by these verdicts on its rows. */
-static uint32_t pick_user_id(const opgp_keyring *keyring, const struct verdicts *verdicts, size_t count, uint32_t policy, uint64_t now,
-                             char **text, size_t *size)
+/* Finds the text of the primary user ID of a keyring that is one certificate, by how its parts stand and the verdicts on its rows. */
+static uint32_t pick_user_id(const opgp_keyring *keyring, const opgp_state *states, size_t state_count, const uint8_t *verdicts,
+                             uint64_t now, char **text, size_t *size)
 {
     const opgp_packet *packets;
     size_t packet_count = 0;
-    opgp_state *states = NULL;
-    uint64_t state_count = 0, best = 0, found = OPGP_NONE;
-    uint32_t status = make_states(keyring, verdicts->found, count, policy, now, &states, &state_count);
-    status = status == OPGP_DONE ? opgp_packets(keyring, &packets, &packet_count) : status;
+    uint64_t best = 0, found = OPGP_NONE;
+    uint32_t status = opgp_packets(keyring, &packets, &packet_count);
     for (size_t i = 0; status == OPGP_DONE && i < packet_count; i++) {
         bool is_user_id = packets[i].kind == OPGP_PACKET_USER_ID && packets[i].hang == OPGP_NONE;
         /* The state of the component behind that of the primary key. */
         if (is_user_id && packets[i].component + 1 < state_count && states[packets[i].component + 1].why == OPGP_BELIEVED) {
             uint64_t rank = 0;
-            status = rank_of(keyring, packets[i].component, verdicts->found, now, &rank);
+            status = rank_of(keyring, packets[i].component, verdicts, now, &rank);
             if (found == OPGP_NONE || rank > best) {
                 best = rank;
                 found = packets[i].component;
             }
         }
     }
-    free(states);
     return status == OPGP_DONE && found != OPGP_NONE ? copy_user_id(keyring, found, text, size) : status;
 }
 
@@ -775,18 +744,22 @@ static uint32_t find_user_id(const struct judging *it, const opgp_keyring *keyri
                              size_t *size)
 {
     const opgp_job *jobs;
-    size_t count;
+    opgp_state *states = NULL;
+    size_t count, state_count = 0;
     uint32_t status = opgp_jobs(keyring, &jobs, &count);
     struct verdicts verdicts = {it, NULL, 0, NULL};
     if (status == OPGP_DONE) {
         verdicts.arithmetic = arithmetic_new();
         verdicts.found = calloc(count + 1, 1);
-        status = verdicts.arithmetic && verdicts.found ? opgp_check(keyring, verify_own, take_own, &verdicts) : OPGP_MEMORY;
+        status = verdicts.arithmetic && verdicts.found
+                     ? opgp_states(keyring, policy, now, verify_own, &verdicts, &states, &state_count)
+                     : OPGP_MEMORY;
     }
-    status = status == OPGP_DONE ? pick_user_id(keyring, &verdicts, count, policy, now, text, size) : status;
+    status = status == OPGP_DONE ? pick_user_id(keyring, states, state_count, verdicts.found, now, text, size) : status;
     status = status == OPGP_DONE && memory_ran_out() ? OPGP_MEMORY : status;
     arithmetic_free(verdicts.arithmetic);
     free(verdicts.found);
+    free(states);
     return status;
 }
 
@@ -820,10 +793,10 @@ enum outcome judging_names(struct judging *it, uint32_t policy, uint64_t now)
 {
     const opgp_key *keys;
     size_t count = 0;
-    opgp_keyring *merged = NULL;
+    const opgp_keyring *merged = NULL;
     enum outcome outcome = STEP_DONE;
     uint32_t status = take_issuers(it);
-    status = status == OPGP_DONE ? opgp_merge(it->keyring, &merged) : status;
+    status = status == OPGP_DONE ? opgp_merged(it->keyring, &merged) : status;
     status = status == OPGP_DONE ? opgp_keys(merged, &keys, &count) : status;
     for (size_t row = 0; status == OPGP_DONE && outcome == STEP_DONE && row < it->count; row++) {
         it->homes[row] = OPGP_NONE;
@@ -833,7 +806,6 @@ enum outcome judging_names(struct judging *it, uint32_t policy, uint64_t now)
             status = outcome == STEP_DONE ? name_row(it, row, merged, policy, now) : status;
         }
     }
-    opgp_close(merged);
     return status == OPGP_DONE ? outcome : failed(it, status);
 }
 

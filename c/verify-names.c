@@ -63,7 +63,7 @@ int written(const struct program *program, const struct judging *judging, const 
     size_t size;
     const uint8_t *text = judging_text(judging, &size);
     *output = (struct output){0};
-    bool is_fine = !name || output_write(output, name, text, size + has_end, may_replace);
+    bool is_fine = !name || output_write(output, name, text, size + has_end, may_replace, false);
     return is_fine ? 0 : said(program, program->failed, "can't write '%s': %s", name, strerror(errno));
 }
 

@@ -1,5 +1,5 @@
-/* A file is written beside its place, flushed to its device and renamed: so it is there as a whole or not at all, whenever the program
- * ends. One that is killed before that may leave a file .opgp-*, which isn't at the name. */
+/* A file is written beside its place, flushed to its device if that is wanted, and renamed: so it is there as a whole or not at all,
+ * whenever the program ends. One that is killed before that may leave a file .opgp-*, which isn't at the name. */
 #define _GNU_SOURCE /* for renameat2 */
 #include "verify-output.h"
 
@@ -71,7 +71,7 @@ static mode_t new_mode(void)
     return 0666 & ~mask;
 }
 
-bool output_write(struct output *it, const char *name, const uint8_t *octets, size_t size, bool may_replace)
+bool output_write(struct output *it, const char *name, const uint8_t *octets, size_t size, bool may_replace, bool is_flushed)
 {
     struct stat found;
     bool is_there = may_replace && stat(name, &found) == 0;
@@ -91,7 +91,7 @@ bool output_write(struct output *it, const char *name, const uint8_t *octets, si
         return false;
     }
     mode_t mode = is_there ? found.st_mode & 0777 : new_mode();
-    bool is_fine = fchmod(file, mode) == 0 && write_all(file, octets, size) && fsync(file) == 0;
+    bool is_fine = fchmod(file, mode) == 0 && write_all(file, octets, size) && (!is_flushed || fsync(file) == 0);
     is_fine = closed(file, is_fine);
     if (!is_fine) {
         output_end(it);

@@ -20,8 +20,9 @@ struct output {
 bool is_taken(const char *name);
 
 /* Writes octets to a temporary file, so that output_keep only has to give it its name. Its mode is what the process's mask lets
- * through; if it is to replace a file, it is that one's. False, with errno, if that can't be: then nothing is left of it. */
-bool output_write(struct output *it, const char *name, const uint8_t *octets, size_t size, bool may_replace);
+ * through; if it is to replace a file, it is that one's. It is flushed to its device, if that is wanted: so it is whole also behind a
+ * failure of power. False, with errno, if that can't be: then nothing is left of it. */
+bool output_write(struct output *it, const char *name, const uint8_t *octets, size_t size, bool may_replace, bool is_flushed);
 
 /* Puts the file at its name, where nothing may be unless it may be replaced. False, with errno, if it can't be: then nothing is left
  * of it. Without a file that was written there is nothing to do. */

@@ -184,7 +184,7 @@ static int put_message(const struct words *words, const struct judging *judging,
         if (!file || fclose(file) != 0 || !is_put) {
             return said(program, SOP_FAILED, "can't write '%s': %s", name, strerror(errno));
         }
-    } else if (name && !output_write(&output, name, (const uint8_t *)verifications, size, false)) {
+    } else if (name && !output_write(&output, name, (const uint8_t *)verifications, size, false, false)) {
         return said(program, SOP_FAILED, "can't write '%s': %s", name, strerror(errno));
     }
     fwrite(text, 1, text_size, stdout);

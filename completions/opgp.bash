@@ -9,7 +9,7 @@ _opgp() {
         before=${COMP_WORDS[COMP_CWORD - 2]}
     fi
     if [ "$COMP_CWORD" = 1 ]; then
-        words="show list check state octets write normalise split join signatures digest canonical cleartext help --help"
+        words="show list check state octets write normalise split join signatures digest canonical cleartext diff help --help"
     else
         case $before in
             --mode) words="auto armor binary" ;;
@@ -27,7 +27,7 @@ _opgp() {
                 compopt +o default # a number, a key or a time, and no file
                 return
                 ;;
-            --signatures | --verdicts | --keys)
+            --signatures | --verdicts | --keys | --old)
                 compopt -o default
                 return
                 ;;
@@ -38,17 +38,18 @@ _opgp() {
             *)
                 case ${COMP_WORDS[1]} in
                     show | list) words="--values $limits" ;;
-                    check) words="--fingerprints $limits" ;;
+                    check) words="--fingerprints --places $limits" ;;
                     state) words="--at --policy --verdicts $limits" ;;
-                    octets) words="--row --all --of $limits" ;;
-                    write) words="--out --own-signatures --no-attributes --user-id $limits" ;;
+                    octets) words="--row --all --explain --of $limits" ;;
+                    write) words="--out --own-signatures --no-attributes --user-id --bound --verdicts $limits" ;;
                     normalise) words="--out $limits" ;;
                     split) words="--out --nth --key --keys --except $limits" ;;
                     join) words="--out --merge $limits" ;;
                     signatures | canonical) words=$limits ;;
                     cleartext) words="--of $limits" ;;
+                    diff) words="--old $limits" ;;
                     digest) words="--signatures --octets --salt $limits" ;;
-                    help) words="show list check state octets write normalise split join signatures digest canonical cleartext help" ;;
+                    help) words="show list check state octets write normalise split join signatures digest canonical cleartext diff help" ;;
                     *) return ;;
                 esac
                 ;;

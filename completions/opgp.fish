@@ -1,5 +1,5 @@
 # Completion of opgp for fish.
-set -l commands show list check state octets write normalise split join signatures digest canonical cleartext help
+set -l commands show list check state octets write normalise split join signatures digest canonical cleartext diff help
 complete -c opgp -f
 complete -c opgp -n "not __fish_seen_subcommand_from $commands" -a show -d "List every packet and every subpacket"
 complete -c opgp -n "not __fish_seen_subcommand_from $commands" -a list -d "List the packets of a keyring"
@@ -14,6 +14,7 @@ complete -c opgp -n "not __fish_seen_subcommand_from $commands" -a signatures -d
 complete -c opgp -n "not __fish_seen_subcommand_from $commands" -a digest -d "List the digests that signatures have of a document"
 complete -c opgp -n "not __fish_seen_subcommand_from $commands" -a canonical -d "Write the canonical text of a document"
 complete -c opgp -n "not __fish_seen_subcommand_from $commands" -a cleartext -d "Write the document of a cleartext signed message"
+complete -c opgp -n "not __fish_seen_subcommand_from $commands" -a diff -d "List what changed from an old keyring"
 complete -c opgp -n "not __fish_seen_subcommand_from $commands" -a help -d "Prints the help of the program or of a command"
 complete -c opgp -n "__fish_seen_subcommand_from help" -a "$commands"
 complete -c opgp -l help -s h -d "Prints the help"
@@ -32,16 +33,21 @@ complete -c opgp -n "__fish_seen_subcommand_from write normalise split join" -l 
 complete -c opgp -n "__fish_seen_subcommand_from show" -l values -d "Show the fields of each packet, and what each subpacket means"
 complete -c opgp -n "__fish_seen_subcommand_from list" -l values -d "Show how large each key is, and who made each signature, and when"
 complete -c opgp -n "__fish_seen_subcommand_from check" -l fingerprints -d "Show the fingerprints of each signature's certificate and signer"
+complete -c opgp -n "__fish_seen_subcommand_from check" -l places -d "Show the number of each signature's packet, and of the user ID that it is on"
 complete -c opgp -n "__fish_seen_subcommand_from state" -l at -x -d "The time, in seconds since 1970 or as a UTC date"
 complete -c opgp -n "__fish_seen_subcommand_from state" -l policy -x -a "usual any" -d "Which hash algorithms and keys to rely on"
 complete -c opgp -n "__fish_seen_subcommand_from state" -l verdicts -r -F -d "The file of a verifier's verdicts on the signatures"
 complete -c opgp -n "__fish_seen_subcommand_from octets" -l all -d "Write those of every row, each after a line of its own"
+complete -c opgp -n "__fish_seen_subcommand_from octets" -l explain -d "Write a line for each field of the octets instead"
 complete -c opgp -n "__fish_seen_subcommand_from octets" -l row -x -d "The number of the row"
 complete -c opgp -n "__fish_seen_subcommand_from octets" -l of -x -a "ring literal" -d "What to read the input as"
 complete -c opgp -n "__fish_seen_subcommand_from cleartext" -l of -x -a "document hashed signatures" -d "What to write of the message"
+complete -c opgp -n "__fish_seen_subcommand_from diff" -l old -r -F -d "The file of the old keyring"
 complete -c opgp -n "__fish_seen_subcommand_from write" -l own-signatures -d "Leave out signatures that don't name the primary key as their issuer"
 complete -c opgp -n "__fish_seen_subcommand_from write" -l no-attributes -d "Leave out user attributes"
 complete -c opgp -n "__fish_seen_subcommand_from write" -l user-id -x -d "The number of a user ID that stays in each certificate"
+complete -c opgp -n "__fish_seen_subcommand_from write" -l bound -d "Leave out what no good self-signature binds"
+complete -c opgp -n "__fish_seen_subcommand_from write" -l verdicts -r -F -d "The file of a verifier's verdicts on the signatures"
 complete -c opgp -n "__fish_seen_subcommand_from split" -l nth -x -d "The number of the certificate"
 complete -c opgp -n "__fish_seen_subcommand_from split" -l key -x -d "The fingerprint or key ID of a key"
 complete -c opgp -n "__fish_seen_subcommand_from split" -l keys -r -F -d "A file of fingerprints and key IDs, one in each line"

@@ -16,6 +16,7 @@ _opgp() {
         'digest:list the digests that signatures have of a document'
         'canonical:write the canonical text of a document'
         'cleartext:write the document of a cleartext signed message'
+        'diff:list what changed from an old keyring'
         'help:prints the help of the program or of a command'
     )
     limits=(
@@ -40,15 +41,16 @@ _opgp() {
     case $words[2] in
         show) shift words; ((CURRENT--)); _arguments $limits '--values[show the fields of each packet, and what each subpacket means]' ;;
         list) shift words; ((CURRENT--)); _arguments $limits '--values[show how large each key is, and who made each signature, and when]' ;;
-        check) shift words; ((CURRENT--)); _arguments $limits '--fingerprints[show the fingerprints of each signature'"'"'s certificate and signer]' ;;
+        check) shift words; ((CURRENT--)); _arguments $limits '--fingerprints[show the fingerprints of each signature'"'"'s certificate and signer]' '--places[show the number of each signature'"'"'s packet, and of the user ID that it is on]' ;;
         state) shift words; ((CURRENT--)); _arguments $limits '--at=[the time, in seconds since 1970 or as a UTC date]:time:' '--policy=[which hash algorithms and keys to rely on]:policy:(usual any)' '--verdicts=[the file of verdicts of a verifier on the signatures]:file:_files' ;;
-        octets) shift words; ((CURRENT--)); _arguments $limits '--row=[the number of the row]:number:' '--all[write those of every row, each after a line of its own]' '--of=[what to read the input as]:top:(ring literal)' ;;
-        write) shift words; ((CURRENT--)); _arguments $limits $out '--own-signatures[leave out signatures that do not name the primary key as their issuer]' '--no-attributes[leave out user attributes]' '*--user-id=[the number of a user ID to keep in each certificate, from 0]:number:' ;;
+        octets) shift words; ((CURRENT--)); _arguments $limits '--row=[the number of the row]:number:' '--all[write those of every row, each after a line of its own]' '--explain[write a line for each field of the octets instead]' '--of=[what to read the input as]:top:(ring literal)' ;;
+        write) shift words; ((CURRENT--)); _arguments $limits $out '--own-signatures[leave out signatures that do not name the primary key as their issuer]' '--no-attributes[leave out user attributes]' '*--user-id=[the number of a user ID to keep in each certificate, from 0]:number:' '--bound[leave out what no good self-signature binds]' '--verdicts=[the file of verdicts of a verifier on the signatures]:file:_files' ;;
         normalise) shift words; ((CURRENT--)); _arguments $limits $out ;;
         split) shift words; ((CURRENT--)); _arguments $limits $out '--nth=[the number of the certificate]:number:' '*--key=[the fingerprint or key ID of a key]:key:' '--keys=[a file of fingerprints and key IDs, one in each line]:file:_files' '--except[write all certificates but those]' ;;
         join) shift words; ((CURRENT--)); _arguments $limits $out '--merge[merge certificates of the same primary key]' ;;
         signatures | canonical) shift words; ((CURRENT--)); _arguments $limits ;;
         cleartext) shift words; ((CURRENT--)); _arguments $limits '--of=[what to write of the message]:part:(document hashed signatures)' ;;
+        diff) shift words; ((CURRENT--)); _arguments $limits '--old=[the file of the old keyring]:file:_files' ;;
         digest) shift words; ((CURRENT--)); _arguments $limits '--signatures=[the file of the detached signatures]:file:_files' '--octets=[write what the signature of this number hashes behind the document]:number:' '--salt[with --octets, write what it hashes in front of it]' ;;
         help) _describe command commands ;;
     esac

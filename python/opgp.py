@@ -223,6 +223,7 @@ def _load() -> ctypes.CDLL:
         ("normalise", status, keyring, pointer(keyring)),
         ("merge", status, keyring, pointer(keyring)),
         ("choose", status, keyring, ctypes.c_bool, ctypes.c_bool, pointer(number), size, pointer(keyring)),
+        ("pick", status, keyring, ctypes.c_char_p, size, pointer(keyring)),
         ("certificate", status, keyring, number, pointer(keyring)),
         ("join", status, keyring, keyring, pointer(keyring)),
         ("reader_open", status, pointer(_Limits), pointer(_Reader)),
@@ -1073,7 +1074,7 @@ class Keyring(_Held):
     def find(self, name: Union[str, Octets]) -> list[Key]:
         """The keys with this fingerprint or key ID. It is octets, or a text of hexadecimal digits, perhaps with spaces and `0x`.
         Any other text raises ValueError."""
-        wanted = bytes.fromhex(name.removeprefix("0x")) if isinstance(name, str) else _bytes(name)
+        wanted = _name_of(name)
         return [it for it in self.keys() if wanted in (it.fingerprint, it.key_id)]
 
     def octets(self, row: int) -> bytes:
@@ -1102,6 +1103,24 @@ class Keyring(_Held):
         handle, chosen = self._open(), [_row(it) for it in user_ids]
         numbers = (ctypes.c_uint64 * len(chosen))(*chosen)
         return self._made(lambda made: _library.opgp_choose(handle, own_signatures, not attributes, numbers, len(chosen), made))
+
+    def pick(self, names: Iterable[Union[str, Octets]], others: bool = False) -> Keyring:
+        """A keyring of the certificates that have one of these keys, in their order, as `opgp split --key` picks them; with `others` of
+        those that have none of them. A name is one that `find` takes. Raises KeyError for a key that no certificate has: else a typing
+        error would let a certificate through."""
+        handle, count = self._open(), ctypes.c_size_t()
+        numbers: dict[bytes, set[int]] = {}
+        _raise_but_for_done(_library.opgp_certificate_count(handle, ctypes.byref(count)))
+        for key in self.keys():
+            numbers.setdefault(key.fingerprint, set()).add(key.certificate)
+            numbers.setdefault(key.key_id, set()).add(key.certificate)
+        picked = [others] * count.value
+        for name in map(_name_of, names):
+            if name not in numbers:
+                raise KeyError(f"no certificate has the key {name.hex().upper()}")
+            for number in numbers[name]:
+                picked[number] = not others
+        return self._made(lambda made: _library.opgp_pick(handle, bytes(picked), len(picked), made))
 
     def certificate(self, number: int) -> Keyring:
         """The certificate of this number, from 0, as a keyring. Raises IndexError if there is none."""
@@ -1398,6 +1417,11 @@ def _opened(keyring: Any) -> _Handle:
 def _bytes(octets: Octets) -> bytes:
     """These octets. Raises TypeError for what isn't octets in memory, such as a number, a text, a list or a path."""
     return octets if isinstance(octets, bytes) else bytes(memoryview(octets))
+
+
+def _name_of(name: Union[str, Octets]) -> bytes:
+    """The octets of a fingerprint or key ID."""
+    return bytes.fromhex(name.removeprefix("0x")) if isinstance(name, str) else _bytes(name)
 
 
 def _row(number: int) -> int:

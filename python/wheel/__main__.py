@@ -110,6 +110,36 @@ def _found(entries: Sequence[everyday.CertificateEntry], names: Sequence[str]) -
     return status, [it for it in entries if it.number in numbers]
 
 
+def _revocations(told: argparse.Namespace) -> tuple[int, bytes]:
+    keyring, verdicts = _judged(told, told.FILE)
+    octets = everyday.revocations(keyring, verdicts)
+    if not octets:
+        _tell("opgp: no revocation")
+    return int(not octets), octets
+
+
+def _revoke(told: argparse.Namespace) -> tuple[int, bytes]:
+    keyring = everyday.once(opgp.read(_read(told.FILE), _limits(told), told.mode))
+    revocation, name = _read(told.revocation), everyday.escaped(told.revocation)
+    try:
+        made = everyday.revoked(keyring, revocation)
+    except opgp.Fault as fault:
+        raise _End(1, f"opgp: {name}: {fault}") from fault
+    except ValueError as why:
+        raise _End(1, f"opgp: {name}: {why}") from why
+    verdicts = _verified(told, made, must_be=True)
+    if verdicts is not None and not all(verdicts[it.row] is opgp.Verdict.GOOD for it in _new(made, keyring)):
+        raise _End(1, f"opgp: {name}: the revocation doesn't verify")
+    return 0, made.write(told.out != "binary")
+
+
+def _new(made: opgp.Keyring, keyring: opgp.Keyring) -> list[opgp.Signature]:
+    """The signatures of a keyring whose packets another one doesn't have."""
+    old = {it.body for it in keyring.packets()}
+    new = {(it.certificate, it.component, it.hang) for it in made.packets() if it.body not in old}
+    return [it for it in made.signatures() if it.nested is None and (it.certificate, it.component, it.hang) in new]
+
+
 def _listed(it: everyday.CertificateEntry) -> Sequence[str]:
     """The lines of `find` for a certificate."""
     word = "verified" if it.is_verified else "unverified"
@@ -158,8 +188,16 @@ def _lines(lines: Any) -> bytes:
 def _surveyed(
     told: argparse.Namespace, path: Optional[str], must_be_verified: bool = False
 ) -> tuple[opgp.Keyring, list[everyday.CertificateEntry]]:
-    """The keyring in a file, or on standard input, and its entries. A certificate that is there twice is merged: one copy may lack a
-    revocation."""
+    """The keyring in a file, or on standard input, and its entries."""
+    keyring, verdicts = _judged(told, path, must_be_verified)
+    return keyring, everyday.survey(keyring, told.at, verdicts, told.rely)
+
+
+def _judged(
+    told: argparse.Namespace, path: Optional[str], must_be_verified: bool = False
+) -> tuple[opgp.Keyring, Optional[list[opgp.Verdict]]]:
+    """The keyring in a file, or on standard input, and the verdicts on its signatures; None: nothing is verified. A certificate that is
+    there twice is merged: one copy may lack a revocation."""
     octets = _read(path)
     if not octets:
         _tell("opgp: the input is empty")
@@ -168,10 +206,8 @@ def _surveyed(
     if told.verdicts is not None:
         if keyring is not given:
             raise _End(1, "opgp: a certificate is there twice: merge the keyring (opgp join --merge), and verify that")
-        verdicts: Optional[list[opgp.Verdict]] = everyday.verdicts_in(keyring, _read(told.verdicts))
-    else:
-        verdicts = _verified(told, keyring, must_be_verified)
-    return keyring, everyday.survey(keyring, told.at, verdicts, told.rely)
+        return keyring, everyday.verdicts_in(keyring, _read(told.verdicts))
+    return keyring, _verified(told, keyring, must_be_verified)
 
 
 def _limits(told: argparse.Namespace) -> opgp.Limits:
@@ -186,7 +222,7 @@ def _verified(told: argparse.Namespace, keyring: opgp.Keyring, must_be: bool) ->
         return None
     if told.verifier is None and shutil.which(_VERIFIER) is None:
         if must_be:
-            raise _End(3, f"opgp: {_VERIFIER} isn't found: name one by --verifier, or publish what is --unverified")
+            raise _End(3, f"opgp: {_VERIFIER} isn't found: name one by --verifier, or take what is --unverified")
         _tell(f"opgp: nothing is verified: {_VERIFIER} isn't found")
         return None
     return everyday.verdicts_by(keyring, told.verifier or _VERIFIER)
@@ -276,6 +312,13 @@ def _words() -> argparse.ArgumentParser:
     it.add_argument("--keyring", metavar="FILE", help="else standard input")
     it.add_argument("--out", choices=("armor", "binary"), help="write the certificates, and no lines")
     it.add_argument("NAME", nargs="+")
+    _add(commands, "revocations", _revocations, "write the packets of revocations alone").add_argument("FILE", nargs="?")
+    it = _add(commands, "revoke", _revoke, "put a revocation certificate behind the key that it revokes", is_survey=False)
+    _add_verifier(it)
+    _add_limits(it)
+    it.add_argument("--revocation", metavar="FILE", required=True, help="the revocation certificate")
+    it.add_argument("--out", choices=("armor", "binary"), default="armor", help="how to write the keyring")
+    it.add_argument("FILE", nargs="?")
     wkd = _add(commands, "wkd", None, "make a Web Key Directory").add_subparsers(metavar="COMMAND", required=True)
     method: dict[str, Any] = {"choices": ("advanced", "direct"), "default": "advanced", "help": "how clients ask: advanced"}
     it = _add(wkd, "hash", _wkd_hash, "write the hash and the path of addresses", is_survey=False)
@@ -298,12 +341,18 @@ def _add(commands: Any, name: str, call: Any, about: str, is_survey: bool = True
     if call is not None and is_survey:
         it.add_argument("--at", metavar="TIME", type=_time, default=int(time.time()), help="the present time; else that of the clock")
         it.add_argument("--rely", choices=("usual", "any"), default="usual", help="the hash algorithms and keys that are relied on")
-        how = it.add_mutually_exclusive_group()
-        how.add_argument("--verifier", metavar="PROGRAM", help=f"verify by this program; else {_VERIFIER}, if it is found")
+        how = _add_verifier(it)
         how.add_argument("--verdicts", metavar="FILE", help=f"what {_VERIFIER} --policy none wrote of the keyring")
-        how.add_argument("--unverified", action="store_true", help="say what signatures claim")
         _add_limits(it)
     return it
+
+
+def _add_verifier(it: Any) -> Any:
+    """The options of who verifies, of which one may be given."""
+    how = it.add_mutually_exclusive_group()
+    how.add_argument("--verifier", metavar="PROGRAM", help=f"verify by this program; else {_VERIFIER}, if it is found")
+    how.add_argument("--unverified", action="store_true", help="verify nothing, and take what signatures claim")
+    return how
 
 
 def _add_help(it: argparse.ArgumentParser) -> None:

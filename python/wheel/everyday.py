@@ -1,4 +1,5 @@
-"""Everyday work on a keyring: an audit, JSON, the index of a key server, a Web Key Directory, addresses, and finding certificates.
+"""Everyday work on a keyring: an audit, JSON, the index of a key server, a Web Key Directory, addresses, finding certificates, and
+revocations.
 
     import time
     import opgp
@@ -27,10 +28,12 @@ from opgp.surveys import _WIDEST, claims, cut, escaped, name_in, once, size_of, 
 
 __all__ = ["AuditRow", "CertificateEntry", "EmailRow", "KeyEntry", "Name", "Policy", "PolicyError", "Size", "UserIdEntry"]
 __all__ += ["VerifierFailed", "WkdFile", "WrongVerdicts", "audit", "claims", "emails", "escaped", "find", "hkp_index", "json_of"]
-__all__ += ["name_in", "once", "policy_in", "size_of", "survey", "verdicts_by", "verdicts_in", "wkd_files", "wkd_hash", "wkd_path"]
+__all__ += ["name_in", "once", "policy_in", "revocations", "revoked", "size_of", "survey", "verdicts_by", "verdicts_in", "wkd_files"]
+__all__ += ["wkd_hash", "wkd_path"]
 
 _DAY = 86400
 _USER_ID, _KEY_REVOCATION = 13, 0x20
+_REVOCATIONS = (_KEY_REVOCATION, 0x28, 0x30)
 _WORDS = {1: "rsa", 2: "rsa", 3: "rsa", 16: "elgamal", 17: "dsa", 18: "ecdh", 19: "ecdsa", 22: "eddsa", 25: "x25519", 26: "x448"}
 _WORDS |= {27: "ed25519", 28: "ed448"}
 
@@ -406,3 +409,61 @@ def find(entries: Sequence[CertificateEntry], name: Union[str, bytes]) -> list[C
     if len(octets) not in (8, 20, 32):
         raise ValueError(f"{escaped(str(name))} is no fingerprint, key ID or mail address")
     return [it for it in entries if any(octets in (key.key.fingerprint, key.key.key_id) for key in it.keys)]
+
+
+# ---- Revocations
+
+
+def revocations(keyring: opgp.Keyring, verdicts: Optional[Sequence[opgp.Verdict]] = None) -> bytes:
+    """The packets of the signatures that revoke a key, a subkey or a certification (5.2.1.11 to 5.2.1.13), in order, and nothing else;
+    with verdicts on the keyring's rows only those that are good."""
+    octets, found = dict(cut(keyring)), []
+    for it in keyring.signatures():
+        place = tuple(opgp._NONE if at is None else at for at in (it.certificate, it.component, it.hang))
+        if it.nested is None and it.kind in _REVOCATIONS and (verdicts is None or verdicts[it.row] is opgp.Verdict.GOOD):
+            found.append(octets[place])
+    return b"".join(found)
+
+
+def revoked(keyring: opgp.Keyring, revocation: bytes) -> opgp.Keyring:
+    """The keyring, with the key revocations (5.2.1.11) of an armored or binary text put where they belong: right behind the primary
+    key that each names as its issuer. One that is there stays alone. Nothing is verified. Raises ValueError if the text has no key
+    revocation, if a packet of it is something else, or if a key isn't in the keyring; and Fault for what can't be read."""
+    wanted: dict[int, list[bytes]] = {}
+    certificates = keyring.certificates()
+    for issuer, octets in _revocations_in(keyring, revocation):
+        them = [it for it in certificates if issuer in (it.primary.fingerprint, it.primary.key_id)]
+        if not them:
+            raise ValueError(f"no certificate has the key {_digits(issuer)}")
+        for it in them:
+            wanted.setdefault(it.number, []).append(octets)
+    if not wanted:
+        raise ValueError("no key revocation")
+    made = []
+    for it in certificates:
+        with keyring.certificate(it.number) as one:
+            made.append(_with(one, wanted[it.number]) if it.number in wanted else one.write())
+    return opgp.read(b"".join(made), _WIDEST, "binary")
+
+
+def _revocations_in(keyring: opgp.Keyring, revocation: bytes) -> Iterator[tuple[bytes, bytes]]:
+    """The issuer and the packet of each key revocation in a text. A keyring can't begin with it, so it is read behind one."""
+    if revocation[:1] >= b"\x80":
+        both = opgp.read(keyring.write() + revocation, _WIDEST, "binary")
+    else:
+        labelled = re.sub(rb"(?m)^(-----(?:BEGIN|END) PGP )SIGNATURE(-----[ \t\r]*)$", rb"\1PUBLIC KEY BLOCK\2", revocation)
+        both = opgp.read(keyring.write(armor=True) + b"\n" + labelled, _WIDEST, "armor")
+    with both:
+        behind = len(keyring.packets())
+        signatures = {(it.certificate, it.component, it.hang): it for it in both.signatures() if it.nested is None}
+        for it, (_, octets) in zip(both.packets()[behind:], cut(both)[behind:]):
+            said = signatures.get((it.certificate, it.component, it.hang or 0)) if it.kind == 2 else None
+            if said is None or said.kind != _KEY_REVOCATION or not said.issuer:
+                raise ValueError("a packet that isn't a key revocation with an issuer")
+            yield said.issuer, octets
+
+
+def _with(certificate: opgp.Keyring, them: Sequence[bytes]) -> bytes:
+    """The packets of a certificate, with these behind its primary key that aren't there."""
+    packets = [it for _, it in cut(certificate)]
+    return b"".join([packets[0], *dict.fromkeys(it for it in them if it not in packets), *packets[1:]])

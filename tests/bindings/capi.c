@@ -3,8 +3,8 @@
  *     --line=N --body=N --cert=N --input=N --pieces=N --policies=N   the limits of `told`
  *     told      prints the tables, or the fault
  *     named     prints each name of a number
- *     normalise, merge, join, nth=N, chosen=OWN,NONE,N..   write the packets of the keyring that is made; joined with itself; of own
- *               signatures, no attributes, and user IDs of these numbers
+ *     normalise, merge, join, nth=N, chosen=OWN,NONE,N.., picked=DIGITS   write the packets of the keyring that is made; joined with
+ *               itself; of own signatures, no attributes, and user IDs of these numbers; of the certificates with another digit than 0
  *     document=PIECE,SIGNATURES,KEYRING   prints what is told of signatures over a document that comes in pieces of so many octets
  *               (0: in one): standard input has so many octets of signatures, and of a keyring, and then the document
  *     canonical=PIECE     writes the canonical text of standard input in pieces of so many octets (0: in one), or prints the fault
@@ -403,6 +403,17 @@ static uint32_t chosen(const char *numbers, const opgp_keyring *keyring, opgp_ke
     return opgp_choose(keyring, each[0] != 0, each[1] != 0, count > 2 ? each + 2 : NULL, count - 2, it);
 }
 
+/* Picks certificates of a keyring, by a digit for each. */
+static uint32_t picked(const char *digits, const opgp_keyring *keyring, opgp_keyring **it)
+{
+    uint8_t each[64];
+    size_t count = strlen(digits);
+    for (size_t i = 0; i < count && i < sizeof each; i++) {
+        each[i] = (uint8_t)(digits[i] - '0');
+    }
+    return opgp_pick(keyring, count > 0 ? each : NULL, count, it);
+}
+
 /* Writes the packets of the keyring that this word makes. */
 static int made(const char *word)
 {
@@ -416,6 +427,7 @@ static int made(const char *word)
                       : strcmp(word, "merge") == 0   ? opgp_merge(keyring, &it)
                       : strcmp(word, "join") == 0    ? opgp_join(keyring, again, &it)
                       : word[0] == 'c'               ? chosen(word + 7, keyring, &it)
+                      : word[0] == 'p'               ? picked(word + 7, keyring, &it)
                                                      : opgp_certificate(keyring, strtoull(word + 4, NULL, 10), &it);
     opgp_close(keyring);
     opgp_close(again);
@@ -1269,6 +1281,7 @@ struct judged {
     struct count count;
     opgp_verdict verdict;
     uint8_t why;
+    const opgp_keyring *keyring; /* by which it is judged; NULL: none that is asked for its keys */
 };
 
 static opgp_verdict judged_question(void *context, const opgp_question *question)
@@ -1286,6 +1299,14 @@ static int take_judgement(void *context, const opgp_question *question, opgp_ver
     holds(question->row == it->count.told && question->job->certificate == OPGP_NONE && question->signer && question->made[1].size == 32
               && question->job->created == made_then,
           "a judgement");
+    if (it->keyring) {
+        const opgp_keyring *merged;
+        const opgp_key *keys;
+        size_t count;
+        holds(opgp_merged(it->keyring, &merged) == OPGP_DONE && opgp_keys(merged, &keys, &count) == OPGP_DONE && question->signer >= keys
+                  && question->signer < keys + count,
+              "a signer of the merged keyring");
+    }
     it->count.told++;
     return it->count.told == it->count.ends_at ? 7 : 0;
 }
@@ -1313,6 +1334,24 @@ static uint32_t read_joined(opgp_keyring **keyring)
     return status;
 }
 
+/* What opgp_merged gives: always the same, whose packets are those of opgp_merge. */
+static void merged_once(const opgp_keyring *keyring)
+{
+    const opgp_keyring *merged = NULL, *again = NULL;
+    opgp_keyring *made = NULL;
+    uint8_t *octets[2] = {NULL, NULL};
+    size_t sizes[2] = {0, 1};
+    holds(opgp_merged(keyring, &merged) == OPGP_DONE && opgp_merged(keyring, &again) == OPGP_DONE && merged && merged == again,
+          "a merged keyring that is kept");
+    holds(opgp_merge(keyring, &made) == OPGP_DONE && opgp_write(merged, false, &octets[0], &sizes[0]) == OPGP_DONE
+              && opgp_write(made, false, &octets[1], &sizes[1]) == OPGP_DONE && sizes[0] == sizes[1]
+              && memcmp(octets[0], octets[1], sizes[0]) == 0,
+          "the packets of a merged keyring");
+    free(octets[0]);
+    free(octets[1]);
+    opgp_close(made);
+}
+
 /* Each status of opgp_judge, and what it says by each answer: the key is bare, so nothing binds it. */
 static void judgements(void)
 {
@@ -1335,7 +1374,7 @@ static void judgements(void)
           "judging without a verifier");
     for (int answer = -1; answer < 4; answer++) {
         for (uint64_t now = made_then - 1; now <= made_then + 1; now++) {
-            it = (struct judged){{0, 0, now == made_then ? 1 : 2, answer}, OPGP_UNDECIDED, 0xA5};
+            it = (struct judged){{0, 0, now == made_then ? 1 : 2, answer}, OPGP_UNDECIDED, 0xA5, keyring};
             uint32_t status = opgp_judge(&document, keyring, now % 2, now, judged_question, take_judgement, &it);
             holds(status == (now == made_then ? OPGP_ENDED : OPGP_DONE) && it.count.told == 1 && it.count.asked >= 1
                       && it.count.asked <= (answer == OPGP_GOOD ? others + 1 : 1),
@@ -1345,6 +1384,7 @@ static void judgements(void)
                   "a judgement by an answer");
         }
     }
+    merged_once(keyring);
     opgp_close(keyring);
     opgp_document_close(document);
 }
@@ -1599,8 +1639,9 @@ static bool everything(void)
     opgp_keyring *other, *made;
     status = opgp_normalise(keyring, &other);
     const uint64_t numbers[] = {1, 0};
-    for (int way = -1; way < 5 && status == OPGP_DONE; way++) {
-        status = way < 0    ? opgp_choose(keyring, true, true, numbers, 2, &made)
+    for (int way = -2; way < 5 && status == OPGP_DONE; way++) {
+        status = way < -1   ? opgp_pick(keyring, (const uint8_t *)"a\0a", 3, &made)
+                 : way < 0  ? opgp_choose(keyring, true, true, numbers, 2, &made)
                  : way == 0 ? opgp_merge(keyring, &made)
                  : way == 1 ? opgp_join(keyring, other, &made)
                  : way == 2 ? opgp_join(keyring, keyring, &made)
@@ -2181,7 +2222,7 @@ int main(int argc, char **argv)
             return named();
         }
         if (strcmp(argv[i], "normalise") == 0 || strcmp(argv[i], "merge") == 0 || strcmp(argv[i], "join") == 0
-            || strncmp(argv[i], "nth=", 4) == 0 || strncmp(argv[i], "chosen=", 7) == 0) {
+            || strncmp(argv[i], "nth=", 4) == 0 || strncmp(argv[i], "chosen=", 7) == 0 || strncmp(argv[i], "picked=", 7) == 0) {
             making = argv[i];
             is_known = true;
         }

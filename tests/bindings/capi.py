@@ -578,6 +578,12 @@ def forms(program):
     verdict("each form is seen", seen == {*range(14)}, seen)
 
 
+def picked(octets, digits):
+    """The certificates with another digit than 0, as the program writes each."""
+    them = [run(PROGRAM, "split", "--nth", str(n), "--out", "binary", input=octets) for n, digit in enumerate(digits) if digit != "0"]
+    return subprocess.CompletedProcess([], 0, b"".join(it.stdout for it in them if it.returncode == 0), b"")
+
+
 def made(program):
     """Keyrings made of others are those that the program writes."""
     for source in SMALL + MADE + VECTORS:
@@ -595,6 +601,7 @@ def made(program):
                    *(it for number in ids for it in ("--user-id", str(number))), input=octets.stdout))
               for own in (0, 1) for none in (0, 1) for ids in ((), (0,), (1,), (7,))),
             *(([f"nth={n}"], run(PROGRAM, "split", "--nth", str(n), "--out", "binary", input=octets.stdout)) for n in (0, 1, 7)),
+            *(([f"picked={digits}"], picked(octets.stdout, digits)) for digits in ("", "0", "1", "01", "90", "101", "0" * 40 + "1", "1" * 64)),
         ):
             ended = opens(program, *words, source=source)
             verdict(f"{words} of {what}", (ended.returncode, ended.stdout, ended.stderr) == (told.returncode, told.stdout, told.stderr), ended)

@@ -615,7 +615,8 @@ int fchmod(int a, mode_t b) { return dies("fchmod"), 0; }
     made = subprocess.run(["cc", "-shared", "-fPIC", "-w", "-o", library, source], capture_output=True, check=False)
     verdict("the library that kills", made.returncode == 0, made.stderr)
     for name, words, _ in (*runs, ("opgp-sopv", ["inline-verify", f"--verifications-out={out()}", ring], 1)):
-        for call in ("rename", "fsync", "write", "fchmod"):
+        # The names of other programs don't flush, as those don't.
+        for call in ("rename", "write", "fchmod", *(["fsync"] if name == "opgp-verify" else [])):
             ended = run(name, *words, given=message, env={"LD_PRELOAD": library, "DIES": call})
             is_there = os.path.lexists(out())
             left = [it for it in os.listdir(names.ROOM) if it.startswith(".opgp-")]
@@ -801,7 +802,8 @@ WRONG = (
     ("sqv", "    bool is_enough = certificates(judging, window, NULL) >= wanted;", "    bool is_enough = certificates(judging, window, NULL) > 0;\n    wanted = is_enough ? 1 : wanted;", of_cases),
     ("sopv", "    status = status == 0 ? put_message(words, judging, verifications, size) : status;", "    status = status == 0 || status == 3 ? put_message(words, judging, verifications, size) | status : status;", of_cases),
     ("sopv", "    return kept(program, &output, ended(program, stdout, 0));", "    int found = kept(program, &output, 0);\n    return ended(program, stdout, found);", descriptors),
-    ("output", "    bool is_fine = fchmod(file, mode) == 0 && write_all(file, octets, size) && fsync(file) == 0;", "    bool is_fine = fchmod(file, mode) == 0 && (write_all(file, octets, size) || true) && fsync(file) == 0;", failing),
+    ("output", "    bool is_fine = fchmod(file, mode) == 0 && write_all(file, octets, size) && (!is_flushed || fsync(file) == 0);", "    bool is_fine = fchmod(file, mode) == 0 && (write_all(file, octets, size) || true) && (!is_flushed || fsync(file) == 0);", failing),
+    ("opgp-verify", "!output_write(&output, task->output, text, size, false, true)", "!output_write(&output, task->output, text, size, false, false)", failing),
     ("output", "        is_kept = it->may_replace ? rename(it->temporary, it->place) == 0 : is_renamed(it->temporary, it->place);", "        is_kept = rename(it->temporary, it->place) == 0;", failing),
     ("output", "    it->temporary = it->place ? beside(it->place) : NULL;\n    int file = it->temporary ? mkstemp(it->temporary) : -1;", "    it->temporary = it->place ? strdup(it->place) : NULL;\n    int file = it->temporary ? open(it->temporary, O_CREAT | O_WRONLY, 0600) : -1;", failing),
     ("output", "    mode_t mode = is_there ? found.st_mode & 0777 : new_mode();", "    mode_t mode = 0600;", outputs),

@@ -650,7 +650,7 @@ def trees_refused(everyday, made, room):
         ended = command("wkd", "tree", "--unverified", "--", wrong, f"{room}/none", given=made.octets)
         verdict(f"wkd tree of {wrong}", ended == (2, b"", f"opgp: {wrong} is no domain in ASCII\n") and not os.path.exists(f"{room}/none"), ended)
     ended = command("wkd", "tree", "example.org", f"{room}/none", given=made.octets, path="/nowhere")
-    said = "opgp: opgp-verify isn't found: name one by --verifier, or publish what is --unverified\n"
+    said = "opgp: opgp-verify isn't found: name one by --verifier, or take what is --unverified\n"
     verdict("wkd tree without a verifier", ended == (3, b"", said) and not os.path.exists(f"{room}/none"), ended)
     ended = command("wkd", "tree", "--unverified", "example.org", put(f"{room}/file", b""), given=made.octets)
     verdict("wkd tree into a file", ended[:2] == (3, b"") and ended[2].startswith("opgp: write failed: "), ended)
@@ -678,6 +678,54 @@ def revocations_kept(opgp, everyday):
         verdict(f"a revocation behind {where}", found.signatures()[0].kind == 0x20 and found.packets()[1].body == revokes[-len(found.packets()[1].body) :]
                 and kinds == [6, 2, 13, 2] + [14, 2] * (where == "a subkey") and len(found.certificates()) == 1, kinds)  # fmt: skip
         verdict(f"it is revoked, behind {where}", everyday.survey(found, NOW)[0].primary.how == "revoked")
+
+
+def revoking(opgp, everyday, verifier):
+    """Revocations alone, and a revocation certificate that is put behind its key."""
+    key, other, sub = (signers.ed25519(it, START) for it in ("revoked", "stays", "revoked sub"))
+    of_key = packet(6, key.body) + signers.identity(key, b"Key <key@b.org>", START) + signers.subkey(key, sub, START)
+    of_other = signers.certificate(other, b"Other <other@b.org>", made=START)
+    old = b"\x98" + packet(6, key.body)[1:]  # framed in the legacy format
+    keyring, revokes = old + of_key[len(old) :] + of_other, signers.revocation(key, START + 1)
+    gone = signers.identity(key, b"Key <key@b.org>", START + 1, kind=0x30)[len(packet(13, b"Key <key@b.org>")) :]
+    front = packet(6, key.body)
+    room = tempfile.mkdtemp(dir=ENV["ROOM"])
+    wanted = front + revokes + of_key[len(front) :] + of_other
+    for name, octets in (("binary", revokes), ("armored", model.armor(revokes, b"PUBLIC KEY BLOCK")), ("a signature's block", model.armor(revokes, b"SIGNATURE")),
+                         ("with text around", b"This is a revocation certificate\n\n" + model.armor(revokes, b"PUBLIC KEY BLOCK") + b"\nEnd\n"),
+                         ("twice", revokes + revokes), ("with the line ends of mail", model.armor(revokes, b"SIGNATURE").replace(b"\n", b"\r\n"))):  # fmt: skip
+        path = put(f"{room}/revocation", octets)
+        ended = command("revoke", "--verifier", verifier, "--revocation", path, "--out", "binary", given=keyring)
+        verdict(f"revoke, {name}", ended == (0, wanted, ""), ended)
+        again = command("revoke", "--unverified", "--revocation", path, "--out", "binary", given=wanted)
+        verdict(f"revoke again, {name}", again == (0, wanted, ""), again)
+        verdict(f"it is revoked, {name}", everyday.survey(opgp.read(wanted), NOW)[0].primary.how == "revoked")
+    ended = command("revoke", "--unverified", "--revocation", put(f"{room}/revocation", revokes), given=model.armor(keyring, b"PUBLIC KEY BLOCK"))
+    verdict("revoke, written armored", ended[0] == 0 and ended[1].startswith(b"-----BEGIN PGP PUBLIC KEY BLOCK-----\n") and opgp.read(ended[1]).write() == wanted)
+    forged = bytearray(revokes)
+    forged[-1] ^= 1
+    stranger = signers.revocation(sub, START + 1)
+    for name, octets, said in (("forged", bytes(forged), "the revocation doesn't verify"), ("of another key", stranger, f"no certificate has the key {hexed(sub)}"),
+                               ("another signature", gone, "a packet that isn't a key revocation with an issuer"), ("a key", of_other, "a packet that isn't a key"),
+                               ("nothing", b"", "no key revocation"), ("a text", b"no block", "no key revocation")):  # fmt: skip
+        path = put(f"{room}/revocation", octets)
+        ended = command("revoke", "--verifier", verifier, "--revocation", path, given=keyring)
+        verdict(f"revoke, {name}", ended[:2] == (1, b"") and ended[2].startswith(f"opgp: {path}: {said}"), ended)
+    ended = command("revoke", "--revocation", put(f"{room}/revocation", revokes), given=keyring, path="/nowhere")
+    verdict("revoke without a verifier", ended[:2] == (3, b"") and "--unverified" in ended[2], ended)
+    ended = command("revoke", "--unverified", "--revocation", f"{room}/none", given=keyring)
+    verdict("revoke by a file that isn't there", ended[:2] == (3, b"") and ended[2].startswith("opgp: read failed"), ended)
+    # Revocations alone: of the key, of a user ID, and of a subkey.
+    said = signers.said(key, START + 1, subpacket(29, b"\0"))
+    of_sub = packet(2, signature(key, 0x28, key.octets + sub.octets, said, key.issuer_key_id))
+    whole = front + revokes + of_key[len(front) :] + of_sub + of_other + bytes(forged)
+    for verify, them in (("--unverified", (revokes, of_sub, bytes(forged))), (f"--verifier={verifier}", (revokes, of_sub))):
+        ended = command("revocations", verify, given=whole)
+        verdict(f"revocations, {verify}", ended == (0, b"".join(them), ""), ended)
+    ended = command("revocations", "--unverified", given=of_key + gone)
+    verdict("the revocation of a certification, on a subkey", ended == (0, gone, ""), ended)
+    ended = command("revocations", "--unverified", given=of_key)
+    verdict("no revocations", ended == (1, b"", "opgp: no revocation\n"), ended)
 
 
 def sizes_cut(opgp, everyday):
@@ -1080,6 +1128,8 @@ def main():
             for test in (audits, as_json, indexed, addresses, directory):
                 test(opgp, everyday, made, ways[::-1])
             verifiers(opgp, made, verifier)
+            if verifier:
+                revoking(opgp, everyday, verifier)
             wrong_words(made)
             devices(made)
             mutated(opgp, everyday, made)

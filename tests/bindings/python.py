@@ -327,6 +327,34 @@ def keyrings_chosen(opgp):
         verdict(f"choose {ids}", raised(kind, lambda ids=ids: keyring.choose(user_ids=ids)) is not None)
 
 
+def keyrings_picked(opgp):
+    """Picked certificates are those that the program splits off."""
+    for source in SOURCES:
+        try:
+            keyring = opgp.read(octets_of(source))
+        except ValueError:
+            continue
+        names = [it.fingerprint.hex() for it in keyring.keys()]
+        ids = [it.key_id.hex().upper() for it in keyring.keys()]
+        for them in ((), names[:1], names[-1:], ids[:1], [*names[1:9:2], *ids[:3]], names[:40]):
+            for others in (False, True):
+                words = [word for it in them for word in ("--key", it)] + ["--except"] * others
+                wanted = program(keyring.write(), "split", "--out", "binary", *words).stdout if them else b"" if not others else None
+                if wanted is None:
+                    wanted = b"".join(keyring.certificate(it).write() for it in range(len(keyring.certificates())))
+                found = keyring.pick(them, others).write()
+                verdict(f"pick {len(them)} {others} of {source}", found == wanted, (len(found), len(wanted)))
+    keyring = opgp.read(octets_of(A1))
+    key = keyring.keys()[-1]
+    for name in (key.fingerprint, key.key_id, f"0x{key.key_id.hex()}", key.fingerprint.hex().upper()):
+        verdict(f"pick by {name!r}", keyring.pick([name]).write() == keyring.write() and keyring.pick([name], True).write() == b"")
+    for names, kind in ((["00" * 20], KeyError), ([b"", key.key_id], KeyError), (["key"], ValueError), ([5], TypeError), (5, TypeError)):
+        for others in (False, True):
+            verdict(f"pick {names} {others}", raised(kind, lambda names=names, others=others: keyring.pick(names, others)) is not None)
+    keyring.close()
+    verdict("pick of a closed keyring", raised(ValueError, lambda: keyring.pick([])) is not None)
+
+
 # The rule of opgp.h, by regular expressions.
 BEGINS = re.compile(rb"-----BEGIN PGP (?!SIGNED MESSAGE-----\Z)[ -,.-~]+-----")
 ENDS = re.compile(rb"-----END PGP [ -,.-~]+-----")
@@ -2706,7 +2734,7 @@ def main():
                 test(opgp, env)
             for test in (sent, little_memory, documented, verified, judged_by_arithmetic, expiry_beside_gpg, stated_beside_gpg, without_library):
                 test(opgp, env, room)
-            for test in (names, faults, keyrings_made, keyrings_chosen, blocks_found, user_ids_say, pieces, short_reads, moments, limits, limits_in_pieces, policies, errors, large, inputs,
+            for test in (names, faults, keyrings_made, keyrings_chosen, keyrings_picked, blocks_found, user_ids_say, pieces, short_reads, moments, limits, limits_in_pieces, policies, errors, large, inputs,
                          modes, long_octets, searches, rows_refused, closed, copies, verifiers, flags, stated, named_signers, documents,
                          document_pieces, document_refused, document_uses, document_files, document_signers, cleartexts, cleartext_refused,
                          standings, states, states_refused, judgements, judgement_refused, judgement_verifiers, judged_in_places,

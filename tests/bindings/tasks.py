@@ -73,6 +73,7 @@ class Made:
             "old.gpg": self.of_alice + self.of_bob + self.of_dave,
             "certificate.asc": model.armor(self.of_alice, b"PUBLIC KEY BLOCK"),
             "other.asc": model.armor(self.of_dave, b"PUBLIC KEY BLOCK"),
+            "revocation.asc": model.armor(signers.revocation(self.alice, START + 2), b"PUBLIC KEY BLOCK"),
             "update.asc": model.armor(self.update, b"PUBLIC KEY BLOCK"),
             "fingerprints": f"# two\n{hexed(self.sub)}\n\n{hexed(self.dave).lower()}\n".encode(),
             "Release": DOCUMENT,
@@ -119,11 +120,15 @@ def wanted(made, folder, program):
         "Which RSA keys have fewer than 3072 bits?": (0, lines(f"pub {b} verified unbound rsa 1024")),
         "Which certificates have no key to encrypt to?": (0, lines(f"pub {d} verified usable")),
         "How large is each key, or on which curve?": (0, lambda out: out.splitlines() == sizes),
-        "What has changed between two versions?": (1, lambda out: re.findall("^[<>] (...)", out, re.M) == ["pub", "sig", "sig", "uid", "sig"]),
-        "Which certificates are new?": (0, lambda out: out.split()[6:7] == [c] and out.count("\n") == 1),
+        "What has changed between two versions?": (0, lines(f"new {c} cert ")),
+        "Which certificates are new?": (0, lines(f"new {c} cert ")),
         "Is there anything but certificates in a file?": (0, lambda out: out == "no\n"),
         "A smaller keyring, without what other keys signed:": (
             0, lambda out: out == "" and octets_in(folder, "small.gpg") == b"".join(it for it in small(made))),
+        "Only what its owner signed, and of that the newest:": (
+            0, lambda out: out == "" and octets_in(folder, "bound.gpg") == made.keyring),
+        "The same field by field, each with its place, value and section of RFC 9580:": (
+            0, has("0 1 primary-key-prefix 99 5.2.4\n", ' user-id "bob@example.net" 5.11\n', " trailer-marker FF 5.2.4\n")),
         "Do all signatures in the keyring verify?": (1, lambda out: out == ""),
         "Is a file signed by a key of the keyring, and may I believe it?": (0, has("verdict good\n")),
         "The same of an InRelease, a `.dsc` or a signed mail; with what was signed:": (
@@ -139,6 +144,9 @@ def wanted(made, folder, program):
         "The certificates of an address:": (0, lambda out: prints(out.encode()) == [a]),
         "A certificate with a newer copy of it:": (
             0, lambda out: out == "" and prints(octets_in(folder, "merged.asc")) == [a] and b" revoked " in state(program, octets_in(folder, "merged.asc"))),
+        "A revocation certificate put behind the key that it revokes:": (
+            0, lambda out: out == "" and prints(octets_in(folder, "revoked.asc")) == [a] and b" revoked " in state(program, octets_in(folder, "revoked.asc"))),
+        "Revocations alone, as packets:": (0, lambda out: out == "" and octets_in(folder, "revocations.gpg") == signers.revocation(made.carol, START + 1)),
         "A Web Key Directory:": (0, has(f" verified {a} {ADDRESS}\n", f" verified {c} carol@example.org\n")),
         "As JSON:": (0, lambda out: out == "" and len(json.loads(octets_in(folder, "keyring.json"))["certificates"]) == 4),
         "Which signatures revoke something?": (0, lines("sig v6 type 20 ")),

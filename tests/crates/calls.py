@@ -607,6 +607,28 @@ def documents():
         yield words("digests auto", *USUAL, 1, octets(given), "-"), f"fault {fault}"
 
 
+def cleartext_row(lines, packets):
+    """A message of these lines (RFC 9580, 7), and what it says."""
+    said = b"".join((b"- " if line.startswith(b"-") else b"") + line + b"\n" for line in lines)
+    text = b"-----BEGIN PGP SIGNED MESSAGE-----\nHash: SHA256\n\n" + said
+    answer = words(b"\n".join(lines), b"\r\n".join(lines), len(text), packets)
+    return words("cleartext", *USUAL, octets(text + armor(packets, b"SIGNATURE"))), answer
+
+
+def cleartext_messages():
+    """Messages with a line of each size, with few and many lines and signatures, and such as are refused."""
+    signature = over(4, 1, 8, b"")[0]
+    for size in (it for it in SMALL if it <= USUAL[0]):
+        yield cleartext_row([letters(size)], signature)
+        yield cleartext_row([b"-" + letters(max(size - 3, 0)), b"", letters(7)], signature)
+    for count in COUNTS:
+        yield cleartext_row([letters(it % 80) for it in range(count)], signature)
+        yield cleartext_row([b"a"], signature * min(count, 300))
+    text = bytes.fromhex(cleartext_row([b"a"], signature)[0].split(" ")[6].lstrip("x").replace("+", ""))
+    for given, fault in ((b"", "cleartext NoMessage 0 0 0"), (b"a" + text, "cleartext Outside 0 0 0"), (text[:-28], f"armor Unfinished 0 {len(text) - 28} 0")):
+        yield words("cleartext", *USUAL, octets(given)), f"fault {fault}"
+
+
 # Each call once, in which each allocation fails in turn.
 
 
@@ -638,6 +660,7 @@ def refused():
         digests_row([over(4, 0, 8, b"a", 20), over(6, 1, 10, b"a"), over(5, 0, 8, b"a")], b"a", 1)[0],
         digests_row([over(4, 0, 8, b"a", 20), over(6, 1, 10, b"a")], b"a", 1, True)[0],
         words("canonical 1", octets(b"a\nb\n")),
+        cleartext_row([b"a", b"-b"], over(4, 1, 8, b"")[0])[0],
         words("incoming", *USUAL, octets(b"a")),
         words("check", reported),
         words("question_at 1", reported, octets(b"so far")),
@@ -647,7 +670,7 @@ def refused():
 
 TABLES = (
     registered_numbers, materials, bodies, octets_written, header_lines, texts, packets_pushed, keyrings_of_sizes, keyrings_of_many,
-    keys_by_name, signed_literals, errors, documents,
+    keys_by_name, signed_literals, errors, documents, cleartext_messages,
 )  # fmt: skip
 
 

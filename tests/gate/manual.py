@@ -89,7 +89,7 @@ if sys.argv[1:] == ["--first"]:
     print("".join(shown), end="")
     sys.exit()
 verdict("the launcher's help is the program's (tests/gate/manual.py --first prints it)", text_of("build/help.txt") == "".join(shown))
-verdict("the program has commands, options and reasons", len(commands) == 14 and len(options) >= 26 and len(reasons) == 44,
+verdict("the program has commands, options and reasons", len(commands) == 15 and len(options) >= 26 and len(reasons) == 44,
         f"{len(commands)} {len(options)} {len(reasons)}")
 
 manual = text_of("man/opgp.1").replace("\\-", "-")
@@ -146,7 +146,7 @@ for shell in ("bash", "zsh", "fish"):
                           ("opgp join --m", ["--merge", "--mode", "--malformed"]), ("opgp show --pr", ["--progress"]), ("opgp list --q", ["--quiet"]), ("opgp octets --of ", ["ring", "literal"]),
                           ("opgp write --no", ["--no-attributes"]), ("opgp write --u", ["--user-id"]), ("opgp write --ow", ["--own-signatures"]),
                           ("opgp list --spo", ["--spool"]), ("opgp list --outs", ["--outside"]), ("opgp show --outside ", ["skip", "refuse"]), ("opgp write --malformed ", ["refuse", "keep"]),
-                          ("opgp octets --a", ["--all"]), ("opgp list --v", ["--values"]), ("opgp check --f", ["--fingerprints"]),
+                          ("opgp octets --a", ["--all"]), ("opgp list --v", ["--values"]), ("opgp check --f", ["--fingerprints"]), ("opgp check --pl", ["--places"]),
                           ("opgp write --out=", ["armor", "binary"]), ("opgp list --mode=b", ["binary"]), ("opgp help no", ["normalise"])):
         with tempfile.TemporaryDirectory() as room:
             found = offered(shell, typed, room)

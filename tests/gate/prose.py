@@ -17,7 +17,7 @@ import sys
 HERE = os.path.dirname(os.path.dirname(os.path.dirname(os.path.realpath(__file__))))
 AVERAGE = 18  # words a sentence, of a page
 LONGEST = {"README.md": 25}  # words of its longest sentence
-WORDS = {"README.md": 700, "docs": 28500}  # as wc -w counts them
+WORDS = {"README.md": 700, "docs": 30000}  # as wc -w counts them
 
 
 def pages():

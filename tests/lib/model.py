@@ -850,24 +850,30 @@ def found(body, place, primary, head, keys):
 
 
 def reported(packets, certificates):
+    """The rows: where each is, what is said of it, the octets that it hashes, its fingerprints, and the numbers of its packet and of
+    the user ID that it is on."""
     keys = [body for *_, kind, _, body, _ in packets if kind in (6, 14)]
     rows = []
     for c, parts in enumerate(certificates):
         primary = packets[parts[0][0]][4]
+        ids = 0
         for k, (head, hangs) in enumerate(parts):
             place = packets[head][2] if k else None
             body = packets[head][4]
+            user_id = ids if place == 13 else "-"
+            ids += place == 13
             for h, index in enumerate(hangs):
                 if packets[index][2] != 2:
                     continue
                 signature = packets[index][4]
                 where = f"cert {c} part {k - 1 if k else '-'} hang {h} nested"
-                rows.append((f"{where} -", *found(signature, place, primary, body, keys)))
+                stands = f"packet {index} user-id {user_id}"
+                rows.append((f"{where} -", *found(signature, place, primary, body, keys), stands))
                 it = kept_signature(signature)
                 if place == 14 and it.version in (4, 6) and it.kind == 0x18:
                     inside = [octets for octet, _, octets in (*it.hashed, *it.unhashed) if octet & 127 == 32]
                     for e, octets in enumerate(inside):
-                        rows.append((f"{where} {e}", *found(octets, "embedded", primary, body, keys)))
+                        rows.append((f"{where} {e}", *found(octets, "embedded", primary, body, keys), stands))
     return rows
 
 
@@ -914,7 +920,7 @@ def hashed_of_a_literal(literal, signatures):
 
 def answer(command, octets, row=0, limits=USUAL, bare=False):
     """The status, the standard output and the standard error. The commands are list, stated (list --values), show, values (show
-    --values), check, prints (check --fingerprints), octets, all (octets --all), literal (octets --of literal), and those of written()."""
+    --values), check, prints (check --fingerprints), places (check --places), octets, all (octets --all), literal (octets --of literal), and those of written()."""
     wanted = b"MESSAGE" if command == "literal" else b"PUBLIC KEY BLOCK"
     try:
         binary = not octets or octets[0] >= 128
@@ -926,7 +932,7 @@ def answer(command, octets, row=0, limits=USUAL, bare=False):
         lead, certificates = compose(blocks, packets, limits) if command not in ("show", "values") else ([], [])
     except Refused as refused:
         return 1, b"", refused.args[0]
-    if command not in ("list", "stated", "show", "values", "check", "prints", "octets", "all"):
+    if command not in ("list", "stated", "show", "values", "check", "prints", "places", "octets", "all"):
         return written(command, blocks, packets, lead, certificates, row, bare)
     if command in ("show", "values"):
         lines = shown(packets, command == "values")
@@ -938,6 +944,6 @@ def answer(command, octets, row=0, limits=USUAL, bare=False):
             return hashed([it[2] for it in rows], row)
         if command == "all":
             return all_hashed([it[2] for it in rows])
-        ends = (f" {prints}" if command == "prints" else "" for *_, prints in rows)
+        ends = ({"prints": f" {prints}", "places": f" {stands}"}.get(command, "") for *_, prints, stands in rows)
         lines = (f"row {n} {where} : {line}{end}" for n, ((where, line, *_), end) in enumerate(zip(rows, ends)))
     return 0, "".join(f"{it}\n" for it in lines).encode(), b""

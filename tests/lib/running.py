@@ -9,7 +9,7 @@ import sys
 
 HERE = os.path.dirname(os.path.dirname(os.path.dirname(os.path.realpath(__file__))))
 SECONDS = 30  # for one run
-COMMANDS = ("list", "show", "check", "state", "octets", "write", "normalise", "split", "join", "signatures", "digest", "canonical", "cleartext")
+COMMANDS = ("list", "show", "check", "state", "octets", "write", "normalise", "split", "join", "signatures", "digest", "canonical", "cleartext", "diff")
 
 Ended = collections.namedtuple("Ended", "status out err told")
 

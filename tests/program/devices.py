@@ -36,62 +36,64 @@ INPUTS = {
 # The growths of each command over each input. More are a failure: an answer would have come to cost more memory.
 GROWTHS = """
 command                                                       key  certificate  blocks  literal
-show                                                          208          211     211      205
-list                                                          210          215     217      207
-list --values                                                 214          219     221      211
-check                                                         212          219     222      205
-state --at 0                                                  229          237     242      215
-state --at 2026-11-20 --policy any                            238          246     251      224
-check --fingerprints                                          218          225     228      210
-octets --row 0                                                223          230     232      219
-octets --row 1                                                223          230     232      219
-octets --all                                                  219          226     229      215
-octets --row 0 --of literal                                   231          237     238      231
-octets --row 9 --of literal                                   231          237     238      230
-write                                                         218          223     225      215
-write --out binary                                            224          229     231      221
-write --own-signatures --no-attributes                        230          237     241      225
-write --user-id 0 --own-signatures --out binary               244          251     255      239
-normalise                                                     210          215     217      207
-normalise --out binary                                        216          221     223      213
-split                                                         214          219     221      211
-split --out binary                                            220          225     227      217
-split --nth 0                                                 223          228     230      219
-split --nth 1 --out binary                                    231          236     238      227
-split --nth 9                                                 223          228     230      219
-split --key 8CFDE12197965A9A                                  226          232     233      223
-split --key CB186C4F0609A697 --out binary                     235          239     241      231
-split --key 0000000000000000                                  227          232     234      223
-join                                                          214          219     221      211
-join --out binary                                             220          225     227      217
-join --merge                                                  223          234     241      213
-join --merge --out binary                                     231          242     249      221
-list --progress                                               218          223     225      215
-list --malformed keep                                         217          222     224      214
-list --spool DIR                                              222          227     229      219
-write --out binary --spool DIR                                238          243     245      235
-write --no-attributes --spool DIR                             239          246     250      234
-split --spool DIR                                             226          231     233      223
-octets --all --spool DIR                                      233          240     243      229
-check --spool DIR                                             225          232     235      218
-list --mode armor                                             216          221     223      214
-list --mode binary                                            213          213     213      213
-show --line 128 --body 512 --cert 512 --pieces 1              236          239     239      233
-show --values                                                 212          215     215      209
-signatures                                                    205          211     212      204
-signatures --malformed keep                                   212          218     219      211
-canonical                                                     202          202     202      203
-canonical --spool DIR                                         214          214     214      215
-cleartext                                                     206          206     206      206
-cleartext --of signatures                                     212          212     212      212
---help                                                        203          203     203      203
-help list                                                     321          321     321      321
-list --help                                                   322          322     322      322
-lists                                                         255          255     255      255
-octets                                                        207          207     207      207
-octets --all --row 0                                          223          223     223      223
-list --body 511                                               171          171     171      171
-list list                                                     164          164     164      164
+show                                                          219          222     222      216
+list                                                          221          226     228      218
+list --values                                                 225          230     232      222
+check                                                         227          234     237      220
+state --at 0                                                  237          244     248      226
+state --at 2026-11-20 --policy any                            246          253     257      235
+check --fingerprints                                          233          240     243      225
+check --places                                                231          240     243      224
+octets --row 0                                                238          245     247      234
+octets --row 0 --explain                                      245          257     259      241
+octets --row 1                                                238          245     247      234
+octets --all                                                  234          241     244      230
+octets --row 0 --of literal                                   246          252     253      246
+octets --row 9 --of literal                                   246          252     253      245
+write                                                         233          238     240      230
+write --out binary                                            239          244     246      236
+write --own-signatures --no-attributes                        245          252     256      240
+write --user-id 0 --own-signatures --out binary               259          266     270      254
+normalise                                                     221          226     228      218
+normalise --out binary                                        227          232     234      224
+split                                                         225          230     232      222
+split --out binary                                            231          236     238      228
+split --nth 0                                                 234          239     241      230
+split --nth 1 --out binary                                    242          247     249      238
+split --nth 9                                                 234          239     241      230
+split --key 8CFDE12197965A9A                                  237          243     244      234
+split --key CB186C4F0609A697 --out binary                     246          250     252      242
+split --key 0000000000000000                                  238          243     245      234
+join                                                          225          230     232      222
+join --out binary                                             231          236     238      228
+join --merge                                                  234          245     252      224
+join --merge --out binary                                     242          253     260      232
+list --progress                                               229          234     236      226
+list --malformed keep                                         228          233     235      225
+list --spool DIR                                              233          238     240      230
+write --out binary --spool DIR                                253          258     260      250
+write --no-attributes --spool DIR                             254          261     265      249
+split --spool DIR                                             237          242     244      234
+octets --all --spool DIR                                      248          255     258      244
+check --spool DIR                                             240          247     250      233
+list --mode armor                                             227          232     234      225
+list --mode binary                                            224          224     224      224
+show --line 128 --body 512 --cert 512 --pieces 1              247          250     250      244
+show --values                                                 223          226     226      220
+signatures                                                    216          222     223      215
+signatures --malformed keep                                   223          229     230      222
+canonical                                                     213          213     213      214
+canonical --spool DIR                                         225          225     225      226
+cleartext                                                     217          217     217      217
+cleartext --of signatures                                     223          223     223      223
+--help                                                        217          217     217      217
+help list                                                     332          332     332      332
+list --help                                                   333          333     333      333
+lists                                                         272          272     272      272
+octets                                                        222          222     222      222
+octets --all --row 0                                          238          238     238      238
+list --body 511                                               182          182     182      182
+list list                                                     175          175     175      175
 """
 # How many refused growths of a run over an input change nothing: that for the vector of the words, which is made again, and that for
 # the first octets, which serve what is told alone.

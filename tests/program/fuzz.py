@@ -461,7 +461,7 @@ MORE = {
 def malformed_kept(program, rng, octets):
     """Only a body's fault is answered in another way with --malformed keep; what is read then is written as it was, and the lines of
     list --values are those of list, where keys and signatures that aren't opaque say more."""
-    words = ("list", "list --values", "show", "check", "check --fingerprints", "octets --all", "write --out binary", "join", "octets --row 0 --of literal")
+    words = ("list", "list --values", "show", "check", "check --fingerprints", "check --places", "octets --all", "write --out binary", "join", "octets --row 0 --of literal")
     words = rng.choice(words)
     usual, kept = program.run(words, octets), program.run(f"{words} --malformed keep", octets)
     same(f"{words} --malformed refuse", program.run(f"{words} --malformed refuse", octets), usual)
@@ -501,6 +501,30 @@ def with_fingerprints(program, rng, octets):
             same("no fingerprint of a signer", signer, named)
         elif [signer, named] not in [it[6:8] for it in keys]:
             raise Wrong(f"fingerprint of the signer: {line!r}")
+
+
+def with_places(program, rng, octets):
+    """The lines of check --places are those of check, and go on with the number of a line of list, which is a signature's, and with the
+    number of the last user ID before it, from the certificate's first on; `-` where the last key, user ID or attribute is no user ID."""
+    answer, found = program.run("check --places", octets), program.run("check", octets)
+    same("check --places, beside check", answer.fault, found.fault)
+    if found.status:
+        return
+    heads, ids, on = [], 0, "-"
+    for line in program.accepts("list", octets).decode().split("\n")[:-1]:
+        kind = line[:4]
+        if kind == "pub ":
+            ids = 0
+        if kind in ("pub ", "sub ", "uid ", "uat "):
+            on = ids if kind == "uid " else "-"
+            ids += kind == "uid "
+        heads.append((kind, on))
+    lines, rows = answer.out.decode().split("\n"), found.out.decode().split("\n")
+    same("lines of check --places", len(lines), len(rows))
+    for line, row in zip(lines[:-1], rows[:-1]):
+        _, _, number, _, user_id = line[len(row) :].split(" ")
+        same("line of check --places", line, f"{row} packet {number} user-id {user_id}")
+        same("packet of a row", heads[int(number)], ("sig ", int(user_id) if user_id != "-" else user_id))
 
 
 def ends_well(octets, kind=None):
@@ -702,7 +726,7 @@ def as_the_model_says(program, rng, octets):
     row, bare = rng.choice((0, 0, 0, 1, 2, 3)), rng.random() < 0.5
     out = f" --out {'binary' if bare else 'armor'}"
     words = {
-        "list": "list", "stated": "list --values", "show": "show", "values": "show --values", "check": "check", "prints": "check --fingerprints",
+        "list": "list", "stated": "list --values", "show": "show", "values": "show --values", "check": "check", "prints": "check --fingerprints", "places": "check --places",
         "octets": f"octets --row {row}", "all": "octets --all", "literal": f"octets --row {row} --of literal", "write": "write" + out, "normalise": "normalise" + out,
         "split": "split" + out, "nth": f"split --nth {row}" + out, "join": "join" + out, "merge": "join --merge" + out,
     }  # fmt: skip
@@ -716,7 +740,7 @@ def as_the_model_says(program, rng, octets):
 
 PROPERTIES = (
     written_again, normal_twice, split_and_joined, chosen_by_key, chosen_parts, merged, armored_alike, shown_apart, cut_alike, commands_alike, listed, hashed, hashed_by_all,
-    with_fingerprints, literals, modes_alike, limits_alike, faults_stay, blanks_ignored, outside_refused, malformed_kept, behind_each_other, told_beside, cleartexts,
+    with_fingerprints, with_places, literals, modes_alike, limits_alike, faults_stay, blanks_ignored, outside_refused, malformed_kept, behind_each_other, told_beside, cleartexts,
     as_the_model_says,
 )  # fmt: skip
 

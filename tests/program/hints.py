@@ -82,7 +82,7 @@ def rows():
     yield "an indented key", "list", b"On Monday\nI wrote\n" + re.sub(rb"(?m)^", b"    ", KEY), f"line 3: {quoted}"
     yield "a quoted key far behind", "list", b"x\n" * 40_000 + b"> " + KEY.replace(b"\n", b"\n> "), "no line begins with -----BEGIN PGP; this isn't armored"
     yield "a signed text", "list", b"\n-----BEGIN PGP SIGNED MESSAGE-----\nHash: SHA256\n\nhi\n", "line 2: a cleartext signed message; opgp cleartext reads it"
-    signed = b"-----BEGIN PGP SIGNED MESSAGE-----\n"
+    signed, block = b"-----BEGIN PGP SIGNED MESSAGE-----\n", b"-----BEGIN PGP SIGNATURE-----\n\nqqqq\n-----END PGP SIGNATURE-----\n"
     for what, octets, told in (
         ("text in front", b"hi\n" + signed, "line 1: not blank, outside of the signed message; nothing signs it"),
         ("a key", KEY, "line 1: no cleartext signed message; one begins with -----BEGIN PGP SIGNED MESSAGE-----"),
@@ -92,6 +92,7 @@ def rows():
         ("no escape", signed + b"\nhi\n-a\n", "line 4: a hyphen begins the line, and no escape, a hyphen and a space, is in front of it"),
         ("no text", signed + b"\n-----BEGIN PGP SIGNATURE-----\n", "line 3: no line of text in front of the signatures"),
         ("no signatures", signed + b"\nhi\n", "the text ends within the signed message; its signatures are missing"),
+        ("a second one", signed + b"\nhi\n" + block + signed + b"\nho\n", "line 8: a second signed message; opgp cleartext reads one, so give it each by itself"),
         ("a cut signature", signed + b"\nhi\n-----BEGIN PGP SIGNATURE-----\n", "the text ends within a block; its end line is missing"),
     ):
         yield f"a signed text: {what}", "cleartext", octets, told

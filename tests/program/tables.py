@@ -35,7 +35,7 @@ COMMANDS = (
     "show", "list", "check", "octets --row 0", "octets --row 0 --of literal", "write", "write --out binary",
     "write --own-signatures --no-attributes --user-id 0", "normalise",
     "split", "split --nth 0 --out binary", "split --key CB186C4F0609A697", "join", "join --merge", "list --mode armor", "list --mode binary",
-    "list --outside refuse", "list --values", "octets --all", "check --malformed keep", "check --fingerprints",
+    "list --outside refuse", "list --values", "octets --all", "check --malformed keep", "check --fingerprints", "check --places",
 )  # fmt: skip
 DAYS = {"-": "-", "7": "1970-01-01T00:00:07Z", "1234567890": "2009-02-13T23:31:30Z"}
 LARGE = 1 << 20  # inputs past so many octets are not run by every command
@@ -1038,6 +1038,7 @@ def of_packets(parts):
         ("show", written_lines(model.shown(packets, False))), ("show --values", written_lines(model.shown(packets, True))),
         ("check", written_lines(rows_told)),
         ("check --fingerprints", written_lines([f"{line} {it[3]}" for line, it in zip(rows_told, found)])),
+        ("check --places", written_lines([f"{line} {it[4]}" for line, it in zip(rows_told, found)])),
         ("octets --all", model.all_hashed([it[2] for it in found])), (f"octets --row {last}", (0, found[last][2], b"")),
         (f"octets --row {len(found)}", refused("opgp: no such row")),
         (f"split --nth {len(certificates)}", refused("opgp: no such certificate")),

@@ -51,6 +51,8 @@ ACCEPTED = {
     "state --at 1970-01-01T00:00:01Z --policy=usual --malformed keep": b"cert 0 part - : unverified pub ",
     "state --at 0 --input 10": "input: InputTooLong block 0 at 10 inner 0",
     "octets --row 0": NO_ROW,
+    "octets --row 0 --explain": NO_ROW,
+    "octets --explain --of literal --row 1": NO_LITERAL,
     "octets --row=7 --of ring": NO_ROW,
     "octets --of literal --row 18446744073709551615": NO_LITERAL,
     "octets --of=literal --row +1": NO_LITERAL,
@@ -92,6 +94,8 @@ ACCEPTED = {
     "check --fingerprints": USUAL["check"],
     "check --fingerprints --progress": USUAL["check"],
     "check --spool " + ROOM.name + " --fingerprints": USUAL["check"],
+    "check --places": USUAL["check"],
+    "check --progress --places": USUAL["check"],
     "octets --all": b"",
     "octets --all --of ring": b"",
     "octets --of=ring --progress --all": b"",
@@ -191,6 +195,12 @@ REFUSED = [
     ("split --own-signatures", "--own-signatures"), ("join --no-attributes", "--no-attributes"), ("list --user-id 0", "--user-id"),
     ("list --merge", "--merge"), ("check --values", "--values"), ("list --fingerprints", "--fingerprints"),
     ("check --fingerprints --fingerprints", "--fingerprints"), ("check --fingerprints=true", "--fingerprints"),
+    ("octets --all --explain", "'--explain' cannot be used with '--all'"), ("octets --explain --all --row 1", "'--row <N>' cannot be used with '--all'"),
+    ("write --bound", "'--bound' wants '--verdicts <FILE>'"), ("write --verdicts x", "'--verdicts <FILE>' wants '--bound'"),
+    ("write --bound --user-id 0", "'--bound' wants '--verdicts <FILE>'"), ("write --verdicts x --user-id 0", "'--verdicts <FILE>' wants '--bound'"),
+    ("write --user-id 0 --bound --verdicts x", "'--user-id <N>' cannot be used with '--bound'"),
+    ("check --places --places", "--places"), ("check --places=true", "--places"), ("list --places", "--places"), ("check --place", "--place"),
+    ("check --places --fingerprints", "'--places' cannot be used with '--fingerprints'"), ("check --fingerprints --places", "'--places' cannot be used with '--fingerprints'"),
     ("check --fingerprint", "--fingerprint"), ("list --values --values", "--values"), ("list --values=true", "--values"),
     ("show --values --values", "--values"), ("show --values=true", "--values"),
     ("show --of ring", "--of"), ("octets --of ring", "<--row <N>|--all>"), ("octets --of literal", "<--row <N>|--all>"),
@@ -225,7 +235,7 @@ for line in ("list --help", "list -h", "help list"):
         "--outside <POLICY>", "[possible values: skip, refuse]", "[default: skip]",
         "--malformed <POLICY>", "[possible values: refuse, keep]", "[default: refuse]", "--values",
         "--line <N>", "--body <N>", "--cert <N>", "--input <N>", "--pieces <N>", "--progress", "--quiet", "--spool <DIR>")]
-REFUSED += [("octets --help", "--of <TOP>"), ("octets --help", "--row <N>"), ("octets --help", "--all"), ("show --help", "--values"), ("check --help", "--fingerprints"), ("split --help", "--nth <N>"), ("write --help", "--own-signatures"), ("write --help", "--no-attributes"), ("write --help", "--user-id <N>"), ("split --help", "--key <KEY>"), ("split --help", "--keys <FILE>"), ("split --help", "--except"), ("join --help", "--merge")]
+REFUSED += [("octets --help", "--of <TOP>"), ("octets --help", "--row <N>"), ("octets --help", "--all"), ("octets --help", "--explain"), ("show --help", "--values"), ("check --help", "--fingerprints"), ("check --help", "--places"), ("split --help", "--nth <N>"), ("write --help", "--own-signatures"), ("write --help", "--no-attributes"), ("write --help", "--user-id <N>"), ("split --help", "--key <KEY>"), ("split --help", "--keys <FILE>"), ("split --help", "--except"), ("join --help", "--merge")]
 # A line that is refused, and the whole text.
 TEXTS = {
     "list --body 511": "error: invalid value '511' for '--body <N>': 511 is not in 512..=4294967295\n\n"

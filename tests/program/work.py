@@ -51,7 +51,7 @@ MORE = (("instructions", (1.20, 1.50), 40_000), ("octets held", (1.05, 1.20), 4_
 KIT = "# kit: "
 # What `check` may hold of a certificate with one key and at most one signature: its row, the issuer's name, the key in the index; and
 # `state`, which holds how its parts stand.
-CHECKED = {"check": 400, "check --fingerprints": 466, "state --at 1795132800": 450}
+CHECKED = {"check": 400, "check --fingerprints": 466, "check --places": 466, "state --at 1795132800": 450}
 
 
 def armored(octets, size):
@@ -246,6 +246,7 @@ COMMANDS = (
     "list",
     "check",
     "check --fingerprints",
+    "check --places",
     "octets --row LAST",
     "octets --all",
     "write",
@@ -361,6 +362,8 @@ def is_tried(kind, command):
     own |= {"detached": ("signatures",), "a document": ("canonical", "canonical --spool ROOM", "digest --signatures DETACHED")}
     if command in ALSO.get(name, ()):
         return True
+    if command == "check --places":
+        return name in ("certificates", "user IDs", "signatures")
     if command.startswith("state"):
         return name in ("certificates", "user IDs", "signatures") or things == "subkeys"
     if things in own or "literal --row" in command or "--malformed" in command or command.split()[0] in OF_DOCUMENTS:

@@ -111,15 +111,15 @@ pub mod stack {
         Action, Around, CleartextPart, KeyName, RunFault, StateTask, Task, Top, keys_in, laws,
         read_octets, run, run_around, run_canonical, run_cleartext, run_digests, run_last,
         run_signatures, run_spooled, run_states, time_in, write_fingerprinted_report,
-        write_listing, write_report, write_shown,
+        write_listing, write_placed_report, write_report, write_shown,
     };
 }
 
 /// Lines of what is found of signatures, keys and user IDs, and files of verdicts.
 pub mod state {
     pub use opgp_state::{
-        Basis, KeyringStates, add_fingerprinted_report, add_report, add_states, claimed_verdicts,
-        laws, left_of, read_verdicts, verdict_words,
+        Basis, KeyringStates, Placing, RowPlace, add_fingerprinted_report, add_placed_report,
+        add_report, add_states, claimed_verdicts, laws, left_of, read_verdicts, verdict_words,
     };
 }
 

@@ -18,6 +18,7 @@ ghost use Rattle.opgp_hash.specs.Hashed.{hashed};
 ghost use Rattle.opgp_hash.specs.QuestionValue.{QuestionValue};
 ghost use Rattle.opgp_report.specs.Asked.{asked_of, question_in};
 ghost use Rattle.opgp_merge.specs.Chosen.{chosen_keyring};
+ghost use Rattle.opgp_merge.specs.Picked.{picked_keyring};
 ghost use Rattle.opgp_merge.specs.Merged.{merged_of};
 ghost use Rattle.opgp_merge.specs.declared.choice.Choice.{Choice};
 ghost use Rattle.opgp_ring.specs.Joining.{nth_of};
@@ -67,7 +68,7 @@ pub mod user_ids;
 mod whys;
 
 use crate::calls::{mode_by, put_octets, put_text, read_ring};
-use crate::making::{Making, joined, keep, keep_chosen, keep_found, keep_made};
+use crate::making::{Making, joined, keep, keep_chosen, keep_found, keep_made, keep_picked};
 use crate::reader::Reader;
 use crate::reading::{begin, end_input, push_piece, take_part};
 use crate::ring::Ring;
@@ -449,6 +450,23 @@ pub extern "C" fn opgp_ring_choose(
         user_ids,
     };
     keep_chosen(alloc, choice, ring, into)
+}
+
+/// Keeps the certificates that are picked, in their order, as a keyring: the one of number n,
+/// counted from 0, if `picked` has a number other than 0 in place n. What precedes the first
+/// certificate is left out.
+///
+/// The handles and the statuses are those of [`opgp_ring_normalise`].
+#[unsafe(no_mangle)]
+pub extern "C" fn opgp_ring_pick(
+    alloc: Global,
+    ring: &mut Ring,
+    picked: &[u8],
+    into: &mut Ring,
+) -> u32
+    ensures { KeepsMade (picked_keyring picked.now) ring.old ring.new into.old into.new result }
+{
+    keep_picked(alloc, picked, ring, into)
 }
 
 /// Keeps the certificate of this number, counted from 0, as a keyring.

@@ -3,12 +3,13 @@
 ghost use Rattle.std.specs.Prelude.{◌≡◌, ◌≢◌, ◌⊎◌, ◌++◌, true, Some, None, Ok, IfOk};
 ghost use Rattle.opgp_ring.specs.Keyring.{flat};
 ghost use Rattle.opgp_merge.specs.Chosen.{chosen_keyring};
+ghost use Rattle.opgp_merge.specs.Picked.{picked_keyring};
 ghost use Rattle.opgp_c.specs.Calls.{KeepsMade, made_by};
 
 use crate::ring::Ring;
 use crate::slot::Held;
 use crate::status::{CLOSED, DONE, MEMORY, NO_ROW};
-use opgp_merge::{Choice, choose, merge};
+use opgp_merge::{Choice, choose, merge, pick};
 use opgp_octets::OutOfMemory;
 use opgp_ring::{Keyring, join, normalise};
 use std::alloc::Global;
@@ -90,6 +91,21 @@ fn chosen(alloc: Global, choice: Choice<'_>, keyring: &Keyring) -> Result<Keyrin
     ensures { IfOk result (λ r. r ≡ chosen_keyring choice.entry keyring.now) }
 {
     choose(keyring.copy(alloc)?, choice)
+}
+
+/// Keeps in another handle the picked certificates of the keyring that a handle holds.
+pub(crate) fn keep_picked(alloc: Global, picked: &[u8], ring: &mut Ring, into: &mut Ring) -> u32
+    ensures { KeepsMade (picked_keyring picked.now) ring.old ring.new into.old into.new result }
+{
+    let Some(held) = ring.take(alloc) else {
+        return CLOSED;
+    };
+    let made = pick(alloc, &held.keyring, picked);
+    ring.give(held);
+    match made {
+        Ok(made) => keep(alloc, into, made),
+        Err(_) => MEMORY,
+    }
 }
 
 /// Keeps the certificate of this number, if there is one, as a keyring.

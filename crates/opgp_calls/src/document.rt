@@ -6,7 +6,7 @@ use crate::given::Given;
 use crate::octets::limits_of;
 use crate::reading::{add_error, mode_of};
 use crate::ring::add_packets;
-use opgp_codec::{IncomingOctets, ReadError, Watched, read_signatures};
+use opgp_codec::{IncomingOctets, ReadError, Watched, read_cleartext, read_signatures};
 use opgp_document::{CanonicalText, OpenFault, OwnOctets, SignedDocument};
 use opgp_octets::BodyFault;
 use opgp_packet::SigView;
@@ -19,6 +19,7 @@ pub(crate) fn answered(alloc: Global, name: &str, given: &Given, answer: &mut An
         "digests" => digests(alloc, given, answer),
         "canonical" => canonical(alloc, given, answer),
         "incoming" => incoming(alloc, given, answer),
+        "cleartext" => cleartext(alloc, given, answer),
         _ => return false,
     }
     true
@@ -127,4 +128,21 @@ fn add_incoming(alloc: Global, given: &Given, answer: &mut Answer) -> Result<(),
     }
     answer.ended(incoming.finish());
     Ok(())
+}
+
+/// `cleartext LIMITS.. TEXT`: the document of a message, what its signatures of type 01 hash, where
+/// its signatures begin, and their packets; or the fault.
+fn cleartext(alloc: Global, given: &Given, answer: &mut Answer) {
+    let (message, signatures) = match read_cleartext(alloc, given.octets(0), &limits_of(given)) {
+        Ok(read) => read,
+        Err(error) => return add_error(error, answer),
+    };
+    let mut document = Vec::new(alloc);
+    let mut hashed = Vec::new(alloc);
+    answer.made(message.write_document(&mut document));
+    answer.made(message.write_hashed(&mut hashed));
+    answer.octets(&document);
+    answer.octets(&hashed);
+    answer.number(message.signatures_place() as u64);
+    add_packets(alloc, signatures.flat(), answer);
 }

@@ -15,6 +15,3 @@ mod reading;
 mod writing;
 
 pub use cleartext::Cleartext;
-
-#[cfg(test)]
-mod tests;

@@ -1,9 +1,12 @@
 //! Reads a cleartext message with its signatures.
 
-ghost use Rattle.std.specs.Prelude.{◌≡◌, ◌+◌, ◌<◌, ◌^◌};
+ghost use Rattle.std.specs.Prelude.{◌≡◌, ◌+◌, ◌<◌, ◌≤◌, ◌^◌, IfOk, drop, length};
+ghost use Rattle.opgp_cleartext.specs.Cleartext.{HasCleartext};
+ghost use Rattle.opgp_cleartext.specs.View.{document_of, place_of, rest_of};
 ghost use Rattle.opgp_codec.specs.Cleartext.{ReadsCleartext, moved};
 ghost use Rattle.opgp_codec.specs.Reading.{too_long};
 ghost use Rattle.opgp_octets.specs.declared.fault.Layer.TheVariants as layer;
+ghost use Rattle.opgp_octets.specs.Limits.{line_limit};
 
 use crate::mode::Mode;
 use crate::read_error::ReadError;
@@ -26,7 +29,12 @@ pub fn read_cleartext<'a>(
     text: &'a [u8],
     limits: &Limits,
 ) -> Result<(Cleartext<'a>, DetachedSignatures), ReadError>
-    ensures { ReadsCleartext limits.now text.now result }
+    ensures reads { ReadsCleartext limits.now text.now result }
+    // The view that is handed out is that of this text.
+    ensures lines { IfOk result (λ r.
+        HasCleartext (line_limit limits.now) text.now (document_of r.0) (rest_of r.0)) }
+    ensures place { IfOk result (λ r. (place_of r.0 ≤ length text.now)
+        × (rest_of r.0 ≡ drop (place_of r.0) text.now)) }
 {
     if text.len() as u64 > limits.input() {
         return Err(ReadError::Refused(too_long(limits)));

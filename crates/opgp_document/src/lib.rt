@@ -30,6 +30,3 @@ pub use short_table::ShortTable;
 pub use signature_hasher::SignatureHasher;
 pub use signed_document::{DocumentAnswers, MOST_SIGNATURES, SignedDocument};
 pub use stray_return::StrayReturn;
-
-#[cfg(test)]
-mod tests;

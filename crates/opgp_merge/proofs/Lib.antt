@@ -6,6 +6,7 @@ pub mod Adding
 pub mod Components
 pub mod Indexing
 pub mod Kept
+pub mod Picks
 pub mod Placing
 pub mod Staying
 pub mod Uniting

@@ -1,3 +1,4 @@
 pub mod Chosen
 pub mod Merged
+pub mod Picked
 pub mod Slots

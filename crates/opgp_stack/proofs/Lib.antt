@@ -1,8 +1,10 @@
 mod AllRows
+mod Bounds
 mod Calendar
 mod CanonicalText
 mod CleartextParts
 mod DateTexts
+mod Differences
 mod DocumentLines
 mod GoingOn
 mod KeyLines

@@ -1,6 +1,6 @@
 -- What an action made of all parts of a keyring is what it makes of the keyring.
 use denote.Ref.{Bor}
-use Rattle.std.proofs.Common.{◌≡◌, ℕ, Bool, List, map, Option, Some, None, true, false, refl, sym, ap, subst}
+use Rattle.std.proofs.Common.{◌≡◌, ◌∙◌, ℕ, Bool, List, map, Option, Some, None, true, false, refl, sym, ap, subst}
 use Rattle.std.specs.List.{flat_map}
 use Rattle.opgp_ring.specs.Composed.{parts_of}
 use Rattle.opgp_ring.specs.Keyring.{CertificateValue, KeyringValue, flat}
@@ -23,14 +23,18 @@ use Rattle.opgp_stack.specs.AllOctets.{octets_rows}
 use Rattle.opgp_stack.specs.ByKey.{HasNamed}
 use Rattle.opgp_stack.specs.WantedKeys.{AreNotes, keys_of}
 use Rattle.opgp_stack.specs.KeyName.{are_there, name_octets, picked}
-use Rattle.opgp_stack.specs.Making.{HasMade, HasNames, HasTexts, is_of_parts, out_of, ring_made}
+use Rattle.opgp_stack.specs.Making.{HasMade, HasNames, HasTexts, explains_of, is_of_parts, out_of, ring_made}
 use Rattle.opgp_stack.specs.OnePart.{asked_among, found_question}
 use Rattle.opgp_stack.specs.PartText.{text_of_part}
+use Rattle.opgp_state.specs.Places.{placed_lines, places_of}
+use Rattle.opgp_state.specs.Placing.{HasPlaces}
 use Rattle.opgp_state.specs.Report.{fingerprinted_lines, report_lines}
+use Rattle.opgp_state.specs.declared.row_place.RowPlace.{RowPlace}
 use Rattle.opgp_stack.specs.Running.{Made, MakesBy, OfRing, Text, found_made, one_text, question_made}
 use Rattle.opgp_stack.specs.declared.all_octets.AllOctets.{AllOctets}
 use Rattle.opgp_stack.specs.declared.checking.Checking.{Checking}
 use Rattle.opgp_stack.specs.declared.checking_fingerprints.CheckingFingerprints.{CheckingFingerprints}
+use Rattle.opgp_stack.specs.declared.checking_places.CheckingPlaces.{CheckingPlaces}
 use Rattle.opgp_stack.specs.declared.key_name.KeyName.{KeyName}
 use Rattle.opgp_stack.specs.declared.keyring_text.KeyringText.{KeyringText}
 use Rattle.opgp_stack.specs.declared.making.Making.TheVariants as making
@@ -54,8 +58,9 @@ makes_ring action.List is task octets made h = h
 makes_ring action.ListValues is task octets made h = h
 makes_ring action.Check is task octets made h = h
 makes_ring action.CheckFingerprints is task octets made h = h
-makes_ring (action.Octets row top.Ring) is task octets made h = h
-makes_ring (action.Octets row top.Literal) is task octets made h = absurd cc
+makes_ring action.CheckPlaces is task octets made h = h
+makes_ring (action.Octets row top.Ring explains) is task octets made h = h
+makes_ring (action.Octets row top.Literal explains) is task octets made h = absurd cc
 makes_ring action.OctetsAll is task octets made h = h
 makes_ring (action.Write out) is task octets made h = h
 makes_ring (action.WriteChosen out choice) is task octets made h = h
@@ -89,8 +94,9 @@ module _ {S : Type 0} (has : Draft S → List ℕ → Type 0) where
   text_made action.ShowValues k r h = absurd h
   text_made action.Check k r h = absurd h
   text_made action.CheckFingerprints k r h = absurd h
-  text_made (action.Octets row top.Ring) k r h = absurd h
-  text_made (action.Octets row top.Literal) k r h = absurd h
+  text_made action.CheckPlaces k r h = absurd h
+  text_made (action.Octets row top.Ring explains) k r h = absurd h
+  text_made (action.Octets row top.Literal explains) k r h = absurd h
   text_made action.OctetsAll k r h = absurd h
   text_made (action.Split out (Some n)) k r h = absurd h
   text_made (action.SplitKeys out keys except) k r h = absurd h
@@ -114,8 +120,8 @@ module _ {S : Type 0} (has : Draft S → List ℕ → Type 0) where
 
   pub named_made_by : (a : Action) (k : NamedCertificates S) (found : Bool) (r : KeyringValue) → FoundOf k found → HasMade has a (making.Named k) (parts_of r) → Finds a found k.draft r
   named_made_by (action.SplitKeys out keys except) k found r is h = names_made out keys except k found r is h
-  named_made_by (action.Octets row top.Ring) k found r is h = absurd h
-  named_made_by (action.Octets row top.Literal) k found r is h = absurd h
+  named_made_by (action.Octets row top.Ring explains) k found r is h = absurd h
+  named_made_by (action.Octets row top.Literal explains) k found r is h = absurd h
   named_made_by (action.Split out None) k found r is h = absurd h
   named_made_by (action.Split out (Some n)) k found r is h = absurd h
   named_made_by (action.Join out false) k found r is h = absurd h
@@ -126,8 +132,8 @@ module _ {S : Type 0} (has : Draft S → List ℕ → Type 0) where
   nth_made : (a : Action) (k : NthCertificate) (r : KeyringValue) → HasMade has a (making.Nth k) (parts_of r) → one_text (out_of a) k.found ≡ ring_made a r
   nth_made (action.Split out (Some n)) k r h = ap (one_text out) (sym (nth_of_ring n k.left k.found r h))
   nth_made (action.Split out None) k r h = absurd h
-  nth_made (action.Octets row top.Ring) k r h = absurd h
-  nth_made (action.Octets row top.Literal) k r h = absurd h
+  nth_made (action.Octets row top.Ring explains) k r h = absurd h
+  nth_made (action.Octets row top.Literal explains) k r h = absurd h
   nth_made (action.Join out false) k r h = absurd h
   nth_made (action.Join out true) k r h = absurd h
   nth_made other k r h = absurd h
@@ -136,24 +142,24 @@ module _ {S : Type 0} (has : Draft S → List ℕ → Type 0) where
   nth_so a k out found r same is h = rw (same, is) (nth_made a k r h)
 
   -- the row of a number
-  row_made : (a : Action) (k : RowFound) (r : KeyringValue) → HasMade has a (making.Row k) (parts_of r) → question_made (found_question k.found k.left) ≡ ring_made a r
-  row_made (action.Octets row top.Ring) k r h = ap question_made (sym (row_of_ring row k.left k.found r h))
-  row_made (action.Octets row top.Literal) k r h = absurd h
+  row_made : (a : Action) (k : RowFound) (r : KeyringValue) → HasMade has a (making.Row k) (parts_of r) → question_made (explains_of a) (found_question k.found k.left) ≡ ring_made a r
+  row_made (action.Octets row top.Ring explains) k r h = ap (question_made explains) (sym (row_of_ring row k.left k.found r h))
+  row_made (action.Octets row top.Literal explains) k r h = absurd h
   row_made (action.Split out None) k r h = absurd h
   row_made (action.Split out (Some n)) k r h = absurd h
   row_made (action.Join out false) k r h = absurd h
   row_made (action.Join out true) k r h = absurd h
   row_made other k r h = absurd h
 
-  pub row_so : (a : Action) (k : RowFound) (found : Option KeyringValue) (left : ℕ) (r : KeyringValue) → found ≡ k.found → left ≡ k.left → HasMade has a (making.Row k) (parts_of r) → question_made (found_question found left) ≡ ring_made a r
-  row_so a k found left r is same h = rw (is, same) (row_made a k r h)
+  pub row_so : (a : Action) (k : RowFound) (explains : Bool) (found : Option KeyringValue) (left : ℕ) (r : KeyringValue) → explains ≡ explains_of a → found ≡ k.found → left ≡ k.left → HasMade has a (making.Row k) (parts_of r) → question_made explains (found_question found left) ≡ ring_made a r
+  row_so a k explains found left r e is same h = rw (e, is, same) (row_made a k r h)
 
   -- reports
   pub report_made : (a : Action) (k : Checking) (report : Report) (r : KeyringValue) → ((s : KeyringValue) → Reports k.rows s.certificates → report_rows report ≡ report_of says_left s) → HasMade has a (making.Report k) (parts_of r)
       → Text (report_lines 0 (report_rows report)) ≡ ring_made a r
   report_made action.Check k report r by h = ap (λ (rows : List RowValue). Text (report_lines 0 rows)) (by r (subst (λ (cs : List CertificateValue). Reports k.rows cs) (ring_certificates r) h))
-  report_made (action.Octets row top.Ring) k report r by h = absurd h
-  report_made (action.Octets row top.Literal) k report r by h = absurd h
+  report_made (action.Octets row top.Ring explains) k report r by h = absurd h
+  report_made (action.Octets row top.Literal explains) k report r by h = absurd h
   report_made (action.Split out None) k report r by h = absurd h
   report_made (action.Split out (Some n)) k report r by h = absurd h
   report_made (action.Join out false) k report r by h = absurd h
@@ -163,19 +169,32 @@ module _ {S : Type 0} (has : Draft S → List ℕ → Type 0) where
   pub fingerprinted_made : (a : Action) (k : CheckingFingerprints) (report : FingerprintedReport) (r : KeyringValue) → ((s : KeyringValue) → ReportsPrints k.rows s.certificates → fingerprinted_rows_of report ≡ fingerprinted_report_of says_left s)
       → HasMade has a (making.Fingerprinted k) (parts_of r) → Text (fingerprinted_lines 0 (fingerprinted_rows_of report)) ≡ ring_made a r
   fingerprinted_made action.CheckFingerprints k report r by h = ap (λ (rows : List FingerprintedValue). Text (fingerprinted_lines 0 rows)) (by r (subst (λ (cs : List CertificateValue). ReportsPrints k.rows cs) (ring_certificates r) h))
-  fingerprinted_made (action.Octets row top.Ring) k report r by h = absurd h
-  fingerprinted_made (action.Octets row top.Literal) k report r by h = absurd h
+  fingerprinted_made (action.Octets row top.Ring explains) k report r by h = absurd h
+  fingerprinted_made (action.Octets row top.Literal explains) k report r by h = absurd h
   fingerprinted_made (action.Split out None) k report r by h = absurd h
   fingerprinted_made (action.Split out (Some n)) k report r by h = absurd h
   fingerprinted_made (action.Join out false) k report r by h = absurd h
   fingerprinted_made (action.Join out true) k report r by h = absurd h
   fingerprinted_made other k report r by h = absurd h
 
+  pub placed_made : (a : Action) (k : CheckingPlaces) (report : Report) (places : List RowPlace) (r : KeyringValue) → ((s : KeyringValue) → Reports k.checking.rows s.certificates → report_rows report ≡ report_of says_left s)
+      → ((s : KeyringValue) → HasPlaces k.places (parts_of s) → places ≡ places_of s) → HasMade has a (making.Placed k) (parts_of r) → Text (placed_lines 0 (report_rows report) places) ≡ ring_made a r
+  placed_made action.CheckPlaces k report places r rows at h =
+      ap (λ (l : List RowValue). Text (placed_lines 0 l places)) (rows r (subst (λ (cs : List CertificateValue). Reports k.checking.rows cs) (ring_certificates r) h.0))
+      ∙ ap (λ (l : List RowPlace). Text (placed_lines 0 (report_of says_left r) l)) (at r h.1)
+  placed_made (action.Octets row top.Ring explains) k report places r rows at h = absurd h
+  placed_made (action.Octets row top.Literal explains) k report places r rows at h = absurd h
+  placed_made (action.Split out None) k report places r rows at h = absurd h
+  placed_made (action.Split out (Some n)) k report places r rows at h = absurd h
+  placed_made (action.Join out false) k report places r rows at h = absurd h
+  placed_made (action.Join out true) k report places r rows at h = absurd h
+  placed_made other k report places r rows at h = absurd h
+
   -- the octets that all signatures hash
   pub octets_made : (a : Action) (k : AllOctets S) (r : KeyringValue) → HasMade has a (making.AllOctets k) (parts_of r) → Drafts a k.draft r
   octets_made action.OctetsAll k r h = (octets_rows (asked_of r), subst (λ (cs : List CertificateValue). has k.draft (octets_rows (asked_among cs))) (ring_certificates r) h.text, refl)
-  octets_made (action.Octets row top.Ring) k r h = absurd h
-  octets_made (action.Octets row top.Literal) k r h = absurd h
+  octets_made (action.Octets row top.Ring explains) k r h = absurd h
+  octets_made (action.Octets row top.Literal explains) k r h = absurd h
   octets_made (action.Split out None) k r h = absurd h
   octets_made (action.Split out (Some n)) k r h = absurd h
   octets_made (action.Join out false) k r h = absurd h
@@ -186,8 +205,8 @@ module _ {S : Type 0} (has : Draft S → List ℕ → Type 0) where
   merged_made : (a : Action) (k : KeyringValue) (r : KeyringValue) → HasMade has a (making.Ring k) (parts_of r) → Text (packets_text (out_of a) (flat (merged_of k))) ≡ ring_made a r
   merged_made (action.Join out true) k r h = ap (λ (s : KeyringValue). Text (packets_text out (flat (merged_of s)))) (same_parts k r h)
   merged_made (action.Join out false) k r h = absurd h
-  merged_made (action.Octets row top.Ring) k r h = absurd h
-  merged_made (action.Octets row top.Literal) k r h = absurd h
+  merged_made (action.Octets row top.Ring explains) k r h = absurd h
+  merged_made (action.Octets row top.Literal explains) k r h = absurd h
   merged_made (action.Split out None) k r h = absurd h
   merged_made (action.Split out (Some n)) k r h = absurd h
   merged_made other k r h = absurd h

@@ -1,13 +1,11 @@
 -- A part of a cleartext message (RFC 9580, 7), or why its text is refused.
 use Rattle.std.specs.Prelude.{◌≡◌, ℕ, ◌⊎◌, List, Result, Ok, Err}
-use Rattle.std.specs.Borrow.{Bor}
 use Rattle.std.specs.Global.{Vec}
 use Rattle.opgp_octets.specs.declared.fault.Fault.{Fault}
 use Rattle.opgp_octets.specs.declared.limits.Limits.{Limits}
 use Rattle.opgp_octets.specs.Limits.{line_limit}
 use Rattle.opgp_frame.specs.Packet.{PacketValue}
 use Rattle.opgp_cleartext.specs.Cleartext.{HasCleartext, joined, joined_canonically}
-use Rattle.opgp_cleartext.specs.Faults.{IsCleartextFault}
 use Rattle.opgp_codec.specs.Cleartext.{CleartextAnswer}
 use Rattle.opgp_stack.specs.Running.{Made, Text, Refused}
 use Rattle.opgp_stack.specs.declared.cleartext.CleartextPart.{CleartextPart}
@@ -42,10 +40,3 @@ HasPart limits p text (Ok octets) = IsPartOf limits p text octets.items
 HasPart limits p text (Err (run.Refused fault)) = CleartextAnswer limits text (Err fault)
 HasPart limits p text (Err run.Memory) = Unit {0}
 HasPart limits p text (Err other) = ⊥
-
--- what is behind the document of a message, or why its lines are none
-abbrev pub HasRest : Limits → List ℕ → Result (Bor (List ℕ)) RunFault → Type 0
-HasRest limits text (Ok rest) =
-    (document : List (List ℕ)) × HasCleartext (line_limit limits) text document rest.now
-HasRest limits text (Err (run.Refused fault)) = IsCleartextFault (line_limit limits) text fault
-HasRest limits text (Err other) = ⊥

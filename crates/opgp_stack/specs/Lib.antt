@@ -1,8 +1,10 @@
 pub mod AllOctets
+pub mod Bounding
 pub mod ByKey
 pub mod Canonical
 pub mod CleartextRun
 pub mod Date
+pub mod Differing
 pub mod Digits
 pub mod Documents
 pub mod Faults

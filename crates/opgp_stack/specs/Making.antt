@@ -27,6 +27,8 @@ use Rattle.opgp_stack.specs.KeyName.{name_octets}
 use Rattle.opgp_stack.specs.Listing.{listing}
 use Rattle.opgp_stack.specs.OnePart.{IsNth, IsRow, asked_among, certificates_in}
 use Rattle.opgp_stack.specs.PartText.{text_of_part}
+use Rattle.opgp_state.specs.Places.{placed_lines, places_of}
+use Rattle.opgp_state.specs.Placing.{HasPlaces}
 use Rattle.opgp_state.specs.Report.{fingerprinted_lines, report_lines}
 use Rattle.opgp_stack.specs.Running.{Made, Text, named_made, one_text, question_made}
 use Rattle.opgp_stack.specs.ValuedListing.{valued_listing}
@@ -46,7 +48,7 @@ use Rattle.opgp_stack.specs.declared.task.Top.TheVariants as top
 abbrev pub is_of_parts : Action → Bool
 is_of_parts action.Show = false
 is_of_parts action.ShowValues = false
-is_of_parts (action.Octets row top.Literal) = false
+is_of_parts (action.Octets row top.Literal explains) = false
 is_of_parts other = true
 
 -- ---- of the parts that came so far
@@ -70,7 +72,9 @@ HasMade has action.ListValues (making.Text k) parts = HasTexts has texts.ValuedL
 HasMade has action.Check (making.Report k) parts = Reports k.rows (certificates_in parts)
 HasMade has action.CheckFingerprints (making.Fingerprinted k) parts =
     ReportsPrints k.rows (certificates_in parts)
-HasMade has (action.Octets row top.Ring) (making.Row k) parts =
+HasMade has action.CheckPlaces (making.Placed k) parts =
+    Reports k.checking.rows (certificates_in parts) × HasPlaces k.places parts
+HasMade has (action.Octets row top.Ring explains) (making.Row k) parts =
     IsRow row k.left k.found (certificates_in parts)
 HasMade has action.OctetsAll (making.AllOctets k) parts =
     HasRows has k.rows k.draft (asked_among (certificates_in parts))
@@ -97,6 +101,11 @@ out_of (action.Split out (Some number)) = out
 out_of (action.Join out merges) = out
 out_of other = outs.Binary
 
+-- whether the octets that a question hashes are explained
+abbrev pub explains_of : Action → Bool
+explains_of (action.Octets row top explains) = explains
+explains_of other = false
+
 -- what an action makes of a keyring; nothing, where it makes something else
 abbrev pub ring_made : Action → KeyringValue → Made
 ring_made action.List r = Text (listing (flat r))
@@ -104,7 +113,9 @@ ring_made action.ListValues r = Text (valued_listing (flat r))
 ring_made action.Check r = Text (report_lines 0 (report_of says_left r))
 ring_made action.CheckFingerprints r =
     Text (fingerprinted_lines 0 (fingerprinted_report_of says_left r))
-ring_made (action.Octets row top.Ring) r = question_made (question_in (slice_get (asked_of r) row))
+ring_made action.CheckPlaces r = Text (placed_lines 0 (report_of says_left r) (places_of r))
+ring_made (action.Octets row top.Ring explains) r =
+    question_made explains (question_in (slice_get (asked_of r) row))
 ring_made action.OctetsAll r = Text (octets_rows (asked_of r))
 ring_made (action.Write out) r = Text (packets_text out (flat r))
 ring_made (action.WriteChosen out choice) r =

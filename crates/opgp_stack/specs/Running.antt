@@ -4,6 +4,7 @@ use Rattle.std.specs.Prelude.{map, slice_get}
 use Rattle.opgp_octets.specs.declared.fault.Fault.{Fault}
 use Rattle.opgp_octets.specs.declared.limits.Limits.{Limits}
 use Rattle.opgp_frame.specs.Packet.{PacketValue}
+use Rattle.opgp_explain.specs.Lines.{explained}
 use Rattle.opgp_hash.specs.Hashed.{hashed}
 use Rattle.opgp_hash.specs.QuestionValue.{QuestionValue}
 use Rattle.opgp_report.specs.Asked.{asked_of, question_in}
@@ -36,6 +37,7 @@ use Rattle.opgp_stack.specs.Listing.{listing}
 use Rattle.opgp_codec.specs.Packets.{ArePackets, BlockValue, any_label}
 use Rattle.opgp_codec.specs.Pulled.{OfAll}
 use Rattle.opgp_codec.specs.Reading.{AnswerOf, Outcome, Wanted}
+use Rattle.opgp_state.specs.Places.{placed_lines, places_of}
 use Rattle.opgp_state.specs.Report.{fingerprinted_lines, report_lines}
 use Rattle.opgp_stack.specs.Showing.{shown_blocks}
 use Rattle.opgp_stack.specs.ValuedListing.{valued_listing}
@@ -53,10 +55,12 @@ pub data Made : Type 0 where
   NoSuchCertificate : Made
   OtherVerdicts : Made
 
--- the octets that a question hashes
-abbrev pub question_made : Option QuestionValue → Made
-question_made (Some q) = Text (hashed q)
-question_made None = NoSuchRow
+-- the octets that a question hashes, or if they are explained a line for each field of them
+abbrev pub question_made : Bool → Option QuestionValue → Made
+question_made false (Some q) = Text (hashed q)
+question_made true (Some q) = Text (explained q)
+question_made false None = NoSuchRow
+question_made true None = NoSuchRow
 
 -- one certificate, if there is one
 abbrev pub one_text : Out → Option CertificateValue → Made
@@ -105,10 +109,12 @@ MakesBy action.ListValues = OfRing (λ r. Text (valued_listing (flat r)))
 MakesBy action.Check = OfRing (λ r. Text (report_lines 0 (report_of says_left r)))
 MakesBy action.CheckFingerprints =
     OfRing (λ r. Text (fingerprinted_lines 0 (fingerprinted_report_of says_left r)))
-MakesBy (action.Octets row top.Ring) =
-    OfRing (λ r. question_made (question_in (slice_get (asked_of r) row)))
-MakesBy (action.Octets row top.Literal) =
-    OfLiteral (λ packets. question_made (question_in (slice_get (message_asked packets) row)))
+MakesBy action.CheckPlaces =
+    OfRing (λ r. Text (placed_lines 0 (report_of says_left r) (places_of r)))
+MakesBy (action.Octets row top.Ring explains) =
+    OfRing (λ r. question_made explains (question_in (slice_get (asked_of r) row)))
+MakesBy (action.Octets row top.Literal explains) = OfLiteral (λ packets.
+    question_made explains (question_in (slice_get (message_asked packets) row)))
 MakesBy action.OctetsAll = OfRing (λ r. Text (octets_rows (asked_of r)))
 MakesBy (action.Write out) = OfRing (λ r. Text (packets_text out (flat r)))
 MakesBy (action.WriteChosen out choice) =

@@ -1,14 +1,13 @@
 //! The parts of a message in the cleartext signature framework.
 
 ghost use Rattle.std.specs.Prelude.{◌≡◌, false};
-ghost use Rattle.opgp_stack.specs.CleartextRun.{HasPart, HasRest, OfCleartext};
+ghost use Rattle.opgp_stack.specs.CleartextRun.{HasPart, OfCleartext};
 ghost use Rattle.opgp_stack.specs.Running.{IsMade, RunsOf};
 
 use crate::hashing::OctetsText;
 use crate::reading_octets::read_octets;
 use crate::run_fault::RunFault;
 use crate::running::end;
-use opgp_cleartext::Cleartext;
 use opgp_codec::{read_cleartext, write};
 use opgp_io::{Sink, Source};
 use opgp_octets::Limits;
@@ -61,23 +60,12 @@ fn part_of(
 ) -> Result<Vec<u8>, RunFault>
     ensures { HasPart limits.now part text.now result }
 {
-    opgp_cleartext::laws::one_message();
     let (message, _signatures) = read_cleartext(alloc, text, limits)?;
     let mut octets = Vec::new(alloc);
     match part {
         CleartextPart::Document => message.write_document(&mut octets)?,
         CleartextPart::Hashed => message.write_hashed(&mut octets)?,
-        CleartextPart::Signatures => octets.extend_from_slice(rest_of(limits, text)?)?,
+        CleartextPart::Signatures => octets.extend_from_slice(message.signatures())?,
     }
     Ok(octets)
-}
-
-/// What is behind the document of a message. The error is the fault of a text whose lines are none.
-fn rest_of<'a>(limits: &Limits, text: &'a [u8]) -> Result<&'a [u8], RunFault>
-    ensures { HasRest limits.now text.now result }
-{
-    match Cleartext::read(text, limits.line()) {
-        Ok(message) => Ok(message.signatures()),
-        Err(fault) => Err(RunFault::Refused(fault)),
-    }
 }

@@ -1,8 +1,11 @@
 //! The octets that a signature hashes.
 
 ghost use Rattle.std.specs.Prelude.{◌≡◌, false, Some};
-ghost use Rattle.std.specs.List.{slice_get};
+ghost use Rattle.std.specs.List.{flat_map, slice_get};
 ghost use Rattle.std.specs.Option.{option_map};
+ghost use Rattle.opgp_codec.specs.Written.{IsWritten};
+ghost use Rattle.opgp_explain.specs.Lines.{explained, field_line};
+ghost use Rattle.opgp_hash.specs.Hashed.{hashed};
 ghost use Rattle.opgp_hash.specs.Question.{question_value};
 ghost use Rattle.opgp_report.specs.Asked.{question_in};
 ghost use Rattle.opgp_ring.specs.SignedLiteral.{signed_packets};
@@ -14,6 +17,7 @@ ghost use Rattle.opgp_stack.specs.Running.{IsMade, question_made};
 use crate::run_fault::RunFault;
 use crate::running::end;
 use opgp_codec::{EngineError, Text, write};
+use opgp_explain::{Field, add_fields, fields_of};
 use opgp_hash::{Question, Subject, ask_view, write_octets};
 use opgp_io::{Output, Sink};
 use opgp_packet::SigView;
@@ -69,23 +73,83 @@ impl Text for OctetsText<'_> {
     }
 }
 
-/// Writes the hashed octets of a question.
+/// Fields of hashed octets, a line for each.
+#[derive(Clone, Copy)]
+struct FieldsText<'a> {
+    octets: &'a [u8],
+    fields: &'a [Field],
+}
+
+impl Text for FieldsText<'_> {
+    ghost octets = { λ text. flat_map (field_line text.octets.now) text.fields.now };
+
+    fn add<W: Sink>(self, output: &mut Output<'_, W>) -> io::Result<()> {
+        add_fields(output, self.octets, self.fields)
+    }
+}
+
+/// Writes the hashed octets of a question, or a line for each field of them.
 pub(crate) fn write_question<W: Sink>(
     alloc: Global,
     question: Option<Question<'_>>,
+    explains: bool,
     writer: &mut W,
 ) -> Result<(), RunFault>
     requires { W.has_failed writer.old ≡ false }
     ensures { IsMade W.held W.has_failed writer.old writer.new result
-        (question_made (option_map (λ q. question_value q) question.entry)) }
+        (question_made explains (option_map (λ q. question_value q) question.entry)) }
 {
-    let question = match question {
-        Some(question) => question,
-        None => return Err(RunFault::NoSuchRow),
-    };
+    match question {
+        None => Err(RunFault::NoSuchRow),
+        Some(question) => {
+            if explains {
+                end(write_fields(alloc, &question, writer))
+            } else {
+                end(write_hashed(alloc, &question, writer))
+            }
+        }
+    }
+}
+
+/// Writes the hashed octets of a question.
+fn write_hashed<W: Sink>(
+    alloc: Global,
+    question: &Question<'_>,
+    writer: &mut W,
+) -> Result<(), EngineError>
+    requires { W.has_failed writer.old ≡ false }
+    ensures { IsWritten W.held W.has_failed writer.old writer.new result
+        (hashed (question_value question.now)) }
+{
     let mut octets = Vec::new(alloc);
-    match write_octets(&question, &mut octets) {
-        Ok(()) => end(write(alloc, OctetsText { octets: &octets }, writer)),
-        Err(_) => end(Err(EngineError::Memory)),
+    match write_octets(question, &mut octets) {
+        Ok(()) => write(alloc, OctetsText { octets: &octets }, writer),
+        Err(_) => Err(EngineError::Memory),
+    }
+}
+
+/// Writes a line for each field of the hashed octets of a question.
+fn write_fields<W: Sink>(
+    alloc: Global,
+    question: &Question<'_>,
+    writer: &mut W,
+) -> Result<(), EngineError>
+    requires { W.has_failed writer.old ≡ false }
+    ensures { IsWritten W.held W.has_failed writer.old writer.new result
+        (explained (question_value question.now)) }
+{
+    let mut octets = Vec::new(alloc);
+    if write_octets(question, &mut octets).is_err() {
+        return Err(EngineError::Memory);
+    }
+    match fields_of(alloc, question) {
+        Ok(fields) => {
+            let text = FieldsText {
+                octets: &octets,
+                fields: &fields,
+            };
+            write(alloc, text, writer)
+        }
+        Err(_) => Err(EngineError::Memory),
     }
 }

@@ -4,11 +4,14 @@
 
 mod all_octets;
 mod around;
+mod bounding;
 mod canonical;
 mod checking;
 mod checking_fingerprints;
+mod checking_places;
 mod cleartext;
 mod date;
+mod differing;
 mod digest_lines;
 mod digesting;
 mod hashing;
@@ -45,8 +48,10 @@ mod writing_report;
 mod writing_shown;
 
 pub use around::{Around, run_around};
+pub use bounding::{BoundTask, run_bound};
 pub use canonical::run_canonical;
 pub use cleartext::{CleartextPart, run_cleartext};
+pub use differing::run_difference;
 pub use digesting::run_digests;
 pub use key_file::keys_in;
 pub use key_name::KeyName;
@@ -65,5 +70,5 @@ pub use stating::{StateTask, run_states};
 pub use task::{Action, Task, Top};
 pub use time::time_in;
 pub use writing_listing::write_listing;
-pub use writing_report::{write_fingerprinted_report, write_report};
+pub use writing_report::{write_fingerprinted_report, write_placed_report, write_report};
 pub use writing_shown::write_shown;

@@ -8,8 +8,9 @@ ghost use Rattle.opgp_report.specs.Fingerprinting.{fingerprinted_rows_of};
 ghost use Rattle.opgp_report.specs.Row.{report_rows};
 ghost use Rattle.opgp_ring.specs.Composed.{parts_of};
 ghost use Rattle.opgp_ring.specs.Keyring.{KeyringValue, flat};
-ghost use Rattle.opgp_stack.specs.Making.{HasMade, out_of, ring_made};
+ghost use Rattle.opgp_stack.specs.Making.{HasMade, explains_of, out_of, ring_made};
 ghost use Rattle.opgp_stack.specs.OnePart.{found_question};
+ghost use Rattle.opgp_state.specs.Places.{placed_lines};
 ghost use Rattle.opgp_state.specs.Report.{fingerprinted_lines, report_lines};
 ghost use Rattle.opgp_stack.specs.Running.{IsMade, IsSpooled, Made};
 ghost use Rattle.opgp_stack.specs.Running.{found_made, one_text, question_made};
@@ -19,12 +20,13 @@ use crate::making::Making;
 use crate::run_fault::RunFault;
 use crate::running::{After, done, end};
 use crate::task::Action;
-use crate::writing_report::{write_fingerprinted_report, write_report};
+use crate::writing_report::{write_fingerprinted_report, write_placed_report, write_report};
 use opgp_codec::{Draft, DraftError, EngineError, Out, Spool, write_certificate, write_keyring};
 use opgp_io::Sink;
 use opgp_merge::merge;
 use opgp_report::{FingerprintedReport, Report, question_at};
 use opgp_ring::{Certificate, Keyring};
+use opgp_state::RowPlace;
 use std::alloc::Global;
 
 impl<'a, S: Spool + Drop> Making<'a, S> {
@@ -60,7 +62,11 @@ impl<'a, S: Spool + Drop> Making<'a, S> {
             }
             Making::Row(row) => {
                 let found = row.found();
-                done(write_row(alloc, &found, writer), found, after)
+                done(
+                    write_row(alloc, &found, explains_of(action), writer),
+                    found,
+                    after,
+                )
             }
             Making::Report(rows) => {
                 let report = rows.report();
@@ -69,6 +75,10 @@ impl<'a, S: Spool + Drop> Making<'a, S> {
             Making::Fingerprinted(rows) => {
                 let report = rows.report();
                 done(write_fingerprinted(alloc, &report, writer), report, after)
+            }
+            Making::Placed(rows) => {
+                let placed = rows.report();
+                done(write_placed(alloc, &placed, writer), placed, after)
             }
             Making::AllOctets(octets) => write_draft(octets.into_draft(), out, writer),
             Making::Ring(ring) => write_merged(alloc, ring, out, writer, after),
@@ -87,6 +97,16 @@ fn out_of(action: Action<'_>) -> Out
         Action::Split { out, nth: Some(_) } => out,
         Action::Join { out, .. } => out,
         _ => Out::Binary,
+    }
+}
+
+/// Whether the octets that a question hashes are explained.
+fn explains_of(action: Action<'_>) -> bool
+    ensures { result ≡ explains_of action.entry }
+{
+    match action {
+        Action::Octets { explained, .. } => explained,
+        _ => false,
     }
 }
 
@@ -143,19 +163,21 @@ fn write_one<W: Sink>(
     }
 }
 
-/// Writes the hashed octets of a row of a keyring's report, if there is one.
+/// Writes the hashed octets of a row of a keyring's report, or a line for each field of them, if
+/// there is one.
 fn write_row<W: Sink>(
     alloc: Global,
     found: &(Option<Keyring>, usize),
+    explained: bool,
     writer: &mut W,
 ) -> Result<(), RunFault>
     requires { W.has_failed writer.old ≡ false }
     ensures { IsMade W.held W.has_failed writer.old writer.new result
-        (question_made (found_question found.now.0 found.now.1)) }
+        (question_made explained (found_question found.now.0 found.now.1)) }
 {
     match &found.0 {
         None => Err(RunFault::NoSuchRow),
-        Some(ring) => write_question(alloc, question_at(ring, found.1), writer),
+        Some(ring) => write_question(alloc, question_at(ring, found.1), explained, writer),
     }
 }
 
@@ -179,6 +201,19 @@ fn write_fingerprinted<W: Sink>(
         (Made.Text (fingerprinted_lines 0 (fingerprinted_rows_of report.now))) }
 {
     end(write_fingerprinted_report(alloc, report, writer))
+}
+
+/// Writes a line for each row of a report with its place.
+fn write_placed<W: Sink>(
+    alloc: Global,
+    placed: &(Report, Vec<RowPlace>),
+    writer: &mut W,
+) -> Result<(), RunFault>
+    requires { W.has_failed writer.old ≡ false }
+    ensures { IsMade W.held W.has_failed writer.old writer.new result
+        (Made.Text (placed_lines 0 (report_rows placed.now.0) placed.now.1.items)) }
+{
+    end(write_placed_report(alloc, &placed.0, &placed.1, writer))
 }
 
 /// Merges the certificates of a keyring, writes it, and frees or leaks it.

@@ -13,6 +13,7 @@ ghost use Rattle.opgp_stack.specs.declared.task.Action.{Action};
 use crate::all_octets::AllOctets;
 use crate::checking::Checking;
 use crate::checking_fingerprints::CheckingFingerprints;
+use crate::checking_places::CheckingPlaces;
 use crate::keyring_text::KeyringText;
 use crate::named_certificates::NamedCertificates;
 use crate::nth_certificate::NthCertificate;
@@ -39,6 +40,8 @@ pub(crate) enum Making<'a, S> {
     Report(Checking),
     /// The report with fingerprints.
     Fingerprinted(CheckingFingerprints),
+    /// The report with places.
+    Placed(CheckingPlaces),
     /// The octets that all signatures hash.
     AllOctets(AllOctets<S>),
     /// The keyring.
@@ -77,6 +80,7 @@ impl<'a, S: Spool + Drop> Making<'a, S> {
             Action::CheckFingerprints => {
                 Ok(Making::Fingerprinted(CheckingFingerprints::new(alloc)))
             }
+            Action::CheckPlaces => Ok(Making::Placed(CheckingPlaces::new(alloc))),
             Action::Octets {
                 top: Top::Literal,
                 ..
@@ -106,6 +110,7 @@ impl<'a, S: Spool + Drop> Making<'a, S> {
             Making::Row(row) => row.keep(part),
             Making::Report(report) => report.keep(part),
             Making::Fingerprinted(report) => report.keep(part),
+            Making::Placed(report) => report.keep(part),
             Making::AllOctets(octets) => octets.keep(part),
             Making::Ring(ring) => keep_whole(ring, part),
         }

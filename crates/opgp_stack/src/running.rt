@@ -54,7 +54,7 @@ pub fn run_last<R: Source, W: Sink>(
 
 /// Runs a task as [`run`] does, but what it writes is held in this spool, which is to be empty, and
 /// not in memory: so memory doesn't limit the output of any task but `Check`, `CheckFingerprints`,
-/// `Octets`, one certificate of `Split`, and a `Join` that merges, which hold none.
+/// `CheckPlaces`, `Octets`, one certificate of `Split`, and a `Join` that merges, which hold none.
 ///
 /// With the error `Spool` the spool has failed. If that was while it was read again, the sink holds a
 /// prefix of the text, else nothing was written. It isn't told before the input has ended without a fault.
@@ -126,9 +126,10 @@ fn run_and<R: Source, W: Sink, S: Spool + Drop>(
         Action::Octets {
             row,
             top: Top::Literal,
+            explained,
         } => {
             drop(spool);
-            write_message_octets(alloc, task, reader, writer, row, after)
+            write_message_octets(alloc, task, reader, writer, row, explained, after)
         }
         _ => {
             let made = make(alloc, task, spool, reader)?;
@@ -137,24 +138,30 @@ fn run_and<R: Source, W: Sink, S: Spool + Drop>(
     }
 }
 
-/// Reads a signed literal, and writes the octets that one of its signatures hashes.
+/// Reads a signed literal, and writes the octets that one of its signatures hashes, or a line for
+/// each field of them.
 fn write_message_octets<R: Source, W: Sink>(
     alloc: Global,
     task: &Task,
     reader: &mut R,
     writer: &mut W,
     row: u64,
+    explained: bool,
     after: After,
 ) -> Result<(), RunFault>
     requires reader { R.has_failed reader.old ≡ false }
     requires writer { W.has_failed writer.old ≡ false }
-    requires action { task.now.action ≡ action.Octets row tops.Literal }
+    requires action { task.now.action ≡ action.Octets row tops.Literal explained }
     ensures { RunsAs R.left R.has_failed W.held W.has_failed task.now reader.old reader.new
         writer.old writer.new result }
 {
     let message = read_signed(alloc, reader, task.mode, &task.limits)?;
     let question = question_of(&message, row);
-    done(write_question(alloc, question, writer), message, after)
+    done(
+        write_question(alloc, question, explained, writer),
+        message,
+        after,
+    )
 }
 
 /// A run ends as its writing does.

@@ -31,12 +31,17 @@ pub enum Action<'a> {
     /// The same, where the line also has the fingerprints of the certificate's primary key and of the
     /// signer.
     CheckFingerprints,
+    /// The same as `Check`, where the line also has the number of the signature's packet in the
+    /// keyring, and that of the user ID that it is on.
+    CheckPlaces,
     /// The octets that one signature hashes.
     Octets {
         /// The number of the signature's row, from 0.
         row: u64,
         /// What the input is read as.
         top: Top,
+        /// Whether a line for each field of the octets is written, instead of the octets.
+        explained: bool,
     },
     /// The octets that each signature of a certificate hashes, behind a line with its row's number
     /// and their length.

@@ -3,13 +3,14 @@
 ghost use Rattle.std.specs.Prelude.{◌≡◌, false, map};
 ghost use Rattle.opgp_report.specs.Fingerprinting.{fingerprinted_rows_of, rows_to_come};
 ghost use Rattle.opgp_report.specs.Row.{report_rows, row_value};
+ghost use Rattle.opgp_state.specs.Places.{placed_lines};
 ghost use Rattle.opgp_state.specs.Report.{fingerprinted_lines, report_lines};
 ghost use Rattle.opgp_codec.specs.Written.{IsWritten};
 
 use opgp_codec::{EngineError, Text, write};
 use opgp_io::{Output, Sink};
 use opgp_report::{FingerprintedReport, FingerprintedRows, Report, Row};
-use opgp_state::{add_fingerprinted_report, add_report};
+use opgp_state::{RowPlace, add_fingerprinted_report, add_placed_report, add_report};
 use std::alloc::Global;
 use std::io;
 
@@ -86,4 +87,41 @@ pub fn write_fingerprinted_report<W: Sink>(
 {
     let rows = report.rows();
     write(alloc, FingerprintedReportText { rows }, writer)
+}
+
+/// A line for each row of a report, with its place.
+#[derive(Clone, Copy)]
+struct PlacedReportText<'a> {
+    rows: &'a [Row],
+    places: &'a [RowPlace],
+}
+
+impl Text for PlacedReportText<'_> {
+    ghost octets = { λ text. placed_lines 0 (map row_value text.rows.now) text.places.now };
+
+    fn add<W: Sink>(self, output: &mut Output<'_, W>) -> io::Result<()> {
+        add_placed_report(output, self.rows, self.places)
+    }
+}
+
+/// Writes a line for each row of a report, as [`write_report`] does; it goes on with
+/// ` packet <n> user-id <n or ->`, the place of the row in these, which are in the order of the rows: the
+/// number of the signature's packet among all packets of the keyring, and that of the user ID that it is
+/// on among those of its certificate, or `-` for none. A row that has no place ends the lines. The
+/// condition is that the sink hasn't failed.
+///
+/// All memory is allocated before the first octet is written. The errors are `Memory`, with
+/// nothing written, and `Write`: the sink has failed, and holds a prefix of the lines.
+pub fn write_placed_report<W: Sink>(
+    alloc: Global,
+    report: &Report,
+    places: &[RowPlace],
+    writer: &mut W,
+) -> Result<(), EngineError>
+    requires { W.has_failed writer.old ≡ false }
+    ensures { IsWritten W.held W.has_failed writer.old writer.new result
+        (placed_lines 0 (report_rows report.now) places.now) }
+{
+    let rows = report.rows();
+    write(alloc, PlacedReportText { rows, places }, writer)
 }

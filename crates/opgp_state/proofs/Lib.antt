@@ -4,6 +4,8 @@ mod Fronts
 mod Gathered
 mod Heard
 mod Lines
+mod Placements
+mod PlacesStand
 mod Renumbered
 mod Reordered
 mod StateTexts

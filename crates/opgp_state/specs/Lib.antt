@@ -2,6 +2,8 @@ pub mod Claimed
 pub mod Claiming
 pub mod Claims
 pub mod KeyringStates
+pub mod Places
+pub mod Placing
 pub mod Reordered
 pub mod Report
 pub mod StateLines

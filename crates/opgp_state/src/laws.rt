@@ -1,13 +1,16 @@
-//! What the rule implies of the order of a certificate's parts.
+//! What the rule implies of the order of a certificate's parts, and the definitions of places.
 
-ghost use Rattle.std.specs.Prelude.{◌≡◌, ◌∷◌, ◌++◌, ℕ, List, length};
+ghost use Rattle.std.specs.Prelude.{◌≡◌, ◌∷◌, ◌++◌, ℕ, List, length, map, slice_get};
 ghost use Rattle.std.specs.List.Sorted.{IsPermutation};
-ghost use Rattle.opgp_ring.specs.Keyring.{CertificateValue};
+ghost use Rattle.opgp_ring.specs.Keyring.{CertificateValue, KeyringValue, flat};
+ghost use Rattle.opgp_report.specs.Report.{Says, report_of};
+ghost use Rattle.opgp_report.specs.Standing.{hang_at};
 ghost use Rattle.opgp_report.specs.declared.verifier.Verdict.{Verdict};
 ghost use Rattle.opgp_valid.specs.Standing.{standing_of};
 ghost use Rattle.opgp_valid.specs.declared.facts.Key.TheVariants.{Primary, Subkey};
 ghost use Rattle.opgp_valid.specs.declared.known_keys.Known.{Known};
 ghost use Rattle.opgp_valid.specs.declared.policy.Policy.{Policy};
+ghost use Rattle.opgp_state.specs.Places.{places_of};
 ghost use Rattle.opgp_state.specs.Reordered.{AreJudged, Judged, facts_with};
 
 /// The user IDs, user attributes and subkeys of a certificate in another order, each with its own
@@ -30,4 +33,13 @@ pub fn order_of_components_changes_nothing()
         (Subkey (length before) created) made now
         ≡ standing_of (facts_with known policy c founds (before_it ++ x ∷ behind_it))
         (Subkey (length before_it) created) made now }
+{}
+
+/// The packet of a row's place is the one that the row's signature is in, or that the signature is
+/// embedded in: the rows of a keyring's report, with any verifier, have these places, in order.
+#[tactic(auto, using(crate::proofs::PlacesStand::packets_there))]
+pub fn packets_of_places_are_those_of_rows()
+    ensures { (says : Says) (r : KeyringValue)
+        → map (λ p. slice_get (flat r) p.packet) (places_of r)
+        ≡ map (λ row. hang_at r row.place) (report_of says r) }
 {}

@@ -10,9 +10,11 @@ ghost use Rattle.opgp_state.specs.Report.{fields_at, finding_words, fingerprinte
 ghost use Rattle.opgp_state.specs.Report.{fingerprinted_lines, id_or_none, number_or_none};
 ghost use Rattle.opgp_state.specs.Report.{print_or_none, print_words, report_lines, row_fields};
 ghost use Rattle.opgp_state.specs.Report.{row_line, verdict_name};
+ghost use Rattle.opgp_state.specs.Places.{place_words, placed_line, placed_lines};
 ghost use Rattle.opgp_io.specs.Line.{word_text};
 ghost use Rattle.opgp_io.specs.Output.{Extends, sink_of};
 
+use crate::row_place::RowPlace;
 use opgp_hash::{Digest, Fingerprint, KeyId, Why};
 use opgp_io::{Output, Sink, Word};
 use opgp_report::{Finding, FingerprintedRow, FingerprintedRows, Place, Row, Verdict};
@@ -227,6 +229,61 @@ pub fn add_fingerprinted_report<W: Sink>(
     'rows: while let Some(row) = rows.next() {
         add_fingerprinted_row(output, number, &row)?;
         number += 1;
+    }
+    Ok(())
+}
+
+/// Adds the place of a row, and the line's end.
+fn add_place<W: Sink>(output: &mut Output<'_, W>, place: RowPlace) -> io::Result<()>
+    requires { W.has_failed (sink_of output.old) ≡ false }
+    ensures { Extends W.held W.has_failed output.old output.new result (place_words place) }
+{
+    output.add_words(&[
+        Word::Text(b" packet "),
+        Word::Decimal(place.packet as u64),
+        Word::Text(b" user-id "),
+        number_or_none(place.user_id),
+        Word::Text(b"\n"),
+    ])
+}
+
+/// Adds the line of a row with its place.
+fn add_placed_row<W: Sink>(
+    output: &mut Output<'_, W>,
+    number: u64,
+    row: &Row,
+    place: RowPlace,
+) -> io::Result<()>
+    requires { W.has_failed (sink_of output.old) ≡ false }
+    ensures { Extends W.held W.has_failed output.old output.new result
+        (placed_line number (row_value row.now) place) }
+{
+    add_fields(output, number, row)?;
+    add_place(output, place)
+}
+
+/// Adds the lines of rows with their places: the first place is that of the first row. A row that
+/// has none ends the lines.
+pub fn add_placed_report<W: Sink>(
+    output: &mut Output<'_, W>,
+    rows: &[Row],
+    places: &[RowPlace],
+) -> io::Result<()>
+    requires { W.has_failed (sink_of output.old) ≡ false }
+    ensures { Extends W.held W.has_failed output.old output.new result
+        (placed_lines 0 (map row_value rows.now) places.now) }
+{
+    let mut number = 0u64;
+    let mut rest = rows;
+    let mut left = places;
+    'rows: while let Some((row, more)) = rest.split_first() {
+        let Some((place, others)) = left.split_first() else {
+            return Ok(());
+        };
+        add_placed_row(output, number, row, *place)?;
+        number += 1;
+        rest = more;
+        left = others;
     }
     Ok(())
 }

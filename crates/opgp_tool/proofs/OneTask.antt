@@ -21,8 +21,8 @@ use Rattle.opgp_stack.proofs.KeyTexts.{one_name}
 use Rattle.opgp_stack.proofs.Times.{one_time_said}
 use Rattle.opgp_stack.proofs.Zips.{zip_same}
 use Rattle.opgp_tool.specs.Program.{SaysTask}
-use Rattle.opgp_tool.specs.Words.{Asked, AskedWork, Chosen, DocumentWork, HasKeys, HasLimits, HasNumber, HasNumbers, HasTime, IsAction, IsChosen, IsDocumentWork, IsGivenNumber, IsNumber, IsRequest, IsSplitWork, IsStatesWith, IsTask, IsWork, SplitWork, texts_of}
-use Rattle.opgp_tool.specs.Words.{of_around, of_canonical, of_cleartext, of_digests, of_document, of_keys, of_number, of_signatures, of_split, of_states, of_task, of_write}
+use Rattle.opgp_tool.specs.Words.{AreVerdicts, Asked, AskedWork, Chosen, DocumentWork, HasKeys, HasLimits, HasNumber, HasNumbers, HasTime, IsAction, IsChosen, IsDocumentWork, IsGivenNumber, IsNumber, IsRequest, IsSplitWork, IsStatesWith, IsTask, IsWork, SplitWork, texts_of}
+use Rattle.opgp_tool.specs.Words.{of_around, of_canonical, of_cleartext, of_difference, of_digests, of_document, of_keys, of_number, of_signatures, of_split, of_states, of_task, of_write}
 use Rattle.opgp_tool.proofs.Reading.{apart, not_both, other_apart, split_named, write_named}
 use Rattle.opgp_tool.proofs.SameLimits.{same_limits}
 
@@ -58,7 +58,8 @@ name_of action.List = codes "list"
 name_of action.ListValues = codes "list"
 name_of action.Check = codes "check"
 name_of action.CheckFingerprints = codes "check"
-name_of (action.Octets row top) = codes "octets"
+name_of action.CheckPlaces = codes "check"
+name_of (action.Octets row top explains) = codes "octets"
 name_of action.OctetsAll = codes "octets"
 name_of (action.Write out) = codes "write"
 name_of (action.WriteChosen out choice) = codes "write"
@@ -74,7 +75,8 @@ named name options action.List said = said.0
 named name options action.ListValues said = said.0
 named name options action.Check said = said.0
 named name options action.CheckFingerprints said = said.0
-named name options (action.Octets row top) said = said.0
+named name options action.CheckPlaces said = said.0
+named name options (action.Octets row top explains) said = said.0
 named name options action.OctetsAll said = said.0
 named name options (action.Write out) said = absurd said
 named name options (action.WriteChosen out choice) said = absurd said
@@ -97,11 +99,16 @@ one_action name options action.Check action.Check a b = refl
 one_action name options action.CheckFingerprints action.CheckFingerprints a b = refl
 one_action name options action.Check action.CheckFingerprints a b = absurd (cc (a.1, b.1))
 one_action name options action.CheckFingerprints action.Check a b = absurd (cc (a.1, b.1))
-one_action name options (action.Octets row top) (action.Octets more other) a b =
-    let rows : row ≡ more = one_number options _ row more a.1 b.1 in cc (rows, a.2, b.2)
+one_action name options action.CheckPlaces action.CheckPlaces a b = refl
+one_action name options action.Check action.CheckPlaces a b = absurd (cc (a.2, b.2))
+one_action name options action.CheckPlaces action.Check a b = absurd (cc (a.2, b.2))
+one_action name options action.CheckFingerprints action.CheckPlaces a b = absurd (cc (a.1, b.1))
+one_action name options action.CheckPlaces action.CheckFingerprints a b = absurd (cc (a.1, b.1))
+one_action name options (action.Octets row top explains) (action.Octets more other also) a b =
+    let rows : row ≡ more = one_number options _ row more a.1 b.1 in cc (rows, a.2, b.2, a.4, b.4)
 one_action name options action.OctetsAll action.OctetsAll a b = refl
-one_action name options (action.Octets row top) action.OctetsAll a b = absurd (cc (a.3, b.1))
-one_action name options action.OctetsAll (action.Octets row top) a b = absurd (cc (a.1, b.3))
+one_action name options (action.Octets row top explains) action.OctetsAll a b = absurd (cc (a.3, b.1))
+one_action name options action.OctetsAll (action.Octets row top explains) a b = absurd (cc (a.1, b.3))
 one_action name options (action.Write out) y a b = absurd a
 one_action name options (action.WriteChosen out choice) y a b = absurd a
 one_action name options (action.Split out nth) y a b = absurd a
@@ -161,9 +168,9 @@ one_document_work name options x y a b =
     let same : document_name x ≡ document_name y = sym (document_named name options x a) ∙ document_named name options y b in
     absurd (apart (ap (λ (t : Text). bytes_eq t (document_name x)) same))
 
--- no task has their names, nor that of the states
+-- no task has their names, nor those of the states and of the difference
 abbrev is_document : Text → Bool
-is_document name = bytes_eq name (codes "signatures") || bytes_eq name (codes "digest") || bytes_eq name (codes "canonical") || bytes_eq name (codes "cleartext") || bytes_eq name (codes "state")
+is_document name = bytes_eq name (codes "signatures") || bytes_eq name (codes "digest") || bytes_eq name (codes "canonical") || bytes_eq name (codes "cleartext") || bytes_eq name (codes "state") || bytes_eq name (codes "diff")
 
 of_no_task : (a : Action) → is_document (name_of a) ≡ false
 of_no_task action.Show = refl
@@ -172,7 +179,8 @@ of_no_task action.List = refl
 of_no_task action.ListValues = refl
 of_no_task action.Check = refl
 of_no_task action.CheckFingerprints = refl
-of_no_task (action.Octets row top) = refl
+of_no_task action.CheckPlaces = refl
+of_no_task (action.Octets row top explains) = refl
 of_no_task action.OctetsAll = refl
 of_no_task (action.Write out) = refl
 of_no_task (action.WriteChosen out choice) = refl
@@ -204,6 +212,22 @@ of_no_states (of_cleartext part) = refl
 document_clash : (w : DocumentWork) → document_name w ≡ codes "state" → ⊥
 document_clash w e = apart (sym (ap (λ (t : Text). bytes_eq t (codes "state")) e) ∙ of_no_states w)
 
+difference_clash : (a : Action) → name_of a ≡ codes "diff" → ⊥
+difference_clash a e = apart (sym (ap is_document e) ∙ of_no_task a)
+
+of_no_difference : (w : DocumentWork) → bytes_eq (document_name w) (codes "diff") ≡ false
+of_no_difference of_signatures = refl
+of_no_difference (of_digests file) = refl
+of_no_difference (of_around file row part) = refl
+of_no_difference of_canonical = refl
+of_no_difference (of_cleartext part) = refl
+
+documents_clash : (w : DocumentWork) → document_name w ≡ codes "diff" → ⊥
+documents_clash w e = apart (sym (ap (λ (t : Text). bytes_eq t (codes "diff")) e) ∙ of_no_difference w)
+
+states_clash : codes "state" ≡ codes "diff" → ⊥
+states_clash e = apart (sym (ap (λ (t : Text). bytes_eq t (codes "diff")) e))
+
 -- ---- states
 one_at : (options : List Row) (m n : ℕ) → HasTime options m → HasTime options n → m ≡ n
 one_at options m n a b =
@@ -220,15 +244,22 @@ one_judged options a b m n =
     ∙ ap (states_with b.mode b.limits b.policy) (one_at options a.at b.at m.at n.at)
 
 -- ---- the commands `write` and `split`
-abbrev chosen_with : Out → Bool → Bool → List ℕ → Chosen
-chosen_with out own none ids = record { out = out; own_signatures = own; no_attributes = none; user_ids = ids }
+abbrev chosen_with : Out → Bool → Bool → List ℕ → Option Text → Chosen
+chosen_with out own none ids file = record { out = out; own_signatures = own; no_attributes = none; user_ids = ids; verdicts = file }
+
+one_file : (options : List Row) (f g : Option Text) → AreVerdicts options f → AreVerdicts options g → f ≡ g
+one_file options None None a b = refl
+one_file options (Some f) (Some g) a b = ap {B = Option Text} Some (same_Some f g (sym a.1 ∙ b.1))
+one_file options None (Some g) a b = absurd (apart (sym b.0 ∙ a.0))
+one_file options (Some f) None a b = absurd (apart (sym a.0 ∙ b.0))
 
 one_chosen : (options : List Row) (x y : Chosen) → IsChosen options x → IsChosen options y → x ≡ y
 one_chosen options x y a b =
-    ap (λ (out : Out). chosen_with out x.own_signatures x.no_attributes x.user_ids) (a.out ∙ sym b.out)
-    ∙ ap (λ (own : Bool). chosen_with y.out own x.no_attributes x.user_ids) (a.own_signatures ∙ sym b.own_signatures)
-    ∙ ap (λ (none : Bool). chosen_with y.out y.own_signatures none x.user_ids) (a.no_attributes ∙ sym b.no_attributes)
-    ∙ ap (chosen_with y.out y.own_signatures y.no_attributes) (one_list options _ x.user_ids y.user_ids a.user_ids b.user_ids)
+    ap (λ (out : Out). chosen_with out x.own_signatures x.no_attributes x.user_ids x.verdicts) (a.out ∙ sym b.out)
+    ∙ ap (λ (own : Bool). chosen_with y.out own x.no_attributes x.user_ids x.verdicts) (a.own_signatures ∙ sym b.own_signatures)
+    ∙ ap (λ (none : Bool). chosen_with y.out y.own_signatures none x.user_ids x.verdicts) (a.no_attributes ∙ sym b.no_attributes)
+    ∙ ap (λ (ids : List ℕ). chosen_with y.out y.own_signatures y.no_attributes ids x.verdicts) (one_list options _ x.user_ids y.user_ids a.user_ids b.user_ids)
+    ∙ ap (chosen_with y.out y.own_signatures y.no_attributes y.user_ids) (one_file options x.verdicts y.verdicts a.verdicts b.verdicts)
 
 one_split : (options : List Row) (x y : SplitWork) → IsSplitWork options x → IsSplitWork options y → x ≡ y
 one_split options (of_number out nth) (of_number other m) a b =
@@ -257,6 +288,19 @@ one_work name options (of_task a) (of_states b g) m n = absurd (state_clash a.ac
 one_work name options (of_states a f) (of_task b) m n = absurd (state_clash b.action (sym (named name options b.action n.action) ∙ m.named))
 one_work name options (of_document x l w) (of_states b g) m n = absurd (document_clash w (sym (document_named name options w m.made) ∙ n.named))
 one_work name options (of_states a f) (of_document y k v) m n = absurd (document_clash v (sym (document_named name options v n.made) ∙ m.named))
+one_work name options (of_difference x l f) (of_difference y k g) m n =
+    ap (λ (z : Mode). of_difference z l f) (m.read ∙ sym n.read) ∙ ap (λ (z : Limits). of_difference y z f) (one_limits options l k m.within n.within)
+    ∙ ap (of_difference y k) (same_Some f g (sym m.old ∙ n.old))
+one_work name options (of_task a) (of_difference y k g) m n = absurd (difference_clash a.action (sym (named name options a.action m.action) ∙ n.named))
+one_work name options (of_difference x l f) (of_task b) m n = absurd (difference_clash b.action (sym (named name options b.action n.action) ∙ m.named))
+one_work name options (of_document x l w) (of_difference y k g) m n = absurd (documents_clash w (sym (document_named name options w m.made) ∙ n.named))
+one_work name options (of_difference x l f) (of_document y k v) m n = absurd (documents_clash v (sym (document_named name options v n.made) ∙ m.named))
+one_work name options (of_states a f) (of_difference y k g) m n = absurd (states_clash (sym m.named ∙ n.named))
+one_work name options (of_difference x l f) (of_states b g) m n = absurd (states_clash (sym n.named ∙ m.named))
+one_work name options (of_write x l c) (of_difference y k g) m n = absurd (apart (sym (write_named name options x l c m) ∙ other_apart name options (of_difference y k g) refl n))
+one_work name options (of_split x l w) (of_difference y k g) m n = absurd (apart (sym (split_named name options x l w m) ∙ other_apart name options (of_difference y k g) refl n))
+one_work name options (of_difference x l f) (of_write y k d) m n = absurd (apart (sym (write_named name options y k d n) ∙ other_apart name options (of_difference x l f) refl m))
+one_work name options (of_difference x l f) (of_split y k v) m n = absurd (apart (sym (split_named name options y k v n) ∙ other_apart name options (of_difference x l f) refl m))
 one_work name options (of_write x l c) (of_write y k d) m n =
     ap (λ (z : Mode). of_write z l c) (m.read ∙ sym n.read) ∙ ap (λ (z : Limits). of_write y z c) (one_limits options l k m.within n.within)
     ∙ ap (of_write y k) (one_chosen options c d m.made n.made)

@@ -14,8 +14,8 @@ use Rattle.opgp_stack.specs.declared.task.Action.TheVariants as action
 use Rattle.opgp_stack.specs.declared.task.Top.TheVariants as top
 use Rattle.opgp_stack.specs.declared.key_name.KeyName.{KeyName}
 use Rattle.opgp_tool.specs.Words.{Chosen, HasKeys, HasNumber, IsAction, IsGivenNumber, IsSplit, IsSplitWork, IsWrite, SplitWork, is_given, is_other, names_keys, top_of}
-use Rattle.opgp_tool.specs.Words.{AskedWork, DocumentWork, IsDocument, IsDocumentWork, IsTask, IsWork}
-use Rattle.opgp_tool.specs.Words.{of_around, of_canonical, of_cleartext, of_digests, of_document, of_keys, of_number, of_signatures, of_split, of_states, of_task, of_write}
+use Rattle.opgp_tool.specs.Words.{AskedWork, DocumentWork, IsDifference, IsDocument, IsDocumentWork, IsTask, IsWork}
+use Rattle.opgp_tool.specs.Words.{of_around, of_canonical, of_cleartext, of_difference, of_digests, of_document, of_keys, of_number, of_signatures, of_split, of_states, of_task, of_write}
 use Rattle.opgp_tool.specs.Words.{HasTime, IsStates}
 use Rattle.opgp_stack.specs.Time.{IsTime}
 use Rattle.opgp_stack.specs.declared.stating.StateTask.{StateTask}
@@ -64,7 +64,7 @@ is_octets name = bytes_eq name (codes "octets")
 
 -- options of octets that say neither one row nor all of a keyring are no action
 pub no_octets : (options : List Row) → ((row : ℕ) → HasNumber options (codes "row") row → is_given (first_of (codes "all") options) ≡ false → ⊥)
-    → (is_given (first_of (codes "all") options) ≡ true → top_of (first_of (codes "of") options) ≡ top.Ring → first_of (codes "row") options ≡ None → ⊥)
+    → (is_given (first_of (codes "all") options) ≡ true → top_of (first_of (codes "of") options) ≡ top.Ring → first_of (codes "row") options ≡ None → is_given (first_of (codes "explain") options) ≡ false → ⊥)
     → (a : Action) → IsAction (codes "octets") options a → ⊥
 no_octets options one all action.Show said = absurd (apart (ap is_octets said.0))
 no_octets options one all action.ShowValues said = absurd (apart (ap is_octets said.0))
@@ -72,14 +72,36 @@ no_octets options one all action.List said = absurd (apart (ap is_octets said.0)
 no_octets options one all action.ListValues said = absurd (apart (ap is_octets said.0))
 no_octets options one all action.Check said = absurd (apart (ap is_octets said.0))
 no_octets options one all action.CheckFingerprints said = absurd (apart (ap is_octets said.0))
-no_octets options one all (action.Octets row top) said = one row said.1 said.3
-no_octets options one all action.OctetsAll said = all said.1 said.2 said.3
+no_octets options one all action.CheckPlaces said = absurd (apart (ap is_octets said.0))
+no_octets options one all (action.Octets row top explains) said = one row said.1 said.3
+no_octets options one all action.OctetsAll said = all said.1 said.2 said.3 said.4
 no_octets options one all (action.Write out) said = absurd said
 no_octets options one all (action.WriteChosen out choice) said = absurd said
 no_octets options one all (action.Normalise out) said = absurd (apart (ap is_octets said.0))
 no_octets options one all (action.Split out nth) said = absurd said
 no_octets options one all (action.SplitKeys out keys except) said = absurd said
 no_octets options one all (action.Join out merge) said = absurd (apart (ap is_octets said.0))
+
+abbrev is_check : Text → Bool
+is_check name = bytes_eq name (codes "check")
+
+-- fingerprints and places together are no action
+pub no_check : (options : List Row) → is_given (first_of (codes "fingerprints") options) ≡ true → is_given (first_of (codes "places") options) ≡ true → (a : Action) → IsAction (codes "check") options a → ⊥
+no_check options prints places action.Show said = absurd (apart (ap is_check said.0))
+no_check options prints places action.ShowValues said = absurd (apart (ap is_check said.0))
+no_check options prints places action.List said = absurd (apart (ap is_check said.0))
+no_check options prints places action.ListValues said = absurd (apart (ap is_check said.0))
+no_check options prints places action.Check said = absurd (cc (prints, said.1))
+no_check options prints places action.CheckFingerprints said = absurd (cc (places, said.2))
+no_check options prints places action.CheckPlaces said = absurd (cc (prints, said.1))
+no_check options prints places (action.Octets row top explains) said = absurd (apart (ap is_check said.0))
+no_check options prints places action.OctetsAll said = absurd (apart (ap is_check said.0))
+no_check options prints places (action.Write out) said = absurd said
+no_check options prints places (action.WriteChosen out choice) said = absurd said
+no_check options prints places (action.Normalise out) said = absurd (apart (ap is_check said.0))
+no_check options prints places (action.Split out nth) said = absurd said
+no_check options prints places (action.SplitKeys out keys except) said = absurd said
+no_check options prints places (action.Join out merge) said = absurd (apart (ap is_check said.0))
 
 abbrev is_digest : Text → Bool
 is_digest name = bytes_eq name (codes "digest")
@@ -93,16 +115,18 @@ no_digest options none (of_around file row part) said = none (Some row) said.2
 no_digest options none of_canonical said = absurd (apart (ap is_digest said))
 no_digest options none (of_cleartext part) said = absurd (apart (ap is_digest said.0))
 
--- what is no task, no document's work and no states is no work
+-- what is no task, no document's work, no states and no difference is no work
 pub no_work : (name : Text) (options : List Row) → ((task : Task) → IsTask name options task → ⊥)
     → ((mode : Mode) (limits : Limits) (work : DocumentWork) → IsDocument name options mode limits work → ⊥)
     → ((task : StateTask) (file : Option Text) → IsStates name options task file → ⊥)
+    → ((mode : Mode) (limits : Limits) (old : Text) → IsDifference name options mode limits old → ⊥)
     → (work : AskedWork) → is_other work ≡ true → IsWork name options work → ⊥
-no_work name options tasks documents states (of_task task) other said = tasks task said
-no_work name options tasks documents states (of_document mode limits work) other said = documents mode limits work said
-no_work name options tasks documents states (of_states task file) other said = states task file said
-no_work name options tasks documents states (of_write mode limits chosen) other said = absurd (cc other)
-no_work name options tasks documents states (of_split mode limits work) other said = absurd (cc other)
+no_work name options tasks documents states differences (of_task task) other said = tasks task said
+no_work name options tasks documents states differences (of_document mode limits work) other said = documents mode limits work said
+no_work name options tasks documents states differences (of_states task file) other said = states task file said
+no_work name options tasks documents states differences (of_difference mode limits old) other said = differences mode limits old said
+no_work name options tasks documents states differences (of_write mode limits chosen) other said = absurd (cc other)
+no_work name options tasks documents states differences (of_split mode limits work) other said = absurd (cc other)
 
 -- ---- the commands `write` and `split`
 abbrev is_write : Text → Bool
@@ -119,7 +143,8 @@ task_apart name options action.List said = ap is_chooser said.0
 task_apart name options action.ListValues said = ap is_chooser said.0
 task_apart name options action.Check said = ap is_chooser said.0
 task_apart name options action.CheckFingerprints said = ap is_chooser said.0
-task_apart name options (action.Octets row top) said = ap is_chooser said.0
+task_apart name options action.CheckPlaces said = ap is_chooser said.0
+task_apart name options (action.Octets row top explains) said = ap is_chooser said.0
 task_apart name options action.OctetsAll said = ap is_chooser said.0
 task_apart name options (action.Write out) said = absurd said
 task_apart name options (action.WriteChosen out choice) said = absurd said
@@ -139,6 +164,7 @@ pub other_apart : (name : Text) (options : List Row) (w : AskedWork) → is_othe
 other_apart name options (of_task task) other said = task_apart name options task.action said.action
 other_apart name options (of_document mode limits work) other said = document_apart name options work said.made
 other_apart name options (of_states task file) other said = ap is_chooser said.named
+other_apart name options (of_difference mode limits old) other said = ap is_chooser said.named
 other_apart name options (of_write mode limits chosen) other said = absurd (cc other)
 other_apart name options (of_split mode limits work) other said = absurd (cc other)
 
@@ -156,6 +182,7 @@ pub no_write : (name : Text) (options : List Row) → name ≡ codes "write" →
 no_write name options is none (of_task task) said = apart (sym (ap is_chooser is) ∙ other_apart name options (of_task task) refl said)
 no_write name options is none (of_document mode limits work) said = apart (sym (ap is_chooser is) ∙ other_apart name options (of_document mode limits work) refl said)
 no_write name options is none (of_states task file) said = apart (sym (ap is_chooser is) ∙ other_apart name options (of_states task file) refl said)
+no_write name options is none (of_difference mode limits old) said = apart (sym (ap is_chooser is) ∙ other_apart name options (of_difference mode limits old) refl said)
 no_write name options is none (of_write mode limits chosen) said = none mode limits chosen (subst (λ (n : Text). IsWrite n options mode limits chosen) is said)
 no_write name options is none (of_split mode limits work) said = not_both name is said.named
 
@@ -163,6 +190,7 @@ pub no_split : (name : Text) (options : List Row) → name ≡ codes "split" →
 no_split name options is none (of_task task) said = apart (sym (ap is_chooser is) ∙ other_apart name options (of_task task) refl said)
 no_split name options is none (of_document mode limits work) said = apart (sym (ap is_chooser is) ∙ other_apart name options (of_document mode limits work) refl said)
 no_split name options is none (of_states task file) said = apart (sym (ap is_chooser is) ∙ other_apart name options (of_states task file) refl said)
+no_split name options is none (of_difference mode limits old) said = apart (sym (ap is_chooser is) ∙ other_apart name options (of_difference mode limits old) refl said)
 no_split name options is none (of_write mode limits chosen) said = not_both name said.named is
 no_split name options is none (of_split mode limits work) said = none mode limits work (subst (λ (n : Text). IsSplit n options mode limits work) is said)
 
@@ -171,6 +199,7 @@ pub no_other : (name : Text) (options : List Row) → (name ≡ codes "write" �
 no_other name options write split none (of_task task) said = none (of_task task) refl said
 no_other name options write split none (of_document mode limits work) said = none (of_document mode limits work) refl said
 no_other name options write split none (of_states task file) said = none (of_states task file) refl said
+no_other name options write split none (of_difference mode limits old) said = none (of_difference mode limits old) refl said
 no_other name options write split none (of_write mode limits chosen) said = write said.named
 no_other name options write split none (of_split mode limits work) said = split said.named
 

@@ -26,6 +26,8 @@ text_of advice.Quoted =
     codes "a begin line that isn't at the start of its line; remove what is in front of each line"
 text_of advice.SignedText =
     codes "a cleartext signed message; opgp cleartext reads it"
+text_of advice.SecondMessage =
+    codes "a second signed message; opgp cleartext reads one, so give it each by itself"
 text_of advice.ArmoredFile = codes "an ARMORED FILE; gpg --dearmor writes its octets"
 text_of advice.LostLineEnds =
     codes "text follows the begin line's hyphens; remove it, or restore the line ends that were lost"

@@ -1,4 +1,4 @@
--- The command line as `clap` reads it: thirteen commands, and the options of each.
+-- The command line as `clap` reads it: fourteen commands, and the options of each.
 use Rattle.std.specs.Prelude.{◌≡◌, List, [], ◌∷◌, Some, true, false, codes, map}
 use Rattle.std.specs.Borrow.{Bor}
 use Rattle.std.specs.List.{AllByRecursion}
@@ -98,14 +98,23 @@ values_rule = flag_rule (codes "values")
 abbrev pub fingerprints_rule : Rule
 fingerprints_rule = flag_rule (codes "fingerprints")
 
+abbrev pub places_rule : Rule
+places_rule = flag_rule (codes "places")
+
 abbrev pub all_rule : Rule
 all_rule = flag_rule (codes "all")
+
+abbrev pub explain_rule : Rule
+explain_rule = flag_rule (codes "explain")
 
 abbrev pub own_signatures_rule : Rule
 own_signatures_rule = flag_rule (codes "own-signatures")
 
 abbrev pub no_attributes_rule : Rule
 no_attributes_rule = flag_rule (codes "no-attributes")
+
+abbrev pub bound_rule : Rule
+bound_rule = flag_rule (codes "bound")
 
 abbrev pub progress_rule : Rule
 progress_rule = flag_rule (codes "progress")
@@ -137,6 +146,9 @@ policy_rule reliances = choice_rule (codes "policy") reliances (codes "usual")
 
 abbrev pub part_rule : Choice → Rule
 part_rule parts = choice_rule (codes "of") parts (codes "document")
+
+abbrev pub old_rule : Rule
+old_rule = text_rule (codes "old")
 
 abbrev pub spool_rule : Rule
 spool_rule = text_rule (codes "spool")
@@ -216,22 +228,24 @@ bare_program = record {
   subs = [];
 }
 
--- the thirteen commands, in order, each with its own values for `--mode`, `--outside`, `--malformed`,
+-- the fourteen commands, in order, each with its own values for `--mode`, `--outside`, `--malformed`,
 -- `--policy`, `--of` and `--out`
 abbrev pub program_of : (show list check state octets write normalise split join : Choices)
-    → (signatures digest canonical cleartext : Choices)
+    → (signatures digest canonical cleartext diff : Choices)
     → (reliances tops write_outs normalise_outs split_outs join_outs parts : Choice) → App
 program_of show list check state octets write normalise split join signatures digest canonical
-    cleartext reliances tops write_outs normalise_outs split_outs join_outs parts = record {
+    cleartext diff reliances tops write_outs normalise_outs split_outs join_outs parts = record {
       top = record (new_shape (codes "opgp")) { subcommand_required = true; is_leaf = false };
       subs = command_shape (codes "show") show (values_rule ∷ [])
           ∷ command_shape (codes "list") list (values_rule ∷ [])
-          ∷ command_shape (codes "check") check (fingerprints_rule ∷ [])
+          ∷ command_shape (codes "check") check (fingerprints_rule ∷ places_rule ∷ [])
           ∷ command_shape (codes "state") state
           (at_rule ∷ policy_rule reliances ∷ verdicts_rule ∷ [])
-          ∷ command_shape (codes "octets") octets (row_rule ∷ of_rule tops ∷ all_rule ∷ [])
+          ∷ command_shape (codes "octets") octets
+          (row_rule ∷ of_rule tops ∷ all_rule ∷ explain_rule ∷ [])
           ∷ command_shape (codes "write") write
-          (out_rule write_outs ∷ own_signatures_rule ∷ no_attributes_rule ∷ user_id_rule ∷ [])
+          (out_rule write_outs ∷ own_signatures_rule ∷ no_attributes_rule ∷ user_id_rule
+          ∷ bound_rule ∷ verdicts_rule ∷ [])
           ∷ command_shape (codes "normalise") normalise (out_rule normalise_outs ∷ [])
           ∷ command_shape (codes "split") split
           (out_rule split_outs ∷ nth_rule ∷ key_rule ∷ keys_rule ∷ except_rule ∷ [])
@@ -241,6 +255,7 @@ program_of show list check state octets write normalise split join signatures di
           (signatures_rule ∷ signature_rule ∷ salt_rule ∷ [])
           ∷ command_shape (codes "canonical") canonical []
           ∷ command_shape (codes "cleartext") cleartext (part_rule parts ∷ [])
+          ∷ command_shape (codes "diff") diff (old_rule ∷ [])
           ∷ [];
     }
 
@@ -258,9 +273,10 @@ pub record IsProgram (program : App) : Type 0 where
   pub digest_choices : Choices
   pub canonical_choices : Choices
   pub cleartext_choices : Choices
+  pub diff_choices : Choices
   pub are_choices : AllChoices (show_choices ∷ list_choices ∷ check_choices ∷ state_choices
       ∷ octets_choices ∷ write_choices ∷ normalise_choices ∷ split_choices ∷ join_choices ∷ signatures_choices
-      ∷ digest_choices ∷ canonical_choices ∷ cleartext_choices ∷ [])
+      ∷ digest_choices ∷ canonical_choices ∷ cleartext_choices ∷ diff_choices ∷ [])
   pub reliances : Choice
   pub are_reliances : AreReliances reliances
   pub tops : Choice
@@ -274,7 +290,7 @@ pub record IsProgram (program : App) : Type 0 where
   pub are_parts : AreParts parts
   pub is : program ≡ program_of show_choices list_choices check_choices state_choices
       octets_choices write_choices normalise_choices split_choices join_choices
-      signatures_choices digest_choices canonical_choices cleartext_choices
+      signatures_choices digest_choices canonical_choices cleartext_choices diff_choices
       reliances tops write_outs normalise_outs split_outs join_outs parts
 
 -- the command line names a command of this program, and asks for what its name and its options say

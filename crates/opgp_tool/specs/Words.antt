@@ -24,6 +24,7 @@ use Rattle.opgp_stack.specs.declared.task.Top.TheVariants as top
 use Rattle.opgp_stack.specs.declared.task.Action.{Action}
 use Rattle.opgp_stack.specs.declared.task.Action.TheVariants as action
 use Rattle.opgp_stack.specs.declared.task.Task.{Task}
+use Rattle.opgp_stack.specs.declared.bounding.BoundTask.{BoundTask}
 use Rattle.opgp_stack.specs.declared.stating.StateTask.{StateTask}
 use Rattle.opgp_valid.specs.declared.policy.Policy.{Policy}
 use Rattle.opgp_valid.specs.declared.policy.Policy.TheVariants.{Usual, Any}
@@ -124,15 +125,22 @@ IsAction name options action.ListValues = (name ≡ codes "list")
     × (is_given (first_of (codes "values") options) ≡ true)
 IsAction name options action.Check = (name ≡ codes "check")
     × (is_given (first_of (codes "fingerprints") options) ≡ false)
+    × (is_given (first_of (codes "places") options) ≡ false)
 IsAction name options action.CheckFingerprints = (name ≡ codes "check")
     × (is_given (first_of (codes "fingerprints") options) ≡ true)
-IsAction name options (action.Octets row top) = (name ≡ codes "octets")
+    × (is_given (first_of (codes "places") options) ≡ false)
+IsAction name options action.CheckPlaces = (name ≡ codes "check")
+    × (is_given (first_of (codes "fingerprints") options) ≡ false)
+    × (is_given (first_of (codes "places") options) ≡ true)
+IsAction name options (action.Octets row top explains) = (name ≡ codes "octets")
     × HasNumber options (codes "row") row × (top ≡ top_of (first_of (codes "of") options))
     × (is_given (first_of (codes "all") options) ≡ false)
+    × (explains ≡ is_given (first_of (codes "explain") options))
 IsAction name options action.OctetsAll = (name ≡ codes "octets")
     × (is_given (first_of (codes "all") options) ≡ true)
     × (top_of (first_of (codes "of") options) ≡ top.Ring)
     × (first_of (codes "row") options ≡ None)
+    × (is_given (first_of (codes "explain") options) ≡ false)
 IsAction name options (action.Normalise out) = (name ≡ codes "normalise")
     × (out ≡ out_of (first_of (codes "out") options))
 IsAction name options (action.Join out merge) = (name ≡ codes "join")
@@ -147,12 +155,22 @@ pub record IsTask (name : Text) (options : List Row) (task : Task) : Type 0 wher
   pub action : IsAction name options task.action
 
 -- ---- the command `write`
--- which parts of certificates it writes, and how: `--own-signatures`, `--no-attributes`, `--user-id`
+-- which parts of certificates it writes, and how: `--own-signatures`, `--no-attributes`, `--user-id`,
+-- and the name of the file of `--verdicts`, by which it writes bound parts alone
 pub record Chosen : Type 0 where
   pub out : Out
   pub own_signatures : Bool
   pub no_attributes : Bool
   pub user_ids : List ℕ
+  pub verdicts : Option Text
+
+-- `--bound` takes `--verdicts`, which takes `--bound`; they don't take `--user-id`
+abbrev pub AreVerdicts : List Row → Option Text → Type 0
+AreVerdicts options None = (is_given (first_of (codes "bound") options) ≡ false)
+    × (first_of (codes "verdicts") options ≡ None)
+AreVerdicts options (Some file) = (is_given (first_of (codes "bound") options) ≡ true)
+    × (first_of (codes "verdicts") options ≡ Some file)
+    × (first_of (codes "user-id") options ≡ None)
 
 pub record IsChosen (options : List Row) (chosen : Chosen) : Type 0 where
   pub out : chosen.out ≡ out_of (first_of (codes "out") options)
@@ -161,6 +179,7 @@ pub record IsChosen (options : List Row) (chosen : Chosen) : Type 0 where
   pub no_attributes : chosen.no_attributes
       ≡ is_given (first_of (codes "no-attributes") options)
   pub user_ids : HasNumbers options (codes "user-id") chosen.user_ids
+  pub verdicts : AreVerdicts options chosen.verdicts
 
 pub record IsWrite (name : Text) (options : List Row) (mode : Mode) (limits : Limits)
     (chosen : Chosen) : Type 0 where
@@ -177,6 +196,13 @@ Writes chosen (action.WriteChosen out choice) = (out ≡ chosen.out)
     × (choice.own_signatures ≡ chosen.own_signatures)
     × (choice.no_attributes ≡ chosen.no_attributes) × (choice.user_ids.now ≡ chosen.user_ids)
 Writes chosen other = ⊥
+
+-- the task that writes those of them that are bound
+abbrev pub WritesBound : Chosen → BoundTask → Type 0
+WritesBound chosen task = (task.out ≡ chosen.out)
+    × (task.choice.own_signatures ≡ chosen.own_signatures)
+    × (task.choice.no_attributes ≡ chosen.no_attributes)
+    × (task.choice.user_ids.now ≡ chosen.user_ids)
 
 -- ---- the command `split`
 -- every certificate, or that of a number; or those with keys that are named, and that are named in a
@@ -266,13 +292,24 @@ pub record IsStates (name : Text) (options : List Row) (task : StateTask) (file 
   pub judged : IsStatesWith options task
   pub verdicts : file ≡ first_of (codes "verdicts") options
 
+-- ---- the command `diff`
+-- the name of the file of `--old`
+pub record IsDifference (name : Text) (options : List Row) (mode : Mode) (limits : Limits)
+    (file : Text) : Type 0 where
+  pub named : name ≡ codes "diff"
+  pub read : mode ≡ mode_of (first_of (codes "mode") options)
+  pub within : HasLimits options limits
+  pub old : first_of (codes "old") options ≡ Some file
+
 -- ---- all of them
 -- a task; or how the input is read, within which limits, and what is made of signatures, or is
--- written; or states, by the verdicts of a file, if there is one
+-- written; or states, by the verdicts of a file, if there is one; or what changed from the keyring in
+-- a file
 pub data AskedWork : Type 0 where
   of_task : Task → AskedWork
   of_document : Mode → Limits → DocumentWork → AskedWork
   of_states : StateTask → Option Text → AskedWork
+  of_difference : Mode → Limits → Text → AskedWork
   of_write : Mode → Limits → Chosen → AskedWork
   of_split : Mode → Limits → SplitWork → AskedWork
 
@@ -286,6 +323,7 @@ abbrev pub IsWork : Text → List Row → AskedWork → Type 0
 IsWork name options (of_task task) = IsTask name options task
 IsWork name options (of_document mode limits work) = IsDocument name options mode limits work
 IsWork name options (of_states task file) = IsStates name options task file
+IsWork name options (of_difference mode limits old) = IsDifference name options mode limits old
 IsWork name options (of_write mode limits chosen) = IsWrite name options mode limits chosen
 IsWork name options (of_split mode limits work) = IsSplit name options mode limits work
 
@@ -316,6 +354,7 @@ chosen_said task = record {
   own_signatures = task.own_signatures;
   no_attributes = task.no_attributes;
   user_ids = task.user_ids.items;
+  verdicts = option_map (λ word. word.now) task.verdicts;
 }
 
 abbrev pub split_said : SplitAction → SplitWork
@@ -329,6 +368,7 @@ work_said (work.Document task) =
     of_document task.mode task.limits (document_said task.action)
 work_said (work.States states) =
     of_states states.task (option_map (λ word. word.now) states.verdicts)
+work_said (work.Difference task) = of_difference task.mode task.limits task.old.now
 work_said (work.Write task) = of_write task.mode task.limits (chosen_said task)
 work_said (work.Split task) = of_split task.mode task.limits (split_said task.action)
 

@@ -8,7 +8,8 @@ ghost use Rattle.opgp_tool.specs.Hint.{cleartext_advice, cleartext_hint};
 ghost use Rattle.opgp_tool.specs.Hint.{about, armor_hint, before_begin, begins, binary_hint};
 ghost use Rattle.opgp_tool.specs.Hint.{block_advice, end_advice, fault_hint, first_line};
 ghost use Rattle.opgp_tool.specs.Hint.{foreign_advice, format_of, hint_of, done_hint, label_advice};
-ghost use Rattle.opgp_tool.specs.Hint.{label_of_block, line_advice, mark_in, no_block_hint};
+ghost use Rattle.opgp_tool.specs.Hint.{from_mark, label_of_block, line_advice, mark_in};
+ghost use Rattle.opgp_tool.specs.Hint.{message_advice, no_block_hint};
 ghost use Rattle.opgp_tool.specs.Hint.{no_packet_advice, packet_advice, packet_hint};
 ghost use Rattle.opgp_tool.specs.Hint.{text_format_of, type_advice};
 
@@ -25,6 +26,17 @@ fn rest_at(octets: &[u8], at: u64) -> &[u8]
         &octets[at as usize..]
     } else {
         &octets[octets.len()..]
+    }
+}
+
+/// The octets in front of this place, or all.
+fn front_of(octets: &[u8], at: u64) -> &[u8]
+    ensures { result.now ≡ take at octets.now }
+{
+    if at < octets.len() as u64 {
+        &octets[..at as usize]
+    } else {
+        octets
     }
 }
 
@@ -116,13 +128,34 @@ fn first_line(octets: &[u8]) -> &[u8]
     }
 }
 
-/// A begin line that opens no block.
+/// The octets from the first begin line on, or none.
+fn from_mark(octets: &[u8]) -> &[u8]
+    ensures { result.now ≡ from_mark octets.now }
+{
+    match mark_in(octets) {
+        Some(at) => rest_at(octets, at as u64),
+        None => rest_at(octets, octets.len() as u64),
+    }
+}
+
+/// A begin line of a cleartext message, behind these octets.
+fn message_advice(front: &[u8]) -> Advice
+    ensures { result ≡ message_advice front.now }
+{
+    if from_mark(front).starts_with(b"-----BEGIN PGP SIGNED MESSAGE-----".as_slice()) {
+        Advice::SecondMessage
+    } else {
+        Advice::SignedText
+    }
+}
+
+/// A begin line that opens no block, with the octets in front of it.
 #[tactic(auto, unfolding(crate::specs::Hint::label_advice))]
-fn label_advice(rest: &[u8]) -> Advice
-    ensures { result ≡ label_advice rest.now }
+fn label_advice(front: &[u8], rest: &[u8]) -> Advice
+    ensures { result ≡ label_advice front.now rest.now }
 {
     if rest.starts_with(b"-----BEGIN PGP SIGNED MESSAGE-----".as_slice()) {
-        Advice::SignedText
+        message_advice(front)
     } else if rest.starts_with(b"-----BEGIN PGP ARMORED FILE-----".as_slice()) {
         Advice::ArmoredFile
     } else if rest.starts_with(b"-----BEGIN PGP PUBLIC KEY BLOCK-----".as_slice()) {
@@ -162,12 +195,12 @@ fn no_block_hint(octets: &[u8]) -> Hint
     }
 }
 
-/// A line at fault.
-fn line_advice(reason: Reason, rest: &[u8]) -> Option<Advice>
-    ensures { result ≡ line_advice reason rest.now }
+/// A line at fault, with the octets in front of it.
+fn line_advice(reason: Reason, front: &[u8], rest: &[u8]) -> Option<Advice>
+    ensures { result ≡ line_advice reason front.now rest.now }
 {
     match reason {
-        Reason::Label => Some(label_advice(rest)),
+        Reason::Label => Some(label_advice(front, rest)),
         Reason::EndLabel => Some(end_advice(rest)),
         Reason::Header => Some(Advice::NoHeader),
         Reason::Letters => Some(Advice::NoLetter),
@@ -186,7 +219,7 @@ fn armor_hint(reason: Reason, at: u64, octets: &[u8]) -> Option<Hint>
     match reason {
         Reason::NoBlock => Some(no_block_hint(octets)),
         Reason::Unfinished => Some(Hint::Plain(Advice::CutText)),
-        _ => match line_advice(reason, rest_at(octets, at)) {
+        _ => match line_advice(reason, front_of(octets, at), rest_at(octets, at)) {
             Some(advice) => Some(about(octets, at, advice)),
             None => None,
         },

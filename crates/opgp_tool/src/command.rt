@@ -5,19 +5,22 @@ ghost use Rattle.clap.specs.Words.{rule_of, app_of, shape_of, with_rule, with_su
 ghost use Rattle.opgp_tool.specs.Program.{Choice, AreModes, ArePolicies, AreSignaturePolicies};
 ghost use Rattle.opgp_tool.specs.Program.{AreOuts, AreTops, mode_rule, outside_rule};
 ghost use Rattle.opgp_tool.specs.Program.{malformed_rule, out_rule, of_rule, limit_rule, row_rule};
+ghost use Rattle.opgp_tool.specs.Program.{bound_rule};
 ghost use Rattle.opgp_tool.specs.Program.{nth_rule, flag_rule, merge_rule, key_rule, choice_rule};
 ghost use Rattle.opgp_tool.specs.Program.{number_rule, valued_rule, text_rule, values_rule};
-ghost use Rattle.opgp_tool.specs.Program.{fingerprints_rule, all_rule, with_limits};
+ghost use Rattle.opgp_tool.specs.Program.{fingerprints_rule, places_rule, all_rule, explain_rule};
+ghost use Rattle.opgp_tool.specs.Program.{with_limits};
 ghost use Rattle.opgp_tool.specs.Program.{signatures_rule, signature_rule, salt_rule};
 ghost use Rattle.opgp_tool.specs.Program.{AreParts, part_rule};
 ghost use Rattle.opgp_tool.specs.Program.{AreReliances, at_rule, policy_rule, verdicts_rule};
 ghost use Rattle.opgp_tool.specs.Program.{own_signatures_rule, no_attributes_rule, user_id_rule};
-ghost use Rattle.opgp_tool.specs.Program.{except_rule, keys_rule, repeated_rule};
+ghost use Rattle.opgp_tool.specs.Program.{except_rule, keys_rule, old_rule, repeated_rule};
 ghost use Rattle.opgp_tool.specs.Program.{IsCommand, IsProgram, bare_program};
 
 use crate::help::{
-    CANONICAL_HELP, CHECK_HELP, CLEARTEXT_HELP, DIGEST_HELP, JOIN_HELP, LIST_HELP, NORMALISE_HELP,
-    OCTETS_HELP, PROGRAM_HELP, SHOW_HELP, SIGNATURES_HELP, SPLIT_HELP, STATE_HELP, WRITE_HELP,
+    CANONICAL_HELP, CHECK_HELP, CLEARTEXT_HELP, DIFF_HELP, DIGEST_HELP, JOIN_HELP, LIST_HELP,
+    NORMALISE_HELP, OCTETS_HELP, PROGRAM_HELP, SHOW_HELP, SIGNATURES_HELP, SPLIT_HELP, STATE_HELP,
+    WRITE_HELP,
 };
 use clap::builder::ValueParser;
 use clap::{Arg, ArgAction, Command};
@@ -301,12 +304,14 @@ fn list_command<'a>(alloc: Global) -> Result<Command<'a>, OutOfMemory>
 }
 
 fn check_command<'a>(alloc: Global) -> Result<Command<'a>, OutOfMemory>
-    ensures { IfOk result (IsCommand (codes "check") (fingerprints_rule ∷ [])) }
+    ensures { IfOk result (IsCommand (codes "check") (fingerprints_rule ∷ places_rule ∷ [])) }
 {
     let about = "List the signatures of a keyring";
     let command = new_command(alloc, "check", about, CHECK_HELP);
     let help = "Show the fingerprints of each signature's certificate and signer";
-    with_option(command, flag_option(alloc, "fingerprints", help))
+    let command = with_option(command, flag_option(alloc, "fingerprints", help));
+    let help = "Show the number of each signature's packet, and of the user ID that it is on";
+    with_option(command, flag_option(alloc, "places", help))
 }
 
 fn state_command<'a>(alloc: Global) -> Result<Command<'a>, OutOfMemory>
@@ -324,7 +329,7 @@ fn state_command<'a>(alloc: Global) -> Result<Command<'a>, OutOfMemory>
 
 fn octets_command<'a>(alloc: Global) -> Result<Command<'a>, OutOfMemory>
     ensures { IfOk result (λ c. (tops : Choice) × AreTops tops
-        × IsCommand (codes "octets") (row_rule ∷ of_rule tops ∷ all_rule ∷ []) c) }
+        × IsCommand (codes "octets") (row_rule ∷ of_rule tops ∷ all_rule ∷ explain_rule ∷ []) c) }
 {
     let about = "Write the octets that signatures hash";
     let command = new_command(alloc, "octets", about, OCTETS_HELP);
@@ -332,7 +337,9 @@ fn octets_command<'a>(alloc: Global) -> Result<Command<'a>, OutOfMemory>
     let command = with_option(command, number_option(alloc, "row", help));
     let command = with_option(command, of_option(alloc));
     let help = "Write those of every row, each after a line of its own";
-    with_option(command, flag_option(alloc, "all", help))
+    let command = with_option(command, flag_option(alloc, "all", help));
+    let help = "Write a line for each field of the octets instead";
+    with_option(command, flag_option(alloc, "explain", help))
 }
 
 /// A command that writes keyrings.
@@ -350,7 +357,8 @@ fn writing_command<'a>(
 
 fn write_command<'a>(alloc: Global) -> Result<Command<'a>, OutOfMemory>
     ensures { IfOk result (λ c. (outs : Choice) × AreOuts outs × IsCommand (codes "write")
-        (out_rule outs ∷ own_signatures_rule ∷ no_attributes_rule ∷ user_id_rule ∷ []) c) }
+        (out_rule outs ∷ own_signatures_rule ∷ no_attributes_rule ∷ user_id_rule ∷ bound_rule
+        ∷ verdicts_rule ∷ []) c) }
 {
     let about = "Write a keyring, with its framing";
     let command = writing_command(alloc, "write", about, WRITE_HELP);
@@ -361,7 +369,11 @@ fn write_command<'a>(alloc: Global) -> Result<Command<'a>, OutOfMemory>
     let help = "The number of a user ID to keep in each certificate, from 0";
     let numbers = ValueParser::Unsigned(0, u64::MAX);
     let user_id = repeated_option(alloc, "user-id", "N", numbers, help);
-    with_option(command, user_id)
+    let command = with_option(command, user_id);
+    let help = "Leave out what no good self-signature binds, by the file of --verdicts";
+    let command = with_option(command, flag_option(alloc, "bound", help));
+    let help = "The file of a verifier's verdicts on the signatures";
+    with_option(command, text_option(alloc, "verdicts", "FILE", help))
 }
 
 fn split_command<'a>(alloc: Global) -> Result<Command<'a>, OutOfMemory>
@@ -415,6 +427,15 @@ fn cleartext_command<'a>(alloc: Global) -> Result<Command<'a>, OutOfMemory>
     with_option(command, part_option(alloc))
 }
 
+fn diff_command<'a>(alloc: Global) -> Result<Command<'a>, OutOfMemory>
+    ensures { IfOk result (IsCommand (codes "diff") (old_rule ∷ [])) }
+{
+    let about = "List what changed from an old keyring";
+    let command = new_command(alloc, "diff", about, DIFF_HELP);
+    let help = "The file of the old keyring";
+    with_option(command, text_option(alloc, "old", "FILE", help))
+}
+
 /// The program without its commands.
 fn bare_program<'a>(alloc: Global) -> Result<Command<'a>, OutOfMemory>
     ensures { IfOk result (λ c. app_of c ≡ bare_program) }
@@ -426,7 +447,7 @@ fn bare_program<'a>(alloc: Global) -> Result<Command<'a>, OutOfMemory>
         .bin_name("opgp")
 }
 
-/// The program and its thirteen commands.
+/// The program and its fourteen commands.
 pub fn program<'a>(alloc: Global) -> Result<Command<'a>, OutOfMemory>
     ensures { IfOk result (λ c. IsProgram (app_of c)) }
 {
@@ -452,5 +473,6 @@ pub fn program<'a>(alloc: Global) -> Result<Command<'a>, OutOfMemory>
     let tool = with_command(tool, digest_command(alloc))?;
     let about = "Write the canonical text of a document";
     let tool = with_command(tool, new_command(alloc, "canonical", about, CANONICAL_HELP))?;
-    with_command(tool, cleartext_command(alloc))
+    let tool = with_command(tool, cleartext_command(alloc))?;
+    with_command(tool, diff_command(alloc))
 }

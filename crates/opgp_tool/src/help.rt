@@ -28,7 +28,9 @@ pub const CHECK_HELP: &str = "Each signature has a line with its place, its issu
 the first octets of its
 digest. It is bad if the digest doesn't begin with the 16 bits that the signature states.
 No signature is verified. --fingerprints adds the fingerprints of the certificate's primary
-key and of the issuer's key, if the keyring has it.
+key and of the issuer's key, if the keyring has it. --places adds the number of the
+signature's packet, as list counts its lines, and that of the user ID that it is on, as
+write --user-id counts them, from 0.
 
 Example: opgp check < KEYRING | grep bad";
 
@@ -46,7 +48,8 @@ pub const OCTETS_HELP: &str = "A row is numbered as check does it; with --of lit
 number of a signature
 after the literal of a signed message. The octets are written as they are hashed, without
 armor. --all writes those of every hashed signature, each after a line with the row's number
-and their length.
+and their length. --explain writes a line for each field of one signature's octets instead:
+offset, length, name, value, and the section of RFC 9580 that says what it is.
 
 Example: opgp octets --row 0 < KEYRING | sha512sum";
 
@@ -56,6 +59,11 @@ all packets of the input. Three options leave out parts of each certificate:
 --own-signatures the signatures that don't name its primary key as their issuer,
 --no-attributes its user attributes, and --user-id all user IDs but those of the numbers
 that are given, with their signatures. No signature is verified.
+
+--bound leaves out each user ID, attribute and subkey on which no self-signature is that is
+good by the verdicts in the file of --verdicts, which opgp-verify --policy none prints of the
+same keyring; and self-signatures that aren't good, or that newer ones replace. Revocations
+stay. It doesn't go with --user-id.
 
 Example: opgp write --own-signatures --user-id 0 < KEYRING > MINIMAL.asc";
 
@@ -85,6 +93,15 @@ nothing else. Each has a line, as
 list --values shows it.
 
 Example: opgp signatures < RELEASE.tar.gz.asc";
+
+pub const DIFF_HELP: &str = "Standard input is the new keyring. Each packet that is gone or new \
+has a line: the
+fingerprint of its certificate, its place, and its line as list --values shows it. Of a
+certificate, user ID, attribute or subkey that is gone or new, the signatures on it are left
+out. The order of packets, their framing, and packets that aren't part of certificates don't
+count. If nothing changed, nothing is written.
+
+Example: opgp diff --old OLD.asc < NEW.asc";
 
 pub const DIGEST_HELP: &str = "Standard input is the document that the signatures in the file are \
 over. Each signature

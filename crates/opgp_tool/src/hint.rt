@@ -34,6 +34,7 @@ pub enum Advice {
     Quoted,
     /// Begin lines that open no block.
     SignedText,
+    SecondMessage,
     ArmoredFile,
     LostLineEnds,
     OtherLabel,
@@ -119,6 +120,7 @@ impl Advice {
             Quoted
                 "a begin line that isn't at the start of its line; remove what is in front of each line",
             SignedText "a cleartext signed message; opgp cleartext reads it",
+            SecondMessage "a second signed message; opgp cleartext reads one, so give it each by itself",
             ArmoredFile "an ARMORED FILE; gpg --dearmor writes its octets",
             LostLineEnds
                 "text follows the begin line's hyphens; remove it, or restore the line ends that were lost",

@@ -8,6 +8,7 @@ ghost use Rattle.opgp_tool.specs.Progress.{read_of};
 mod advising;
 mod beginning;
 mod command;
+mod difference;
 mod document;
 mod ending;
 mod help;
@@ -21,12 +22,16 @@ mod task;
 mod write;
 
 use advising::hint_of;
+use difference::DifferenceTask;
 use document::{DocumentAction, DocumentTask};
 use ending::end_of;
 use hint::Hint;
+use opgp_octets::Limits;
+use opgp_ring::Keyring;
 use opgp_stack::{
-    Action, Around, CleartextPart, KeyName, Mode, NoSpool, Out, RunFault, Source, StateTask, Task,
-    Watched, keys_in, read_octets, read_signatures, run_around, run_canonical, run_cleartext,
+    Action, Answer, Around, BoundTask, CleartextPart, EngineError, KeyName, Mode, NoSpool, Out,
+    RunFault, Source, StateTask, Task, Watched, keys_in, read_keyring, read_octets,
+    read_signatures, run_around, run_bound, run_canonical, run_cleartext, run_difference,
     run_digests, run_last, run_signatures, run_spooled, run_states,
 };
 use progress::Progress;
@@ -36,8 +41,9 @@ use states::StatesTask;
 use std::fs::File;
 use std::io::{Stderr, Stdin, Write};
 use std::process::ExitCode;
-use std::{env, io};
+use std::{env, io, mem};
 use task::{NAME, Request, Usage, Work, task_of};
+use write::WriteTask;
 
 /// The exit status of an invalid command line.
 const USAGE: u8 = 2;
@@ -70,7 +76,8 @@ fn run_words(rt: &HostRuntime, words: &[String]) -> u8 {
             Work::Task(task) => run_task(rt, &request, task),
             Work::Document(task) => run_document(rt, &request, task),
             Work::States(states) => list_states(rt, &request, states),
-            Work::Write(task) => run_task(rt, &request, &task.task()),
+            Work::Difference(task) => list_difference(rt, &request, task),
+            Work::Write(task) => run_write(rt, &request, task),
             Work::Split(task) => run_split(rt, &request, task),
         },
         Err(Usage::Text(text)) => {
@@ -104,6 +111,27 @@ fn run_task(rt: &HostRuntime, request: &Request, task: &Task) -> u8 {
             Err(fault) => Err(fault),
         },
     };
+    reader.end();
+    finish(rt, request, task.mode, &outcome, &reader)
+}
+
+/// Writes the keyring on standard input, or parts of it.
+fn run_write(rt: &HostRuntime, request: &Request, write: &WriteTask) -> u8 {
+    let file = match write.verdicts {
+        Some(file) => file,
+        None => return run_task(rt, request, &write.task()),
+    };
+    match octets_beside(rt, request, file, write.mode, &write.limits) {
+        Ok(octets) => write_bound(rt, request, &write.bound_task(), &octets),
+        Err(status) => status,
+    }
+}
+
+/// Writes what is bound of the keyring on standard input by the verdicts of this file.
+fn write_bound(rt: &HostRuntime, request: &Request, task: &BoundTask, file: &[u8]) -> u8 {
+    let mut reader = input(rt, request);
+    let mut writer = Watched::new(rt.stdout());
+    let outcome = run_bound(rt.alloc(), task, file, &mut reader, &mut writer);
     reader.end();
     finish(rt, request, task.mode, &outcome, &reader)
 }
@@ -317,19 +345,35 @@ fn list_states(rt: &HostRuntime, request: &Request, states: &StatesTask) -> u8 {
         Some(file) => file,
         None => return list_states_by(rt, request, &states.task, None),
     };
+    let task = &states.task;
+    match octets_beside(rt, request, file, task.mode, &task.limits) {
+        Ok(octets) => list_states_by(rt, request, task, Some(&octets)),
+        Err(status) => status,
+    }
+}
+
+/// The octets of a file of verdicts on the keyring on standard input; or the exit status, once it is
+/// said why there are none.
+fn octets_beside(
+    rt: &HostRuntime,
+    request: &Request,
+    file: &str,
+    mode: Mode,
+    limits: &Limits,
+) -> Result<Vec<u8>, u8> {
     if is_input(file) {
         let _ = eprintln!(rt; "opgp: standard input is the keyring; the verdicts are in a file");
-        return USAGE;
+        return Err(USAGE);
     }
     let mut source = match open_beside(rt, file) {
         Ok(source) => source,
-        Err(_) => return unopened(rt, request, file),
+        Err(_) => return Err(unopened(rt, request, file)),
     };
-    match read_octets(rt.alloc(), &mut source, &states.task.limits) {
-        Ok(octets) => list_states_by(rt, request, &states.task, Some(&octets)),
+    match read_octets(rt.alloc(), &mut source, limits) {
+        Ok(octets) => Ok(octets),
         Err(error) => {
             let outcome = Err(RunFault::from(error));
-            finish(rt, request, states.task.mode, &outcome, &source)
+            Err(finish(rt, request, mode, &outcome, &source))
         }
     }
 }
@@ -344,6 +388,61 @@ fn list_states_by(
     let mut reader = input(rt, request);
     let mut writer = Watched::new(rt.stdout());
     let outcome = run_states(rt.alloc(), task, file, &mut reader, &mut writer);
+    reader.end();
+    finish(rt, request, task.mode, &outcome, &reader)
+}
+
+/// Lists what changed from the keyring in a file to the one on standard input.
+fn list_difference(rt: &HostRuntime, request: &Request, task: &DifferenceTask) -> u8 {
+    let file = task.old;
+    if is_input(file) {
+        let _ = eprintln!(rt; "opgp: standard input is the new keyring; the old one is in a file");
+        return USAGE;
+    }
+    let mut source = match open_beside(rt, file) {
+        Ok(source) => source,
+        Err(_) => return unopened(rt, request, file),
+    };
+    let outcome = match read_keyring(rt.alloc(), &mut source, task.mode, &task.limits) {
+        Ok(Answer::Ring(old)) => return list_difference_from(rt, request, task, old),
+        Ok(Answer::Refused(fault)) => Err(RunFault::Refused(fault)),
+        Err(error) => Err(fault_of(error)),
+    };
+    let status = finish(rt, request, task.mode, &outcome, &source);
+    if !request.quiet {
+        let _ = eprintln!(rt; "opgp: this is of the old keyring, {file}");
+    }
+    status
+}
+
+/// The fault of a run that fails to read.
+fn fault_of(error: EngineError) -> RunFault {
+    match error {
+        EngineError::Read => RunFault::Read,
+        EngineError::Write => RunFault::Write,
+        EngineError::Memory => RunFault::Memory,
+    }
+}
+
+/// Lists what changed from this keyring to the one on standard input. The end of the process frees
+/// this one.
+fn list_difference_from(
+    rt: &HostRuntime,
+    request: &Request,
+    task: &DifferenceTask,
+    old: Keyring,
+) -> u8 {
+    let mut reader = input(rt, request);
+    let mut writer = Watched::new(rt.stdout());
+    let outcome = run_difference(
+        rt.alloc(),
+        &old,
+        task.mode,
+        &task.limits,
+        &mut reader,
+        &mut writer,
+    );
+    mem::forget(old);
     reader.end();
     finish(rt, request, task.mode, &outcome, &reader)
 }

@@ -17,6 +17,7 @@ ghost use Rattle.opgp_tool.specs.Program.{IsProgram, SaysNone, SaysTask};
 ghost use Rattle.opgp_tool.specs.declared.task.Usage.TheVariants.{Memory};
 
 use crate::command::program;
+use crate::difference::{DifferenceTask, difference_from};
 use crate::document::{DocumentTask, document_action_of};
 use crate::split::{SplitTask, split_from};
 use crate::states::{StatesTask, states_from};
@@ -57,8 +58,10 @@ pub enum Work<'a> {
     Document(DocumentTask<'a>),
     /// How the parts of a keyring stand.
     States(StatesTask<'a>),
+    /// What changed between two keyrings.
+    Difference(DifferenceTask<'a>),
     /// Which parts of the certificates on standard input are written.
-    Write(WriteTask),
+    Write(WriteTask<'a>),
     /// Which of the certificates on standard input are written.
     Split(SplitTask<'a>),
 }
@@ -173,7 +176,8 @@ pub(crate) fn limits_of(matches: &ArgMatches) -> Option<Limits>
     Some(limits.with_malformed(malformed_of(matches)))
 }
 
-/// What `octets` writes: the octets of one row, or of all rows of a keyring.
+/// What `octets` writes: the octets of one row, or a line for each field of them, or the octets of
+/// all rows of a keyring.
 fn octets_of<'a>(matches: &ArgMatches) -> Option<Action<'a>>
     ensures some { IfSome result (IsAction (codes "octets") (rows_of (found_of matches.now))) }
     ensures none { IfNone result ((action : Action)
@@ -182,15 +186,38 @@ fn octets_of<'a>(matches: &ArgMatches) -> Option<Action<'a>>
     let top = top_of(matches);
     if !is_given(matches, "all") {
         let row = number_of(matches, "row")?;
-        return Some(Action::Octets { row, top });
+        let explained = is_given(matches, "explain");
+        return Some(Action::Octets {
+            row,
+            top,
+            explained,
+        });
     }
-    if word_of(matches, "row").is_some() {
+    if word_of(matches, "row").is_some() || is_given(matches, "explain") {
         return None;
     }
     match top {
         Top::Ring => Some(Action::OctetsAll),
         Top::Literal => None,
     }
+}
+
+/// What `check` writes: its lines as they are, or with fingerprints, or with places.
+fn check_of<'a>(matches: &ArgMatches) -> Option<Action<'a>>
+    ensures some { IfSome result (IsAction (codes "check") (rows_of (found_of matches.now))) }
+    ensures none { IfNone result ((action : Action)
+        → IsAction (codes "check") (rows_of (found_of matches.now)) action → ⊥) }
+{
+    if is_given(matches, "fingerprints") {
+        if is_given(matches, "places") {
+            return None;
+        }
+        return Some(Action::CheckFingerprints);
+    }
+    if is_given(matches, "places") {
+        return Some(Action::CheckPlaces);
+    }
+    Some(Action::Check)
 }
 
 fn action_of<'a>(name: &str, matches: &ArgMatches) -> Option<Action<'a>>
@@ -209,11 +236,7 @@ fn action_of<'a>(name: &str, matches: &ArgMatches) -> Option<Action<'a>>
         } else {
             Action::List
         }),
-        "check" => Some(if is_given(matches, "fingerprints") {
-            Action::CheckFingerprints
-        } else {
-            Action::Check
-        }),
+        "check" => check_of(matches),
         "octets" => octets_of(matches),
         "normalise" => Some(Action::Normalise {
             out: out_of(matches),
@@ -268,7 +291,10 @@ fn other_from<'a>(name: &str, matches: &ArgMatches<'a>) -> Option<Work<'a>>
         Some(task) => Some(Work::Document(task)),
         None => match states_from(name, matches) {
             Some(states) => Some(Work::States(states)),
-            None => Some(Work::Task(task_from(name, matches)?)),
+            None => match difference_from(name, matches) {
+                Some(task) => Some(Work::Difference(task)),
+                None => Some(Work::Task(task_from(name, matches)?)),
+            },
         },
     }
 }
@@ -348,12 +374,22 @@ fn is_about_a_file(text: &str) -> bool {
 /// What to print where `clap` accepts words that name no task.
 fn no_task(alloc: Global, matches: &ArgMatches) -> Usage {
     match matches.subcommand() {
+        Some(("check", _)) => no_check(alloc),
         Some(("octets", options)) => no_octets(alloc, options),
         Some(("digest", options)) => no_digest(alloc, options),
         Some(("state", options)) => no_states(alloc, options),
+        Some(("diff", _)) => no_difference(alloc),
+        Some(("write", options)) => no_write(alloc, options),
         Some(("split", options)) => no_split(alloc, options),
         _ => with_advice(String::from_str(alloc, "error: no task is named")),
     }
+}
+
+/// What to print where the options of `check` name no task: `clap` doesn't judge options that
+/// exclude each other.
+fn no_check(alloc: Global) -> Usage {
+    let text = "error: the argument '--places' cannot be used with '--fingerprints'";
+    with_advice(String::from_str(alloc, text))
 }
 
 /// What to print where the options of `octets` name no task: `clap` doesn't judge options that
@@ -363,6 +399,8 @@ fn no_octets(alloc: Global, options: &ArgMatches) -> Usage {
         "error: the following required arguments were not provided:\n  <--row <N>|--all>"
     } else if word_of(options, "row").is_some() {
         "error: the argument '--row <N>' cannot be used with '--all'"
+    } else if is_given(options, "explain") {
+        "error: the argument '--explain' cannot be used with '--all'"
     } else {
         "error: the argument '--of literal' cannot be used with '--all'"
     };
@@ -380,6 +418,13 @@ fn no_digest(alloc: Global, options: &ArgMatches) -> Usage {
     with_advice(String::from_str(alloc, text))
 }
 
+/// What to print where the options of `diff` name no task: `clap` doesn't judge that an option is
+/// wanted.
+fn no_difference(alloc: Global) -> Usage {
+    let text = "error: the following required arguments were not provided:\n  --old <FILE>";
+    with_advice(String::from_str(alloc, text))
+}
+
 /// What to print where the options of `state` name no task: `clap` judges neither that `--at` is
 /// wanted nor its text.
 fn no_states(alloc: Global, options: &ArgMatches) -> Usage {
@@ -392,6 +437,19 @@ fn no_states(alloc: Global, options: &ArgMatches) -> Usage {
             with_advice(format!(in alloc; "error: invalid value '{at}' for '--at <TIME>': {TIME}"))
         }
     }
+}
+
+/// What to print where the options of `write` name no task: `clap` judges neither that one wants
+/// another nor that two exclude each other.
+fn no_write(alloc: Global, options: &ArgMatches) -> Usage {
+    let text = if word_of(options, "verdicts").is_none() {
+        "error: the argument '--bound' wants '--verdicts <FILE>'"
+    } else if !is_given(options, "bound") {
+        "error: the argument '--verdicts <FILE>' wants '--bound'"
+    } else {
+        "error: the argument '--user-id <N>' cannot be used with '--bound'"
+    };
+    with_advice(String::from_str(alloc, text))
 }
 
 /// What to print where the options of `split` name no task: `clap` judges neither the texts of

@@ -1,22 +1,23 @@
 //! What the command `write` asks for.
 
-ghost use Rattle.std.specs.Prelude.{◌≡◌, ℕ, List, IfNone, IfOk, IfSome, codes, map};
+ghost use Rattle.std.specs.Prelude.{◌≡◌, ℕ, List, IfNone, IfOk, IfSome, Option, codes, map};
+ghost use Rattle.std.specs.Prelude.{option_map};
 ghost use Rattle.std.specs.List.{AllZip};
-ghost use Rattle.clap.specs.Words.{found_of, rows_of};
+ghost use Rattle.clap.specs.Words.{Text, found_of, rows_of};
 ghost use Rattle.opgp_codec.specs.declared.mode.Mode.{Mode};
 ghost use Rattle.opgp_octets.specs.declared.limits.Limits.{Limits};
-ghost use Rattle.opgp_tool.specs.Words.{Chosen, HasNumbers, IsNumber, IsWrite};
-ghost use Rattle.opgp_tool.specs.Words.{Writes, chosen_said};
+ghost use Rattle.opgp_tool.specs.Words.{AreVerdicts, Chosen, HasNumbers, IsNumber, IsWrite};
+ghost use Rattle.opgp_tool.specs.Words.{Writes, WritesBound, chosen_said};
 
-use crate::task::{is_given, limits_of, mode_of, out_of};
+use crate::task::{is_given, limits_of, mode_of, out_of, word_of};
 use clap::ArgMatches;
 use opgp_octets::{Limits, OutOfMemory};
-use opgp_stack::{Action, Choice, Mode, Out, Task};
+use opgp_stack::{Action, BoundTask, Choice, Mode, Out, Task};
 use std::alloc::Global;
 
 /// Which parts of the certificates on standard input are written, and how.
 #[derive(Drop)]
-pub struct WriteTask {
+pub struct WriteTask<'a> {
     /// How the keyring is read.
     pub mode: Mode,
     /// The limits of what is read.
@@ -29,20 +30,45 @@ pub struct WriteTask {
     pub no_attributes: bool,
     /// The numbers of the user IDs that stay; none: all of them.
     pub user_ids: Vec<u64>,
+    /// The name of the file of verdicts by which only bound parts stay; None: all of them.
+    pub verdicts: Option<&'a str>,
 }
 
-impl WriteTask {
-    /// The task.
+impl WriteTask<'_> {
+    /// The choice.
+    fn choice(&self) -> Choice<'_>
+        ensures own_signatures { result.own_signatures ≡ (chosen_said self.now).own_signatures }
+        ensures no_attributes { result.no_attributes ≡ (chosen_said self.now).no_attributes }
+        ensures user_ids { result.user_ids.now ≡ (chosen_said self.now).user_ids }
+    {
+        Choice {
+            own_signatures: self.own_signatures,
+            no_attributes: self.no_attributes,
+            user_ids: self.user_ids.as_slice(),
+        }
+    }
+
+    /// The task on the parts that are bound.
+    pub fn bound_task(&self) -> BoundTask<'_>
+        ensures mode { result.mode ≡ self.now.mode }
+        ensures limits { result.limits ≡ self.now.limits }
+        ensures parts { WritesBound (chosen_said self.now) result }
+    {
+        BoundTask {
+            mode: self.mode,
+            limits: self.limits,
+            out: self.out,
+            choice: self.choice(),
+        }
+    }
+
+    /// The task on all parts, whether they are bound or not.
     pub fn task(&self) -> Task<'_>
         ensures mode { result.mode ≡ self.now.mode }
         ensures limits { result.limits ≡ self.now.limits }
         ensures action { Writes (chosen_said self.now) result.action }
     {
-        let choice = Choice {
-            own_signatures: self.own_signatures,
-            no_attributes: self.no_attributes,
-            user_ids: self.user_ids.as_slice(),
-        };
+        let choice = self.choice();
         let out = self.out;
         let action = if choice.is_everything() {
             Action::Write { out }
@@ -87,11 +113,29 @@ fn user_ids_of(alloc: Global, matches: &ArgMatches) -> Result<Option<Vec<u64>>, 
     }
 }
 
+/// The name of the file of verdicts by which only bound parts stay, if `--bound` is given. The outer
+/// None means that one of `--bound` and `--verdicts` is given without the other, or `--user-id` beside
+/// them.
+fn verdicts_of<'a>(matches: &ArgMatches<'a>) -> Option<Option<&'a str>>
+    ensures some { IfSome result (λ file. AreVerdicts (rows_of (found_of matches.now))
+        (option_map (λ word. word.now) file)) }
+    ensures none { IfNone result ((file : Option Text)
+        → AreVerdicts (rows_of (found_of matches.now)) file → ⊥) }
+{
+    let bound = is_given(matches, "bound");
+    match word_of(matches, "verdicts") {
+        None if bound => None,
+        None => Some(None),
+        Some(file) if bound && word_of(matches, "user-id").is_none() => Some(Some(file)),
+        Some(_) => None,
+    }
+}
+
 /// What `write` with these options writes. Fails only when out of memory.
-pub(crate) fn write_from(
+pub(crate) fn write_from<'a>(
     alloc: Global,
-    matches: &ArgMatches,
-) -> Result<Option<WriteTask>, OutOfMemory>
+    matches: &ArgMatches<'a>,
+) -> Result<Option<WriteTask<'a>>, OutOfMemory>
     ensures some { IfOk result (λ found. IfSome found (λ task.
         IsWrite (codes "write") (rows_of (found_of matches.now)) task.mode task.limits
         (chosen_said task))) }
@@ -103,6 +147,10 @@ pub(crate) fn write_from(
         Some(limits) => limits,
         None => return Ok(None),
     };
+    let verdicts = match verdicts_of(matches) {
+        Some(verdicts) => verdicts,
+        None => return Ok(None),
+    };
     match user_ids_of(alloc, matches)? {
         Some(user_ids) => Ok(Some(WriteTask {
             mode: mode_of(matches),
@@ -111,6 +159,7 @@ pub(crate) fn write_from(
             own_signatures: is_given(matches, "own-signatures"),
             no_attributes: is_given(matches, "no-attributes"),
             user_ids,
+            verdicts,
         })),
         None => Ok(None),
     }

@@ -13,8 +13,8 @@ use Rattle.opgp_codec.specs.Signatures.{AreDetachedSignatures, signature_label}
 use Rattle.opgp_codec.proofs.Cleartexts.{rest_within}
 use Rattle.opgp_codec.proofs.reading_cleartext.read_cleartext.Goals as goal
 
-pub returns-in-Err : goal.returns-in-Err
-returns-in-Err c =
+pub returns-in-Err-clause-reads : goal.returns-in-Err-clause-reads
+returns-in-Err-clause-reads c =
     at_lines (omega (arith, c.if-text-input.false, c.input.ensures.value)) c.in-Err.fault
     (subst (λ (n : ℕ). IsCleartextFault n c.args.text.now c.in-Err.fault) c.line.ensures.value c.in-Err.ensures.err) refl
 
@@ -31,8 +31,8 @@ moved-requires c = λ armor.
     let size = ap (length {A = ℕ}) (c.signatures.ensures ∙ c.in-Ok.ensures.place.1) in
     omega (arith, pos, size, length-drop (place_of m) t, c.signatures_place-place.ensures, c.in-Ok.ensures.place.0)
 
-pub returns-in-Ok-read_signatures : goal.returns-in-Ok-read_signatures
-returns-in-Ok-read_signatures c =
+pub returns-in-Ok-read_signatures-clause-reads : goal.returns-in-Ok-read_signatures-clause-reads
+returns-in-Ok-read_signatures-clause-reads c =
     let l = c.with_outside-strict.result in
     let e = c.with_outside-strict.ensures in
     let m = c.in-Ok.message in
@@ -51,8 +51,8 @@ returns-in-Ok-read_signatures c =
       is = subst (λ (x : List ℕ). AnswerOf {A = List PacketValue} signature_label (AreDetachedSignatures l) Armor l x (Ok (detached_packets s))) rest is;
     }) refl
 
-pub returns-in-Err-Refused : goal.returns-in-Err-Refused
-returns-in-Err-Refused c =
+pub returns-in-Err-Refused-clause-reads : goal.returns-in-Err-Refused-clause-reads
+returns-in-Err-Refused-clause-reads c =
     let l = c.with_outside-strict.result in
     let e = c.with_outside-strict.ensures in
     let f = c.in-Err-Refused.fault in
@@ -72,3 +72,8 @@ returns-in-Err-Refused c =
       is = subst (λ (x : List ℕ). AnswerOf {A = List PacketValue} signature_label (AreDetachedSignatures l) Armor l x (Err f)) rest is;
     })
     (ap Err (c.moved.ensures ∙ ap (λ (n : ℕ). moved n f) c.signatures_place-place.ensures))
+
+pub returns-in-Ok-read_signatures-clause-lines : goal.returns-in-Ok-read_signatures-clause-lines
+returns-in-Ok-read_signatures-clause-lines c =
+    let m = c.in-Ok.message in
+    subst (λ (n : ℕ). HasCleartext n c.args.text.now (document_of m) (rest_of m)) c.line.ensures.value c.in-Ok.ensures.ok

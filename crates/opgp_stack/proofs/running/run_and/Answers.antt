@@ -29,8 +29,8 @@ returns-in_ok-text-in-ShowValues g c =
     ran c.args.task.now (IsShownOf (DraftHas g.S.Spool.serves g.S.Spool.tells g.S.Spool.holds g.S.Spool.has_failed) Valued c.args.task.now) _ c.in-ShowValues.is (λ fault. inl (refl, refl)) _ _ _ c.in_ok-text-in-ShowValues.text
     (λ octets h. (Text (lines_of valued_lines h.0), (Ok h.0, h.1, refl), inr (c.write_draft-in-ShowValues.ensures _ h.2))) c.in_ok-text-in-ShowValues.ensures refl
 
-pub returns-in-Octets-default-Literal : goal.returns-in-Octets-default-Literal
-returns-in-Octets-default-Literal g c = spooled g.W.Sink.held g.W.Sink.has_failed c.args.task.now g.S.Spool.serves g.S.Spool.tells c.write_message_octets.ensures
+pub returns-in-Octets-default-Literal-default : goal.returns-in-Octets-default-Literal-default
+returns-in-Octets-default-Literal-default g c = spooled g.W.Sink.held g.W.Sink.has_failed c.args.task.now g.S.Spool.serves g.S.Spool.tells c.write_message_octets.ensures
 
 pub returns-in_err-made-in_default : goal.returns-in_err-made-in_default
 returns-in_err-made-in_default g c =

@@ -23,5 +23,5 @@ returns-in_err-message g c =
 pub returns : goal.returns
 returns g c =
     ran c.args.task.now (LiteralOf c.args.task.now) _ c.requires.action (λ fault. (refl, refl)) _ _ _ c.in_ok-message.message
-    (λ octets h. (question_made (question_in (slice_get (message_asked (signed_packets c.in_ok-message.message)) c.args.row)), (Ok (signed_packets c.in_ok-message.message), h, refl), rw c.question_of-question.ensures at c.write_question.ensures))
+    (λ octets h. (question_made c.args.explained (question_in (slice_get (message_asked (signed_packets c.in_ok-message.message)) c.args.row)), (Ok (signed_packets c.in_ok-message.message), h, refl), rw c.question_of-question.ensures at c.write_question.ensures))
     c.in_ok-message.ensures c.done.ensures

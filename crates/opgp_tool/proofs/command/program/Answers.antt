@@ -17,7 +17,7 @@ both (Ok command) P Q p q = (command, p, q)
 both (Err e) P Q p q = absurd q
 
 pub returns : goal.returns
-returns c = IfOk-weaker c.with_command-13.result _ _ (λ r last.
+returns c = IfOk-weaker c.with_command-14.result _ _ (λ r last.
     let show = both c.show_command.result _ _ c.show_command.ensures c.in_ok-tool-2.ensures in
     let list = both c.list_command.result _ _ c.list_command.ensures c.in_ok-tool-3.ensures in
     let check = both c.check_command.result _ _ c.check_command.ensures c.in_ok-tool-4.ensures in
@@ -30,7 +30,8 @@ returns c = IfOk-weaker c.with_command-13.result _ _ (λ r last.
     let signatures = both c.new_command.result _ _ c.new_command.ensures c.in_ok-tool-11.ensures in
     let digest = both c.digest_command.result _ _ c.digest_command.ensures c.in_ok-tool-12.ensures in
     let canonical = both c.new_command-2.result _ _ c.new_command-2.ensures c.in_ok-tool-13.ensures in
-    let cleartext = both c.cleartext_command.result _ _ c.cleartext_command.ensures last in
+    let cleartext = both c.cleartext_command.result _ _ c.cleartext_command.ensures c.in_ok-tool-14.ensures in
+    let diff = both c.diff_command.result _ _ c.diff_command.ensures last in
     let one = show.2 (ap plain_of show.1.app)
     ∙ ap₂ with_subcommand c.in_ok-tool.ensures (ap top_of show.1.app) in
     let two = list.2 (ap plain_of list.1.app)
@@ -57,6 +58,8 @@ returns c = IfOk-weaker c.with_command-13.result _ _ (λ r last.
     ∙ ap₂ with_subcommand eleven (ap top_of canonical.1.app) in
     let thirteen = cleartext.2 (ap plain_of cleartext.1.2.app)
     ∙ ap₂ with_subcommand twelve (ap top_of cleartext.1.2.app) in
+    let fourteen = diff.2 (ap plain_of diff.1.app)
+    ∙ ap₂ with_subcommand thirteen (ap top_of diff.1.app) in
     record {
       show_choices = show.1.choices;
       list_choices = list.1.choices;
@@ -71,7 +74,8 @@ returns c = IfOk-weaker c.with_command-13.result _ _ (λ r last.
       digest_choices = digest.1.choices;
       canonical_choices = canonical.1.choices;
       cleartext_choices = cleartext.1.2.choices;
-      are_choices = (show.1.are_choices, (list.1.are_choices, (check.1.are_choices, (state.1.2.are_choices, (octets.1.2.are_choices, (write.1.2.are_choices, (normalise.1.2.are_choices, (split.1.2.are_choices, (join.1.2.are_choices, (signatures.1.are_choices, (digest.1.are_choices, (canonical.1.are_choices, (cleartext.1.2.are_choices, tt)))))))))))));
+      diff_choices = diff.1.choices;
+      are_choices = (show.1.are_choices, (list.1.are_choices, (check.1.are_choices, (state.1.2.are_choices, (octets.1.2.are_choices, (write.1.2.are_choices, (normalise.1.2.are_choices, (split.1.2.are_choices, (join.1.2.are_choices, (signatures.1.are_choices, (digest.1.are_choices, (canonical.1.are_choices, (cleartext.1.2.are_choices, (diff.1.are_choices, tt))))))))))))));
       reliances = state.1.0;
       are_reliances = state.1.1;
       tops = octets.1.0;
@@ -83,5 +87,5 @@ returns c = IfOk-weaker c.with_command-13.result _ _ (λ r last.
       are_outs = (write.1.1, (normalise.1.1, (split.1.1, (join.1.1, tt))));
       parts = cleartext.1.0;
       are_parts = cleartext.1.1;
-      is = thirteen;
-    }) c.with_command-13.ensures
+      is = fourteen;
+    }) c.with_command-14.ensures

@@ -10,4 +10,4 @@ returns-in_err-row-clause-none c =
     let none : c.number_of.result ≡ None = search rules in
     let not_all : is_given (first_of (codes "all") options) ≡ false = search rules in
     let no_row = where_none _ none c.number_of.ensures.none in
-    always _ (no_octets options (λ row has given. no_row row has) (λ given ring lacks. absurd (cc (given, not_all))))
+    always _ (no_octets options (λ row has given. no_row row has) (λ given ring lacks plain. absurd (cc (given, not_all))))

@@ -2,7 +2,7 @@ use Rattle.std.proofs.Common.{◌⊎◌, inl, inr, refl}
 use Rattle.opgp_codec.specs.Draft.{DraftHas}
 use Rattle.opgp_stack.specs.Making.{ring_made}
 use Rattle.opgp_stack.specs.Running.{IsMade, IsSpooled, Made}
-use Rattle.opgp_stack.proofs.RingMade.{drafted, ends_so, fingerprinted_made, found_so, merged_so, named_made_by, nth_so, octets_made, report_made, row_so, text_made}
+use Rattle.opgp_stack.proofs.RingMade.{drafted, ends_so, fingerprinted_made, found_so, merged_so, named_made_by, nth_so, octets_made, placed_made, report_made, row_so, text_made}
 use Rattle.opgp_stack.proofs.making.Making.write.Goals as goal
 
 pub returns-in-Text : goal.returns-in-Text
@@ -20,7 +20,7 @@ returns-in-Nth g c r h =
 
 pub returns-in-Row : goal.returns-in-Row
 returns-in-Row g c r h =
-    inl (ends_so (IsMade g.W.Sink.held g.W.Sink.has_failed c.args.writer.now c.write_row.new.writer) c.done-in-Row.result c.write_row.result _ (ring_made c.args.action r) c.done-in-Row.ensures (row_so (DraftHas g.S.Spool.serves g.S.Spool.tells g.S.Spool.holds g.S.Spool.has_failed) c.args.action c.in-Row.row c.found-found-in-Row.result.0 c.found-found-in-Row.result.1 r c.found-found-in-Row.ensures.ring c.found-found-in-Row.ensures.left (rw c.in-Row.is at h)) c.write_row.ensures)
+    inl (ends_so (IsMade g.W.Sink.held g.W.Sink.has_failed c.args.writer.now c.write_row.new.writer) c.done-in-Row.result c.write_row.result _ (ring_made c.args.action r) c.done-in-Row.ensures (row_so (DraftHas g.S.Spool.serves g.S.Spool.tells g.S.Spool.holds g.S.Spool.has_failed) c.args.action c.in-Row.row c.explains_of.result c.found-found-in-Row.result.0 c.found-found-in-Row.result.1 r c.explains_of.ensures c.found-found-in-Row.ensures.ring c.found-found-in-Row.ensures.left (rw c.in-Row.is at h)) c.write_row.ensures)
 
 pub returns-in-Report : goal.returns-in-Report
 returns-in-Report g c r h =
@@ -29,6 +29,10 @@ returns-in-Report g c r h =
 pub returns-in-Fingerprinted : goal.returns-in-Fingerprinted
 returns-in-Fingerprinted g c r h =
     inl (ends_so (IsMade g.W.Sink.held g.W.Sink.has_failed c.args.writer.now c.write_fingerprinted.new.writer) c.done-in-Fingerprinted.result c.write_fingerprinted.result _ (ring_made c.args.action r) c.done-in-Fingerprinted.ensures (fingerprinted_made (DraftHas g.S.Spool.serves g.S.Spool.tells g.S.Spool.holds g.S.Spool.has_failed) c.args.action c.in-Fingerprinted.rows c.report-report-in-Fingerprinted.result r c.report-report-in-Fingerprinted.ensures (rw c.in-Fingerprinted.is at h)) c.write_fingerprinted.ensures)
+
+pub returns-in-Placed : goal.returns-in-Placed
+returns-in-Placed g c r h =
+    inl (ends_so (IsMade g.W.Sink.held g.W.Sink.has_failed c.args.writer.now c.write_placed.new.writer) c.done-in-Placed.result c.write_placed.result _ (ring_made c.args.action r) c.done-in-Placed.ensures (placed_made (DraftHas g.S.Spool.serves g.S.Spool.tells g.S.Spool.holds g.S.Spool.has_failed) c.args.action c.in-Placed.rows c.report-placed.result.0 c.report-placed.result.1.items r c.report-placed.ensures.rows c.report-placed.ensures.places (rw c.in-Placed.is at h)) c.write_placed.ensures)
 
 pub returns-in-AllOctets : goal.returns-in-AllOctets
 returns-in-AllOctets g c r h =

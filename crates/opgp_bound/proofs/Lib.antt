@@ -1,0 +1,4 @@
+pub mod First
+pub mod Found
+pub mod Kept
+pub mod Rows

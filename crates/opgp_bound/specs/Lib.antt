@@ -1,0 +1,4 @@
+pub mod Bound
+pub mod Judged
+pub mod Newest
+pub mod Role

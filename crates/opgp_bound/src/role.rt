@@ -1,0 +1,167 @@
+//! What the packets on a key or a component are there for.
+
+ghost use Rattle.std.specs.Prelude.{◌≡◌, Ok, is_ok, true};
+ghost use Rattle.opgp_octets.specs.SignatureType.{signature_type_of};
+ghost use Rattle.opgp_packet.specs.Areas.{hashed_subs};
+ghost use Rattle.opgp_packet.specs.SigView.{sig_view_value};
+ghost use Rattle.opgp_hash.specs.Asking.{ask_at_of};
+ghost use Rattle.opgp_hash.specs.declared.site.Site.TheVariants.{Hung};
+ghost use Rattle.opgp_hash.specs.Subject.{subject_value};
+ghost use Rattle.opgp_hash.specs.SubjectValue.{is_within};
+ghost use Rattle.opgp_valid.specs.KnownKeys.{knowns};
+ghost use Rattle.opgp_valid.specs.Subpackets.{made_in};
+ghost use Rattle.opgp_valid.specs.Told.{is_print};
+ghost use Rattle.opgp_bound.specs.Role.{counted, is_own_and_good, is_self_type, kind_in, role_by};
+ghost use Rattle.opgp_bound.specs.Role.{role_read};
+
+use crate::own::is_named_by;
+use opgp_hash::{Fingerprint, Site, Subject, ask_at};
+use opgp_octets::SignatureType;
+use opgp_packet::SigView;
+use opgp_report::Verdict;
+use opgp_valid::subpackets::made_in;
+use opgp_valid::{Known, KnownKeys};
+
+/// What a packet on a key or a component is there for.
+#[derive(Clone, Copy, Debug, PartialEq, Eq)]
+pub enum Role {
+    /// It certifies or binds what it is on, and names the primary key as its issuer. If it counts,
+    /// it was made then, in seconds since 1970.
+    SelfSignature(Option<u32>),
+    /// It revokes the primary key (RFC 9580, 5.2.1.11).
+    KeyRevocation,
+    /// It is something else: another signature, or a filler.
+    Other,
+}
+
+/// The keys of a keyring, and the fingerprint of a certificate's primary key.
+#[derive(Clone, Copy)]
+pub(crate) struct Context<'k> {
+    pub(crate) known: &'k KnownKeys,
+    pub(crate) primary: Fingerprint,
+}
+
+/// Whether signatures of this type are self-signatures, if the primary key made them (RFC 9580,
+/// 5.2.1.4 to 5.2.1.8, 5.2.1.10).
+fn is_self_type(kind: SignatureType) -> bool
+    ensures { result ≡ is_self_type kind }
+{
+    matches!(
+        kind,
+        SignatureType::GenericCertification
+            | SignatureType::PersonaCertification
+            | SignatureType::CasualCertification
+            | SignatureType::PositiveCertification
+            | SignatureType::SubkeyBinding
+            | SignatureType::DirectKey
+    )
+}
+
+/// The type of a signature (RFC 9580, 5.2.1).
+fn kind_in(signature: SigView<'_>) -> Option<u8>
+    ensures { result ≡ kind_in (sig_view_value signature.entry) }
+{
+    match signature {
+        SigView::Three(view) => Some(view.kind()),
+        SigView::Four(view) => Some(view.kind()),
+        SigView::Six(view) => Some(view.kind()),
+        SigView::Other(_) => None,
+    }
+}
+
+/// When a signature was made, in seconds since 1970: the one creation time in its hashed area (RFC
+/// 9580, 5.2.3.11).
+fn made(signature: SigView<'_>) -> Option<u32>
+    ensures { result ≡ made_in (hashed_subs (sig_view_value signature.entry)) }
+{
+    match signature {
+        SigView::Four(view) => made_in(view.hashed()),
+        SigView::Six(view) => made_in(view.hashed()),
+        SigView::Three(_) | SigView::Other(_) => None,
+    }
+}
+
+/// Whether a key is the one of this fingerprint.
+fn is_print(print: Fingerprint, key: Option<Known>) -> bool
+    ensures { result ≡ is_print print key }
+{
+    match key {
+        Some(known) => {
+            known.print.version() == print.version() && known.print.octets() == print.octets()
+        }
+        None => false,
+    }
+}
+
+/// Whether a signature is hashed over this subject (RFC 9580, 5.2.1, 5.2.4).
+fn is_hashed(signature: SigView<'_>, subject: Subject<'_>) -> bool
+    requires { is_within (subject_value subject) ≡ true }
+    ensures { result
+        ≡ is_ok (ask_at_of Hung (sig_view_value signature.entry) (subject_value subject.entry)) }
+{
+    ask_at(Site::Hung, signature, subject).is_ok()
+}
+
+impl Context<'_> {
+    /// Whether a verdict is good over what a signature follows, and the primary key made it.
+    fn is_own_and_good(&self, subject: Subject<'_>, found: Verdict, signature: SigView<'_>) -> bool
+        requires { is_within (subject_value subject) ≡ true }
+        ensures { result ≡ is_own_and_good (knowns self.now.known.now) self.now.primary
+            (subject_value subject.entry) found (sig_view_value signature.entry) }
+    {
+        matches!(found, Verdict::Good)
+            && is_hashed(signature, subject)
+            && is_print(self.primary, self.known.issuer(signature))
+    }
+
+    /// When a self-signature was made, if it counts.
+    fn counted(&self, subject: Subject<'_>, found: Verdict, signature: SigView<'_>) -> Option<u32>
+        requires { is_within (subject_value subject) ≡ true }
+        ensures { result ≡ counted (knowns self.now.known.now) self.now.primary
+            (subject_value subject.entry) found (sig_view_value signature.entry) }
+    {
+        if self.is_own_and_good(subject, found, signature) {
+            made(signature)
+        } else {
+            None
+        }
+    }
+
+    /// What a signature of this type is there for.
+    fn role_by(
+        &self,
+        subject: Subject<'_>,
+        found: Verdict,
+        signature: SigView<'_>,
+        kind: SignatureType,
+    ) -> Role
+        requires { is_within (subject_value subject) ≡ true }
+        ensures { result ≡ role_by (knowns self.now.known.now) self.now.primary
+            (subject_value subject.entry) found (sig_view_value signature.entry) kind }
+    {
+        if is_self_type(kind) && is_named_by(self.primary, signature) {
+            Role::SelfSignature(self.counted(subject, found, signature))
+        } else if matches!(kind, SignatureType::KeyRevocation) {
+            Role::KeyRevocation
+        } else {
+            Role::Other
+        }
+    }
+
+    /// What a signature on a subject is there for, by the verdict on it.
+    pub(crate) fn role_of(
+        &self,
+        subject: Subject<'_>,
+        found: Verdict,
+        signature: SigView<'_>,
+    ) -> Role
+        requires { is_within (subject_value subject) ≡ true }
+        ensures { result ≡ role_read (knowns self.now.known.now) self.now.primary
+            (subject_value subject.entry) found (Ok (sig_view_value signature.entry)) }
+    {
+        match kind_in(signature) {
+            Some(kind) => self.role_by(subject, found, signature, SignatureType::from(kind)),
+            None => Role::Other,
+        }
+    }
+}

@@ -1,0 +1,4 @@
+pub mod Difference
+pub mod Entries
+pub mod Telling
+pub mod Tree

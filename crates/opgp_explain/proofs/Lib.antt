@@ -1,0 +1,4 @@
+pub mod Areas
+pub mod Keys
+pub mod Told
+pub mod Whole

@@ -1,0 +1,248 @@
+#!/usr/bin/env python3
+"""Runs `write --bound` over generated certificates with verdicts on their signatures, and compares what it writes with the rule, worked
+out here in another way.
+
+Usage: tests/program/bound.py [--cases N] [--seed N] [--program FILE]
+
+Files of verdicts are written as opgp-verify writes them. Those of another keyring are refused, and so are command lines on which
+--bound and --verdicts aren't together. Some certificates are made by hand: a user ID that nobody certified, superseded certifications, a
+revoked user ID, a stranger's subkey. The last line counts the tests."""
+
+import argparse
+import os
+import random
+import subprocess
+import sys
+import tempfile
+
+sys.dont_write_bytecode = True
+sys.path.insert(0, f"{sys.path[0]}/../lib")
+
+import model  # noqa: E402
+import standing_cases  # noqa: E402
+from openpgp_maker import Key, number, on_identity, packet, signature, subpacket  # noqa: E402
+from running import built  # noqa: E402
+
+parser = argparse.ArgumentParser(prog="tests/program/bound.py", description=__doc__.split("\n\n", maxsplit=1)[0])
+parser.add_argument("--cases", type=int, default=1000)
+parser.add_argument("--seed", type=int, default=1)
+parser.add_argument("--program", help="the program that is run, in place of that of this repository")
+told = parser.parse_args()
+PROGRAM = told.program or built("tests/program/bound.py")
+KEEP = ("--malformed", "keep")
+NOT_THOSE = "opgp: the verdicts aren't those of this keyring\n"
+SELF = (0x10, 0x11, 0x12, 0x13, 0x18, 0x1F)
+OPTIONS = ((), ("--own-signatures",), ("--no-attributes",), ("--own-signatures", "--no-attributes"))
+MADE = 1700000000
+passed = failed = 0
+
+
+def verdict(name, holds, why=""):
+    global passed, failed
+    passed, failed = passed + bool(holds), failed + (not holds)
+    if not holds and failed <= 5:
+        print(f"tests/program/bound.py: {name}: FAILED {why}", file=sys.stderr)
+
+
+def run(*words, given=b""):
+    ended = subprocess.run([PROGRAM, *words], input=given, capture_output=True, check=False, timeout=120)
+    return ended.returncode, ended.stdout, ended.stderr.decode()
+
+
+def file_of(lines, verdicts, rng):
+    """What a verifier prints that found these verdicts; and the verdicts that this says."""
+    written, said = [], []
+    for line, found in zip(lines, verdicts, strict=True):
+        front, own = line.rsplit(b" ", 1)
+        if b" : none " in line:
+            if rng.random() < 0.5:
+                written.append(line)
+                said.append("undecided")
+                continue
+            front = line + b" verdict"
+        found = "bad" if own == b"bad" else found
+        written.append(front + b" " + found.encode())
+        said.append(found)
+    return b"".join(line + b"\n" for line in written), said
+
+
+def names(it, body):
+    """Whether a signature names the key of this body as its issuer; the first that it names decides."""
+    if it.version == 3:
+        return it.body[7:15] == model.key_id(body)
+    for octet, _, octets in it.hashed:
+        if octet & 127 == 33 and model.meaning(33, octets) == "typed":
+            return octets == body[:1] + model.fingerprint(body)
+    for octet, _, octets in (*it.hashed, *it.unhashed):
+        if octet & 127 == 16 and len(octets) == 8:
+            return octets == model.key_id(body)
+    return False
+
+
+def counted(it, found, place, primary, head, keys):
+    """When a self-signature was made, if it counts."""
+    signer = model.signer_of(it, keys)
+    if found != "good" or signer is None or model.asked_there(it.body, place, primary, head)[0] is None:
+        return None
+    return model.created_of(it) if (signer[0], model.fingerprint(signer)) == (primary[0], model.fingerprint(primary)) else None
+
+
+def judged(packets, parts, verdicts, keys):
+    """The parts of a certificate, with what each packet is: (it is a self-signature, when it was made if it counts, it revokes a key)."""
+    primary = packets[parts[0][0]][4]
+    for n, (head, hangs) in enumerate(parts):
+        place, body, found = packets[head][2] if n else None, packets[head][4], []
+        for index in hangs:
+            if packets[index][2] != 2:
+                found.append((index, False, None, False))
+                continue
+            it, said = model.kept_signature(packets[index][4]), next(verdicts)
+            if place == 14 and it.version in (4, 6) and it.kind == 0x18:
+                for _ in [1 for octet, *_ in (*it.hashed, *it.unhashed) if octet & 127 == 32]:
+                    next(verdicts)
+            is_self = it.version != 0 and it.kind in SELF and names(it, primary)
+            made = counted(it, said, place, primary, body, keys) if is_self else None
+            found.append((index, is_self, made, it.version != 0 and it.kind == 0x20))
+        yield head, found
+
+
+def bound(packets, certificates, verdicts):
+    keys = [body for *_, kind, _, body, _ in packets if kind in (6, 14)]
+    verdicts = iter(verdicts)
+    for parts in certificates:
+        (primary, own), *components = judged(packets, parts, verdicts, keys)
+        newest = [max((made for _, _, made, _ in hangs if made is not None), default=None) for _, hangs in [(primary, own), *components]]
+        kept = [[it for it, is_self, made, _ in hangs if not is_self or (made is not None and made == last)]
+                for (_, hangs), last in zip([(primary, own), *components], newest)]  # fmt: skip
+        moved = [it for (_, hangs), last in zip(components, newest[1:]) if last is None for it, _, _, revokes in hangs if revokes]
+        yield [(primary, kept[0] + moved)] + [(head, k) for (head, _), k, last in zip(components, kept[1:], newest[1:]) if last is not None]
+
+
+def wanted(octets, verdicts, options):
+    blocks = [(b"PUBLIC KEY BLOCK", octets)]
+    packets = model.framed(blocks, model.USUAL)
+    lead, certificates = model.compose(blocks, packets, model.USUAL)
+    certificates = [*bound(packets, certificates, verdicts)]
+    command = ("--own-signatures" in options, "--no-attributes" in options, [])
+    return model.written(command, blocks, packets, lead, certificates, None, True)[1]
+
+
+class Room:
+    """A folder with a file of verdicts."""
+
+    def __init__(self, folder):
+        self.file = f"{folder}/verdicts"
+
+    def write(self, octets, verdicts, *words):
+        with open(self.file, "wb") as it:
+            it.write(verdicts)
+        return run("write", *KEEP, "--out", "binary", "--bound", "--verdicts", self.file, *words, given=octets)
+
+
+def checked(octets):
+    status, lines, _ = run("check", *KEEP, given=octets)
+    verdict("check", status == 0)
+    return lines.splitlines()
+
+
+def compare(room, octets, verdicts, rng, title):
+    """The file of verdicts, and what was written by it."""
+    file, said = file_of(checked(octets), verdicts, rng)
+    for options in OPTIONS if rng.random() < 0.3 else ((),):
+        ended = room.write(octets, file, *options)
+        verdict(title, ended == (0, wanted(octets, said, options), ""), f"{options} {said} {octets.hex()}\n{ended}")
+    return file
+
+
+def generated(room):
+    rng = random.Random(told.seed)
+    other = None
+    for n, case in enumerate(standing_cases.cases(told.seed, told.cases)):
+        file = compare(room, case.octets, case.verdicts, rng, f"case {n}")
+        compare(room, case.octets, ["good"] * len(case.verdicts), rng, f"case {n}, all good")
+        if other is not None and other != file and n % 10 == 0:
+            verdict(f"case {n} by another keyring's verdicts", room.write(case.octets, other) == (1, b"", NOT_THOSE))
+        other = file
+    for it in standing_cases.vectors():
+        compare(room, it.octets, it.verdicts, rng, it.title)
+
+
+def by_hand(room):
+    """Certificates of which is said what stays: packets with True or False, and with the verdicts on their rows."""
+    first, other = (Key(4, MADE, 27, number(32, n), lambda digest, hash: bytes(64)) for n in (1, 2))
+    subkeys = [Key(4, MADE, 27, number(32, n), None) for n in (3, 4)]
+
+    def made(signer, kind, at, on=b"", more=b""):
+        area = subpacket(2, number(4, MADE + at)) + signer.issuer_fingerprint + more
+        return packet(2, signature(signer, kind, first.octets + on, area))
+
+    def certified(signer, kind, at, more=b""):
+        return made(signer, kind, at, on_identity(13, b"Alice"), more)
+
+    key, alice, trust = packet(6, first.body), packet(13, b"Alice"), packet(12, b"\1")
+    picture = standing_cases.PICTURES[0]
+    strange, bound_one = (packet(14, it.body) for it in subkeys)
+    rows = {
+        "a user ID that nobody certified": [(key, 1), (alice, 0), (trust, 0)],
+        "a user ID that a stranger certified": [(key, 1), (alice, 0), (certified(other, 0x13, 1), 0, "good")],
+        "a forged certification": [(key, 1), (alice, 0), (certified(first, 0x13, 1), 0, "bad")],
+        "superseded certifications": [
+            (key, 1), (alice, 1), (certified(first, 0x13, 3), 1, "good"), (certified(first, 0x13, 2), 0, "good"),
+            (certified(first, 0x10, 3), 1, "good"), (certified(first, 0x13, 4), 0, "undecided"), (trust, 1)],
+        "a revoked user ID": [(key, 1), (alice, 1), (certified(first, 0x30, 5), 1, "good"), (certified(first, 0x13, 1), 1, "good")],
+        "a forged revocation": [(key, 1), (alice, 1), (certified(first, 0x30, 5), 1, "bad"), (certified(first, 0x13, 1), 1, "good")],
+        "a stranger's subkey": [
+            (key, 1), (strange, 0), (made(other, 0x18, 1, subkeys[0].octets), 0, "good"),
+            (bound_one, 1), (made(first, 0x18, 1, subkeys[1].octets), 1, "good")],
+        "direct key signatures": [
+            (key, 1), (made(first, 0x1F, 1), 0, "good"), (made(first, 0x1F, 2), 1, "good"), (made(first, 0x20, 9), 1, "bad")],
+        "an attribute": [
+            (key, 1), (packet(17, picture), 1), (made(first, 0x13, 1, on_identity(17, picture)), 1, "good"),
+            (made(other, 0x13, 2, on_identity(17, picture)), 1, "undecided")],
+        "a later one that has expired": [
+            (key, 1), (alice, 1), (certified(first, 0x13, 2, subpacket(3, number(4, 1))), 1, "good"), (certified(first, 0x13, 1), 0, "good")],
+    }  # fmt: skip
+    for title, row in rows.items():
+        octets = b"".join(it[0] for it in row)
+        file, _ = file_of(checked(octets), [it[2] for it in row if len(it) > 2], random.Random(1))
+        ended = room.write(octets, file)
+        verdict(title, ended == (0, b"".join(it[0] for it in row if it[1]), ""), f"{ended}")
+    revocation, binding = made(first, 0x20, 5), made(first, 0x18, 1, subkeys[1].octets)
+    octets = key + alice + revocation + bound_one + binding
+    file, _ = file_of(checked(octets), ["good", "good"], random.Random(1))
+    ended = room.write(octets, file)
+    verdict("a key revocation on a user ID that goes", ended == (0, key + revocation + bound_one + binding, ""), f"{ended}")
+
+
+def command_lines(room, octets):
+    with open(room.file, "wb") as it:
+        it.write(file_of(checked(octets), ["good"] * len(checked(octets)), random.Random(1))[0])
+    for words, line in (
+        (("--bound",), "error: the argument '--bound' wants '--verdicts <FILE>'"),
+        (("--verdicts", room.file), "error: the argument '--verdicts <FILE>' wants '--bound'"),
+        (("--bound", "--verdicts", room.file, "--user-id", "0"), "error: the argument '--user-id <N>' cannot be used with '--bound'"),
+        (("--bound", "--verdicts", "-"), "opgp: standard input is the keyring; the verdicts are in a file"),
+        (("--bound", "--verdicts", "/dev/stdin"), "opgp: standard input is the keyring; the verdicts are in a file"),
+    ):
+        ended = run("write", *words, given=octets)
+        verdict(f"{words}", ended[:2] == (2, b"") and ended[2].startswith(f"{line}\n"), f"{ended}")
+    for name in (f"{room.file}.none", os.path.dirname(room.file)):
+        verdict(f"verdicts from {name}", run("write", "--bound", "--verdicts", name, given=octets)[:2] == (3, b""))
+    verdict("a file that is too long", room.write(octets, b"x" * 2000, "--input", "1999")[:2] == (1, b""))
+    verdict("an input that is no keyring", room.write(b"\x99", b"")[:2] == (1, b""))
+    verdict("an empty keyring", room.write(b"", b"", "--quiet") == (0, b"", ""))
+    verdict("an empty keyring, and some verdict", room.write(b"", b"\n", "--quiet") == (1, b"", NOT_THOSE))
+    verdict("no verdicts", room.write(octets, b"") == (1, b"", NOT_THOSE))
+
+
+def main():
+    with tempfile.TemporaryDirectory(prefix="opgp-bound-") as folder:
+        room = Room(folder)
+        by_hand(room)
+        generated(room)
+        command_lines(room, next(standing_cases.cases(1, 1)).octets)
+    print(f"{passed} passed, {failed} failed")
+    return failed != 0
+
+
+sys.exit(main())

@@ -1024,7 +1024,8 @@ def beside_wks(opgp, everyday):
     if not GPG_WKS or not shutil.which("gpg"):
         left_out("gpg-wks-client")
         return
-    found = set()
+    # So that there are some on a machine without keyrings. The first is the example of the directory's draft.
+    found = {"Joe.Doe@Example.ORG", "a@b.org", "first.last+tag@mail.example.net", "UPPER@EXAMPLE.COM", "x_y-z@sub.example.org", "0@1.example"}
     for path in rings():
         keyring = everyday.once(opgp.read(octets_of(path)))
         found |= {it.address for entry in everyday.survey(keyring, NOW) for it in entry.user_ids if it.address}

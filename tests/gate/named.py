@@ -385,6 +385,24 @@ def in_library():
     return [found]
 
 
+def in_facade():
+    """Each name that a library below `opgp` makes public, and each of its files of definitions that others may name, is one of `opgp`'s too."""
+    page, found = "crates/opgp/src/lib.rt", Claims("crates/opgp", "")
+    for crate in stands_on()["opgp"]:
+        room = crate.removeprefix("opgp_")
+        text = re.sub(r"//.*", "", read(f"crates/{crate}/src/lib.rt"))
+        paths = [it for it in re.findall(r"^pub use ([^;]*);", text, re.M) if not it.startswith("opgp_")]
+        names = {name for it in paths for name in re.findall(r"\w+", it.partition("{")[2] or it.split("::")[-1])}
+        names |= set(re.findall(r"^pub mod (\w+);", text, re.M))
+        told = re.search(rf"^pub mod {room} \{{(.*?)^\}}", read(page), re.M | re.S)
+        for name in sorted(names):
+            found.tell(bool(told) and name in re.findall(r"\w+", told[1]), name, f"in {page}, and is public in {crate}")
+        told = read(f"crates/opgp/specs/{room.capitalize()}.antt")
+        for name in re.findall(r"^pub mod (\w+)", read(f"crates/{crate}/specs/Lib.antt"), re.M):
+            found.tell(f".{name}\n" in told, name, f"in crates/opgp/specs/{room.capitalize()}.antt, and is public in {crate}")
+    return [found]
+
+
 def clauses_of(name):
     """A line for each public function of a crate, with its file, and the names of its clauses; of a clause without a name, the
     definitions that it cites, or its text. Behind `keeps` comes what a type states of its values, and a trait of what implements it."""
@@ -413,7 +431,7 @@ def without_name(body):
 
 def claims():
     """All that the pages say of names, and the libraries in use."""
-    return [*in_readme(), *in_proofs(), *in_architecture(), *in_audit(), *in_library(), *in_links(), *in_calls(), *in_crates()]
+    return [*in_readme(), *in_proofs(), *in_architecture(), *in_audit(), *in_library(), *in_facade(), *in_links(), *in_calls(), *in_crates()]
 
 
 def main(words):

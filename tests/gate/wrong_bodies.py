@@ -17,10 +17,10 @@ isn't told so is tried without holes.
 Usage: tests/gate/wrong_bodies.py [--anew] [--keep] [CRATE ..]
 
 What was refused is listed: crates/NAME/wrong/refused.txt has a line for each edit that was, with the sum of all that decided it: the
-edit, the sources, definitions and proofs of its crate and of those below, the logic of the kit's prover, and RULES. An edit whose
-sum is still that one isn't tried again, but for 25 of one crate, which the commit draws; all others are tried. --anew tries them
-all, and --keep writes the lists anew. Without the name of a crate all are meant. With WRONG_LOG=FILE, FILE.CRATE keeps what each
-check said. The last line counts the edits.
+edit, the sources, definitions and proofs of its crate and of those below (but for comments and where their lines end), the logic of
+the kit's prover, and RULES. An edit whose sum is still that one isn't tried again, but for 25 of one crate, which the commit draws;
+all others are tried. --anew tries them all, and --keep writes the lists anew. Without the name of a crate all are meant. With
+WRONG_LOG=FILE, FILE.CRATE keeps what each check said. The last line counts the edits.
 """
 
 import argparse
@@ -46,6 +46,9 @@ LISTED, RULES, RULES_WITHOUT = "refused.txt", 1, 2
 ANEW = 25
 # Goals of the function's own that the tactics left open.
 OPEN = re.compile(r"no proof: .*`search` did not prove `")
+# A literal, or what lies between words: blanks, line ends and comments, which in definitions and proofs have lines of their own.
+SPACE = re.compile(r"""(b?"(?:\\[\s\S]|[^"\\])*"|b?'(?:\\.[^']*|[^'\\])')|(?:\s|//[^\n]*)+""")
+SPACE_OF_PROOFS = re.compile(r"""("(?:\\.|[^"\\])*")|(?:^[ ]*--[^\n]*|\s)+""", re.M)
 # An answer that names what the edit took away says nothing of the contract.
 UNREAD = re.compile(r"is not in scope|has no field|has no `|was not admitted|is no name|expected the end")
 
@@ -73,8 +76,16 @@ def text_of(path):
 def sum_of(folder):
     """The sum of what a check reads in a crate's folder."""
     files = sorted(it for part in rtlib.PARTS for it in files_below(f"{folder}/{part}"))
-    told = (f"{os.path.relpath(it, folder)} {hashlib.sha256(text_of(it).encode()).hexdigest()}\n" for it in files)
+    told = (f"{os.path.relpath(it, folder)} {hashlib.sha256(bare(it).encode()).hexdigest()}\n" for it in files)
     return hashlib.sha256("".join(told).encode()).hexdigest()
+
+
+def bare(file):
+    """A file's text without what says nothing to the prover: comments, and how its lines are laid out."""
+    is_source = file.endswith(".rt")
+    # A declaration of a definition or a proof begins at the start of a line.
+    begins = lambda blank: " " if is_source or not blank.endswith("\n") else "\n"
+    return (SPACE if is_source else SPACE_OF_PROOFS).sub(lambda it: it[1] or begins(it[0]), text_of(file))
 
 
 def files_below(folder):

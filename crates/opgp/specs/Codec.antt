@@ -5,6 +5,7 @@ pub use Rattle.opgp_codec.specs.Blocks
 pub use Rattle.opgp_codec.specs.Cleartext
 pub use Rattle.opgp_codec.specs.Draft
 pub use Rattle.opgp_codec.specs.Errors
+pub use Rattle.opgp_codec.specs.Foreign
 pub use Rattle.opgp_codec.specs.Found
 pub use Rattle.opgp_codec.specs.Incoming
 pub use Rattle.opgp_codec.specs.IncomingOctets
@@ -12,6 +13,7 @@ pub use Rattle.opgp_codec.specs.IncomingPackets
 pub use Rattle.opgp_codec.specs.IncomingParts
 pub use Rattle.opgp_codec.specs.Items
 pub use Rattle.opgp_codec.specs.Keyrings
+pub use Rattle.opgp_codec.specs.Labelled
 pub use Rattle.opgp_codec.specs.Layers
 pub use Rattle.opgp_codec.specs.PacketReader
 pub use Rattle.opgp_codec.specs.Packets
@@ -19,9 +21,9 @@ pub use Rattle.opgp_codec.specs.PartReader
 pub use Rattle.opgp_codec.specs.Parts
 pub use Rattle.opgp_codec.specs.Pulled
 pub use Rattle.opgp_codec.specs.Reading
-pub use Rattle.opgp_codec.specs.Labelled
 pub use Rattle.opgp_codec.specs.Signatures
 pub use Rattle.opgp_codec.specs.Signed
+pub use Rattle.opgp_codec.specs.Skipped
 pub use Rattle.opgp_codec.specs.SoundPackets
 pub use Rattle.opgp_codec.specs.Spool
 pub use Rattle.opgp_codec.specs.Text

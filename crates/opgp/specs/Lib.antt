@@ -1,8 +1,11 @@
 pub mod Armor
 pub mod Blocks
+pub mod Bound
 pub mod Cleartext
 pub mod Codec
+pub mod Difference
 pub mod Document
+pub mod Explain
 pub mod Frame
 pub mod Hash
 pub mod Merge

@@ -9,6 +9,7 @@ pub use Rattle.opgp_packet.specs.AttributeBody
 pub use Rattle.opgp_packet.specs.Cursor
 pub use Rattle.opgp_packet.specs.FieldReading
 pub use Rattle.opgp_packet.specs.Fields
+pub use Rattle.opgp_packet.specs.Flags
 pub use Rattle.opgp_packet.specs.Forms
 pub use Rattle.opgp_packet.specs.Key
 pub use Rattle.opgp_packet.specs.KeyBody

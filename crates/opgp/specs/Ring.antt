@@ -10,15 +10,13 @@ pub use Rattle.opgp_ring.specs.DetachedGathering
 pub use Rattle.opgp_ring.specs.DetachedSignatures
 pub use Rattle.opgp_ring.specs.DetachedState
 pub use Rattle.opgp_ring.specs.Fed
+pub use Rattle.opgp_ring.specs.Gathering
 pub use Rattle.opgp_ring.specs.Grouped
 pub use Rattle.opgp_ring.specs.Header
-pub use Rattle.opgp_ring.specs.Keyring
-pub use Rattle.opgp_ring.specs.Member
-pub use Rattle.opgp_ring.specs.Sorted
-pub use Rattle.opgp_ring.specs.State
-pub use Rattle.opgp_ring.specs.Taken
 pub use Rattle.opgp_ring.specs.Joining
+pub use Rattle.opgp_ring.specs.Keyring
 pub use Rattle.opgp_ring.specs.Lent
+pub use Rattle.opgp_ring.specs.Member
 pub use Rattle.opgp_ring.specs.Normal
 pub use Rattle.opgp_ring.specs.Packed
 pub use Rattle.opgp_ring.specs.PacketBody
@@ -29,3 +27,6 @@ pub use Rattle.opgp_ring.specs.Signed
 pub use Rattle.opgp_ring.specs.SignedGathering
 pub use Rattle.opgp_ring.specs.SignedLiteral
 pub use Rattle.opgp_ring.specs.SignedState
+pub use Rattle.opgp_ring.specs.Sorted
+pub use Rattle.opgp_ring.specs.State
+pub use Rattle.opgp_ring.specs.Taken

@@ -1,15 +1,27 @@
 -- The definitions of `opgp_stack`, and its types as they are declared.
 pub use Rattle.opgp_stack.specs.declared
+pub use Rattle.opgp_stack.specs.AllOctets
+pub use Rattle.opgp_stack.specs.Bounding
+pub use Rattle.opgp_stack.specs.ByKey
 pub use Rattle.opgp_stack.specs.Canonical
+pub use Rattle.opgp_stack.specs.CleartextRun
+pub use Rattle.opgp_stack.specs.Date
+pub use Rattle.opgp_stack.specs.Differing
+pub use Rattle.opgp_stack.specs.Digits
 pub use Rattle.opgp_stack.specs.Documents
 pub use Rattle.opgp_stack.specs.Faults
 pub use Rattle.opgp_stack.specs.Hashing
-pub use Rattle.opgp_stack.specs.CleartextRun
 pub use Rattle.opgp_stack.specs.KeyFile
 pub use Rattle.opgp_stack.specs.KeyName
+pub use Rattle.opgp_stack.specs.KeySize
 pub use Rattle.opgp_stack.specs.KeyText
 pub use Rattle.opgp_stack.specs.Listing
+pub use Rattle.opgp_stack.specs.Making
+pub use Rattle.opgp_stack.specs.March
 pub use Rattle.opgp_stack.specs.Octets
+pub use Rattle.opgp_stack.specs.OnePart
+pub use Rattle.opgp_stack.specs.PacketText
+pub use Rattle.opgp_stack.specs.PartText
 pub use Rattle.opgp_stack.specs.Parts
 pub use Rattle.opgp_stack.specs.Role
 pub use Rattle.opgp_stack.specs.Running
@@ -17,3 +29,6 @@ pub use Rattle.opgp_stack.specs.Showing
 pub use Rattle.opgp_stack.specs.Shown
 pub use Rattle.opgp_stack.specs.Stating
 pub use Rattle.opgp_stack.specs.Time
+pub use Rattle.opgp_stack.specs.ValuedListing
+pub use Rattle.opgp_stack.specs.Values
+pub use Rattle.opgp_stack.specs.WantedKeys

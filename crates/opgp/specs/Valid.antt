@@ -2,6 +2,7 @@
 pub use Rattle.opgp_valid.specs.declared
 pub use Rattle.opgp_valid.specs.Believed
 pub use Rattle.opgp_valid.specs.Facts
+pub use Rattle.opgp_valid.specs.FlawText
 pub use Rattle.opgp_valid.specs.Gathering
 pub use Rattle.opgp_valid.specs.Group
 pub use Rattle.opgp_valid.specs.Judgement
@@ -16,8 +17,8 @@ pub use Rattle.opgp_valid.specs.Speaking
 pub use Rattle.opgp_valid.specs.Standing
 pub use Rattle.opgp_valid.specs.Stands
 pub use Rattle.opgp_valid.specs.State
-pub use Rattle.opgp_valid.specs.States
 pub use Rattle.opgp_valid.specs.Statement
+pub use Rattle.opgp_valid.specs.States
 pub use Rattle.opgp_valid.specs.Subpackets
 pub use Rattle.opgp_valid.specs.Told
 pub use Rattle.opgp_valid.specs.Uses

@@ -16,6 +16,11 @@ pub mod blocks {
     pub use opgp_blocks::{Blocks, FoundBlock, laws};
 }
 
+/// Certificates of which only bound components stay, by a verifier's verdicts.
+pub mod bound {
+    pub use opgp_bound::{keep_bound, laws};
+}
+
 /// Messages in the cleartext signature framework (RFC 9580, 7): documents with their signatures.
 pub mod cleartext {
     pub use opgp_cleartext::{Cleartext, laws};
@@ -32,11 +37,24 @@ pub mod codec {
     };
 }
 
+/// What changed between two keyrings, packet by packet.
+pub mod difference {
+    pub use opgp_difference::{Difference, PacketPlace, PlacedPacket, compare, laws};
+}
+
 /// Documents that signatures are made over, hashed in pieces (RFC 9580, 5.2.1, 5.2.4).
 pub mod document {
     pub use opgp_document::{
         CanonicalText, DocumentAnswers, DocumentHasher, DocumentWhy, MOST_SIGNATURES, OpenFault,
         OwnOctets, ShortTable, SignatureHasher, SignedDocument, StrayReturn, laws,
+    };
+}
+
+/// What each octet means that a signature hashes (RFC 9580, 5.2.4).
+pub mod explain {
+    pub use opgp_explain::{
+        BodyPart, Field, KeyPart, Meaning, Role, SignaturePart, SubpacketPart, TrailerPart,
+        add_fields, fields_of, laws,
     };
 }
 
@@ -58,7 +76,7 @@ pub mod hash {
 
 /// Keyrings merged, one certificate for each primary key, and chosen parts of certificates.
 pub mod merge {
-    pub use opgp_merge::{Choice, choose, choose_certificate, laws, merge};
+    pub use opgp_merge::{Choice, choose, choose_certificate, laws, merge, pick};
 }
 
 /// Limits, faults, lengths, and registered numbers with their names (RFC 9580, 3, 9).
@@ -66,7 +84,7 @@ pub mod octets {
     pub use opgp_octets::{
         BodyFault, FAULT_LINE, Fault, HashAlgorithm, KeyAlgorithm, Layer, Limits, Malformed, Mpi,
         MpiFault, MpiView, OutOfMemory, Outside, PacketLen, PacketType, ParseFault, PushFault,
-        Range, Reason, SignatureType, SubLen, SubpacketKind, fault_line, laws, read_len,
+        Range, Reason, SignatureType, SubLen, SubpacketKind, fault_line, laws, put, read_len,
         read_sub_len, short_line, shortest, u16_at, u32_at, write_digits, write_hexadecimal,
         write_len, write_sub_len,
     };
@@ -90,7 +108,8 @@ pub mod report {
     pub use opgp_report::{
         Finding, FingerprintedReport, FingerprintedReporting, FingerprintedRow, FingerprintedRows,
         IssuerName, Job, KeyIndex, LeftOctets, Met, Place, Posed, Report, Reporting, Row, Verdict,
-        Verifier, Visitor, check, index_keys, issuer_named, laws, question_at, signer, visit,
+        Verifier, Visitor, check, index_keys, issuer_named, laws, print_of, question_at, rows_left,
+        signer, visit, visit_certificate,
     };
 }
 
@@ -108,10 +127,10 @@ pub mod ring {
 /// What the program does: its lines, its tasks, and a run of one.
 pub mod stack {
     pub use opgp_stack::{
-        Action, Around, CleartextPart, KeyName, RunFault, StateTask, Task, Top, keys_in, laws,
-        read_octets, run, run_around, run_canonical, run_cleartext, run_digests, run_last,
-        run_signatures, run_spooled, run_states, time_in, write_fingerprinted_report,
-        write_listing, write_placed_report, write_report, write_shown,
+        Action, Around, BoundTask, CleartextPart, KeyName, RunFault, StateTask, Task, Top, keys_in,
+        laws, read_octets, run, run_around, run_bound, run_canonical, run_cleartext,
+        run_difference, run_digests, run_last, run_signatures, run_spooled, run_states, time_in,
+        write_fingerprinted_report, write_listing, write_placed_report, write_report, write_shown,
     };
 }
 

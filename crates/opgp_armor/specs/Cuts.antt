@@ -30,8 +30,8 @@ abbrev pub lines_ended : Bool → List ℕ → List Line
 lines_ended false text = (cut text).ended
 lines_ended true text = lines text
 
--- the most octets that are kept of an unfinished line outside that begins no block: as many as tell a
--- begin line, or, where such a line is refused, as many as of any other
+-- the most octets that are kept of an unfinished line outside that begins no block: as many as tell
+-- a begin line, or, where such a line is refused, as many as of any other
 abbrev pub kept_outside : Outside → ℕ → ℕ
 kept_outside policy.Skip limit = 15
 kept_outside policy.Refuse limit = limit + 1

@@ -64,9 +64,9 @@ abbrev pub HoldsTheSame : Ring → Ring → Type 0
 HoldsTheSame before after = (after.is_open ≡ before.is_open)
     × (before.is_open ≡ true → after.slot.held ≡ before.slot.held)
 
--- A call puts two tables of the keyring that a handle holds: they begin with its rows and octets (0);
--- or they are as they were, and too short (2), or memory ran out (3), or the handle holds nothing (5).
--- The sizes say what is wanted.
+-- A call puts two tables of the keyring that a handle holds: they begin with its rows and octets
+-- (0); or they are as they were, and too short (2), or memory ran out (3), or the handle holds
+-- nothing (5). The sizes say what is wanted.
 pub record PutsTables {A : Type 0} (rows_of : KeyringValue → List A)
     (bytes_of : KeyringValue → List ℕ) (ring ring' : Ring) (rows rows' : List A)
     (bytes bytes' : List ℕ) (sizes : Sizes) (status : ℕ) : Type 0 where

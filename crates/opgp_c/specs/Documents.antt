@@ -107,9 +107,9 @@ abbrev pub AreAnswered : List ℕ → List (List ℕ) → List Answer → Type 0
 AreAnswered document bodies answers =
     AllZip (λ answer signature. IsAnswer signature document answer) answers (signed_in bodies)
 
--- The tables are filled with the signatures that have these bodies, over this document, which may be
--- that of a cleartext message; their issuers' keys are named by their rows in the keyring's table of
--- keys.
+-- The tables are filled with the signatures that have these bodies, over this document, which may
+-- be that of a cleartext message; their issuers' keys are named by their rows in the keyring's
+-- table of keys.
 pub record FillsJobs (document : List ℕ) (of_message : Bool) (bodies : List (List ℕ))
     (keyring : KeyringValue) (rows rows' : List JobRow) (bytes bytes' : List ℕ) : Type 0 where
   pub answers : List Answer

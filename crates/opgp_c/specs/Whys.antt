@@ -1,5 +1,5 @@
--- The names of the reasons why a key, or a signature over a document, isn't believed, and the table of
--- names that has them.
+-- The names of the reasons why a key, or a signature over a document, isn't believed, and the table
+-- of names that has them.
 use Rattle.std.specs.Prelude.{ℕ, ◌==◌, if◌then◌else◌, List, [], ◌∷◌, Option, Some, None}
 use Rattle.opgp_octets.specs.Rows.{with_number}
 use Rattle.opgp_tables.specs.Names.{table_of}
@@ -17,8 +17,10 @@ unbelieved_rows =
     ∷ (why_number why.Early, why_text why.Early) ∷ (why_number why.Unbound, why_text why.Unbound)
     ∷ (why_number why.Expired, why_text why.Expired) ∷ (why_number why.Flags, why_text why.Flags)
     ∷ (why_number why.Back, why_text why.Back) ∷ (flaw_number flaw.Kind, flaw_text flaw.Kind)
-    ∷ (flaw_number flaw.Critical, flaw_text flaw.Critical) ∷ (flaw_number flaw.Weak, flaw_text flaw.Weak)
-    ∷ (flaw_number flaw.Time, flaw_text flaw.Time) ∷ (flaw_number flaw.Lapsed, flaw_text flaw.Lapsed)
+    ∷ (flaw_number flaw.Critical, flaw_text flaw.Critical)
+    ∷ (flaw_number flaw.Weak, flaw_text flaw.Weak)
+    ∷ (flaw_number flaw.Time, flaw_text flaw.Time)
+    ∷ (flaw_number flaw.Lapsed, flaw_text flaw.Lapsed)
     ∷ (flaw_number flaw.Issuer, flaw_text flaw.Issuer) ∷ []
 
 abbrev pub name_of_row : Option (ℕ × List ℕ) → Option (List ℕ)

@@ -86,8 +86,8 @@ fn number_over(is_message: bool, signature: SigView<'_>, number: Option<u8>) -> 
     }
 }
 
-/// The number of the belief in a signature; None if there is none, or no key. Fails only when out of
-/// memory.
+/// The number of the belief in a signature; None if there is none, or no key. Fails only when out
+/// of memory.
 fn believed(
     alloc: Global,
     is_message: bool,
@@ -156,14 +156,15 @@ fn put_belief(
 }
 
 /// Puts whether the signature of a row over a document may be believed as one by the key at a place
-/// of the keyring, where arithmetic finds it good, and it is read now, in seconds since 1970: 0 if it
-/// may, else the number of the first reason why not. The verdicts, the policy and the component are
-/// as `opgp_ring_standing` takes them. Over the document of a cleartext message none is believed but
-/// those over text. The condition is that the document's handle was given so much of the document.
+/// of the keyring, where arithmetic finds it good, and it is read now, in seconds since 1970: 0 if
+/// it may, else the number of the first reason why not. The verdicts, the policy and the component
+/// are as `opgp_ring_standing` takes them. Over the document of a cleartext message none is
+/// believed but those over text. The condition is that the document's handle was given so much of
+/// the document.
 ///
-/// The status says whether it is done; else the number is unchanged: there is no such key, or no such
-/// row, or the signature is malformed; there is no such policy; memory ran out; or a handle holds
-/// nothing.
+/// The status says whether it is done; else the number is unchanged: there is no such key, or no
+/// such row, or the signature is malformed; there is no such policy; memory ran out; or a handle
+/// holds nothing.
 #[unsafe(no_mangle)]
 pub extern "C" fn opgp_document_standing(
     alloc: Global,

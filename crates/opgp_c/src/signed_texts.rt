@@ -26,14 +26,14 @@ use opgp_tables::{FaultRow, GivenLimits};
 use std::alloc::Global;
 
 /// Reads a cleartext message (RFC 9580, 7), puts its document into the octets, and keeps its
-/// signatures in the handle, over that document, which has ended; what the handle held before is let
-/// go. The size says how many octets the document has. The handle knows that its document is a
+/// signatures in the handle, over that document, which has ended; what the handle held before is
+/// let go. The size says how many octets the document has. The handle knows that its document is a
 /// message's, and that only signatures over text count there.
 ///
 /// The status says whether it is done; else the octets and the handle are unchanged: the text is
-/// refused, and the fault says where and why; the octets are too few; there are more signatures than
-/// 64; a limit is out of its range; or memory ran out. Where nothing says how much there is, the
-/// size is unchanged.
+/// refused, and the fault says where and why; the octets are too few; there are more signatures
+/// than 64; a limit is out of its range; or memory ran out. Where nothing says how much there is,
+/// the size is unchanged.
 #[unsafe(no_mangle)]
 pub extern "C" fn opgp_cleartext_open(
     alloc: Global,

@@ -147,16 +147,16 @@ fn put_judgement(
 }
 
 /// Puts whether the key at a place of the keyring may be believed for a signature that was made at
-/// one time and is read at another, both in seconds since 1970, by verdicts on the signatures of the
-/// keyring and a policy: 0 if it may, else the number of the first reason why not.
+/// one time and is read at another, both in seconds since 1970, by verdicts on the signatures of
+/// the keyring and a policy: 0 if it may, else the number of the first reason why not.
 ///
 /// The verdicts are those on the rows of the table of jobs, in order: 1 good, 2 bad, any other
 /// undecided, as is a row without one. A key revocation that is on a component has one over the
 /// primary key alone. The policy is 0 for the usual one or 1 for any. The component is `NONE` for a
 /// primary key.
 ///
-/// The status says whether it is done; else the number is unchanged: there is no such key or no such
-/// policy, memory ran out, or the handle holds nothing.
+/// The status says whether it is done; else the number is unchanged: there is no such key or no
+/// such policy, memory ran out, or the handle holds nothing.
 #[unsafe(no_mangle)]
 pub extern "C" fn opgp_ring_standing(
     alloc: Global,
@@ -191,8 +191,8 @@ pub extern "C" fn opgp_ring_standing(
     status
 }
 
-/// Puts the digest of what the revocation of a primary key in a row of a keyring's report hashes; the
-/// status.
+/// Puts the digest of what the revocation of a primary key in a row of a keyring's report hashes;
+/// the status.
 fn put_revocation(keyring: &Keyring, row: u64, octets: &mut [u8], size: &mut u64) -> u32
     ensures done { result ≡ 0 → (q : QuestionValue)
         × (revocation_at keyring.now row ≡ Some q)
@@ -213,11 +213,12 @@ fn put_revocation(keyring: &Keyring, row: u64, octets: &mut [u8], size: &mut u64
     put_octets(found.octets(), octets, size)
 }
 
-/// Puts the digest of what the revocation of a primary key hashes that is in this row of the table of
-/// jobs: that key alone, wherever in its certificate the revocation is (RFC 9580, 5.2.1.11, 5.2.4).
+/// Puts the digest of what the revocation of a primary key hashes that is in this row of the table
+/// of jobs: that key alone, wherever in its certificate the revocation is (RFC 9580, 5.2.1.11,
+/// 5.2.4).
 ///
-/// The status says whether it is done; else the octets are unchanged: they have too little room, the
-/// row has no such signature or it isn't hashed, or the handle holds nothing.
+/// The status says whether it is done; else the octets are unchanged: they have too little room,
+/// the row has no such signature or it isn't hashed, or the handle holds nothing.
 #[unsafe(no_mangle)]
 pub extern "C" fn opgp_ring_revocation(
     alloc: Global,

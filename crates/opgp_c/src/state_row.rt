@@ -15,8 +15,8 @@ pub struct StateRow {
     pub certificate: u64,
     /// The number of the component that it is; `NONE` for a primary key.
     pub component: u64,
-    /// When a key expires, or its primary key does, in seconds since 1970; `NONE` for never, and for
-    /// what isn't a key.
+    /// When a key expires, or its primary key does, in seconds since 1970; `NONE` for never, and
+    /// for what isn't a key.
     pub end: u64,
     /// From when on a key is there, in seconds since 1970; 0 for what isn't a key.
     pub begin: u32,

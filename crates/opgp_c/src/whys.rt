@@ -5,7 +5,8 @@ ghost use Rattle.opgp_c.specs.Whys.{unbelieved_name};
 
 use opgp_valid::{Flaw, Why};
 
-/// The name of the reason that this number stands for, of those that `opgp_document_standing` gives.
+/// The name of the reason that this number stands for, of those that `opgp_document_standing`
+/// gives.
 #[tactic(auto, unfolding(crate::specs::Whys::unbelieved_name))]
 pub(crate) fn unbelieved_name(number: u8) -> Option<&'static str>
     ensures value { MatchOption result (unbelieved_name number ≡ None)

@@ -93,8 +93,8 @@ fn add_around(alloc: Global, view: &Result<SigView<'_>, BodyFault>, answer: &mut
     }
 }
 
-/// `canonical SIZE DOCUMENT`: the canonical text of a document in pieces of this size, or why it has
-/// none.
+/// `canonical SIZE DOCUMENT`: the canonical text of a document in pieces of this size, or why it
+/// has none.
 fn canonical(alloc: Global, given: &Given, answer: &mut Answer) {
     let mut canonical = CanonicalText::new();
     let mut text = Vec::new(alloc);

@@ -39,7 +39,8 @@ trait Reader {
     fn feed_piece(&mut self, octets: &[u8]) -> Result<(), OutOfMemory>
         requires used { (limits : Limits) × reading limits self.old }
         requires room { given self.old + length octets.now < 2 ^ 63 }
-        ensures reading { OnOk result ((limits : Limits) → reading limits self.old → reading limits self.new) }
+        ensures reading { OnOk result ((limits : Limits)
+            → reading limits self.old → reading limits self.new) }
         ensures count { OnOk result (given self.new ≡ given self.old + length octets.now) };
 
     /// Takes all that waits behind so many octets, and adds it.

@@ -193,8 +193,8 @@ fn merged(alloc: Global, given: &Given, answer: &mut Answer) {
     }
 }
 
-/// `own` and `bare` say which signatures and whether attributes are left out, numbers which user IDs
-/// stay.
+/// `own` and `bare` say which signatures and whether attributes are left out, numbers which user
+/// IDs stay.
 fn choice_of<'a>(given: &'a Given<'_>) -> Choice<'a> {
     let mut choice = Choice::everything();
     for name in given.names() {

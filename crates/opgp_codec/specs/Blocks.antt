@@ -64,15 +64,17 @@ viewed_in None = []
 viewed_in (Some v) = viewed v ∷ []
 
 -- ---- all that was found
--- The label and packets of the open block: none before its label was found, and then no octet has come.
-abbrev pub AreOpen : Limits → Wanted → ℕ → Option Label → Deframe → Bool → List ℕ → List Item → Type 0
+-- The label and packets of the open block: none before its label was found, and then no octet has
+-- come.
+abbrev pub AreOpen : Limits → Wanted → ℕ → Option Label
+    → Deframe → Bool → List ℕ → List Item → Type 0
 AreOpen limits wanted n label d false octets items =
     (octets ≡ []) × Fed limits n d [] [] × (items ≡ [])
 AreOpen limits wanted n label d true octets items = (taken : List Placed)
     × Fed limits n d octets taken × (items ≡ block_items n (wanted label) taken)
 
--- A framer that has met no fault has found the labels and packets of the blocks that have ended, and
--- those of the open one.
+-- A framer that has met no fault has found the labels and packets of the blocks that have ended,
+-- and those of the open one.
 pub record Reaches (accepts : Accepts) (limits : Limits) (f : Blocks) (done : List TextBlock)
     (octets : List ℕ) (items : List Item) : Type 0 where
   pub ended : List Item
@@ -86,8 +88,9 @@ abbrev pub AreLongest : Limits → Wanted → ℕ → TextBlock → List Item �
 AreLongest limits wanted n b items = (packets : List Placed) × (rest : List ℕ)
     × Longest limits n b.octets packets rest × (items ≡ block_items n (wanted b.label) packets)
 
--- The first framing fault of these blocks. The items are the labels and packets of the blocks before the
--- one that has it, and of that one the longest list of packets that its octets begin with.
+-- The first framing fault of these blocks. The items are the labels and packets of the blocks
+-- before the one that has it, and of that one the longest list of packets that its octets begin
+-- with.
 abbrev pub StopsAt : Limits → Wanted → ℕ → List TextBlock → Fault → List Item → Type 0
 StopsAt limits wanted n [] fault items = ⊥
 StopsAt limits wanted n (b ∷ bs) fault items =
@@ -96,8 +99,8 @@ StopsAt limits wanted n (b ∷ bs) fault items =
     × StopsAt limits wanted (n + 1) bs fault more
     × (items ≡ block_items n (wanted b.label) packets ++ more))
 
--- All labels and packets of the blocks so far were found; or one of them has the first fault, and those
--- before it were found.
+-- All labels and packets of the blocks so far were found; or one of them has the first fault, and
+-- those before it were found.
 abbrev pub StandsBy : Accepts → Limits → Blocks → Option Fault → List TextBlock → List ℕ → List Item
     → Type 0
 StandsBy accepts limits f None done octets items = Reaches accepts limits f done octets items

@@ -58,9 +58,10 @@ abbrev pub of_rest : List (List ℕ) → ℕ → Outcome (List PacketValue) → 
 of_rest document place (Ok packets) = Ok (document, packets)
 of_rest document place (Err fault) = Err (moved place fault)
 
--- The result for a text: it is too long; else it is no message; else the document, and what its rest
--- makes of the signatures.
-pub data CleartextAnswer (limits : Limits) (text : List ℕ) (answer : Outcome SignedLines) : Type 0 where
+-- The result for a text: it is too long; else it is no message; else the document, and what its
+-- rest makes of the signatures.
+pub data CleartextAnswer (limits : Limits) (text : List ℕ)
+    (answer : Outcome SignedLines) : Type 0 where
   at_length : input_limit limits < length text → answer ≡ Err (too_long limits)
       → CleartextAnswer limits text answer
   at_lines : length text ≤ input_limit limits → (f : Fault)

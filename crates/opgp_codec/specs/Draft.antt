@@ -11,8 +11,8 @@ use Rattle.opgp_codec.specs.Spool.{spool_in}
 use Rattle.opgp_io.specs.Held.{held_octets}
 use Rattle.opgp_io.specs.Stream.{AppendsPrefix}
 
--- this text is in memory; or it is in a spool, which holds it, if that hasn't failed and tells what it
--- holds
+-- this text is in memory; or it is in a spool, which holds it, if that hasn't failed and tells what
+-- it holds
 abbrev pub StoreHas : {S : Type 0} → Bool → Bool → (S → List ℕ) → (S → Bool) → Store S → List ℕ
     → Type 0
 StoreHas serves tells holds failed (Memory held) text = held_octets held ≡ text
@@ -35,8 +35,8 @@ IsInMemory d = StoreIsMemory d.store
 abbrev pub is_known : Bool → Bool → Bool
 is_known serves tells = if serves then tells else true
 
--- The text is written into a sink; or the sink has failed, or a spool has, and the sink holds a prefix
--- of it. Of the text this is so where it is known what it is held in.
+-- The text is written into a sink; or the sink has failed, or a spool has, and the sink holds a
+-- prefix of it. Of the text this is so where it is known what it is held in.
 abbrev pub IsDrafted : {W : Type 0} → Bool → Bool → (W → Option (List ℕ)) → (W → Bool) → W → W
     → Result Unit DraftError → List ℕ → Type 0
 IsDrafted serves tells held failed old new (Ok done) text =
@@ -44,4 +44,5 @@ IsDrafted serves tells held failed old new (Ok done) text =
 IsDrafted serves tells held failed old new (Err error.Write) text =
     (failed new ≡ true) × (is_known serves tells ≡ true → AppendsPrefix (held old) (held new) text)
 IsDrafted serves tells held failed old new (Err error.Spool) text = (serves ≡ true)
-    × (failed new ≡ false) × (is_known serves tells ≡ true → AppendsPrefix (held old) (held new) text)
+    × (failed new ≡ false)
+    × (is_known serves tells ≡ true → AppendsPrefix (held old) (held new) text)

@@ -29,8 +29,8 @@ IsHere r packets = IsFound r.items.framer.found (octets_of r.items.front (lent_o
 abbrev pub FoundIf : (more : Bool) → Incoming → List Item → Type 0
 FoundIf more r found = FindsIf more r.items.framer (octets_of r.items.front (lent_of r)) found
 
--- Of what the source had before, octets have come up to where it is now. But for those that wait they
--- went through, and these are the labels and packets that were found.
+-- Of what the source had before, octets have come up to where it is now. But for those that wait
+-- they went through, and these are the labels and packets that were found.
 pub record Came (accepts : Accepts) (mode : Mode) (limits : Limits) (before now : Option (List ℕ))
     (r : Incoming) (items : List Item) : Type 0 where
   pub octets : List ℕ

@@ -42,7 +42,8 @@ pub record PacketsCame (mode : Mode) (limits : Limits) (before now : Option (Lis
 abbrev pub IsOver : IncomingPackets → Option (List ℕ) → Type 0
 IsOver p now = IsThrough p.incoming × HasEnded p.incoming now
 
--- the result at the end, unless memory ran out: the octets that came are these packets, or have this fault
+-- the result at the end, unless memory ran out: the octets that came are these packets, or have
+-- this fault
 abbrev pub EndsAs : Mode → Limits → Option (List ℕ) → Option (List ℕ) → List Placed
     → Result Unit ReadError → Type 0
 EndsAs mode limits before now packets (Ok done) = OfInput before now limits

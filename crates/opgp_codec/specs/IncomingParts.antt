@@ -17,10 +17,10 @@ use Rattle.opgp_codec.specs.Keyrings.{ComposesTo, key_label}
 use Rattle.opgp_codec.specs.Pulled.{OfInput}
 use Rattle.opgp_codec.specs.Reading.{AnswerOf}
 
--- Of what the source had before, octets have come up to where it is now, and the parts that they complete
--- are those that were taken.
-pub record PartsCame (mode : Mode) (limits : Limits) (before now : Option (List ℕ)) (p : IncomingParts)
-    (parts : List PartValue) : Type 0 where
+-- Of what the source had before, octets have come up to where it is now, and the parts that they
+-- complete are those that were taken.
+pub record PartsCame (mode : Mode) (limits : Limits)
+    (before now : Option (List ℕ)) (p : IncomingParts) (parts : List PartValue) : Type 0 where
   pub items : List Item
   pub came : Came Keys mode limits before now p.incoming items
   pub composed : IsComposed limits p.composer items parts
@@ -40,6 +40,7 @@ abbrev pub EndsAs : Mode → Limits → Option (List ℕ) → Option (List ℕ) 
 EndsAs mode limits before now parts (Ok last) =
     IsKeyring mode limits before now (parts ++ ready_parts last)
 EndsAs mode limits before now parts (Err (read.Refused fault)) = OfInput before now limits
-    (λ octets. AnswerOf {A = KeyringValue} key_label (ComposesTo limits) mode limits octets (Err fault))
+    (λ octets. AnswerOf {A = KeyringValue} key_label (ComposesTo limits)
+    mode limits octets (Err fault))
 EndsAs mode limits before now parts (Err read.Read) = ⊥
 EndsAs mode limits before now parts (Err read.Memory) = Unit {0}

@@ -25,7 +25,8 @@ work_in Undecided = 0
 work_in Binary = 0
 work_in (Armored t) = work_of t
 
--- Where the octets went, and what was found: those that were seen decide whether the input is binary.
+-- Where the octets went, and what was found: those that were seen decide whether the input is
+-- binary.
 abbrev pub Passed : Accepts → Mode → Limits → Front → Blocks → List ℕ → List ℕ → List Item → Type 0
 Passed accepts mode limits Undecided f seen input items =
     (mode ≡ Auto) × (seen ≡ []) × (input ≡ []) × (has_begun f ≡ false)
@@ -63,8 +64,8 @@ Moves old new n = (0 < n) ⊎ (work_in new < work_in old)
 abbrev pub left_of : Items → ℕ → ℕ
 left_of p rest = rest * 2 ^ 66 + work_in p.front
 
--- In this mode, within these limits, the reader was given these octets, and has found these labels and
--- packets.
+-- In this mode, within these limits, the reader was given these octets, and has found these labels
+-- and packets.
 pub record Fed (accepts : Accepts) (mode : Mode) (limits : Limits) (p : Items) (input : List ℕ)
     (items : List Item) : Type 0 where
   pub limits_kept : p.limits ≡ limits

@@ -26,14 +26,14 @@ PacketUse = UseOf Placed
 abbrev pub packets_in : WaitingPackets → List Placed
 packets_in w = w.packets.items
 
--- The packets up to the first whose body has a fault are those that were taken, and behind them those
--- that wait.
+-- The packets up to the first whose body has a fault are those that were taken, and behind them
+-- those that wait.
 abbrev pub IsSoFar : Malformed → List Placed → Option Fault → WaitingPackets → List Item → Type 0
 IsSoFar policy taken fault waiting items =
     AreSoFar policy (λ packets. packets ≡ taken ++ packets_in waiting) fault (placed_in items)
 
--- The reader was used so: what was taken of it and what waits are the packets of what the input begins
--- with.
+-- The reader was used so: what was taken of it and what waits are the packets of what the input
+-- begins with.
 pub record IsUsed (u : PacketUse) (r : PacketReader) : Type 0 where
   pub items : List Item
   pub fed : Fed Any u.mode u.limits r.items u.input items
@@ -54,8 +54,8 @@ waits r = packets_in r.waiting
 abbrev pub taken_count : PacketReader → ℕ
 taken_count r = r.taken
 
--- What its two readers hold together: of the armor an unfinished line, and the unfinished packet. The
--- packets that wait are not counted.
+-- What its two readers hold together: of the armor an unfinished line, and the unfinished packet.
+-- The packets that wait are not counted.
 abbrev pub held_of : PacketReader → ℕ
 held_of r = front_held r.items.front + packet_held r.items.framer.deframe
 

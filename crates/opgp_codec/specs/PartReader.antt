@@ -49,4 +49,5 @@ Ends u answer = MatchResult answer
     (λ waiting. (r : KeyringValue)
     × AnswerOf key_label (ComposesTo u.limits) u.mode u.limits u.input (Ok r)
     × EndsWith u.taken r waiting)
-    (λ fault. AnswerOf {A = KeyringValue} key_label (ComposesTo u.limits) u.mode u.limits u.input (Err fault))
+    (λ fault. AnswerOf {A = KeyringValue} key_label (ComposesTo u.limits)
+    u.mode u.limits u.input (Err fault))

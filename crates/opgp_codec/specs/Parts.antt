@@ -25,8 +25,8 @@ pub use Rattle.opgp_codec.specs.Used.{UseOf, given, taking, unused}
 abbrev pub Use : Type 0
 Use = UseOf PartValue
 
--- The reader was used so: the composer was given the labels and packets of what the input begins with,
--- and the parts that were taken are those that it handed out.
+-- The reader was used so: the composer was given the labels and packets of what the input begins
+-- with, and the parts that were taken are those that it handed out.
 abbrev pub IsUsed : Use → Parts → Type 0
 IsUsed u p = (items : List Item) × Fed Keys u.mode u.limits p.items u.input items
     × IsComposed u.limits p.composer items u.taken
@@ -71,11 +71,12 @@ held_of p = front_held p.items.front + packet_held p.items.framer.deframe + part
 abbrev pub most_held : Limits → ℕ
 most_held l = line_limit l + body_limit l + pieces_limit l + cert_limit l + 32
 
--- The answer to all octets: their one keyring, whose parts are those that were taken and the last one; or
--- the one fault.
+-- The answer to all octets: their one keyring, whose parts are those that were taken and the last
+-- one; or the one fault.
 abbrev pub Ends : Use → Outcome (Option Ready) → Type 0
 Ends u answer = MatchResult answer
     (λ last. (r : KeyringValue)
     × AnswerOf key_label (ComposesTo u.limits) u.mode u.limits u.input (Ok r)
     × (parts_of r ≡ u.taken ++ ready_parts last))
-    (λ fault. AnswerOf {A = KeyringValue} key_label (ComposesTo u.limits) u.mode u.limits u.input (Err fault))
+    (λ fault. AnswerOf {A = KeyringValue} key_label (ComposesTo u.limits)
+    u.mode u.limits u.input (Err fault))

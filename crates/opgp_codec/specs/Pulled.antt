@@ -15,8 +15,8 @@ pub record Pulls (before after : Option (List ℕ)) (limit : ℕ) (octets : List
   pub taken : Consumes before after octets
   pub all : ((length octets ≤ limit) × IsAtEnd after) ⊎ (length octets ≡ limit + 1)
 
--- The source was read to its end or past the limit, and this is so of the octets that came; also of all
--- that it had, where those are known.
+-- The source was read to its end or past the limit, and this is so of the octets that came; also of
+-- all that it had, where those are known.
 pub record OfInput (before now : Option (List ℕ)) (limits : Limits) (Holds : List ℕ → Type 0)
     : Type 0 where
   pub came : (octets : List ℕ) × Pulls before now (input_limit limits) octets × Holds octets

@@ -94,10 +94,11 @@ too_long limits = record {
   inner = 0;
 }
 
--- The result for an input, lowest layer first: it is too long; else the fault of its armor; else the
--- first framing fault of its blocks; else what the top makes of the labels and packets of all blocks.
-pub data AnswerOf {A : Type 0} (wanted : Wanted) (top : List Item → Outcome A → Type 0) (mode : Mode)
-    (limits : Limits) (input : List ℕ) (answer : Outcome A) : Type 0 where
+-- The result for an input, lowest layer first: it is too long; else the fault of its armor; else
+-- the first framing fault of its blocks; else what the top makes of the labels and packets of all
+-- blocks.
+pub data AnswerOf {A : Type 0} (wanted : Wanted) (top : List Item → Outcome A → Type 0)
+    (mode : Mode) (limits : Limits) (input : List ℕ) (answer : Outcome A) : Type 0 where
   at_length : input_limit limits < length input → answer ≡ Err (too_long limits)
       → AnswerOf wanted top mode limits input answer
   at_armor : length input ≤ input_limit limits → (f : Fault)

@@ -27,7 +27,8 @@ AreFirst tells got all = tells ≡ true → (rest : List ℕ) × (all ≡ got ++
 -- All octets of a spool were added to an output, in binary or to a block of armor; or the sink has
 -- failed in some of them, or the spool has behind some of them.
 abbrev pub UnspoolsVia : {W : Type 0} → Bool → (W → Option (List ℕ)) → (W → Bool)
-    → Output W → Option Armoring → Output W → Option Armoring → Result Unit DraftError → List ℕ → Type 0
+    → Output W → Option Armoring → Output W → Option Armoring
+    → Result Unit DraftError → List ℕ → Type 0
 UnspoolsVia tells held has_failed old before new after (Ok done) all = (got : List ℕ)
     × AddsVia held has_failed old before new after got × (tells ≡ true → all ≡ got)
 UnspoolsVia tells held has_failed old before new after (Err error.Write) all = (got : List ℕ)
@@ -44,8 +45,8 @@ Unspools tells old new (Err error.Spool) text = (new.failed ≡ false)
     × (tells ≡ true
     → (front : List ℕ) × (rest : List ℕ) × Adds old new front × (text ≡ front ++ rest))
 
--- A spool of this type has failed; or, where it is known what they hold, one holds 2^64 - 1 octets at
--- least, which no count of its calls has room for.
+-- A spool of this type has failed; or, where it is known what they hold, one holds 2^64 - 1 octets
+-- at least, which no count of its calls has room for.
 abbrev pub SomeFailed : {S : Type 0} → Bool → (S → List ℕ) → (S → Bool) → Type 0
 SomeFailed tells holds failed =
     (s : _) × ((failed s ≡ true) ⊎ (tells ≡ true → 2 ^ 64 ≤ 1 + length (holds s)))

@@ -55,13 +55,15 @@ abbrev pub count_of : Text → ℕ
 count_of t = text_count t.dearmor
 
 -- ---- one line more
--- Where nothing was behind these octets that waited, what a line yields waits now: its octets behind those,
--- or a line that begins or ends a block. A header changes nothing.
+-- Where nothing was behind these octets that waited, what a line yields waits now: its octets
+-- behind those, or a line that begins or ends a block. A header changes nothing.
 abbrev pub Waits : List ℕ → Text → List Event → Type 0
 Waits octets new [] = (new.octets.items ≡ octets) × (new.behind ≡ behind.Nothing)
 Waits octets new (Octets o ∷ es) = (new.octets.items ≡ octets ++ o) × (new.behind ≡ behind.Nothing)
-Waits octets new (Header key value ∷ es) = (new.octets.items ≡ octets) × (new.behind ≡ behind.Nothing)
-Waits octets new (Begin label ∷ es) = (new.octets.items ≡ octets) × (new.behind ≡ behind.Begin label)
+Waits octets new (Header key value ∷ es) =
+    (new.octets.items ≡ octets) × (new.behind ≡ behind.Nothing)
+Waits octets new (Begin label ∷ es) =
+    (new.octets.items ≡ octets) × (new.behind ≡ behind.Begin label)
 Waits octets new (End ∷ es) = (new.octets.items ≡ octets) × (new.behind ≡ behind.End)
 
 -- so it is, and the reader says what it said
@@ -71,7 +73,8 @@ pub record Keeps (old new : Text) (events : List Event) : Type 0 where
   pub at : new.at ≡ old.at
 
 -- ---- what went through
--- the framer was given what events have built, but for the last octets of the open block, which wait
+-- the framer was given what events have built, but for the last octets of the open block, which
+-- wait
 abbrev pub FramesBut : Accepts → Limits → Blocks → List ℕ → Built → List Item → Type 0
 FramesBut accepts limits f waiting b items = (octets : List ℕ) × (b.octets ≡ octets ++ waiting)
     × Framed accepts limits f (map armored_block b.blocks) (Some b.label) octets items
@@ -81,8 +84,8 @@ abbrev pub is_known : Blocks → List ℕ → Bool
 is_known f [] = has_begun f
 is_known f (o ∷ os) = true
 
--- The reader was given these octets of a text, and the framer what the events built that were taken from
--- it, but for what waits; and it has found these labels and packets.
+-- The reader was given these octets of a text, and the framer what the events built that were taken
+-- from it, but for what waits; and it has found these labels and packets.
 pub record Through (accepts : Accepts) (limits : Limits) (t : Text) (f : Blocks) (input : List ℕ)
     (items : List Item) : Type 0 where
   pub before : List Event
@@ -104,8 +107,8 @@ pub record Ended (accepts : Accepts) (binary : Bool) (limits : Limits) (f : Bloc
   pub framed : Framed accepts limits f blocks label octets items
   pub closed : has_begun f ≡ false
 
--- The outcome at the end of an input: the framer has its blocks, and has found these labels and packets,
--- and perhaps the label of the last block; or it isn't an armored text.
+-- The outcome at the end of an input: the framer has its blocks, and has found these labels and
+-- packets, and perhaps the label of the last block; or it isn't an armored text.
 abbrev pub IsEnd : Accepts → Bool → Limits → Blocks → List ℕ → List Item
     → Option Opening × Result Unit Fault → Type 0
 IsEnd accepts binary limits f input items (opening, ended) =

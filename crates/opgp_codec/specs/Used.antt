@@ -3,8 +3,8 @@ use Rattle.std.specs.Prelude.{ℕ, ◌^◌, ◌-◌, min, Bool, true, false, Lis
 use Rattle.opgp_octets.specs.declared.limits.Limits.{Limits}
 use Rattle.opgp_codec.specs.declared.mode.Mode.{Mode}
 
--- the mode and the limits that it was made with, the octets that it was given, in whatever pieces, and
--- the parts that were taken from it
+-- the mode and the limits that it was made with, the octets that it was given, in whatever pieces,
+-- and the parts that were taken from it
 pub record UseOf (P : Type 0) : Type 0 where
   pub mode : Mode
   pub limits : Limits

@@ -59,7 +59,8 @@ impl IncomingOctets {
     }
 
     /// Reads the next piece, which `piece` lends. False: there is none, since the source has ended,
-    /// or one octet past the limit `input` has come. The condition is that the source hasn't failed.
+    /// or one octet past the limit `input` has come. The condition is that the source hasn't
+    /// failed.
     ///
     /// The error is `Read`: the source has failed. Nothing is known of the reader then.
     pub fn next<R: Source>(&mut self, source: &mut R) -> Result<bool, ReadError>

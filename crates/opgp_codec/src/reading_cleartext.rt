@@ -18,8 +18,8 @@ use opgp_ring::DetachedSignatures;
 use std::alloc::Global;
 
 /// The document and the signatures of a message in the cleartext signature framework (RFC 9580, 7),
-/// or the one fault of the lowest layer that refuses it: input, the message's lines, armor, framing,
-/// bodies, composition.
+/// or the one fault of the lowest layer that refuses it: input, the message's lines, armor,
+/// framing, bodies, composition.
 ///
 /// What is behind the document must be armored blocks of signatures alone: a line outside of them
 /// must be blank, whatever the limits say of such lines. A fault's place is the line's in the whole

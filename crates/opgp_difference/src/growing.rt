@@ -31,6 +31,7 @@ impl<'a> Visitor<'a> for Growing<'a> {
         packet: Member<'a>,
         place: PacketPlace,
     ) -> Result<usize, OutOfMemory> {
+        // Where a packet lies plays no part.
         let _place = place;
         note(&mut self.tree, above, packet.kind(), packet.body())
     }

@@ -3,8 +3,8 @@
 //! [`SignedDocument`] hashes one document for several signatures in one pass, [`SignatureHasher`]
 //! for one. A signature of type 00 is over the document's octets as they are, one of type 01 over
 //! its canonical text, in which each line ends in a carriage return and a line feed;
-//! [`CanonicalText`] writes that. For callers who hash elsewhere, [`OwnOctets`] has what a signature
-//! hashes in front of its document and behind it.
+//! [`CanonicalText`] writes that. For callers who hash elsewhere, [`OwnOctets`] has what a
+//! signature hashes in front of its document and behind it.
 #![tactic(auto)]
 
 mod canonical_text;

@@ -32,6 +32,7 @@ pub fn fields_of(alloc: Global, question: &Question<'_>) -> Result<Vec<Field>, O
         ≡ hashed (question_value question.now) }
 {
     laws::fields_are_whole();
+    // Called for its contract: the subject is one of such a question.
     let _subject = question.subject();
     tell_all(alloc, question)
 }

@@ -103,7 +103,8 @@ KeepsFed old new octets packets =
 
 -- Octets of a piece are taken up to the one that makes a packet ready, or all of them. After a
 -- fault all are taken, and nothing becomes ready.
-pub record Takes {E : Type 0} (old new : Deframe) (piece : List ℕ) (result : Result ℕ E) : Type 0 where
+pub record Takes {E : Type 0} (old new : Deframe) (piece : List ℕ)
+    (result : Result ℕ E) : Type 0 where
   pub fed : IfOk result (λ n. KeepsFed old new (take n piece) [])
   pub within : IfOk result (λ n. n ≤ length piece)
   pub moves : IfOk result (λ n. 0 < length piece → 0 < n)

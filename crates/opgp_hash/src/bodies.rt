@@ -23,6 +23,7 @@ pub(crate) fn version_in(key: &KeyView<'_>) -> u8
     ensures value { result ≡ version_of (body_octets key.now) }
     ensures known { (result ≡ 4) ⊎ (result ≡ 6) }
 {
+    // Called for its contract: the version is the body's first octet.
     let _body = key.body();
     key.version()
 }

@@ -90,6 +90,7 @@ impl<'a> Question<'a> {
     {
         are_octets(self.salt);
         are_octets(self.area);
+        // Called for its contract: its number is that of a hash algorithm.
         let _algorithm = self.algorithm();
         self.subject.stands(self.version);
     }

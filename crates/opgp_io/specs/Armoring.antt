@@ -23,7 +23,8 @@ rows_of held has_failed o a = record { output = state_of held has_failed o; row 
 -- A block with these octets was begun at `start`: what was added since then is the beginning of its
 -- armor, whatever octets follow; then come the data lines of what waits and of what follows, and
 -- the end line.
-pub record Armors (label : Label) (start now : State) (a : Armoring) (octets : List ℕ) : Type 0 where
+pub record Armors (label : Label) (start now : State)
+    (a : Armoring) (octets : List ℕ) : Type 0 where
   pub same : label_of a ≡ label
   pub text : List ℕ
   pub added : Adds start now text

@@ -22,8 +22,8 @@ is_name_of (by_print version octets) print = has_print version octets print
 is_name_of (by_id id) print = has_id id print
 is_name_of unnamed print = false
 
--- a signature that names this key as its issuer (RFC 9580, 5.2.2, 5.2.3.12, 5.2.3.35); a malformed one
--- (5.2.5) names none
+-- a signature that names this key as its issuer (RFC 9580, 5.2.2, 5.2.3.12, 5.2.3.35); a malformed
+-- one (5.2.5) names none
 abbrev pub names_key : Fingerprint → Result SignatureValue BodyFault → Bool
 names_key print (Ok signature) = is_name_of (named_of signature) print
 names_key print (Err fault) = false

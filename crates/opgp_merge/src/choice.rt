@@ -15,8 +15,9 @@ pub struct Choice<'a> {
     /// User attributes (5.12) go, with the signatures on them.
     pub no_attributes: bool,
     /// Of the user IDs (5.11) of each certificate only those of these numbers stay, counted from 0,
-    /// in their order; the others go, with the signatures on them. The numbers may come in any order,
-    /// and more than once. None named: every one stays. Each user ID is compared with all of them.
+    /// in their order; the others go, with the signatures on them. The numbers may come in any
+    /// order, and more than once. None named: every one stays. Each user ID is compared with all of
+    /// them.
     pub user_ids: &'a [u64],
 }
 

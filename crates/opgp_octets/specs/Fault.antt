@@ -80,8 +80,8 @@ reason_number r = (reason_row r).0
 unfoldable pub reason_name : Reason → List ℕ
 reason_name r = (reason_row r).1
 
--- The layer, and the reason, that a number stands for: of all that the program has. That each of them is
--- among those is a law of numbers_of_faults.
+-- The layer, and the reason, that a number stands for: of all that the program has. That each of
+-- them is among those is a law of numbers_of_faults.
 unfoldable pub layer_of : ℕ → Option Layer
 layer_of n = with_number layer_number n layers.ALL
 

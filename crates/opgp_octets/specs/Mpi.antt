@@ -58,7 +58,9 @@ abbrev pub checked : Bool → MpiValue → List ℕ → Result (MpiValue × List
 checked strict m rest = if strict && not (is_strict m) then Err MpiBits else Ok (m, rest)
 
 abbrev pub body_at : Bool → ℕ → List ℕ → Result (MpiValue × List ℕ) Reason
-body_at strict bits o = if nat_lt (length o) (octets_of bits) then Err Short else checked strict (record { bits = bits; octets = take (octets_of bits) o }) (drop (octets_of bits) o)
+body_at strict bits o = if nat_lt (length o) (octets_of bits) then Err Short
+    else checked strict (record { bits = bits; octets = take (octets_of bits) o })
+    (drop (octets_of bits) o)
 
 -- the integer that begins a list, and what follows, or why there is none
 unfoldable pub mpi_at : Bool → List ℕ → Result (MpiValue × List ℕ) Reason

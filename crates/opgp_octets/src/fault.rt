@@ -20,7 +20,8 @@ pub enum Layer {
     Composition = 4,
     /// The line ends of a document that is hashed as text (RFC 9580, 5.2.1.2).
     Text = 5,
-    /// The lines of a cleartext message (RFC 9580, 7). It refuses before the armor of its signatures.
+    /// The lines of a cleartext message (RFC 9580, 7). It refuses before the armor of its
+    /// signatures.
     Cleartext = 6,
 }
 

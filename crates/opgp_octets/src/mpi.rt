@@ -34,6 +34,7 @@ impl Mpi {
         ensures value { result.now ≡ (mpi_owned self.now).octets }
         ensures mpi { IsMpi (mpi_owned self.now) }
     {
+        // Read, so that the type's invariant is known.
         let _bits = self.bits;
         self.octets.as_slice()
     }

@@ -42,6 +42,7 @@ impl<'a> MpiView<'a> {
         ensures value { result.now ≡ (mpi_seen self.now).octets }
         ensures mpi { IsMpi (mpi_seen self.now) }
     {
+        // Read, so that the type's invariant is known.
         let _bits = self.bits;
         self.octets
     }

@@ -24,7 +24,8 @@ or_sub_short (Some x) = Ok x
 abbrev pub inside_at : SubLen → ℕ → List ℕ → Result (Sub × List ℕ) Reason
 inside_at len zero o = Err SubEmpty
 inside_at len (suc n) [] = Err SubShort
-inside_at len (suc n) (kind ∷ o) = if nat_lt (length o) n then Err SubShort else Ok (record { len = len; kind = kind; octets = take n o }, drop n o)
+inside_at len (suc n) (kind ∷ o) = if nat_lt (length o) n then Err SubShort
+    else Ok (record { len = len; kind = kind; octets = take n o }, drop n o)
 
 -- the subpacket that begins a list and what follows it, or why there is none
 unfoldable pub sub_at : List ℕ → Result (Sub × List ℕ) Reason

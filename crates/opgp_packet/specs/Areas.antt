@@ -15,8 +15,8 @@ subs_at [] n = []
 subs_at (f ∷ fields) zero = subs_of f
 subs_at (f ∷ fields) (suc n) = subs_at fields n
 
--- In versions 4 and 6 the fields are version, type, algorithm, hash, hashed area, unhashed area, ..;
--- no other version has areas.
+-- In versions 4 and 6 the fields are version, type, algorithm, hash, hashed area, unhashed area,
+-- ..; no other version has areas.
 abbrev pub hashed_subs : SignatureValue → List Sub
 hashed_subs (of_three fields) = []
 hashed_subs (of_four fields) = subs_at fields 4

@@ -17,5 +17,7 @@ pub IsWhole-prop : (p : AttributePlaces) (o : List ℕ) → IsProp (IsWhole p o)
 IsWhole-prop p o = hlevel props
 
 -- the user attribute: its subpackets
-abbrev pub attribute_value : {B : Type 0} {b : OctetsOf B} {f : BodyOf AttributePlaces} → Parsed B AttributePlaces b f → List Sub
+abbrev pub attribute_value :
+    {B : Type 0} {b : OctetsOf B} {f : BodyOf AttributePlaces} → Parsed B AttributePlaces b f
+    → List Sub
 attribute_value a = subs_in (body_octets a)

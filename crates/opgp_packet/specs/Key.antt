@@ -13,7 +13,8 @@ use Rattle.opgp_packet.specs.declared.parsed.Body.{Ghosts as BodyOf}
 use Rattle.opgp_packet.specs.declared.parsed.Parsed.{Parsed}
 
 abbrev pub key_in : KeyPlaces → List ℕ → KeyValue
-key_in p o = record { version = p.version; created = p.created; algorithm = p.algorithm; material = fields_in p.material o }
+key_in p o =
+    record { version = p.version; created = p.created; algorithm = p.algorithm; material = fields_in p.material o }
 
 -- the fields of a key whose body has this many octets: the count of version 6 is that of the octets
 -- after it
@@ -34,5 +35,6 @@ pub KeyLies-prop : (p : KeyPlaces) (o : List ℕ) → IsProp (KeyLies p o)
 KeyLies-prop p o = hlevel (props, AreIn-prop, Shape-set)
 
 -- the key
-abbrev pub key_value : {B : Type 0} {b : OctetsOf B} {f : BodyOf KeyPlaces} → Parsed B KeyPlaces b f → KeyValue
+abbrev pub key_value :
+    {B : Type 0} {b : OctetsOf B} {f : BodyOf KeyPlaces} → Parsed B KeyPlaces b f → KeyValue
 key_value k = key_in k.places (body_octets k)

@@ -10,7 +10,8 @@ use Rattle.opgp_packet.specs.declared.parsed.Body.{Ghosts as BodyOf}
 use Rattle.opgp_packet.specs.declared.parsed.Parsed.{Parsed}
 
 abbrev pub literal_in : LiteralPlaces → List ℕ → LiteralValue
-literal_in p o = record { format = p.format; name = octets_in p.name o; date = p.date; content = octets_in p.content o }
+literal_in p o =
+    record { format = p.format; name = octets_in p.name o; date = p.date; content = octets_in p.content o }
 
 -- the name and the content are within the octets
 abbrev pub LieIn : LiteralPlaces → List ℕ → Type 0
@@ -20,5 +21,7 @@ pub LieIn-prop : (p : LiteralPlaces) (o : List ℕ) → IsProp (LieIn p o)
 LieIn-prop p o = hlevel props
 
 -- the literal
-abbrev pub literal_value : {B : Type 0} {b : OctetsOf B} {f : BodyOf LiteralPlaces} → Parsed B LiteralPlaces b f → LiteralValue
+abbrev pub literal_value :
+    {B : Type 0} {b : OctetsOf B} {f : BodyOf LiteralPlaces} → Parsed B LiteralPlaces b f
+    → LiteralValue
 literal_value l = literal_in l.places (body_octets l)

@@ -10,5 +10,6 @@ abbrev pub body_octets : {B F : Type 0} {b : OctetsOf B} {f : BodyOf F} → Pars
 body_octets {B} {F} {b} {f} p = b.octets p.body
 
 -- the fields that they encode
-abbrev pub body_fields : {B F : Type 0} {b : OctetsOf B} {f : BodyOf F} → Parsed B F b f → List Field
+abbrev pub body_fields :
+    {B F : Type 0} {b : OctetsOf B} {f : BodyOf F} → Parsed B F b f → List Field
 body_fields {B} {F} {b} {f} p = f.fields p.places (b.octets p.body)

@@ -11,7 +11,8 @@ octets_in p body = slice_range body p.start p.end
 
 -- the multiprecision integer whose octets begin at this place
 abbrev pub mpi_in : MpiSpan → List ℕ → MpiValue
-mpi_in p body = record { bits = p.bits; octets = slice_range body p.start (p.start + octets_of p.bits) }
+mpi_in p body =
+    record { bits = p.bits; octets = slice_range body p.start (p.start + octets_of p.bits) }
 
 abbrev pub integer_in : MpiSpan → List ℕ → Field
 integer_in p body = integer (mpi_in p body)

@@ -39,7 +39,8 @@ three_in p o = record {
 
 -- its material lies in the octets, and has the form of its algorithm
 abbrev pub ThreeLies : ThreePlaces → List ℕ → Type 0
-ThreeLies p o = AreIn p.material (length o) × (shape p.material ≡ shape_of (key_algorithm_of p.algorithm))
+ThreeLies p o =
+    AreIn p.material (length o) × (shape p.material ≡ shape_of (key_algorithm_of p.algorithm))
 
 -- there is one proof of it at most
 pub ThreeLies-prop : (p : ThreePlaces) (o : List ℕ) → IsProp (ThreeLies p o)

@@ -147,6 +147,7 @@ impl<'a> Parsed<&'a [u8], KeyPlaces> {
         // X25519 and Ed25519 have 32 octets, X448 has 56, Ed448 has 57.
         ensures sizes { HasSizes result }
     {
+        // Read, so that the type's invariant is known.
         let _algorithm = self.places.algorithm;
         self.places.material.lend(self.body)
     }

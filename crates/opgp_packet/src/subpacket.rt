@@ -42,6 +42,7 @@ impl<'a> Subpacket<'a> {
         ensures value { result.now ≡ (sub_seen self.now).octets }
         ensures sub { IsSub (sub_seen self.now) }
     {
+        // Read, so that the type's invariant is known.
         let _kind = self.kind;
         self.octets
     }

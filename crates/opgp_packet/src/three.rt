@@ -95,6 +95,7 @@ impl<'a> Parsed<&'a [u8], ThreePlaces> {
         ensures value { result ≡ (three_value self.now).algorithm }
         ensures known { (result ≡ 1) ⊎ ((result ≡ 3) ⊎ (result ≡ 17)) }
     {
+        // Called for its contract: the number is one of the three.
         let _read = KeyAlgorithm::from(self.places.algorithm);
         self.places.algorithm
     }

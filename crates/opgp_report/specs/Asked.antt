@@ -72,5 +72,6 @@ posed_value (posed.Nothing why) = Err why
 -- the signature of that number stops it; after a list without it, that many fewer are left
 abbrev pub Finds : Finder → List Standing → Result Finder (Option Question) → Type 0
 Finds f list (Err found) = (f.left < length list)
-    × (option_map (λ q. question_value q) found ≡ question_in (slice_get (map asked_by list) f.left))
+    × (option_map (λ q. question_value q) found ≡
+    question_in (slice_get (map asked_by list) f.left))
 Finds f list (Ok g) = f.left ≡ length list + g.left

@@ -16,7 +16,8 @@ pub record FingerprintedValue : Type 0 where
   pub signer : Option Fingerprint
 
 module _ (keys : List (List ℕ)) where
-  -- the fingerprint of the first of these keys that a signature names as its issuer's, if it is hashed
+  -- the fingerprint of the first of these keys that a signature names as its issuer's, if it is
+  -- hashed
   abbrev pub signer_print : PosedValue → Option Fingerprint
   signer_print (Ok x) = option_map print_of (signer_in keys x.0)
   signer_print (Err why) = None
@@ -30,7 +31,8 @@ module _ (keys : List (List ℕ)) where
   }
 
   abbrev pub fingerprinted_rows : Says → ℕ → CertificateValue → List FingerprintedValue
-  fingerprinted_rows says n c = map (fingerprinted_row says c.primary.body) (certificate_standing n c)
+  fingerprinted_rows says n c =
+      map (fingerprinted_row says c.primary.body) (certificate_standing n c)
 
 -- the report of a keyring with a verifier, each row with fingerprints
 abbrev pub fingerprinted_report_of : Says → KeyringValue → List FingerprintedValue

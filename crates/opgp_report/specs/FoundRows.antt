@@ -1,5 +1,5 @@
--- Rows with fingerprints, as they are found in what is kept of a keyring: its keys' fingerprints, those of
--- its certificates, its rows, and the names of the issuers of those that are hashed.
+-- Rows with fingerprints, as they are found in what is kept of a keyring: its keys' fingerprints,
+-- those of its certificates, its rows, and the names of the issuers of those that are hashed.
 use Rattle.std.specs.Prelude.{List, [], ◌∷◌, Option, Some, None, slice_get}
 use Rattle.opgp_hash.specs.declared.fingerprints.Fingerprint.{Fingerprint}
 use Rattle.opgp_report.specs.Fingerprinted.{FingerprintedValue}
@@ -10,15 +10,16 @@ use Rattle.opgp_report.specs.Signer.{NameValue, print_named}
 abbrev pub signer_by : List Fingerprint → FindingValue → List NameValue → Option Fingerprint
 signer_by prints (not_asked why) names = None
 signer_by prints (asked_with kind hash signer digest verdict) [] = None
-signer_by prints (asked_with kind hash signer digest verdict) (name ∷ names) = print_named prints name
+signer_by prints (asked_with kind hash signer digest verdict) (name ∷ names) =
+    print_named prints name
 
 abbrev pub names_behind : FindingValue → List NameValue → List NameValue
 names_behind (not_asked why) names = names
 names_behind (asked_with kind hash signer digest verdict) [] = []
 names_behind (asked_with kind hash signer digest verdict) (name ∷ names) = names
 
--- the rows, each with the fingerprint that is kept of the certificate in its place; no rows behind one
--- whose certificate has none
+-- the rows, each with the fingerprint that is kept of the certificate in its place; no rows behind
+-- one whose certificate has none
 abbrev pub found_then : List Fingerprint → RowValue → List NameValue → Option Fingerprint
     → (List NameValue → List FingerprintedValue) → List FingerprintedValue
 found_then prints row names None more = []

@@ -8,7 +8,8 @@ use Rattle.opgp_ring.specs.declared.hangs.Hangs.{Hangs}
 use Rattle.opgp_ring.specs.Keyring.{CertificateValue, ComponentValue, IsPrimary, is_head, is_hung}
 use Rattle.opgp_ring.specs.Member.{member_packet, members_left}
 
--- those before the first user ID, attribute or subkey (RFC 9580, 10.1): the longest front without one
+-- those before the first user ID, attribute or subkey (RFC 9580, 10.1): the longest front without
+-- one
 abbrev pub hung_before : List PacketValue → List PacketValue
 hung_before [] = []
 hung_before (p ∷ ps) = if is_head p.kind then [] else p ∷ hung_before ps

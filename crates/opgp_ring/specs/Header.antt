@@ -52,7 +52,8 @@ sizes (p ∷ ps) = p.len + sizes ps
 -- the packets whose bodies stand one after the other
 abbrev pub packets_with : List ℕ → List Header → List PacketValue
 packets_with bodies [] = []
-packets_with bodies (p ∷ ps) = packet_with p (take p.len bodies) ∷ packets_with (drop p.len bodies) ps
+packets_with bodies (p ∷ ps) =
+    packet_with p (take p.len bodies) ∷ packets_with (drop p.len bodies) ps
 
 -- the header with the shortest form of its body's length
 abbrev pub normal_header : Header → Header

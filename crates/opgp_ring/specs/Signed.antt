@@ -90,8 +90,8 @@ pub record EndsEarly (end : ℕ) (items : List Item) (f : Fault) : Type 0 where
   pub lacks : IsSigned (packets_in items) → ⊥
   pub is : f ≡ fault_at NotASignedLiteral (end_block items) end
 
--- Given where the last block ends: bodies come first, and a fault in the order is reported only if no
--- body has one. The policy says what becomes of malformed signatures.
+-- Given where the last block ends: bodies come first, and a fault in the order is reported only if
+-- no body has one. The policy says what becomes of malformed signatures.
 abbrev pub IsSignedFaultBy : Malformed → ℕ → List Item → Fault → Type 0
 IsSignedFaultBy policy end items f =
     IsFirstBodyFault policy (placed_in items) f
@@ -106,7 +106,8 @@ told_end items = min (end_pos items) (2 ^ 64 - 1)
 
 -- all labels are the expected ones, no body has a fault, and the packets, all of them in order, are
 -- those of the signed literal
-pub record IsSignedOf (policy : Malformed) (items : List Item) (ps : List PacketValue) : Type 0 where
+pub record IsSignedOf (policy : Malformed) (items : List Item)
+    (ps : List PacketValue) : Type 0 where
   pub labels : labels_fit items ≡ true
   pub sound : All (IsSound policy) (placed_in items)
   pub flat : ps ≡ packets_in items

@@ -501,6 +501,7 @@ pub(crate) fn keyring_member(packet: PacketView<'_>, malformed: Malformed) -> Me
     requires sound { HasNoFault malformed (viewed_packet packet) }
     ensures { member_packet result ≡ viewed_packet packet.entry }
 {
+    // Called for its contract: these octets are a packet.
     let _known = packet.kind();
     Member::of(packet)
 }

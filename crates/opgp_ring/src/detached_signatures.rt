@@ -43,7 +43,8 @@ impl DetachedSignatures {
         &self.flat
     }
 
-    /// All their packets, one after the other, as those of a keyring are visited. Allocates nothing.
+    /// All their packets, one after the other, as those of a keyring are visited. Allocates
+    /// nothing.
     pub fn packets(&self) -> DetachedPackets<'_>
         ensures { detached_left result ≡ detached_packets self.now }
     {

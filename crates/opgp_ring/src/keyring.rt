@@ -80,6 +80,7 @@ impl Keyring {
         }) }
         ensures err { OnErr result (self.new ≡ self.old) }
     {
+        // Called for its contract: this is a certificate.
         let _known = certificate.primary();
         self.certificates.push(certificate)?;
         Ok(())

@@ -1,4 +1,5 @@
--- The certificates of a keyring that have keys of some names, or the others: what is written of them.
+-- The certificates of a keyring that have keys of some names, or the others: what is written of
+-- them.
 use denote.Ref.{Bor}
 use Rattle.std.specs.Prelude.{ℕ, Bool, List}
 use Rattle.std.specs.BTreeMap.{BTreeMap}

@@ -11,7 +11,8 @@ is_leap year = (year % 4 == 0) && (not (year % 100 == 0) || (year % 400 == 0))
 abbrev pub days_in_year : ℕ → ℕ
 days_in_year year = if is_leap year then 366 else 365
 
--- February has 28 or 29, April, June, September and November have 30, and the others 31 (RFC 3339, 5.7)
+-- February has 28 or 29, April, June, September and November have 30, and the others 31 (RFC 3339,
+-- 5.7)
 abbrev pub days_in_month : ℕ → ℕ → ℕ
 days_in_month year month =
     if month == 2 then (if is_leap year then 29 else 28)
@@ -22,8 +23,8 @@ pub record DateValue : Type 0 where
   pub month : ℕ
   pub day : ℕ
 
--- the next day: in the same month; after its last day, the first of the next month; after December, of
--- the next year
+-- the next day: in the same month; after its last day, the first of the next month; after December,
+-- of the next year
 abbrev pub day_after : DateValue → DateValue
 day_after d =
     if nat_lt d.day (days_in_month d.year d.month)

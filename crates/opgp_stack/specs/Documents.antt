@@ -93,8 +93,8 @@ words_text n words = joined (codes "signature " ∷ decimal n ∷ words)
 abbrev pub words_line : ℕ → List (List ℕ) → List ℕ
 words_line n words = words_text n words ++ codes "\n"
 
--- `signature <n> : none <why>`, or `signature <n> : asked type <T> hash <n> signer <fingerprint, key ID
--- or -> digest <its first two octets> verdict <bad or undecided>`
+-- `signature <n> : none <why>`, or `signature <n> : asked type <T> hash <n> signer <fingerprint,
+-- key ID or -> digest <its first two octets> verdict <bad or undecided>`
 abbrev pub digest_line : ℕ → Result SignatureValue BodyFault → Answer → List ℕ
 digest_line n read answer = words_line n (answer_words read answer)
 

@@ -38,7 +38,8 @@ has_one_of names print = list_any (λ name. is_named name print) names
 abbrev pub has_any : List (List ℕ) → CertificateValue → Bool
 has_any names c = list_any (λ body. has_one_of names (print_of body)) (certificate_keys c)
 
--- a certificate is picked that has a key of one of these names, or, but for those, one that has none
+-- a certificate is picked that has a key of one of these names, or, but for those, one that has
+-- none
 abbrev pub is_picked : List (List ℕ) → Bool → CertificateValue → Bool
 is_picked names except c = if except then not (has_any names c) else has_any names c
 

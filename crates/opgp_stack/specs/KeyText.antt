@@ -7,7 +7,8 @@ use Rattle.opgp_stack.specs.declared.key_name.KeyName.{KeyName}
 use Rattle.opgp_stack.specs.declared.key_name.KeyName.TheVariants.{Id, Four, Six}
 use Rattle.opgp_stack.specs.KeyName.{name_octets}
 
--- how many octets it has: those of a key ID, or of a fingerprint of version 4 or 6 (RFC 9580, 5.5.4)
+-- how many octets it has: those of a key ID, or of a fingerprint of version 4 or 6 (RFC 9580,
+-- 5.5.4)
 abbrev pub name_size : KeyName → ℕ
 name_size (Id octets) = 8
 name_size (Four octets) = 20

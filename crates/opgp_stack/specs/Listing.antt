@@ -92,8 +92,8 @@ typed_text version kind algorithm hash = typed_start version kind algorithm hash
 abbrev pub opaque_text : ℕ → List ℕ
 opaque_text n = codes "sig opaque " ++ decimal n ++ codes "\n"
 
--- By version (RFC 9580, 5.2.2 and 5.2.3): in versions 4 and 6 the fields are version, type, algorithm,
--- hash, ..; in version 3 version, a length, type, time, issuer, algorithm, hash, ..
+-- By version (RFC 9580, 5.2.2 and 5.2.3): in versions 4 and 6 the fields are version, type,
+-- algorithm, hash, ..; in version 3 version, a length, type, time, issuer, algorithm, hash, ..
 abbrev pub signature_text : SignatureValue → List ℕ
 signature_text (of_three fields) =
     typed_text 3 (number_at fields 2) (number_at fields 5) (number_at fields 6)

@@ -57,7 +57,8 @@ abbrev pub HasTexts : {S : Type 0} → (Draft S → List ℕ → Type 0) → Par
     → List PartValue → Type 0
 HasTexts has text k parts = (k.text ≡ text) × has k.draft (flat_map (text_of_part text) parts)
 
--- the certificates with keys of these names, or the others, are written in this way, each on its own
+-- the certificates with keys of these names, or the others, are written in this way, each on its
+-- own
 abbrev pub HasNames : {S : Type 0} → (Draft S → List ℕ → Type 0) → Out → Bor (List KeyName) → Bool
     → NamedCertificates S → List PartValue → Type 0
 HasNames has out keys except k parts = (k.out ≡ out) × (k.except ≡ except)
@@ -130,10 +131,13 @@ ring_made other r = Text []
 
 -- ---- of octets
 -- they are a keyring, and this is made of all its parts; or this is their fault
-abbrev pub IsMadeOf : {S : Type 0} → (Draft S → List ℕ → Type 0) → Task → List ℕ → Outcome (Making S)
+abbrev pub IsMadeOf : {S : Type 0} → (Draft S → List ℕ → Type 0)
+    → Task → List ℕ → Outcome (Making S)
     → Type 0
 IsMadeOf has task octets answer = MatchResult answer
-    (λ m. (r : KeyringValue) × AnswerOf key_label (ComposesTo task.limits) task.mode task.limits octets (Ok r)
+    (λ m. (r : KeyringValue)
+    × AnswerOf key_label (ComposesTo task.limits) task.mode task.limits octets (Ok r)
     × HasMade has task.action m (parts_of r))
-    (λ fault. AnswerOf {A = KeyringValue} key_label (ComposesTo task.limits) task.mode task.limits octets
+    (λ fault. AnswerOf {A = KeyringValue} key_label (ComposesTo task.limits)
+    task.mode task.limits octets
     (Err fault))

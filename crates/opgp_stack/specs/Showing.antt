@@ -66,7 +66,8 @@ header_line p = place_text p.block p.pos
 -- `  <area> kind <n> critical <0 or 1> length <n> <typed, unfit or unknown>`, where the length
 -- includes the type octet, as in the subpacket
 abbrev pub subpacket_start : Area → Sub → List ℕ
-subpacket_start area s = codes "  " ++ area_name area ++ codes " kind " ++ decimal (kind_shown s.kind)
+subpacket_start area s =
+    codes "  " ++ area_name area ++ codes " kind " ++ decimal (kind_shown s.kind)
     ++ codes " critical " ++ bit_name (is_critical s.kind)
     ++ codes " length " ++ decimal (sub_len_amount s.len) ++ codes " "
     ++ meaning_name (meaning_of (subpacket_kind_of (kind_shown s.kind)) s.octets)

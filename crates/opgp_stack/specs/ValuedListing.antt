@@ -1,5 +1,5 @@
--- The lines of a keyring's listing with values: those of keys and signatures say more, and the others are
--- the same.
+-- The lines of a keyring's listing with values: those of keys and signatures say more, and the
+-- others are the same.
 use Rattle.std.specs.Prelude.{ℕ, ◌-◌, if◌then◌else◌, List, ◌++◌, length, take, codes}
 use Rattle.std.specs.Prelude.{Option, Some, None, Result, Ok, Err}
 use Rattle.std.specs.List.{flat_map}
@@ -27,8 +27,8 @@ use Rattle.opgp_state.specs.Report.{number_or_none}
 abbrev pub created_in : Sub → Option ℕ
 created_in s = fields_of kind.Created form.number s
 
--- when it was made: in version 3 its fourth field (5.2.2), in versions 4 and 6 the first time in its
--- hashed area
+-- when it was made: in version 3 its fourth field (5.2.2), in versions 4 and 6 the first time in
+-- its hashed area
 abbrev pub created_of : SignatureValue → Option ℕ
 created_of (of_three fields) = Some (number_at fields 3)
 created_of signature = first_some created_in (hashed_subs signature)
@@ -68,8 +68,8 @@ abbrev pub with_values : Result SignatureValue BodyFault → List ℕ → List �
 with_values (Ok signature) line = going_on (left_in signature) signature line
 with_values (Err fault) line = line
 
--- the line of a packet of a keyring; that of a key goes on with a date, that of a signature of version
--- 3, 4 or 6 with what it states
+-- the line of a packet of a keyring; that of a key goes on with a date, that of a signature of
+-- version 3, 4 or 6 with what it states
 abbrev pub valued_packet_line : PacketValue → List ℕ
 valued_packet_line p =
     if is_type packet.PublicKey p.kind then dated_key_line (codes "pub") p.body

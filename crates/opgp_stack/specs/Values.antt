@@ -1,5 +1,5 @@
--- The lines that show packets with what they say: for each packet its fields, and behind each subpacket
--- of a signature what it means.
+-- The lines that show packets with what they say: for each packet its fields, and behind each
+-- subpacket of a signature what it means.
 use Rattle.std.specs.Prelude.{ℕ, ◌==◌, bit_and, if◌then◌else◌, List, [], ◌∷◌, ◌++◌, length}
 use Rattle.std.specs.Prelude.{codes, Result, Ok, Err}
 use Rattle.std.specs.Fmt.{decimal}
@@ -111,8 +111,8 @@ notation_line flags name value = codes " notation " ++ decimal flags ++ codes " 
 abbrev pub reason_line : ℕ → List ℕ → List ℕ
 reason_line code text = codes " reason " ++ decimal code ++ codes " " ++ quoted text ++ codes "\n"
 
--- The end of a subpacket's line: what it means (RFC 9580, 5.2.3.11 to 5.2.3.36); its octets where they
--- mean nothing that is known.
+-- The end of a subpacket's line: what it means (RFC 9580, 5.2.3.11 to 5.2.3.36); its octets where
+-- they mean nothing that is known.
 abbrev pub value_line : Meaning → List ℕ → List ℕ
 value_line (typed kind.Created form.number n) o = time_line (codes " created ") n
 value_line (typed kind.Expires form.number n) o = number_line (codes " expires ") n
@@ -122,7 +122,8 @@ value_line (typed kind.Trust form.two_octets x) o =
 value_line (typed kind.RegularExpression form.ended_text text) o = text_line (codes " regex ") text
 value_line (typed kind.Revocable form.octet n) o = number_line (codes " revocable ") n
 value_line (typed kind.KeyExpires form.number n) o = number_line (codes " key-expires ") n
-value_line (typed kind.PreferredSymmetric form.octets list) o = numbers_line (codes " symmetric") list
+value_line (typed kind.PreferredSymmetric form.octets list) o =
+    numbers_line (codes " symmetric") list
 value_line (typed kind.RevocationKey form.revoker x) o =
     pair_digits_line (codes " revocation-key class ") x.0 (codes " alg ") x.1 x.2
 value_line (typed kind.Issuer form.key_id id) o = digits_line (codes " issuer ") id
@@ -132,12 +133,14 @@ value_line (typed kind.PreferredCompression form.octets list) o =
     numbers_line (codes " compression") list
 value_line (typed kind.KeyServerPreferences form.octets flags) o =
     flags_line (codes " server-flags ") flags server_rows
-value_line (typed kind.PreferredKeyServer form.octets text) o = text_line (codes " key-server ") text
+value_line (typed kind.PreferredKeyServer form.octets text) o =
+    text_line (codes " key-server ") text
 value_line (typed kind.PrimaryUserId form.octet n) o = number_line (codes " primary-user-id ") n
 value_line (typed kind.PolicyUri form.octets text) o = text_line (codes " policy ") text
 value_line (typed kind.KeyFlags form.octets flags) o =
     flags_line (codes " key-flags ") flags key_flag_rows
-value_line (typed kind.SignersUserId form.octets text) o = text_line (codes " signers-user-id ") text
+value_line (typed kind.SignersUserId form.octets text) o =
+    text_line (codes " signers-user-id ") text
 value_line (typed kind.RevocationReason form.code_and_text x) o = reason_line x.0 x.1
 value_line (typed kind.Features form.octets flags) o =
     flags_line (codes " features ") flags feature_rows
@@ -187,7 +190,8 @@ literal_text r = []
 -- the fields of a packet, as in a listing, by its type; of a key with its date
 abbrev pub fields_line : ℕ → List ℕ → List ℕ
 fields_line n body =
-    if is_type packet.PublicKey n then where_sound (body_at key body) (dated_key_line (codes "pub") body)
+    if is_type packet.PublicKey n then
+    where_sound (body_at key body) (dated_key_line (codes "pub") body)
     else (if is_type packet.PublicSubkey n
     then where_sound (body_at key body) (dated_key_line (codes "sub") body)
     else (if is_type packet.UserId n then codes "  " ++ user_id_line body

@@ -80,8 +80,8 @@ impl<S: Spool + Drop> AllOctets<S> {
     }
 
     /// Adds the rows of the next part, if it is a certificate. It gives back no part: the memory of
-    /// a certificate goes into a keyring of it alone. Fails only when out of memory; nothing is known
-    /// of what is written then.
+    /// a certificate goes into a keyring of it alone. Fails only when out of memory; nothing is
+    /// known of what is written then.
     pub(crate) fn keep(&mut self, part: Ready) -> Result<Option<Ready>, OutOfMemory>
         ensures { OnOk result ((parts : List PartValue)
             → HasRows (DraftHas S.serves S.tells S.holds S.has_failed) self.old.rows self.old.draft
@@ -138,7 +138,8 @@ impl<S: Spool + Drop> AllOctets<S> {
     /// Adds the rows of a keyring. Fails only when out of memory.
     fn add_ring(&mut self, ring: &Keyring) -> Result<(), OutOfMemory>
         ensures { OnOk result ((asked : List Asked)
-            → HasRows (DraftHas S.serves S.tells S.holds S.has_failed) self.old.rows self.old.draft asked
+            → HasRows (DraftHas S.serves S.tells S.holds S.has_failed)
+            self.old.rows self.old.draft asked
             → HasRows (DraftHas S.serves S.tells S.holds S.has_failed) self.new.rows self.new.draft
             (asked ++ asked_of ring.now)) }
     {

@@ -32,9 +32,9 @@ pub struct BoundTask<'a> {
     pub choice: Choice<'a>,
 }
 
-/// Reads a keyring, and writes the chosen ones of the parts that are bound by the verdicts in a file,
-/// as [`keep_bound`] and [`choose`] have them. What was read is leaked: the end of the process frees
-/// it. The conditions are that neither the source nor the sink has failed.
+/// Reads a keyring, and writes the chosen ones of the parts that are bound by the verdicts in a
+/// file, as [`keep_bound`] and [`choose`] have them. What was read is leaked: the end of the
+/// process frees it. The conditions are that neither the source nor the sink has failed.
 ///
 /// The errors are `Refused`, `Read`, `Memory`, `OtherVerdicts`: the file isn't one of verdicts on
 /// this keyring, as [`read_verdicts`] has them; and `Write`, after which the sink holds a prefix of

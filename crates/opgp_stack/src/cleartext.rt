@@ -33,7 +33,8 @@ pub enum CleartextPart {
 /// blank, whatever the limits say of such lines.
 ///
 /// The errors are `Refused`: the fault of the lowest layer that refuses the text; `Read`, `Memory`,
-/// and `Write`, after which the sink holds a prefix of the part. With any other nothing was written.
+/// and `Write`, after which the sink holds a prefix of the part. With any other nothing was
+/// written.
 pub fn run_cleartext<R: Source, W: Sink>(
     alloc: Global,
     limits: &Limits,

@@ -30,9 +30,9 @@ struct MarchDay {
     passed: u32,
 }
 
-/// The day so many days after 1 March of the year 0: the year that begins in March, and how many of its
-/// days have passed. The divisions are those of Neri and Schneider, "Euclidean affine functions and
-/// their application to calendar algorithms".
+/// The day so many days after 1 March of the year 0: the year that begins in March, and how many of
+/// its days have passed. The divisions are those of Neri and Schneider, "Euclidean affine functions
+/// and their application to calendar algorithms".
 fn march_day(days: u32) -> MarchDay
     requires { days < 800_000 }
     ensures value { march_days result.year + result.passed ≡ days }

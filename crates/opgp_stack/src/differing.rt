@@ -176,8 +176,8 @@ impl Text for DifferenceText<'_, '_> {
 /// [`Action::ListValues`] has it. What was read is leaked: the end of the process frees it. The
 /// conditions are that neither the source nor the sink has failed.
 ///
-/// The errors are `Refused`, `Read`, `Memory`, and `Write`, after which the sink holds a prefix of the
-/// lines. With any other nothing was written.
+/// The errors are `Refused`, `Read`, `Memory`, and `Write`, after which the sink holds a prefix of
+/// the lines. With any other nothing was written.
 ///
 /// [`compare`]: opgp_difference::compare
 /// [`Action::ListValues`]: crate::Action::ListValues

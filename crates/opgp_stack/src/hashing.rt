@@ -33,8 +33,10 @@ fn question_about<'a>(message: &'a SignedLiteral, signature: SigView<'a>) -> Opt
 {
     opgp_packet::field_laws::fields_are_read();
     opgp_packet::signature_laws::signatures_are_read();
+    // Called for its contract: the octets are read as this signature.
     let _body = signature.body();
     let view = message.literal();
+    // Called for its contract: the content lies in these octets.
     let _literal = view.body();
     ask_view(signature, Subject::Binary(view.content())).ok()
 }

@@ -51,8 +51,8 @@ fn is_comment(text: &[u8]) -> bool
     }
 }
 
-/// Adds the key that a line names, if it is to name one. Whether it does, or needn't. Fails only when
-/// out of memory.
+/// Adds the key that a line names, if it is to name one. Whether it does, or needn't. Fails only
+/// when out of memory.
 fn add_line(keys: &mut Vec<KeyName>, line: &[u8]) -> Result<bool, OutOfMemory>
     ensures named { IfOk result (λ good. MatchBool good
         ((lines : List (List ℕ)) → NameKeys lines keys.old.items
@@ -76,8 +76,8 @@ fn add_line(keys: &mut Vec<KeyName>, line: &[u8]) -> Result<bool, OutOfMemory>
 /// [`KeyName::parse`] reads it. Blanks around a line count for nothing; blank lines, and lines that
 /// begin with `#`, name none.
 ///
-/// The inner error is the number, from 1, of the first line that is to name a key and doesn't. Fails
-/// only when out of memory.
+/// The inner error is the number, from 1, of the first line that is to name a key and doesn't.
+/// Fails only when out of memory.
 pub fn keys_in(alloc: Global, file: &[u8]) -> Result<Result<Vec<KeyName>, u64>, OutOfMemory>
     ensures { IfOk result (λ said. MatchResult said
         (λ keys. NameKeys (lines_in file.now) keys.items)

@@ -29,8 +29,8 @@ pub enum KeyName {
 impl KeyName {
     ghost use Rattle.opgp_stack.specs.KeyName.{name_octets};
 
-    /// The name that a text says: 16 hexadecimal digits of a key ID, 40 or 64 of a fingerprint, in either
-    /// case, with `0x` in front or not, and with blanks anywhere. None if it says no name.
+    /// The name that a text says: 16 hexadecimal digits of a key ID, 40 or 64 of a fingerprint, in
+    /// either case, with `0x` in front or not, and with blanks anywhere. None if it says no name.
     pub fn parse(text: &str) -> Option<KeyName>
         ensures some { IfSome result (IsKeyText text.now) }
         ensures none { IfNone result ((key : KeyName) → IsKeyText text.now key → ⊥) }

@@ -90,6 +90,7 @@ pub(crate) fn size_of(key: KeyView<'_>) -> KeySize<'_>
     ensures { size_value result ≡ key_size (body_octets key.entry) }
 {
     opgp_packet::key_laws::written(&key);
+    // Called for their contracts, which tie the material to the body's first octets.
     let _version = key.version();
     let _algorithm = key.algorithm();
     match key.material() {

@@ -45,8 +45,8 @@ pub fn a_text_says_one_time()
     ensures { (text : List ℕ) (a b : ℕ) → IsTime text a → IsTime text b → a ≡ b }
 {}
 
-/// The date so many days after 1970-01-01 is a day of the calendar, and so many days lie before it, in
-/// whole years, whole months and its own month; each day from 1970 on is found by their number.
+/// The date so many days after 1970-01-01 is a day of the calendar, and so many days lie before it,
+/// in whole years, whole months and its own month; each day from 1970 on is found by their number.
 pub fn days_count_dates()
     ensures counted { (n : ℕ) → IsDate (date_of n) × (days_before (date_of n) ≡ n) }
     ensures found { (d : DateValue) → IsDate d → date_of (days_before d) ≡ d }

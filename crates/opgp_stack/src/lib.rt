@@ -1,5 +1,5 @@
-//! What the program does with an input: its texts, its tasks, and a run of one. The engine's reading
-//! and writing stand here too.
+//! What the program does with an input: its texts, its tasks, and a run of one. The engine's
+//! reading and writing stand here too.
 #![tactic(auto)]
 
 mod all_octets;

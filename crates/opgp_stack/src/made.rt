@@ -33,8 +33,8 @@ impl<'a, S: Spool + Drop> Making<'a, S> {
     /// Writes it, once all parts of a keyring have come, and frees or leaks what was read. The
     /// condition is that the sink hasn't failed.
     ///
-    /// With any error but `Write` and `Spool` nothing was written; after these the sink holds a prefix
-    /// of the text.
+    /// With any error but `Write` and `Spool` nothing was written; after these the sink holds a
+    /// prefix of the text.
     pub(crate) fn write<W: Sink>(
         self,
         alloc: Global,
@@ -44,7 +44,8 @@ impl<'a, S: Spool + Drop> Making<'a, S> {
     ) -> Result<(), RunFault>
         requires { W.has_failed writer.old ≡ false }
         ensures { (r : KeyringValue)
-            → HasMade (DraftHas S.serves S.tells S.holds S.has_failed) action.entry self.entry (parts_of r)
+            → HasMade (DraftHas S.serves S.tells S.holds S.has_failed) action.entry self.entry
+            (parts_of r)
             → IsMade W.held W.has_failed writer.old writer.new result (ring_made action.entry r)
             ⊎ IsSpooled S.serves S.tells W.held W.has_failed writer.old writer.new result
             (ring_made action.entry r) }

@@ -28,7 +28,8 @@ pub(crate) fn make<'a, R: Source, S: Spool + Drop>(
     requires sound { R.has_failed source.old ≡ false }
     requires empty { IfSome spool (λ s. (S.serves ≡ true) × (S.tells ≡ true → S.holds s ≡ [])) }
     ensures { ReadsFor (λ answer. OfAll R.left R.has_failed source.old source.new task.now.limits
-        (λ octets. IsMadeOf (DraftHas S.serves S.tells S.holds S.has_failed) task.now octets answer))
+        (λ octets. IsMadeOf (DraftHas S.serves S.tells S.holds S.has_failed) task.now octets
+        answer))
         (R.has_failed source.new ≡ true) (R.has_failed source.new ≡ false) result }
 {
     let mut making = Making::new(alloc, task.action, spool)?;

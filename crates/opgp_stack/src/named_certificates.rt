@@ -18,8 +18,8 @@ use opgp_octets::OutOfMemory;
 use opgp_ring::Ready;
 use std::alloc::Global;
 
-/// What is written of the certificates that came so far and have keys of some names, or of the others;
-/// and which of the names a key had. No certificate is kept.
+/// What is written of the certificates that came so far and have keys of some names, or of the
+/// others; and which of the names a key had. No certificate is kept.
 #[derive(Drop)]
 pub(crate) struct NamedCertificates<'a, S> {
     out: Out,
@@ -56,8 +56,8 @@ impl<'a, S: Spool + Drop> NamedCertificates<'a, S> {
     }
 
     /// Adds the next part, if it is a certificate that is to be written, and gives back a part
-    /// whose memory the next one may use. Fails only when out of memory; nothing is known of what is
-    /// written then.
+    /// whose memory the next one may use. Fails only when out of memory; nothing is known of what
+    /// is written then.
     pub(crate) fn keep(&mut self, part: Ready) -> Result<Option<Ready>, OutOfMemory>
         ensures out { self.new.out ≡ self.old.out }
         ensures except { self.new.except ≡ self.old.except }
@@ -85,7 +85,8 @@ impl<'a, S: Spool + Drop> NamedCertificates<'a, S> {
     pub(crate) fn found(self) -> (Draft<S>, bool)
         ensures draft { result.0 ≡ self.entry.draft }
         ensures found { (cs : List CertificateValue)
-            → AreNotes (map name_octets self.entry.wanted.names.now) (keys_of cs) self.entry.wanted.notes
+            → AreNotes (map name_octets self.entry.wanted.names.now) (keys_of cs)
+            self.entry.wanted.notes
             → result.1 ≡ are_there (map name_octets self.entry.wanted.names.now) cs }
     {
         let found = self.wanted.are_found();

@@ -8,8 +8,8 @@ use opgp_octets::{Fault, OutOfMemory};
 use std::error::Error;
 use std::fmt;
 
-/// Why a run ends without its output. With any but [`RunFault::Write`] and [`RunFault::Spool`] nothing was
-/// written.
+/// Why a run ends without its output. With any but [`RunFault::Write`] and [`RunFault::Spool`]
+/// nothing was written.
 #[derive(Clone, Copy, Debug, PartialEq, Eq)]
 pub enum RunFault {
     /// The input is refused: the fault of the lowest layer that does.
@@ -20,7 +20,8 @@ pub enum RunFault {
     Write,
     /// Out of memory.
     Memory,
-    /// The spool failed. If that was while it was read again, a prefix of the output may be written.
+    /// The spool failed. If that was while it was read again, a prefix of the output may be
+    /// written.
     Spool,
     /// There is no row of that number, or it has no octets.
     NoSuchRow,

@@ -56,8 +56,9 @@ pub fn run_last<R: Source, W: Sink>(
 /// not in memory: so memory doesn't limit the output of any task but `Check`, `CheckFingerprints`,
 /// `CheckPlaces`, `Octets`, one certificate of `Split`, and a `Join` that merges, which hold none.
 ///
-/// With the error `Spool` the spool has failed. If that was while it was read again, the sink holds a
-/// prefix of the text, else nothing was written. It isn't told before the input has ended without a fault.
+/// With the error `Spool` the spool has failed. If that was while it was read again, the sink holds
+/// a prefix of the text, else nothing was written. It isn't told before the input has ended without
+/// a fault.
 pub fn run_spooled<R: Source, W: Sink, S: Spool + Drop>(
     alloc: Global,
     task: &Task,
@@ -69,8 +70,8 @@ pub fn run_spooled<R: Source, W: Sink, S: Spool + Drop>(
     requires writer { W.has_failed writer.old ≡ false }
     requires serves { S.serves ≡ true }
     requires empty { S.tells ≡ true → S.holds spool ≡ [] }
-    ensures { RunsSpooled S.serves S.tells R.left R.has_failed W.held W.has_failed task.now reader.old
-        reader.new writer.old writer.new result }
+    ensures { RunsSpooled S.serves S.tells R.left R.has_failed W.held W.has_failed task.now
+        reader.old reader.new writer.old writer.new result }
 {
     run_and(alloc, task, Some(spool), reader, writer, After::Frees)
 }
@@ -111,8 +112,8 @@ fn run_and<R: Source, W: Sink, S: Spool + Drop>(
     requires reader { R.has_failed reader.old ≡ false }
     requires writer { W.has_failed writer.old ≡ false }
     requires empty { IfSome spool (λ s. (S.serves ≡ true) × (S.tells ≡ true → S.holds s ≡ [])) }
-    ensures { RunsSpooled S.serves S.tells R.left R.has_failed W.held W.has_failed task.now reader.old
-        reader.new writer.old writer.new result }
+    ensures { RunsSpooled S.serves S.tells R.left R.has_failed W.held W.has_failed task.now
+        reader.old reader.new writer.old writer.new result }
 {
     match task.action {
         Action::Show => {

@@ -28,8 +28,8 @@ pub enum Action<'a> {
     ListValues,
     /// A line for each signature of a certificate, with what can be said of its digest.
     Check,
-    /// The same, where the line also has the fingerprints of the certificate's primary key and of the
-    /// signer.
+    /// The same, where the line also has the fingerprints of the certificate's primary key and of
+    /// the signer.
     CheckFingerprints,
     /// The same as `Check`, where the line also has the number of the signature's packet in the
     /// keyring, and that of the user ID that it is on.

@@ -117,8 +117,8 @@ fn note_key(notes: &mut BTreeMap<&[u8], bool>, print: &Fingerprint) -> bool
     by_print || by_id
 }
 
-/// Notes which names the key of a component has, if it is a subkey. Whether it has one that is looked
-/// for.
+/// Notes which names the key of a component has, if it is a subkey. Whether it has one that is
+/// looked for.
 fn note_component(notes: &mut BTreeMap<&[u8], bool>, component: Component<'_>) -> bool
     ensures { (names bodies : List (List ℕ)) → AreNotes names bodies notes.old
         → (result ≡ list_any (λ body. has_one_of names (print_of body))

@@ -31,7 +31,8 @@ impl Text for ListingText<'_> {
 ///
 /// - A primary key: `pub v<version> alg <n> created <n> <fingerprint> <key ID>`; a subkey the same
 ///   with `sub`.
-/// - A user ID: `uid "<text>"`, where printable ASCII other than `"` and `\` is printed as it is, and each
+/// - A user ID: `uid "<text>"`, where printable ASCII other than `"` and `\` is printed as it is,
+/// and each
 ///   other octet as `\x` and two digits. A user attribute: `uat <number of subpackets>`.
 /// - A signature: `sig v<version> type <T> alg <n> hash <n>`, the type in two digits, or
 ///   `sig opaque <length>`.

@@ -30,12 +30,12 @@ impl Text for ReportText<'_> {
 
 /// Writes a line for each row of a report. The condition is that the sink hasn't failed.
 ///
-/// A line begins `row <n> cert <n> part <n or -> hang <n> nested <n or -> : `, which is the number of
-/// the row, and its signature's place: its certificate, the component that it is on, its
-/// number among the packets there, and its number among the embedded signatures. Then follows
-/// `asked type <T> hash <n> signer <key ID or -> digest <DDDD> verdict <good, bad or undecided>`, with
-/// the first two octets of the digest, or `none <opaque, kind, misplaced, version or hash>`, the reason
-/// why the signature isn't hashed.
+/// A line begins `row <n> cert <n> part <n or -> hang <n> nested <n or -> : `, which is the number
+/// of the row, and its signature's place: its certificate, the component that it is on, its number
+/// among the packets there, and its number among the embedded signatures. Then follows
+/// `asked type <T> hash <n> signer <key ID or -> digest <DDDD> verdict <good, bad or undecided>`,
+/// with the first two octets of the digest, or `none <opaque, kind, misplaced, version or hash>`,
+/// the reason why the signature isn't hashed.
 ///
 /// Numbers are decimal, types, key IDs and digests upper-case hexadecimal.
 ///
@@ -68,9 +68,9 @@ impl Text for FingerprintedReportText<'_> {
     }
 }
 
-/// Writes a line for each row of a report with fingerprints, as [`write_report`] does; it goes on with
-/// the fingerprint of the primary key of the row's certificate, and that of its signer, or `-` for none
-/// (RFC 9580, 5.5.4). The condition is that the sink hasn't failed.
+/// Writes a line for each row of a report with fingerprints, as [`write_report`] does; it goes on
+/// with the fingerprint of the primary key of the row's certificate, and that of its signer, or `-`
+/// for none (RFC 9580, 5.5.4). The condition is that the sink hasn't failed.
 ///
 /// A fingerprint has 40 upper-case hexadecimal digits in version 4, 64 in version 6.
 ///
@@ -105,10 +105,10 @@ impl Text for PlacedReportText<'_> {
 }
 
 /// Writes a line for each row of a report, as [`write_report`] does; it goes on with
-/// ` packet <n> user-id <n or ->`, the place of the row in these, which are in the order of the rows: the
-/// number of the signature's packet among all packets of the keyring, and that of the user ID that it is
-/// on among those of its certificate, or `-` for none. A row that has no place ends the lines. The
-/// condition is that the sink hasn't failed.
+/// ` packet <n> user-id <n or ->`, the place of the row in these, which are in the order of the
+/// rows: the number of the signature's packet among all packets of the keyring, and that of the
+/// user ID that it is on among those of its certificate, or `-` for none. A row that has no place
+/// ends the lines. The condition is that the sink hasn't failed.
 ///
 /// All memory is allocated before the first octet is written. The errors are `Memory`, with
 /// nothing written, and `Write`: the sink has failed, and holds a prefix of the lines.

@@ -7,8 +7,8 @@ use Rattle.opgp_report.specs.declared.verifier.Verdict.{Verdict}
 use Rattle.opgp_report.specs.declared.verifier.Verdict.TheVariants.{Good, Bad, Undecided}
 use Rattle.opgp_ring.specs.Keyring.{KeyringValue}
 
--- It is good, unless its digest is bad. One that isn't hashed where it is may revoke the primary key all the
--- same (RFC 9580, 5.2.1.11); any other such one says nothing, whatever its verdict.
+-- It is good, unless its digest is bad. One that isn't hashed where it is may revoke the primary
+-- key all the same (RFC 9580, 5.2.1.11); any other such one says nothing, whatever its verdict.
 abbrev pub unless_bad : Verdict → Verdict
 unless_bad Good = Good
 unless_bad Bad = Bad

@@ -16,8 +16,8 @@ use Rattle.opgp_state.specs.Report.{number_or_none, row_fields}
 use Rattle.opgp_state.specs.declared.row_place.RowPlace.{RowPlace}
 
 -- ---- in a certificate (RFC 9580, 10.1)
--- the number among its packets of the primary key, or of the packet that its component of this number
--- begins with
+-- the number among its packets of the primary key, or of the packet that its component of this
+-- number begins with
 abbrev pub start_of : CertificateValue → Option ℕ → ℕ
 start_of c None = 0
 start_of c (Some n) = 1 + length c.hangs + length (flat_map component_packets (take n c.components))
@@ -38,8 +38,8 @@ user_id_of c (Some n) = option_and_then (λ k.
 abbrev pub packets_before : KeyringValue → ℕ → ℕ
 packets_before r n = length r.lead + length (flat_map certificate_packets (take n r.certificates))
 
--- at a place in a certificate, before which this many packets are: behind the primary key, or behind the
--- packet that the component begins with
+-- at a place in a certificate, before which this many packets are: behind the primary key, or
+-- behind the packet that the component begins with
 abbrev pub placed : ℕ → CertificateValue → Place → RowPlace
 placed first c place = record {
   packet = first + start_of c place.component + 1 + place.hang;
@@ -47,7 +47,8 @@ placed first c place = record {
 }
 
 abbrev pub certificate_places : KeyringValue → ℕ → CertificateValue → List RowPlace
-certificate_places r n c = map (λ s. placed (packets_before r n) c s.place) (certificate_standing n c)
+certificate_places r n c =
+    map (λ s. placed (packets_before r n) c s.place) (certificate_standing n c)
 
 -- those of the rows of its report, in their order
 abbrev pub places_of : KeyringValue → List RowPlace
@@ -57,7 +58,8 @@ places_of r = by_number (certificate_places r) 0 r.certificates
 -- the line of a row goes on: ` packet <n> user-id <n or ->`
 abbrev pub place_words : RowPlace → List ℕ
 place_words p =
-    codes " packet " ++ decimal p.packet ++ codes " user-id " ++ number_or_none p.user_id ++ codes "\n"
+    codes " packet " ++ decimal p.packet
+    ++ codes " user-id " ++ number_or_none p.user_id ++ codes "\n"
 
 abbrev pub placed_line : ℕ → RowValue → RowPlace → List ℕ
 placed_line number row p = row_fields number row ++ place_words p

@@ -20,7 +20,8 @@ abbrev pub HasEach : CertificateValue → Judged → Type 0
 HasEach c x = length x.founds ≡ length (component_standing c.primary.body 0 0 x.component)
 
 -- there is a verdict for each row, of the primary key's signatures and of each component's
-pub record AreJudged (c : CertificateValue) (founds : List Verdict) (parts : List Judged) : Type 0 where
+pub record AreJudged (c : CertificateValue) (founds : List Verdict)
+    (parts : List Judged) : Type 0 where
   pub own : length founds ≡ length (hangs_standing 0 None (one c.primary.body) c.hangs)
   pub each : All (HasEach c) parts
 
@@ -32,7 +33,8 @@ with_components c parts = record {
   components = map (λ x. x.component) parts;
 }
 
--- what its signatures say, by the verdicts on those of its primary key, and then on each component's
+-- what its signatures say, by the verdicts on those of its primary key, and then on each
+-- component's
 abbrev pub facts_with : List Known → Policy → CertificateValue → List Verdict → List Judged
     → FactsValue
 facts_with known policy c founds parts =

@@ -1,5 +1,5 @@
--- A file of verdicts on the signatures of a keyring: the lines of its report, with the verdicts of a
--- verifier.
+-- A file of verdicts on the signatures of a keyring: the lines of its report, with the verdicts of
+-- a verifier.
 use Rattle.std.specs.Prelude.{◌≡◌, ℕ, ◌+◌, ◌<◌, ◌⊎◌, ◌||◌, ◌&&◌, ◌==◌, nat_le, Bool}
 use Rattle.std.specs.Prelude.{List, [], ◌∷◌, ◌++◌, codes, length, take}
 use Rattle.std.specs.Fmt.{decimal}
@@ -50,8 +50,8 @@ abbrev pub Tells : Verdict → List ℕ → Type 0
 Tells verdict text = (behind : List ℕ) × MayFollow verdict behind
     × (text ≡ (codes " verdict " ++ verdict_name verdict) ++ behind)
 
--- What may follow the row's own line: where that has no verdict, since the signature isn't hashed there,
--- one of a key revocation over the primary key alone (RFC 9580, 5.2.1.11), or nothing.
+-- What may follow the row's own line: where that has no verdict, since the signature isn't hashed
+-- there, one of a key revocation over the primary key alone (RFC 9580, 5.2.1.11), or nothing.
 abbrev pub Follows : FindingValue → Verdict → List ℕ → Type 0
 Follows (not_asked why) verdict text = ((verdict ≡ Undecided) × (text ≡ [])) ⊎ Tells verdict text
 Follows (asked_with kind hash signer digest own) verdict text = MayFollow verdict text

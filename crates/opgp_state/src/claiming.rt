@@ -21,7 +21,8 @@ use opgp_report::{
 };
 use std::alloc::Global;
 
-/// Adds a verdict for each signature: what it claims, or that it is undecided if it isn't looked at.
+/// Adds a verdict for each signature: what it claims, or that it is undecided if it isn't looked
+/// at.
 #[derive(Drop)]
 pub(crate) struct Claiming {
     /// The fingerprint of the key whose signatures are looked at, and those that are embedded;

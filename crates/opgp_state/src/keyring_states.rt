@@ -50,9 +50,9 @@ impl KeyringStates {
         Ok(KeyringStates { certificates })
     }
 
-    /// The same by what the signatures of the keyring claim, as [`claimed_verdicts`] has it. Signatures
-    /// of other keys on a certificate aren't hashed, where none of its own names a key that may revoke:
-    /// there they say nothing.
+    /// The same by what the signatures of the keyring claim, as [`claimed_verdicts`] has it.
+    /// Signatures of other keys on a certificate aren't hashed, where none of its own names a key
+    /// that may revoke: there they say nothing.
     ///
     /// Fails only when out of memory.
     ///
@@ -119,7 +119,8 @@ fn add_certificates(
     Ok(())
 }
 
-/// How the parts of a certificate stand, by what its signatures claim. Fails only when out of memory.
+/// How the parts of a certificate stand, by what its signatures claim. Fails only when out of
+/// memory.
 fn claimed_states(
     alloc: Global,
     known: &KnownKeys,

@@ -120,8 +120,8 @@ pub(crate) struct PlaceMaker {
 }
 
 impl PlaceMaker {
-    /// Adds to these places those of the signatures of a certificate, before which this many packets
-    /// are. Fails only when out of memory.
+    /// Adds to these places those of the signatures of a certificate, before which this many
+    /// packets are. Fails only when out of memory.
     pub(crate) fn new(
         alloc: Global,
         first: usize,
@@ -143,8 +143,8 @@ impl PlaceMaker {
         })
     }
 
-    /// Where the primary key is, or where a component begins. Fails where there is none, of which no
-    /// signature of the certificate is.
+    /// Where the primary key is, or where a component begins. Fails where there is none, of which
+    /// no signature of the certificate is.
     fn head(&self, component: Option<usize>) -> Result<RowPlace, OutOfMemory>
         ensures { IfOk result (λ h. (c : CertificateValue) → HasHeads self.now c
             → IsHead self.now.first c component h) }

@@ -36,8 +36,8 @@ impl Placing {
         }
     }
 
-    /// With the next part of the keyring: the fillers before the first certificate, or a certificate.
-    /// Nothing is hashed.
+    /// With the next part of the keyring: the fillers before the first certificate, or a
+    /// certificate. Nothing is hashed.
     ///
     /// Fails only when out of memory, or if there are more packets than `usize` counts.
     pub fn with(self, part: &Ready) -> Result<Placing, OutOfMemory>

@@ -224,6 +224,7 @@ fn add_primary<W: Sink>(
     ensures { Extends W.held W.has_failed output.old output.new result
         (state_line place.basis place.certificate place.component certificate.now.primary state) }
 {
+    // Called for its contract: the first packet is the primary key.
     let _primary = certificate.primary();
     match state {
         PartState::Key(state) => add_key(output, place, b"pub ", certificate.key(), state),
@@ -336,10 +337,13 @@ fn add_certificates<W: Sink>(
 /// Adds a line for each part of a keyring, which stand so: of each certificate the primary key, and
 /// then its components, in order. Allocates nothing.
 ///
-/// - Of a key: `cert <n> part <n or -> : <pub or sub> <fingerprint> <how> uses <uses or -> begin <n>
-///   end <n or -> reason <n or ->`. It is `usable`, `revoked`, `early`, `unbound` or `expired`, and its
+/// - Of a key: `cert <n> part <n or -> : <pub or sub> <fingerprint> <how> uses <uses or -> begin
+/// <n>
+/// end <n or -> reason <n or ->`. It is `usable`, `revoked`, `early`, `unbound` or `expired`, and
+/// its
 ///   uses are `certify`, `sign`, `encrypt` and `authenticate`, with commas between them.
-/// - Of a user ID: `cert <n> part <n> : uid <certified, revoked or unbound> "<text>"`, with its text
+/// - Of a user ID: `cert <n> part <n> : uid <certified, revoked or unbound> "<text>"`, with its
+/// text
 ///   as listings have it.
 /// - Of a user attribute: `cert <n> part <n> : uat <certified, revoked or unbound>`.
 ///

@@ -7,7 +7,8 @@ use Rattle.opgp_tables.specs.declared.job_filler.JobFiller.{JobFiller}
 use Rattle.opgp_tables.specs.Filling.{Fills}
 use Rattle.opgp_tables.specs.Jobs.{job_octets, jobs_from}
 
--- the rows of the signatures are put, and the octets that they point into; or there is too little room
+-- the rows of the signatures are put, and the octets that they point into; or there is too little
+-- room
 abbrev pub FillsJobs : {E : Type 0} → JobFiller → List Standing → Result JobFiller E → Type 0
 FillsJobs t list (Ok u) =
     Fills (jobs_from (prints_shown t.names.now) t.here.bytes list) (flat_map job_octets list)

@@ -9,8 +9,8 @@ use Rattle.opgp_tables.specs.declared.hashed_table.Halt.{Halt}
 use Rattle.opgp_tables.specs.declared.hashed_table.Halt.TheVariants.{Full, Memory}
 use Rattle.opgp_tables.specs.HashedRows.{octets_asked, rows_asked, some_of}
 
--- these are its rows and octets, and behind them those of the signatures that are asked for, as far as
--- there is room
+-- these are its rows and octets, and behind them those of the signatures that are asked for, as far
+-- as there is room
 abbrev pub AreAdded : HashedTable → List Standing → List HashedRow → List ℕ → Type 0
 AreAdded t list rows bytes =
     (rows ≡ t.rows.items ++ rows_asked (t.count - t.left) (length t.bytes.items)

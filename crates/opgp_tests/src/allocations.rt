@@ -99,14 +99,18 @@ fn certificate_of(rt: &impl Abort, composer: Composer) -> Option<Certificate> {
     }
 }
 
+/// Whether this is the certificate of the bodies.
+fn is_whole(rt: &impl Abort, certificate: &Certificate) {
+    assert_eq!(rt; certificate.key().created(), 1_408_458_507);
+    assert_eq!(rt; certificate.packets().len(), 3);
+}
+
 // One allocation makes each body, two the octets that the certificate keeps, as they become more,
 // and one the places of its packets: none is made for a packet or a component.
 #[test]
 fn composing_keeps_octets_in_6_growths(rt: HostRuntime) {
     if let Some(certificate) = certificate(&rt, rt.alloc()) {
-        assert_eq!(rt; certificate.key().created(), 1_408_458_507);
-        assert_eq!(rt; certificate.packets().len(), 3);
-        drop(certificate);
+        is_whole(&rt, &certificate);
     }
 }
 
@@ -147,9 +151,7 @@ fn certificate_of_lent(rt: &impl Abort, alloc: Global) -> Option<Certificate> {
 #[test]
 fn lent_packets_are_kept_in_3_growths(rt: HostRuntime) {
     if let Some(certificate) = certificate_of_lent(&rt, rt.alloc()) {
-        assert_eq!(rt; certificate.key().created(), 1_408_458_507);
-        assert_eq!(rt; certificate.packets().len(), 3);
-        drop(certificate);
+        is_whole(&rt, &certificate);
     }
 }
 
@@ -204,7 +206,11 @@ fn signed(rt: &impl Abort, alloc: Global) -> Option<SignedLiteral> {
         (11, b"\x62\x00\x00\x00\x00\x00\x61"),
         (2, &SIGNATURE[2..]),
     ];
-    let blocks = blocks_of(alloc, &bodies, 1)?;
+    signed_of(rt, alloc, blocks_of(alloc, &bodies, 1)?)
+}
+
+/// The signed literal of a block; None where memory runs out.
+fn signed_of(rt: &impl Abort, alloc: Global, blocks: Vec<BlockOf>) -> Option<SignedLiteral> {
     if !end_fits(&blocks) {
         panic!(rt; "past 2^64");
     }

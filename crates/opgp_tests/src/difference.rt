@@ -5,6 +5,37 @@ use opgp_difference::{PlacedPacket, compare};
 use std::alloc::Global;
 use std::test::Fail;
 
+/// Adds the octets of a packet, with one of them changed.
+fn add_changed(
+    octets: &mut Vec<u8>,
+    packet: &[u8],
+    change: Option<(usize, u8)>,
+) -> Result<(), Fail> {
+    let start = octets.len();
+    octets.extend_from_slice(packet)?;
+    if let Some((at, octet)) = change {
+        match octets.get_mut(start.saturating_add(at)) {
+            Some(place) => *place = octet,
+            None => return Err("too short".into()),
+        }
+    }
+    Ok(())
+}
+
+/// Adds the packet of a letter.
+fn add_packet(octets: &mut Vec<u8>, letter: u8, legacy: bool) -> Result<(), Fail> {
+    match letter {
+        b'K' => add_changed(octets, KEY, None),
+        b'L' => add_changed(octets, KEY, Some((3, 0x54))),
+        b'M' => add_changed(octets, KEY, Some((0, 0xCE))),
+        b'0'..=b'9' => add_changed(octets, SIGNATURE, Some((10, letter))),
+        b'T' => add_changed(octets, b"\xCC\x01\x78", None),
+        b'\'' => Ok(()),
+        _ if legacy => add_changed(octets, &[0xB4, 1, letter], None),
+        _ => add_changed(octets, &[0xCD, 1, letter], None),
+    }
+}
+
 /// The octets of packets, one for each letter: `K` and `L` are primary keys, `M` is a subkey with
 /// the material of `K`, a small letter is a user ID, or with `'` before it one in the legacy
 /// format, a digit is a signature, and `T` a trust packet.
@@ -12,29 +43,8 @@ fn octets_of(alloc: Global, letters: &[u8]) -> Result<Vec<u8>, Fail> {
     let mut octets = Vec::new(alloc);
     let mut legacy = false;
     for letter in letters {
-        let letter = *letter;
-        let start = octets.len();
-        match letter {
-            b'K' | b'L' | b'M' => octets.extend_from_slice(KEY)?,
-            b'0'..=b'9' => octets.extend_from_slice(SIGNATURE)?,
-            b'T' => octets.extend_from_slice(b"\xCC\x01\x78")?,
-            b'\'' => {}
-            _ if legacy => octets.extend_from_slice(&[0xB4, 1, letter])?,
-            _ => octets.extend_from_slice(&[0xCD, 1, letter])?,
-        }
-        legacy = letter == b'\'';
-        let change = match letter {
-            b'L' => Some((3, 0x54)),
-            b'M' => Some((0, 0xCE)),
-            b'0'..=b'9' => Some((10, letter)),
-            _ => None,
-        };
-        if let Some((at, octet)) = change {
-            match octets.get_mut(start.saturating_add(at)) {
-                Some(place) => *place = octet,
-                None => return Err("too short".into()),
-            }
-        }
+        add_packet(&mut octets, *letter, legacy)?;
+        legacy = *letter == b'\'';
     }
     Ok(octets)
 }

@@ -1,5 +1,5 @@
-//! Keys, user IDs, attributes and literals in a process whose memory runs out, and the octets that they move. What the
-//! calls answer is tried by tests/crates/calls.py.
+//! Keys, user IDs, attributes and literals in a process whose memory runs out, and the octets that
+//! they move. What the calls answer is tried by tests/crates/calls.py.
 
 use opgp_octets::{BodyFault, ParseFault};
 use opgp_packet::{Attribute, Body, Key, Literal, Parsed, UserId};

@@ -1,5 +1,5 @@
-//! Tests of what only a caller in the same process sees, by what the crates make public, and a spool
-//! in memory; in a crate of their own, since a crate with tests is proved twice.
+//! Tests of what only a caller in the same process sees, by what the crates make public, and a
+//! spool in memory; in a crate of their own, since a crate with tests is proved twice.
 #![tactic(auto)]
 
 #[cfg(test)]

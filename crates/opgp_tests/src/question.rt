@@ -1,4 +1,5 @@
-//! What a question hashes, in a process whose memory runs out. What the calls answer is tried by tests/crates/calls.py.
+//! What a question hashes, in a process whose memory runs out. What the calls answer is tried by
+//! tests/crates/calls.py.
 
 use opgp_hash::{Question, Subject, ask_view, digest, reopen, write_octets};
 use opgp_packet::SigView;

@@ -5,9 +5,11 @@ ghost use Rattle.opgp_report.specs.declared.verifier.Verdict.TheVariants as verd
 use crate::packets::{KEY, ring_of};
 use byteorder::{BigEndian, ByteOrder};
 use opgp_hash::{Digest, digest};
-use opgp_report::{Finding, Job, Verdict, Verifier, check, question_at};
+use opgp_report::{Finding, Job, Row, Verdict, Verifier, check, question_at};
+use opgp_ring::Keyring;
 use std::alloc::Global;
 use std::cell::Cell;
+use std::process::Abort;
 use std::test::Fail;
 
 // More jobs than any verifier here should be given.
@@ -201,33 +203,31 @@ impl Packets {
 // The numbers of the signatures of such a certificate that are hashed, in the order of the rows.
 const ASKING: [u8; 12] = [0, 1, 1, 3, 4, 5, 6, 8, 9, 10, 11, 12];
 
-// A verifier is called once for each question, in the order of the rows, and never else: also if two
-// questions are equal, and for what is embedded in either area. Its verdict is in the row.
-#[test]
-fn a_verifier_is_asked_once_for_each_question(rt: HostRuntime) -> Result<(), Fail> {
-    let mut packets = Packets::new(rt.alloc());
+/// The keyring of two such certificates.
+fn two_certificates(alloc: Global) -> Result<Keyring, Fail> {
+    let mut packets = Packets::new(alloc);
     packets.add_certificate(1)?;
     packets.add_certificate(2)?;
-    let ring = ring_of(rt.alloc(), &packets.octets)?;
-    let recording = Recording::new();
-    let report = check(rt.alloc(), &ring, &recording)?;
-    assert_eq!(rt; report.rows().len(), 28);
-    assert_eq!(rt; recording.asked.get(), 2 * ASKING.len());
-    let jobs = recording.jobs(rt.alloc())?;
-    let mut lefts = Vec::new(rt.alloc());
-    for certificate in [1, 2] {
-        for number in ASKING {
-            lefts.push([certificate, number])?;
-        }
-    }
+    ring_of(alloc, &packets.octets)
+}
+
+/// How many rows have a question. The next of the jobs is about it, which is that of a signature of
+/// the next number, and the verdict on it is in the row.
+fn answered(
+    rt: &impl Abort,
+    ring: &Keyring,
+    rows: &[Row],
+    jobs: &[AskedJob],
+) -> Result<usize, Fail> {
     let mut asked = 0usize;
-    for (number, row) in report.rows().iter().enumerate() {
-        match (question_at(&ring, number), row.finding) {
+    for (number, row) in rows.iter().enumerate() {
+        match (question_at(ring, number), row.finding) {
             (Some(question), Finding::Asked { verdict, .. }) => {
                 let job = *jobs.get(asked).ok_or("a job")?;
-                let left = *lefts.get(asked).ok_or("its octets")?;
+                let of_its = *ASKING.get(asked % ASKING.len()).ok_or("its number")?;
+                let certificate = if asked < ASKING.len() { 1 } else { 2 };
                 asked = asked.saturating_add(1);
-                assert!(rt; job.left == left, "row {number}");
+                assert!(rt; job.left == [certificate, of_its], "row {number}");
                 assert!(rt; job.digest == digest(&question), "row {number}");
                 assert!(rt; verdict == Verdict::Good);
             }
@@ -235,6 +235,20 @@ fn a_verifier_is_asked_once_for_each_question(rt: HostRuntime) -> Result<(), Fai
             _ => return Err("another question".into()),
         }
     }
+    Ok(asked)
+}
+
+// A verifier is called once for each question, in the order of the rows, and never else: also if
+// two questions are equal, and for what is embedded in either area. Its verdict is in the row.
+#[test]
+fn a_verifier_is_asked_once_for_each_question(rt: HostRuntime) -> Result<(), Fail> {
+    let ring = two_certificates(rt.alloc())?;
+    let recording = Recording::new();
+    let report = check(rt.alloc(), &ring, &recording)?;
+    assert_eq!(rt; report.rows().len(), 28);
+    assert_eq!(rt; recording.asked.get(), 2 * ASKING.len());
+    let jobs = recording.jobs(rt.alloc())?;
+    let asked = answered(&rt, &ring, report.rows(), &jobs)?;
     assert_eq!(rt; asked, jobs.len());
     Ok(())
 }

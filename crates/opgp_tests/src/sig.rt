@@ -1,5 +1,5 @@
-//! Signatures in a process whose memory runs out, the octets that they move, and how large they are. What the calls answer
-//! is tried by tests/crates/calls.py.
+//! Signatures in a process whose memory runs out, the octets that they move, and how large they
+//! are. What the calls answer is tried by tests/crates/calls.py.
 
 use opgp_octets::ParseFault;
 use opgp_packet::{Key, KeyView, SigView, Signature};
@@ -10,7 +10,8 @@ use std::process::Abort;
 const DIRECT: &[u8] =
     b"\x06\x1F\x1B\x0A\x00\x00\x00\x42\x05\x82\x63\x87\x7F\xE3\x03\x0B\x09\x07\x05\x15\x0A\x0E\x08\x0C\x02\x16\x00\x02\x9B\x03\x02\x1E\x09\x22\x21\x06\xCB\x18\x6C\x4F\x06\x09\xA6\x97\xE4\xD5\x2D\xFA\x6C\x72\x2B\x0C\x1F\x1E\x27\xC1\x8A\x56\x70\x8F\x65\x25\xEC\x27\xBA\xD9\xAC\xC9\x05\x27\x09\x02\x07\x02\x00\x00\x00\x00\xAD\x28\x20\x10\x3E\x2D\x7D\x22\x7E\xC0\xE6\xD7\xCE\x44\x71\xDB\x36\xBF\xC9\x70\x83\x25\x36\x90\x27\x14\x98\xA7\xEF\x05\x76\xC0\x7F\xAA\xE1\x45\x85\xB3\xB9\x03\xB0\x12\x7E\xC4\xFD\xA2\xF0\x23\x04\x5A\x2E\xC7\x6B\xCB\x4F\x95\x71\xA9\x65\x1E\x14\xAE\xE1\x13\x7A\x1D\x66\x84\x42\xC8\x8F\x95\x1E\x33\xC4\xFF\xD3\x3F\xB9\xA1\x7D\x51\x1E\xED\x75\x8F\xC6\xD9\xCC\x50\xCB\x5F\xD7\x93\xB2\x03\x9D\x58\x04";
 
-// A version 4 signature with two subpackets: an expression without its last octet 0, and a kind that is unknown.
+// A version 4 signature with two subpackets: an expression without its last octet 0, and a kind
+// that is unknown.
 const ODD: &[u8] =
     b"\x04\x18\x16\x08\x00\x03\x02\x06\x61\x00\x03\x02\xE3\x01\xAB\xCD\x00\x00\x00\x00";
 
@@ -58,8 +59,8 @@ fn bodies_are_moved_in_4_growths(rt: HostRuntime) {
     }
 }
 
-// A vector that bodies are written behind one another into grows by doubling; one growth more makes the
-// signature.
+// A vector that bodies are written behind one another into grows by doubling; one growth more makes
+// the signature.
 #[test]
 fn bodies_written_in_9_growths(rt: HostRuntime) {
     if let Ok(signature) = Signature::parse_body(rt.alloc(), ODD) {

@@ -205,7 +205,8 @@ pub record AreChoices (choices : Choices) : Type 0 where
 -- signatures, the limits, `--progress`, `--quiet`, `--spool`, and these options
 abbrev pub command_shape : Text → Choices → List Rule → Shape
 command_shape name choices more = record (new_shape name) {
-  rules = mode_rule choices.modes ∷ outside_rule choices.policies ∷ malformed_rule choices.signature_policies
+  rules = mode_rule choices.modes
+      ∷ outside_rule choices.policies ∷ malformed_rule choices.signature_policies
       ∷ line_rule ∷ body_rule ∷ cert_rule ∷ input_rule ∷ pieces_rule ∷ progress_rule ∷ quiet_rule
       ∷ spool_rule ∷ more;
 }
@@ -228,8 +229,8 @@ bare_program = record {
   subs = [];
 }
 
--- the fourteen commands, in order, each with its own values for `--mode`, `--outside`, `--malformed`,
--- `--policy`, `--of` and `--out`
+-- the fourteen commands, in order, each with its own values for `--mode`, `--outside`,
+-- `--malformed`, `--policy`, `--of` and `--out`
 abbrev pub program_of : (show list check state octets write normalise split join : Choices)
     → (signatures digest canonical cleartext diff : Choices)
     → (reliances tops write_outs normalise_outs split_outs join_outs parts : Choice) → App
@@ -275,7 +276,8 @@ pub record IsProgram (program : App) : Type 0 where
   pub cleartext_choices : Choices
   pub diff_choices : Choices
   pub are_choices : AllChoices (show_choices ∷ list_choices ∷ check_choices ∷ state_choices
-      ∷ octets_choices ∷ write_choices ∷ normalise_choices ∷ split_choices ∷ join_choices ∷ signatures_choices
+      ∷ octets_choices ∷ write_choices ∷ normalise_choices
+      ∷ split_choices ∷ join_choices ∷ signatures_choices
       ∷ digest_choices ∷ canonical_choices ∷ cleartext_choices ∷ diff_choices ∷ [])
   pub reliances : Choice
   pub are_reliances : AreReliances reliances

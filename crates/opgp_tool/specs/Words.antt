@@ -155,8 +155,8 @@ pub record IsTask (name : Text) (options : List Row) (task : Task) : Type 0 wher
   pub action : IsAction name options task.action
 
 -- ---- the command `write`
--- which parts of certificates it writes, and how: `--own-signatures`, `--no-attributes`, `--user-id`,
--- and the name of the file of `--verdicts`, by which it writes bound parts alone
+-- which parts of certificates it writes, and how: `--own-signatures`, `--no-attributes`,
+-- `--user-id`, and the name of the file of `--verdicts`, by which it writes bound parts alone
 pub record Chosen : Type 0 where
   pub out : Out
   pub own_signatures : Bool
@@ -205,8 +205,8 @@ WritesBound chosen task = (task.out ≡ chosen.out)
     × (task.choice.user_ids.now ≡ chosen.user_ids)
 
 -- ---- the command `split`
--- every certificate, or that of a number; or those with keys that are named, and that are named in a
--- file, if there is one, or all but those
+-- every certificate, or that of a number; or those with keys that are named, and that are named in
+-- a file, if there is one, or all but those
 pub data SplitWork : Type 0 where
   of_number : Out → Option ℕ → SplitWork
   of_keys : Out → List KeyName → Option Text → Bool → SplitWork
@@ -303,8 +303,8 @@ pub record IsDifference (name : Text) (options : List Row) (mode : Mode) (limits
 
 -- ---- all of them
 -- a task; or how the input is read, within which limits, and what is made of signatures, or is
--- written; or states, by the verdicts of a file, if there is one; or what changed from the keyring in
--- a file
+-- written; or states, by the verdicts of a file, if there is one; or what changed from the keyring
+-- in a file
 pub data AskedWork : Type 0 where
   of_task : Task → AskedWork
   of_document : Mode → Limits → DocumentWork → AskedWork

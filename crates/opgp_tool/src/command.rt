@@ -102,7 +102,8 @@ fn outside_option<'a>(alloc: Global) -> Arg<'a>
 
 /// `--malformed`: what becomes of malformed signatures.
 fn malformed_option<'a>(alloc: Global) -> Arg<'a>
-    ensures rule { (words : Choice) × AreSignaturePolicies words × (rule_of result ≡ malformed_rule words) }
+    ensures rule { (words : Choice)
+        × AreSignaturePolicies words × (rule_of result ≡ malformed_rule words) }
     ensures own { result.global ≡ false }
 {
     let help = "What to do with malformed signatures";

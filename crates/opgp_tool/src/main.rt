@@ -352,8 +352,8 @@ fn list_states(rt: &HostRuntime, request: &Request, states: &StatesTask) -> u8 {
     }
 }
 
-/// The octets of a file of verdicts on the keyring on standard input; or the exit status, once it is
-/// said why there are none.
+/// The octets of a file of verdicts on the keyring on standard input; or the exit status, once it
+/// is said why there are none.
 fn octets_beside(
     rt: &HostRuntime,
     request: &Request,

@@ -133,7 +133,8 @@ fn top_of(matches: &ArgMatches) -> Top
 /// The number that is an option's value, or None if it has none.
 fn number_of(matches: &ArgMatches, id: &str) -> Option<u64>
     ensures some { IfSome result (HasNumber (rows_of (found_of matches.now)) id.now) }
-    ensures none { IfNone result ((n : ℕ) → HasNumber (rows_of (found_of matches.now)) id.now n → ⊥) }
+    ensures none { IfNone result
+        ((n : ℕ) → HasNumber (rows_of (found_of matches.now)) id.now n → ⊥) }
 {
     matches.get_one::<u64>(id)
 }

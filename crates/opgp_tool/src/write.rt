@@ -113,9 +113,9 @@ fn user_ids_of(alloc: Global, matches: &ArgMatches) -> Result<Option<Vec<u64>>, 
     }
 }
 
-/// The name of the file of verdicts by which only bound parts stay, if `--bound` is given. The outer
-/// None means that one of `--bound` and `--verdicts` is given without the other, or `--user-id` beside
-/// them.
+/// The name of the file of verdicts by which only bound parts stay, if `--bound` is given. The
+/// outer None means that one of `--bound` and `--verdicts` is given without the other, or
+/// `--user-id` beside them.
 fn verdicts_of<'a>(matches: &ArgMatches<'a>) -> Option<Option<&'a str>>
     ensures some { IfSome result (λ file. AreVerdicts (rows_of (found_of matches.now))
         (option_map (λ word. word.now) file)) }

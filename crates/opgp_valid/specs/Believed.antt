@@ -44,9 +44,9 @@ has_lapsed now (Some life) = not (life.lasts == 0) && nat_le (life.made + life.l
 
 module _ (known : List Known) (policy : Policy) (print : Fingerprint) (now : ℕ)
     (v : SignatureValue) where
-  -- it isn't one over a document; names another key first than this one; something critical in it is
-  -- unknown, or a hashed subpacket hasn't the form of its kind (5.2.3.7); the policy doesn't rely on
-  -- it; it states no creation time, or several (5.2.3.11); it has expired
+  -- it isn't one over a document; names another key first than this one; something critical in it
+  -- is unknown, or a hashed subpacket hasn't the form of its kind (5.2.3.7); the policy doesn't
+  -- rely on it; it states no creation time, or several (5.2.3.11); it has expired
   abbrev pub has_flaw : Flaw → Bool
   has_flaw Kind = not (is_some (signed_of v) && signs_document (type_in v))
   has_flaw Issuer = not (is_print print (issuer_among known v))

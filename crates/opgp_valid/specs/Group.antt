@@ -59,7 +59,8 @@ abbrev pub is_primary : Author → Bool
 is_primary Primary = true
 is_primary Revoker = false
 
--- it is one of them by the primary key, nothing critical in it is unknown, and it counts at this time
+-- it is one of them by the primary key, nothing critical in it is unknown, and it counts at this
+-- time
 abbrev pub speaks : Group → ℕ → Statement → Bool
 speaks group at s = is_in group.sort s && ((not group.must_be_good || s.is_good)
     && (s.is_understood && (is_primary s.author && is_alive at s)))

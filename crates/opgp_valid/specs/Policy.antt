@@ -46,13 +46,14 @@ without_zeros (n ∷ o) = if n == 0 then without_zeros o else n ∷ o
 -- the highest bit of this many octets, or a higher one, is set
 abbrev pub fills_first : ℕ → List ℕ → Bool
 fills_first size [] = false
-fills_first size (n ∷ o) = nat_lt size (length (n ∷ o)) || ((length (n ∷ o) == size) && nat_le 128 n)
+fills_first size (n ∷ o) =
+    nat_lt size (length (n ∷ o)) || ((length (n ∷ o) == size) && nat_le 128 n)
 
 abbrev pub fills : ℕ → List ℕ → Bool
 fills size o = fills_first size (without_zeros o)
 
--- RSA of 2048 bits or more, DSA of 2048 and 224, an ECDSA point of twice 28 octets behind its first;
--- of other forms all (12.4)
+-- RSA of 2048 bits or more, DSA of 2048 and 224, an ECDSA point of twice 28 octets behind its
+-- first; of other forms all (12.4)
 abbrev pub is_strong_material : Shape → List Field → Bool
 is_strong_material rsa (integer n ∷ fields) = fills 256 n.octets
 is_strong_material dsa (integer p ∷ integer q ∷ fields) = fills 256 p.octets && fills 28 q.octets

@@ -1,4 +1,5 @@
--- What a revocation of a primary key hashes, wherever in its certificate it is (RFC 9580, 5.2.1.11).
+-- What a revocation of a primary key hashes, wherever in its certificate it is (RFC 9580,
+-- 5.2.1.11).
 use Rattle.std.specs.Prelude.{◌≡◌, ℕ, ◌+◌, ◌<◌, ◌&&◌, if◌then◌else◌, List, length}
 use Rattle.std.specs.Prelude.{Option, Some, None, is_none, Result, Ok, Err, slice_get}
 use Rattle.std.specs.Option.{option_and_then, option_map}

@@ -51,16 +51,18 @@ abbrev pub is_from : ℕ → Key → Bool
 is_from n key.Primary = true
 is_from n (key.Subkey m created) = nat_le n m
 
--- A walk has come to the component of this number: all statements on it and on those behind it are to
--- come; and the first revocation of its key is the earlier one, or else the first that is to come.
+-- A walk has come to the component of this number: all statements on it and on those behind it are
+-- to come; and the first revocation of its key is the earlier one, or else the first that is to
+-- come.
 pub record IsAt (ss : List Statement) (n : ℕ) (walk : Walk) : Type 0 where
   pub ordered : walk.is_ordered ≡ true → in_order None walk.rest.now ≡ true
   pub same : (k : ℕ) → nat_le n k ≡ true → all_on k ss ≡ all_on k walk.rest.now
   pub first : (k : Key) → is_from n k ≡ true
       → first_revocation k ss ≡ option_or walk.earlier (first_revocation k walk.rest.now)
 
--- A part of the statements is enough for its component: all on it are there; and the first revocation
--- of its key is the earlier one, or else the first that is there, or else the first of the primary key.
+-- A part of the statements is enough for its component: all on it are there; and the first
+-- revocation of its key is the earlier one, or else the first that is there, or else the first of
+-- the primary key.
 pub record AreEnough (ss : List Statement) (part : Part) : Type 0 where
   pub same : all_on part.number part.statements.now ≡ all_on part.number ss
   pub first : (created : ℕ) → first_revocation (key.Subkey part.number created) ss

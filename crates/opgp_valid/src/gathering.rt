@@ -139,7 +139,8 @@ impl<'v> Gatherer<'v> {
 
 impl Gatherer<'_> {
     /// Adds the life of a signature at this place over a subject to what the one says that it is
-    /// embedded in, if it is the first there, good, and by the subkey. Fails only when out of memory.
+    /// embedded in, if it is the first there, good, and by the subkey. Fails only when out of
+    /// memory.
     fn add_embedded(
         &mut self,
         place: Place,

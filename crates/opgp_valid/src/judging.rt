@@ -62,10 +62,12 @@ pub(crate) fn is_revoked(statements: &[Statement], key: Key) -> bool
 /// - When the signature was made, and now, there is a good direct key signature or, in version 4, a
 ///   good certification of a user ID by the primary key itself (10.1). The newest of each that
 ///   counts is heard (5.2.3.10), and of equally new ones each. The newest of all direct key
-///   signatures is heard too, good or not; that of all certifications; and that of those of the primary
+/// signatures is heard too, good or not; that of all certifications; and that of those of the
+/// primary
 ///   user ID.
 /// - By none of those has the primary key expired (5.2.3.13).
-/// - For a subkey there is a good binding by the primary key, at both times (5.2.1.8). The newest of
+/// - For a subkey there is a good binding by the primary key, at both times (5.2.1.8). The newest
+/// of
 ///   these and the newest of all are heard, and by neither has it expired.
 /// - Something good that is heard for the key has key flags, and all that has lets it sign
 ///   (5.2.3.29).

@@ -100,8 +100,8 @@ fn uses_of(own: Saying, key: Key) -> Uses
     }
 }
 
-/// Why a key is of no use at all at a time, if it isn't, where this is said of its primary key and of
-/// it.
+/// Why a key is of no use at all at a time, if it isn't, where this is said of its primary key and
+/// of it.
 fn unusable(
     facts: Facts<'_>,
     key: Key,
@@ -128,8 +128,8 @@ fn unusable(
     }
 }
 
-/// How a key stands at a time, where this is said of its primary key and of it, and this is the first
-/// revocation of it.
+/// How a key stands at a time, where this is said of its primary key and of it, and this is the
+/// first revocation of it.
 #[tactic(auto, using(crate::proofs::Revocations::revoked_first, crate::proofs::Revocations::reason_first))]
 pub(crate) fn state_with(
     facts: Facts<'_>,

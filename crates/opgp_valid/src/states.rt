@@ -69,7 +69,8 @@ fn subkey_state(
 ) -> KeyState
     requires primary { IsOfPrimary (facts_value facts) at primary }
     requires enough { AreEnough (facts_value facts).statements part }
-    ensures { result ≡ state_of (facts_value facts.entry) (keys.Subkey part.entry.number created) at }
+    ensures { result ≡
+        state_of (facts_value facts.entry) (keys.Subkey part.entry.number created) at }
 {
     let Part {
         number,

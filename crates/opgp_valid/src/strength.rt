@@ -36,6 +36,7 @@ pub fn is_strong(key: KeyView<'_>) -> bool
     ensures { result ≡ is_strong (body_octets key.entry) }
 {
     opgp_packet::key_laws::written(&key);
+    // Called for their contracts, which tie the material to the body's first octets.
     let _version = key.version();
     let _algorithm = key.algorithm();
     match key.material() {
@@ -53,6 +54,7 @@ pub fn least_digest(key: KeyView<'_>) -> usize
     ensures { result ≡ least_digest (body_octets key.entry) }
 {
     opgp_packet::key_laws::written(&key);
+    // Called for their contracts, which tie the material to the body's first octets.
     let _version = key.version();
     let _algorithm = key.algorithm();
     match key.material() {

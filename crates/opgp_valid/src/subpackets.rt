@@ -236,8 +236,8 @@ fn is_unknown_critical(subpacket: SubView<'_>) -> bool
     matches!(subpacket.meaning(), SubMeaning::Unfit | SubMeaning::Unknown)
 }
 
-/// Whether an area has a critical subpacket of an unknown kind or form, or a critical notation. Such
-/// a signature is to be considered in error (RFC 9580, 5.2.3.7). Allocates nothing.
+/// Whether an area has a critical subpacket of an unknown kind or form, or a critical notation.
+/// Such a signature is to be considered in error (RFC 9580, 5.2.3.7). Allocates nothing.
 pub fn has_unknown_critical(subpackets: Subs<'_>) -> bool
     ensures { result ≡ has_unknown_critical (subs_to_come subpackets.entry) }
 {

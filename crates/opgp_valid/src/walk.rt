@@ -111,7 +111,8 @@ impl<'a> Walk<'a> {
     pub(crate) fn next(self, number: usize) -> (Part<'a>, Walk<'a>)
         ensures number { result.0.number ≡ number }
         ensures enough { (ss : List Statement) → IsAt ss number self.entry → AreEnough ss result.0 }
-        ensures walk { (ss : List Statement) → IsAt ss number self.entry → IsAt ss (number + 1) result.1 }
+        ensures walk { (ss : List Statement) → IsAt ss number self.entry
+            → IsAt ss (number + 1) result.1 }
     {
         let earlier = self.earlier;
         if !self.is_ordered {

@@ -25,7 +25,7 @@ named_include = $(patsubst $(PREFIX)/%,$${prefix}/%,$(INCLUDEDIR))
 # Where the libraries are made; the proved one, and the crates that it is made of.
 made = out
 proved = crates/opgp_c/out/libopgp_c.a
-below = opgp_c $(shell sed -n 's/^opgp_c staticlib: //p' crates.txt)
+below = $(shell tac crates.txt | awk '$$1 == "opgp_c" || $$1 in on { print $$1; for (i = 2; i <= NF; i++) on[$$i ":"] }' | tr -d :)
 # No octet of what is compiled depends on the folder, with -g either.
 strict = -std=c11 -Wall -Wextra -Wconversion -pedantic -fPIC -fvisibility=hidden -fasynchronous-unwind-tables -Ic \
 	'-ffile-prefix-map=$(CURDIR)=.'

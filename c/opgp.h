@@ -564,7 +564,7 @@ OPGP_API uint32_t opgp_ring_standing(opgp_ring *ring, const uint8_t *verdicts, s
  *
  * Proved:
  *
- * - OPGP_DONE: the table begins with these rows, which crates/opgp_c/specs/States.antt defines, and is otherwise as it was.
+ * - OPGP_DONE: the table begins with these rows, which crates/opgp_handles/specs/States.antt defines, and is otherwise as it was.
  * - OPGP_ROOM: it has less room than *size says, and *size is how many they are.
  * - OPGP_LIMITS is returned only if there is no such policy.
  * - OPGP_CLOSED is returned if and only if the handle holds nothing.
@@ -850,7 +850,7 @@ OPGP_API uint32_t opgp_canonical_end(const opgp_text *text, opgp_fault *fault);
  *
  * Proved:
  *
- * - OPGP_DONE: each table begins with these rows or octets, which crates/opgp_blocks/specs and crates/opgp_c/specs define, and is
+ * - OPGP_DONE: each table begins with these rows or octets, which crates/opgp_blocks/specs and crates/opgp_handles/specs define, and is
  *   otherwise as it was.
  * - OPGP_ROOM: one of them has less room than *sizes says, and *sizes is how much they are.
  * - *sizes never wants more than size + 1 octets.
@@ -865,7 +865,7 @@ OPGP_API uint32_t opgp_find_blocks(const uint8_t *text, size_t size, opgp_found_
  * These are neither spaces nor control octets, nor one of `()<>[]:;@\,"`; and in the domain none is `_`. A user ID that could be read
  * in two ways, such as one with two addresses, has none.
  *
- * Proved: these are the facts, which crates/opgp_c/specs/UserIds.antt defines. */
+ * Proved: these are the facts, which crates/opgp_handles/specs/UserIds.antt defines. */
 OPGP_API void opgp_user_id(const uint8_t *octets, size_t size, opgp_user_id_facts *facts);
 
 /* ---- On top. Not proved. */

@@ -20,6 +20,7 @@ sys.path.insert(0, f"{sys.path[0]}/../lib")
 import model  # noqa: E402
 import standing  # noqa: E402
 import standing_cases  # noqa: E402
+from inputs import PACKET_TYPES  # noqa: E402
 from running import COMMANDS, HERE, built  # noqa: E402
 
 PROGRAM = built("tests/bindings/capi.py")
@@ -773,12 +774,96 @@ def documents(program):
             verdict(f"canonical text of {text[:20]} in pieces of {piece}", holds, ended)
 
 
+# The standard's registered numbers, by the tables of RFC 9580: types of packets (5), public-key algorithms (9.1), hash algorithms (9.5), types
+# of signatures (5.2.1) and kinds of subpackets (5.2.3.7).
+REGISTERED = (
+    PACKET_TYPES,
+    {
+        1: "RSA (Encrypt or Sign)", 2: "RSA Encrypt-Only", 3: "RSA Sign-Only", 16: "Elgamal (Encrypt-Only)",
+        17: "DSA (Digital Signature Algorithm)", 18: "ECDH public key algorithm", 19: "ECDSA public key algorithm", 22: "EdDSALegacy",
+        25: "X25519", 26: "X448", 27: "Ed25519", 28: "Ed448",
+    },
+    {
+        1: "MD5", 2: "SHA-1", 3: "RIPEMD-160", 8: "SHA2-256", 9: "SHA2-384", 10: "SHA2-512", 11: "SHA2-224", 12: "SHA3-256",
+        14: "SHA3-512",
+    },
+    {
+        0x00: "Binary Signature", 0x01: "Text Signature", 0x02: "Standalone Signature", 0x10: "Generic Certification Signature",
+        0x11: "Persona Certification Signature", 0x12: "Casual Certification Signature", 0x13: "Positive Certification Signature",
+        0x18: "Subkey Binding Signature", 0x19: "Primary Key Binding Signature", 0x1F: "Direct Key Signature",
+        0x20: "Key Revocation Signature", 0x28: "Subkey Revocation Signature", 0x30: "Certification Revocation Signature",
+        0x40: "Timestamp Signature", 0x50: "Third-Party Confirmation Signature",
+    },
+    {
+        2: "Signature Creation Time", 3: "Signature Expiration Time", 4: "Exportable Certification", 5: "Trust Signature",
+        6: "Regular Expression", 7: "Revocable", 9: "Key Expiration Time", 11: "Preferred Symmetric Ciphers for v1 SEIPD",
+        12: "Revocation Key", 16: "Issuer Key ID", 20: "Notation Data", 21: "Preferred Hash Algorithms",
+        22: "Preferred Compression Algorithms", 23: "Key Server Preferences", 24: "Preferred Key Server", 25: "Primary User ID",
+        26: "Policy URI", 27: "Key Flags", 28: "Signer's User ID", 29: "Reason for Revocation", 30: "Features", 31: "Signature Target",
+        32: "Embedded Signature", 33: "Issuer Fingerprint", 35: "Intended Recipient Fingerprint", 39: "Preferred AEAD Ciphersuites",
+    },
+)  # fmt: skip
+
+
 def names(program):
-    """The names of numbers are those of the documents, and no others."""
+    """The names of numbers are those of the documents, and no others; and those of registered numbers the standard's."""
     told = [f"{table} {number} {name}" for table, number, name in model.names()]
     ended = run(program, "named", stdin=subprocess.DEVNULL)
     verdict("the names of numbers", ended.returncode == 0 and lines_of(ended.stdout) == told and len(told) > 100,
             set(lines_of(ended.stdout)) ^ set(told))
+    standard = [f"{table} {number} {name}" for table, rows in enumerate(REGISTERED) for number, name in sorted(rows.items())]
+    found = [it for it in lines_of(ended.stdout) if int(it.split(" ")[0]) < len(REGISTERED)]
+    verdict("the names of registered numbers", found == standard, set(found) ^ set(standard))
+
+
+# ---- Material
+
+
+# What algorithms have (9.1): the public material of a key (5.5.5) and the fields of a signature (5.2.3), and the fields that the library
+# shows of each: integers without their counts of bits, and octets. What isn't registered is one field.
+INTEGERS = (("000901FF", "01FF"), ("0011010001", "010001"), ("000101", "01"), ("000203", "03"))
+CURVE, POINT, PARAMETERS = ("022A03", "2A03"), ("000740", "40"), ("03010807", "010807")
+KEY_FIELDS = {
+    **dict.fromkeys((1, 2, 3), INTEGERS[:2]), 16: INTEGERS[:3], 17: INTEGERS, 18: (CURVE, POINT, PARAMETERS), 19: (CURVE, POINT), 22: (CURVE, POINT),
+    25: (("55" * 32,) * 2,), 26: (("55" * 56,) * 2,), 27: (("55" * 32,) * 2,), 28: (("55" * 57,) * 2,),
+}  # fmt: skip
+MADE_FIELDS = {
+    **dict.fromkeys((1, 3), INTEGERS[:1]), **dict.fromkeys((17, 19, 22), INTEGERS[:2]), 27: (("55" * 64,) * 2,), 28: (("55" * 114,) * 2,),
+}  # fmt: skip
+OTHER_FIELDS = (("616E79",) * 2,)
+
+
+def materials(program):
+    """The fields of keys and of signatures of each algorithm, in versions 3, 4 and 6, in one keyring; one of version 3 that no rule reads has
+    none."""
+    octets, keys, jobs = b"", [], []
+    for algorithm in range(256):
+        for version in (4, 6):
+            fields = KEY_FIELDS.get(algorithm, OTHER_FIELDS)
+            material = bytes.fromhex("".join(it for it, _ in fields))
+            count = len(material).to_bytes(4, "big") if version == 6 else b""
+            octets += b"\xc6\xff" + sized(bytes([version]) + bytes(4) + bytes([algorithm]) + count + material)
+            keys.append(" ".join([*(it for _, it in fields), "-", "-", "-", "-"][:4]))
+            for of in (3, 4, 6):
+                fields = MADE_FIELDS.get(algorithm, OTHER_FIELDS)
+                material = bytes.fromhex("".join(it for it, _ in fields))
+                if of == 3:
+                    body = b"\3\5\x1f" + bytes(12) + bytes([algorithm, 8]) + b"\xab\xcd"
+                    fields = fields if algorithm in (1, 3, 17) else ()
+                else:
+                    body = bytes([of, 0x1F, algorithm, 8]) + bytes(2 * (2 if of == 4 else 4)) + b"\xab\xcd" + (b"\x10" + bytes(16)) * (of == 6)
+                octets += b"\xc2\xff" + sized(body + material)
+                jobs.append(" ".join([*(it for _, it in fields), "-", "-"][:2]))
+    ended = run(program, "told", input=octets)
+    told = lines_of(ended.stdout)
+    found = [" ".join(it.split(" ")[-6:-2]) for it in told if it.startswith("key ")]
+    verdict("the fields of keys of each algorithm", found == keys, [*zip(found, keys)][:3])
+    found = [" ".join(it.split(" ")[-4:-2]) for it in told if it.startswith("job ")]
+    verdict("what signatures of each algorithm made", found == jobs, [it for it in zip(found, jobs) if it[0] != it[1]][:3])
+
+
+def sized(octets):
+    return len(octets).to_bytes(4, "big") + octets
 
 
 # ---- opgp-verify
@@ -1436,6 +1521,7 @@ def main():
             tables(program)
             forms(program)
             made(program)
+            materials(program)
             faults(program)
             names(program)
             documents(program)

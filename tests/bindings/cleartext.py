@@ -159,7 +159,7 @@ def of_forms():
     blanks = signers.message(TEXT, good.octets).replace(b"document\n", b"document \t \n")
     tried("blanks at a line's end", [good], blanks)
     for title, document in (("an empty document", b""), ("one empty line more", b"\n"), ("a long line", b"x" * LINE), ("octets", bytes(it for it in range(256) if it not in (9, 13))),
-                            ("blanks", b" a\n\tb"), ("as apt's", b"Origin: Test\nSHA256:\n " + b"0" * 64 + b" 1 main/Packages")):
+                            ("lines of each size", b"\n".join(b"x" * it for it in (*range(601), 1023, 1024, 1025, LINE - 1, LINE))), ("blanks", b" a\n\tb"), ("as apt's", b"Origin: Test\nSHA256:\n " + b"0" * 64 + b" 1 main/Packages")):
         case = cases(document, 1)["good"]
         tried(title, [case], document=document)
     large = b"\n".join(b"%d a line of a larger document" % it for it in range(60000))

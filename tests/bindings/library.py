@@ -5,11 +5,13 @@ Usage: tests/bindings/library.py [--seed N] [--inputs N]
 
 Each input is read through libopgp by tests/lib/library.c: in one call, and in pieces of several sizes. Of each way, the line of the
 fault, or the lines of the keys, must be those of `opgp list`, and the packets those that `opgp write --out binary` writes. Large ones
-have bodies of several sizes, up to 4 MiB, or up to 20,000 things of a kind: of these the keyrings that the library makes, their armor,
-the rows of their signatures and what these hash must be those of the program too. The last line counts the comparisons.
+have bodies of several sizes, up to 4 MiB, of each small one, or up to 20,000 things of a kind: of these the keyrings that the library
+makes, their armor, the rows of their signatures and what these hash must be those of the program too. Texts have lines of several
+sizes, and many that say nothing. The last line counts the comparisons.
 """
 
 import argparse
+import base64
 import glob
 import multiprocessing
 import os
@@ -23,7 +25,7 @@ sys.dont_write_bytecode = True
 sys.path.insert(0, f"{sys.path[0]}/../lib")
 
 from inputs import input_of  # noqa: E402
-from model import armor  # noqa: E402
+from model import armor, key_id  # noqa: E402
 from running import HERE, Runner, built  # noqa: E402
 
 STRICT = ["-std=c11", "-Wall", "-Wextra", "-Wconversion", "-pedantic", "-Werror", "-O2", f"-I{HERE}/c"]
@@ -35,12 +37,14 @@ WAYS = {"0": "in one call", "1": "in pieces of 1", "61": "in pieces of 61", "409
 MADE = {
     "normalise": "normalise --out binary", "merge": "join --merge --out binary", "first": "split --nth 0 --out binary",
     "twice": "join --out binary", "last": "octets --row ROW", "end": "split --nth CERTIFICATE --out binary", "armor": "write",
-    "rows": "check", "whole": "octets --all",
+    "rows": "check", "chosen": "write --own-signatures --no-attributes --user-id 0 --out binary", "whole": "octets --all",
 }  # fmt: skip
 # The library goes to each row from the first on, so what each hashes is compared where there are no more.
 MOST_ROWS = 1000
 SIZES = (0, 1, 255, 256, 4096, 65_535, 65_536, 65_537, 70_000, 1 << 20, 4 << 20)
 NUMBERS = (1, 17, 300, 20_000)
+# Sizes beside each other, and those around the sizes that lengths and rooms have.
+SMALL = (*range(601), 1023, 1024, 1025, 8191, 8192, 8193, 8383, 8384, 16_319, 16_320, 16_383, 16_384, 16_385)
 
 
 def packet(kind, body):
@@ -76,11 +80,40 @@ def large():
         yield f"{n} signatures", primary + direct * n
         yield f"{n} subkeys", primary + (sub + binding) * n
         yield f"{n} certificates", (primary + direct) * n
-        yield f"{n} keys", b"".join(packet(6, key[:1] + it.to_bytes(4, "big") + key[5:]) for it in range(n)) + direct
+        bodies = [key[:1] + it.to_bytes(4, "big") + key[5:] for it in range(n)]
+        by_last = packet(2, signature(subpacket(16, key_id(bodies[-1])), kind=0x1F))
+        yield f"{n} keys", b"".join(packet(6, it) for it in bodies) + direct + by_last
         yield f"{n} fillers", packet(60, b"f") * n + primary + packet(60, b"f") * n + direct
         yield f"{n} hashed subpackets", primary + packet(2, signature(subpacket(2, b"\0\0\0\1") * n, kind=0x1F))
         yield f"{n} embedded signatures", primary + sub + packet(2, signature(subpacket(32, signature(b"", kind=0x19)) * n))
         yield f"{n} blocks", b"\n".join([armor(primary + direct)] * n)
+    yield from small()
+
+
+def small():
+    """Keyrings with bodies of each small size."""
+    key = bytes([6]) + bytes(4) + b"\x1b" + sized(b"k" * 32)
+    primary, direct = packet(6, key), packet(2, signature(b"", kind=0x1F))
+    yield "user IDs of each size", primary + b"".join(packet(13, b"u" * n) for n in SMALL) + direct
+    yield "fillers of each size", b"".join(packet(60, b"f" * n) for n in SMALL) + primary + b"".join(packet(60, b"f" * n) for n in SMALL) + direct
+    yield "attributes of each size", primary + b"".join(packet(17, subpacket(100, b"u" * n)) for n in SMALL) + direct
+    yield "signatures of each size", primary + b"".join(packet(2, signature(subpacket(100, b"s" * n), kind=0x1F)) for n in SMALL)
+    yield "keys of each size", b"".join(packet(6, key[:5] + b"\xc8" + sized(b"k" * n)) for n in SMALL) + direct
+
+
+def texts():
+    """Armored texts whose lines have other sizes than most, and with many lines that say nothing, or headers."""
+    key = bytes([6]) + bytes(4) + b"\x1b" + sized(b"k" * 32)
+    octets = packet(6, key) + packet(13, b"u" * 70_000) + packet(2, signature(b"", kind=0x13))
+    begin, end = (b"-----%s PGP PUBLIC KEY BLOCK-----\n" % it for it in (b"BEGIN", b"END"))
+    letters = base64.b64encode(octets)
+    for size in (1, 3, 61, 63, 8192):
+        yield f"lines of {size}", begin + b"\n" + b"".join(letters[at : at + size] + b"\n" for at in range(0, len(letters), size)) + end
+    for n in NUMBERS:
+        for line in (b"\n", b" \t\r\n", b"a line\n"):
+            yield f"{n} times {line}", line * n + armor(octets) + line * n
+        yield f"{n} headers", begin + b"".join(b"key%d: %s\n" % (it, b"v" * (it % 70)) for it in range(n)) + b"\n" + armor(octets).split(b"\n", 2)[2]
+    yield "headers of each size", begin + b"".join(b"key: %s\n" % (b"v" * n) for n in SMALL if n < 8188) + b"\n" + armor(octets).split(b"\n", 2)[2]
 
 
 def sized(octets):
@@ -95,6 +128,7 @@ def inputs_of(words):
     for n in range(words.inputs):
         yield f"input {n} of seed {words.seed}", input_of(random.Random(f"{words.seed}/{n}"))
     yield from large()
+    yield from texts()
 
 
 def made(room):

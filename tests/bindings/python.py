@@ -39,7 +39,7 @@ import cleartext  # noqa: E402
 import model  # noqa: E402
 import standing  # noqa: E402
 import standing_cases  # noqa: E402
-from running import COMMANDS, HERE, built  # noqa: E402
+from running import COMMANDS, HERE, built, processor_seconds  # noqa: E402
 
 PROGRAM = built("tests/bindings/python.py")
 A1, A3 = (f"{HERE}/examples/rfc9580-{it}.asc" for it in ("a1", "a3"))
@@ -498,6 +498,12 @@ def pieces(opgp):
     for call in (lambda: limited.push(b""), limited.take, limited.end):
         verdict("a closed reader", raised(ValueError, call))
     verdict("a reader's limits", raised(ValueError, lambda: opgp.Reader(opgp.Limits(body=1))))
+    one = opgp.read(octets_of(A1)).write() + b"\xcd\1a"
+    cut = model.armor(one + b"\xc2\x0e\4") + model.armor(one) + model.armor(one)
+    with opgp.Reader() as refused:
+        refused.push(cut)
+        verdict("no part comes of a framing fault, nor of the blocks behind it", refused.take() is None)
+        verdict("that fault", str(raised(opgp.Fault, refused.end)) == f"framing: Truncated block 0 at {len(one)} inner 1")
 
 
 class Short:
@@ -2272,9 +2278,9 @@ def strange(size, bindings, embedded, name):
 
 def spent(call):
     """Processor seconds of a call, and of the processes that it runs."""
-    times = os.times()
+    begun = processor_seconds()
     call()
-    return sum(os.times()[:4]) - sum(times[:4])
+    return processor_seconds() - begun
 
 
 def strangers(opgp, env):

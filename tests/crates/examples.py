@@ -145,6 +145,10 @@ def packets():
     yield "those before a fault", fails(["packets"], KEY + packet(6, b"\2") + KEY, before, f"body: KeyVersion block 0 at {len(KEY)} inner 0")
     yield "none before a fault of framing that comes later", fails(
         ["packets"], KEY + KEY[:-1], before, f"framing: Truncated block 0 at {len(KEY)} inner 1")
+    one = KEY + packet(13, b"a")
+    cut = armored(one + KEY[:-1]) + armored(one) * 2
+    yield "none of the blocks behind a framing fault", fails(
+        ["packets"], cut, f"{before}0:{len(KEY)} User ID, 1 octets\n", f"framing: Truncated block 0 at {len(one)} inner 1")
     for size in (0, 1, 255, 256, 65_535, 65_536, 70_000, 4 << 20):
         yield f"a body of {size} octets", prints(["packets"], long_packet(13, bytes(size)), f"0:0 User ID, {size} octets\n")
     many = b"".join(packet(13, bytes(it % 7)) for it in range(20_000))

@@ -99,7 +99,7 @@ for what, words in (("command", commands), ("option", options), ("reason", reaso
 statuses = re.findall(r"^\.B (\d)$", manual.split(".SH EXIT STATUS")[1].split(".SH FAULTS")[0], re.M)
 verdict("each exit status is in the manual", statuses == ["0", "1", "2", "3", "4"], statuses)
 for least, most, usual in re.findall(r"_rule = limit_rule \(codes \"\w+\"\) (\d+) (\d+) \(codes \"(\d+)\"\)",
-                                     text_of("crates/opgp_tool/specs/Program.antt")):
+                                     text_of("crates/opgp_words/specs/Program.antt")):
     verdict(f"the limit {usual} is in the manual", f"{least} to {most}, default {usual}." in manual)
 if shutil.which("man") and shutil.which("groff"):
     page = run("man", "--warnings", "-l", f"{ROOT}/man/opgp.1", env={**os.environ, "MANWIDTH": "100", "LC_ALL": "C"})

@@ -1,9 +1,10 @@
 /* Reads inputs through libopgp, each in several ways. On standard input each comes behind its number of octets, as four octets,
- * big-endian. Words are ways: a number N is pieces of N octets, 0 is one call, and `odd` is pieces of 1, 3, 9 and so on up to 729
- * octets, again and again; `normalise`, `merge`, `first` and `end` (its first and its last certificate) and `twice` (joined with itself)
- * are keyrings that are made of that of one call; `armor` is its armor, `last` what the last signature hashes, `whole` what each of them
- * hashes and `rows` the lines of their rows, as the program writes both. Standard output has for each input and each way, both behind
- * their sizes as those of inputs: the lines of the keys, or else the line of the fault or status; and the octets of the packets. */
+ * big-endian. Words are ways: a number N is pieces of N octets, 0 is one call, `odd` is pieces of 1, 3, 9 and so on up to 729
+ * octets, again and again, and `long` is pieces of 1 octet within lines of up to 2^20; `normalise`, `merge`, `first` and `end` (its first and its last certificate), `twice` (joined with itself)
+ * and `chosen` (own signatures, no attributes, the first user ID) are keyrings that are made of that of one call; `armor` is its armor,
+ * `last` what the last signature hashes, `whole` what each of them hashes and `rows` the lines of their rows, as the program writes both.
+ * Standard output has for each input and each way, both behind their sizes as those of inputs: the lines of the keys, or else the line of
+ * the fault or status; and the octets of the packets. */
 #define _POSIX_C_SOURCE 200809L
 
 #include <opgp.h>
@@ -13,7 +14,7 @@
 #include <stdlib.h>
 #include <string.h>
 
-enum { LARGEST_ODD = 729 };
+enum { LARGEST_ODD = 729, LONGEST_LINE = 1 << 20 };
 
 static void fail(const char *what)
 {
@@ -202,14 +203,15 @@ static uint32_t take_all(struct found *found, opgp_reader *reader)
     return status == OPGP_NO_ROW ? OPGP_DONE : status;
 }
 
-/* In pieces of this size; 0: of odd sizes. */
-static void in_pieces(struct found *found, const uint8_t *in, size_t n, size_t piece)
+/* In pieces of this size (0: of odd sizes), with lines of up to so many octets (0: the usual limit). */
+static void in_pieces(struct found *found, const uint8_t *in, size_t n, size_t piece, uint64_t line)
 {
     opgp_limits limits;
     opgp_reader reader = {0};
     opgp_fault fault;
     size_t odd = 1;
     opgp_usual_limits(&limits);
+    limits.line = line ? line : limits.line;
     uint32_t status = opgp_reader_open(&limits, &reader);
     for (size_t at = 0; at < n && status == OPGP_DONE; odd = odd == LARGEST_ODD ? 1 : 3 * odd) {
         size_t size = piece ? piece : odd;
@@ -360,6 +362,9 @@ static void make(struct found *found, const char *way, const uint8_t *in, size_t
         status = opgp_merge(keyring, &made);
     } else if (strcmp(way, "first") == 0) {
         status = opgp_certificate(keyring, 0, &made);
+    } else if (strcmp(way, "chosen") == 0) {
+        const uint64_t first = 0;
+        status = opgp_choose(keyring, true, true, &first, 1, &made);
     } else if (strcmp(way, "end") == 0) {
         size_t certificates;
         status = opgp_certificate_count(keyring, &certificates);
@@ -378,10 +383,12 @@ static void read_by(const char *way, const uint8_t *in, size_t n)
     begin(&found.octets);
     if (strcmp(way, "0") == 0) {
         in_one_call(&found, in, n);
-    } else if (strchr("nmfetlawr", way[0])) {
+    } else if (strcmp(way, "long") == 0) {
+        in_pieces(&found, in, n, 1, LONGEST_LINE);
+    } else if (strchr("nmfetlawrc", way[0])) {
         make(&found, way, in, n);
     } else {
-        in_pieces(&found, in, n, strcmp(way, "odd") == 0 ? 0 : strtoul(way, NULL, 10));
+        in_pieces(&found, in, n, strcmp(way, "odd") == 0 ? 0 : strtoul(way, NULL, 10), 0);
     }
     end(&found.lines);
     end(&found.octets);

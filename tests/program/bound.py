@@ -199,6 +199,8 @@ def by_hand(room):
         "an attribute": [
             (key, 1), (packet(17, picture), 1), (made(first, 0x13, 1, on_identity(17, picture)), 1, "good"),
             (made(other, 0x13, 2, on_identity(17, picture)), 1, "undecided")],
+        "a certification on a subkey, and a binding on a user ID": [
+            (key, 1), (bound_one, 0), (certified(first, 0x13, 1), 0, "good"), (alice, 0), (made(first, 0x18, 1, subkeys[1].octets), 0, "good")],
         "a later one that has expired": [
             (key, 1), (alice, 1), (certified(first, 0x13, 2, subpacket(3, number(4, 1))), 1, "good"), (certified(first, 0x13, 1), 0, "good")],
     }  # fmt: skip

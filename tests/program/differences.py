@@ -13,14 +13,13 @@ import random
 import subprocess
 import sys
 import tempfile
-import time
 
 sys.dont_write_bytecode = True
 sys.path.insert(0, f"{sys.path[0]}/../lib")
 
 import model  # noqa: E402
 from openpgp_maker import integer, number, packet  # noqa: E402
-from running import built  # noqa: E402
+from running import built, processor_seconds  # noqa: E402
 
 parser = argparse.ArgumentParser(prog="tests/program/differences.py", description=__doc__.split("\n\n", maxsplit=1)[0])
 parser.add_argument("--cases", type=int, default=600)
@@ -49,7 +48,7 @@ def signature(n):
     return b"\x04\x13\x01\x08" + number(2, 0) * 2 + number(2, n % 65536) + integer(b"\x91" + number(4, n))
 
 
-HEADS = [(ID, b"a"), (ID, b"b"), (SUBKEY, key(9)), (ATTRIBUTE, b"\x02\x01a"), (ID, b"")]
+HEADS = [(ID, b"a"), (ID, b"b"), (SUBKEY, key(9)), (SUBKEY, key(1)), (ATTRIBUTE, b"\x02\x01a"), (ID, b"\x02\x01a"), (ID, b"")]
 HUNG = [(SIGNATURE, signature(n)) for n in range(4)] + [(kind, b"PGP" if kind == 10 else b"x") for kind in FILLERS]
 
 
@@ -164,9 +163,9 @@ def large(room, rng):
         ("certificates", b"".join(packet(KEY, key(n)) for n in range(MANY)), b"".join(packet(KEY, key(n)) for n in range(MANY, 2 * MANY))),
         ("user IDs", base + b"".join(packet(ID, b"%d" % n) for n in range(MANY)), base + b"".join(packet(ID, b"x%d" % n) for n in range(MANY))),
     ):
-        began = time.monotonic()
+        began = processor_seconds()
         status = room.diff(old, new)[0]
-        spent = time.monotonic() - began
+        spent = processor_seconds() - began
         verdict(f"many {title} in little time", status == 0 and spent < MANY_SECONDS, f"{status} {spent} s")
 
 

@@ -136,6 +136,27 @@ def texts():
     verdict("too long before stray", said == (1, b"", "input: InputTooLong block 0 at 3 inner 0\n"), said)
 
 
+def areas(room):
+    """Signatures whose hashed areas have each small size, and large ones: what each hashes behind the document, and its digest."""
+    small = (*range(601), 1023, 1024, 1025, 8191, 8192, 8193, 8383, 8384, 16_319, 16_320, 16_383, 16_384, 16_385, 65_500)
+    for version, sizes in ((4, small), (6, (*small, 65_536, 65_537, 70_000, 1 << 20))):
+        for at in range(0, len(sizes), 64):
+            octets, lines, around = b"", "", []
+            for number, size in enumerate(sizes[at : at + 64]):
+                area = b"\xff" + (size + 1).to_bytes(4, "big") + b"\x64" + b"x" * size
+                body, salt, behind = signature(version, 0, 8, area)
+                octets += packet(body)
+                lines += line_of(number, 0, 8, digest_of(version, 0, 8, salt, behind, b"a\n"), b"\0\0")
+                around.append(behind)
+            with open(f"{room}/areas", "wb") as it:
+                it.write(octets)
+            said = run("digest", "--quiet", "--signatures", f"{room}/areas", given=b"a\n")
+            verdict(f"digests of version {version} with areas from {sizes[at]} octets on", said == (0, lines.encode(), ""), said[2])
+            for number, behind in enumerate(around):
+                said = run("digest", "--signatures", f"{room}/areas", "--octets", str(number))
+                verdict(f"behind, with an area of {sizes[at + number]} octets", said == (0, behind, ""), said[2])
+
+
 def many(room):
     for count in (1, 63, 64, 65, 200):
         with open(f"{room}/many", "wb") as it:
@@ -377,6 +398,7 @@ def pieces(room):
 with tempfile.TemporaryDirectory() as ROOM:
     signed(ROOM)
     texts()
+    areas(ROOM)
     many(ROOM)
     refused(ROOM)
     vectors()

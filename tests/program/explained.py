@@ -5,7 +5,8 @@ Usage: tests/program/explained.py [--program FILE]
 
 Of each row of `check` that is hashed, the octets of `octets --row N` are read here from both ends, as 5.2.4, 5.2.3, 5.5.2 and 5.2.3.7
 say; so the lines, whose lengths add up to the number of these octets, are worked out from them alone. The fields of both
-signatures of the certificate of A.3 stand below as A.3.1 prints them, octet by octet. The last line counts the tests."""
+signatures of the certificate of A.3 stand below as A.3.1 prints them, octet by octet. Each kind of subpacket is in a signature on each part
+of a certificate of either version; and the document of A.2 is told of too. The last line counts the tests."""
 
 import argparse
 import glob
@@ -15,6 +16,7 @@ import sys
 sys.dont_write_bytecode = True
 sys.path.insert(0, f"{sys.path[0]}/../lib")
 
+from openpgp_maker import Key, on_identity, packet, signature, subpacket  # noqa: E402
 from running import HERE, Runner, built  # noqa: E402
 
 SALTS = {8: 16, 9: 24, 10: 32, 11: 16}
@@ -112,6 +114,21 @@ def explained(octets):
     return it.fields
 
 
+def every_kind():
+    """A certificate of version 4 and one of version 6, with signatures on the key, a user ID, an attribute and a subkey, of which each has
+    every kind of subpacket in its hashed area (5.2.3.7); its data is that of no kind."""
+    area = b"".join(subpacket(kind, b"data %d" % kind) for kind in range(128))
+    octets = b""
+    for version in (4, 6):
+        key, subkey = (Key(version, made, 27, bytes([made]) * 32, lambda digest, hash: bytes(64)) for made in (1, 2))
+        picture = subpacket(1, b"\x10\0\1\1" + bytes(12) + b"picture")
+        octets += packet(6, key.body) + packet(2, signature(key, 0x1F, key.octets, area))
+        for kind, body in ((13, b"Alice"), (17, picture)):
+            octets += packet(kind, body) + packet(2, signature(key, 0x10, key.octets + on_identity(kind, body), area))
+        octets += packet(14, subkey.body) + packet(2, signature(key, 0x18, key.octets + subkey.octets, area))
+    return octets
+
+
 def main():
     words = argparse.ArgumentParser(prog="tests/program/explained.py", description=__doc__.split("\n\n", maxsplit=1)[0])
     words.add_argument("--program", help="the program that is run, in place of that of this repository")
@@ -124,10 +141,11 @@ def main():
         if not holds:
             print(f"failed: {what}: {found}")
 
+    given = {"every kind of subpacket": every_kind()}
     for name in sorted(glob.glob(f"{HERE}/examples/*.asc") + glob.glob(f"{HERE}/tests/vectors/*/*.asc") + glob.glob(f"{HERE}/tests/vectors/*/*.gpg")):
         with open(name, "rb") as it:
-            octets = it.read()
-        name = os.path.relpath(name, HERE)
+            given[os.path.relpath(name, HERE)] = it.read()
+    for name, octets in given.items():
         rows = runner.run(["check"], octets).out.split(b"\n")[:-1]
         for n, row in enumerate(rows):
             if b" : asked " not in row:
@@ -140,6 +158,12 @@ def main():
             if name == "examples/rfc9580-a3.asc":
                 printed = [it.strip().split(" ") for it in (DIRECT, BINDING)[n].split("|")]
                 told(f"{name}, row {n}, as it is printed", [f"{at:02X} {it.hex().upper()}" for at, it, _ in fields] == [" ".join(it) for it in printed])
+        told(f"{name}, rows", name != "every kind of subpacket" or sum(b" : asked " in row for row in rows) == 8, rows)
+    # The signature of A.2 over a document, as that of a signed literal.
+    hashed = b"OpenPGP" + bytes.fromhex("040016080006050255F95F9504FF0000000C")
+    message = b"\xc4\x0d" + bytes(13) + packet(11, b"b\0\0\0\0\0OpenPGP") + packet(2, hashed[7:19] + bytes.fromhex("0000F622000101000101"))
+    found = runner.run(["octets", "--row", "0", "--of", "literal", "--explain"], message)
+    told("the document of A.2", (found.status, found.err, found.out.decode()) == (0, b"", "".join(f"{line}\n" for _, _, line in explained(hashed))), found)
     runner.close()
     print(f"{passed} passed, {failed} failed")
     return failed > 0 or passed == 0

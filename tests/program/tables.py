@@ -1143,6 +1143,22 @@ def each_number():
         yield f"{n} pieces", "show --values", octets, wanted
 
 
+def orders_of_literals():
+    """All lists of up to four packets as a signed literal (10.3), in one block; of up to three also cut into two, under each label."""
+    one_pass, signed, literal = b"\xc4\0", bytes.fromhex("C20E0400160800000000ABCD00000000"), b"\xcb\7b\0\0\0\0\0a"
+    malformed, cut = b"\xc2\6" + bytes.fromhex("041316080001"), b"\xcb\1b"
+    command = "octets --row 0 --of literal"
+    for count in range(5):
+        for number_of_it, packets in enumerate(itertools.product((one_pass, literal, signed, b"\xe8\0", malformed, cut, b"\xcd\1a"), repeat=count)):
+            octets = b"".join(packets)
+            yield f"{count} packets as a literal", command, octets, model.answer("literal", octets)
+            if count < 4:
+                at = number_of_it % (count + 1)
+                labels = (b"MESSAGE", b"MESSAGE", b"SIGNATURE")
+                text = model.armor(b"".join(packets[:at]), labels[number_of_it % 3]) + model.armor(b"".join(packets[at:]), labels[number_of_it % 2])
+                yield f"{count} packets as a literal, in two blocks", command, text, model.answer("literal", text)
+
+
 def user_ids_of_each_octet():
     """How each octet is shown in a user ID, alone and among others."""
     names = [bytes([it]) for it in range(256)] + [bytes([it]) * 3 + b"a" for it in range(256)] + [bytes(range(256)), bytes(range(255, -1, -1))]
@@ -1167,7 +1183,7 @@ def rows():
         packet_types, key_algorithms, signature_algorithms, other_versions, hash_algorithms, signature_types, subpackets,
         values, literals, dates, named_keys, key_sizes, stated, first_octets, octets_before_armor,
         large_sizes, ends_of_lines, beginnings, beginnings_of_packets, real_certificates, samples, user_ids_of_each_octet, each_size,
-        each_small_size, each_number,
+        each_small_size, each_number, orders_of_literals,
     ):  # fmt: skip
         yield from it()
 

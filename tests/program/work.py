@@ -233,6 +233,7 @@ KINDS = (
     ("signatures with a time of a long user ID", 1_000, dated_signed_name, "signed"),
     ("user IDs of a large key, signed with a time", 1_000, dated_names_of_a_large_key, "signed"),
     ("fillers with bodies", 2_000, lambda n: b"".join(b"\xe8\x64" + n.to_bytes(4, "big") + bytes(96) for n in range(n)), "of fillers"),
+    ("fillers with bodies before a key", 2_000, lambda n: b"".join(b"\xe8\x64" + n.to_bytes(4, "big") + bytes(96) for n in range(n)) + KEY, "before a key"),
     ("lines outside of blocks", 40_000, lambda n: b"a line\n" * n + BEGIN + base64.b64encode(KEY) + b"\n" + END, "parts"),
     ("detached signatures", 4_000, lambda n: (b"\xc2\x0e" + SIGNATURE) * n, "detached"),
     ("lines of a document", 40_000, lambda n: b"a line\n" * n, "a document"),
@@ -286,57 +287,38 @@ LIBRARY = f"{HERE}/crates/opgp_examples/out/opgp_examples"
 READERS = {
     "walk": ("certificates", "subpackets", "pieces of a literal", "blocks of armor", "data lines of four letters", "data lines of 63 letters", "data lines of 64 letters"),
     "certificates": ("certificates", "fillers", "user IDs", "octets of a user ID", "blocks of armor"),
-    "verify": ("certificates with an issuer that is absent", "signatures"),
+    "verify": ("certificates with an issuer that is absent", "signatures", "signatures of a long user ID", "signatures with a time of a long user ID"),
     "rewrite": ("certificates", "user IDs"),
-    "packets": ("certificates", "fillers", "octets of a user ID", "blocks of armor", "data lines of 64 letters"),
+    "packets": ("certificates", "fillers", "octets of a user ID", "blocks of armor", "data lines of 64 letters", "pieces of a literal",
+                "certificates behind a fault", "octets behind a fault"),
 }
-# Calls of the libraries: what each is given before the octets, and of what kinds these are. Those of ARMORED are given a text.
+# Calls of the libraries, and the kinds of what each is given. Those of ARMORED are given a text.
 CALLS = f"{HERE}/crates/opgp_calls/out/opgp_calls"
-LIMITS = "1048576 16777216 67108864 1099511627776 1048576"
 CUT_OFF = ("octets of a body that is cut off", "many octets of a body that is cut off")
 CALLED = {
-    f"deframe {LIMITS} 0 1000": ("certificates", "fillers", "octets of a user ID", "pieces of a literal"),
-    **{f"{call} {LIMITS} {rest}": CUT_OFF for call, rest in (("deframe", "0 1"), ("part_reader auto", "1"), ("packet_reader auto", "1"))},
-    "check_bodies fits": ("certificates", "user IDs", "signatures"),
-    f"compose {LIMITS} fits": ("certificates", "fillers", "user IDs", "signatures"),
-    f"composer {LIMITS} fits": ("certificates", "fillers", "user IDs", "signatures"),
-    "ring_copy": ("certificates", "fillers", "user IDs", "signatures"),
-    "block_copy fits": ("certificates", "octets of a user ID"),
-    "join -": ("certificates", "fillers"),
-    # Behind a key, and behind a filler.
-    "join xc6060400000000c8": ("fillers with bodies",),
-    "join xe80161": ("fillers with bodies",),
-    "merge": ("certificates", "equal certificates", "user IDs", "signatures", "subkeys"),
-    "choose own bare 0": ("certificates", "user IDs", "signatures"),
-    "choose own": ("certificates", "user IDs", "signatures"),
-    "check": ("certificates with an issuer that is absent", "signatures", "signatures of a long user ID", "signatures with a time of a long user ID"),
-    "signed fits": ("signatures of a message",),
-    "question_at 0": ("certificates with an issuer that is absent", "signatures"),
-    "armor public": ("certificates", "octets of a user ID"),
-    f"dearmor {LIMITS}": ("certificates", "blocks of armor", "data lines of four letters", "data lines of 63 letters", "data lines of 64 letters"),
-    f"block_copies {LIMITS}": ("blocks of armor", "data lines of 64 letters"),
-    f"read_keyring auto {LIMITS}": ("certificates", "user IDs"),
-    f"read_packets auto {LIMITS}": ("fillers", "octets of a user ID"),
-    f"read_signed auto keep {LIMITS}": ("signatures of a message",),
-    # Of pieces of 1,000 octets, and of 60,000, in which many things come at once.
-    f"part_reader auto {LIMITS} 1000": ("certificates", "user IDs", "octets of a user ID", "certificates behind a fault", "octets behind a fault"),
-    f"part_reader auto {LIMITS} 60000": ("certificates",),
-    f"packet_reader auto {LIMITS} 1000": ("octets of a user ID", "pieces of a literal", "certificates behind a fault", "octets behind a fault"),
-    f"packet_reader auto {LIMITS} 60000": ("fillers",),
-    "write_certificates binary": ("certificates",),
-    # Pushed octet by octet.
-    f"dearmor_pushed {LIMITS} 1": ("octets of a header", "data lines of 64 letters"),
+    "blocks": ("certificates", "fillers", "octets of a user ID"),
+    "bodies": ("certificates", "user IDs", "signatures"),
+    "ring": ("certificates", "fillers", "user IDs", "signatures"),
+    "signed": ("signatures of a message",),
+    "binary": ("certificates",),
+    "armor": ("certificates", "octets of a user ID", "blocks of armor", "data lines of four letters", "data lines of 63 letters", "data lines of 64 letters"),
 }
-ARMORED = ("dearmor", "dearmor_pushed", "block_copies")
+ARMORED = ("armor",)
 # Ways of tests/lib/library.c, which makes all tables of a keyring by the library for C: of one that is read in one call, of each
 # part of one that is pushed in one piece or in several, and of keyrings that are made of others.
 IN_C = {
     "0": ("certificates", "certificates with an issuer that is absent", "fillers", "user IDs", "signatures", "signatures of a long user ID", "signed user IDs of a large key", "subkeys", "subpackets", "embedded signatures"),
     "1000000000": ("certificates",),
     "4099": ("user IDs", "certificates behind a fault", "octets behind a fault"),
-    **{way: ("certificates",) for way in ("normalise", "merge", "twice", "end")},
+    # Octet by octet; and that with lines of up to 2^20 octets.
+    "1": (*CUT_OFF, "data lines of 64 letters"),
+    "long": ("octets of a header",),
+    "normalise": ("certificates", "fillers", "user IDs", "signatures"),
+    "twice": ("certificates", "fillers", "fillers with bodies", "fillers with bodies before a key"),
+    "chosen": ("certificates", "user IDs", "signatures"),
+    **{way: ("certificates",) for way in ("merge", "end")},
     "armor": ("octets of a user ID",),
-    "last": ("signatures",),
+    "last": ("signatures", "certificates with an issuer that is absent"),
 }
 # The programs of the table that aren't the program itself.
 OTHERS = ("opgp_examples", "opgp_calls", "library")
@@ -357,7 +339,7 @@ def is_tried(kind, command):
     own |= {"attributes": ("list", CHOSEN, KEEP), "of an attribute": ("list",), "of lists": ("show --values",)}
     own |= {"of an area": ("check", "octets --all", OWN, "show --values"), "bindings": ("check --fingerprints", "octets --all", OWN)}
     own |= {"malformed": ("list --malformed keep", "check --malformed keep"), "of a literal": ("octets --of literal --row 0",)}
-    own |= {"of a text": ("show",), "refused": ("show", "check"), "cut off": ("show", "list"), "many cut off": (), "of fillers": (KEEP, "join --out binary")}
+    own |= {"of a text": ("show",), "refused": ("show", "check"), "cut off": ("show", "list"), "many cut off": (), "of fillers": (KEEP, "join --out binary"), "before a key": ()}
     own |= {"cleartext": ("cleartext --of document", "cleartext --of hashed", "cleartext --of signatures")}
     own |= {"detached": ("signatures",), "a document": ("canonical", "canonical --spool ROOM", "digest --signatures DETACHED")}
     if command in ALSO.get(name, ()):
@@ -406,9 +388,9 @@ def in_armor(make):
     return lambda n: octets if (octets := make(n))[0] < 128 else armored(octets, 64)
 
 
-def in_call(name, make, behind=""):
-    """The line of a call that is given the input, and something behind it."""
-    return lambda n: f"{name} x{make(n).hex()}{behind}\n".encode()
+def in_call(name, make):
+    """The line of a call that is given the input."""
+    return lambda n: f"{name} {make(n).hex()}\n".encode()
 
 
 def sized(make):
@@ -474,11 +456,10 @@ def tried(work):
         make, bounded = in_armor(make), False
     if program == CALLS:
         # Half as many things, since the calls are many.
-        text, behind = command.split()[0] in ARMORED, {"armor public": " -", "question_at 0": " -"}.get(command, "")
-        make, bounded, count = in_call(command, in_armor(make) if text else make, behind), False, count // 2
+        make, bounded, count = in_call(command, in_armor(make) if command in ARMORED else make), False, count // 2
     if os.path.basename(program) == "library":
         # Fewer things, since all tables are made of each keyring, and of each that is made.
-        make, bounded, count = sized(make), False, count // (8 if command in ("0", "1000000000") else 32)
+        make, bounded, count = sized(make), False, max(1, count // (8 if command in ("0", "1000000000", "long") else 32))
     runner = Runner(program)
     words = [command.replace("LAST", str(n - 1)).replace("FIRST", key_id(make(1))) for n in (count, 4 * count)]
     row = row_of(program, command, number)
@@ -486,7 +467,7 @@ def tried(work):
     one, four = (Case(runner, shim, room, it, make(n), n > count or is_counted) for it, n in zip(words, (count, 4 * count)))
     runner.close()
     wrong = []
-    if (one.status, four.status) != (int(things in ("refused", "cut off") and row[0] == "opgp"),) * 2:
+    if (one.status, four.status) != (int(things in ("refused", "cut off") and row[0] in ("opgp", "opgp_examples")),) * 2:
         wrong.append(f"statuses {one.status} and {four.status}")
     spent = [max(it.instructions - nothing, 1) for it in (one, four)]
     if not nothing or is_counted and spent[1] > (4.8 if "merge" in command else 4.6) * spent[0]:

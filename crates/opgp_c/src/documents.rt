@@ -1,29 +1,25 @@
 //! The calls for signatures over a document.
 
-ghost use Rattle.std.specs.Prelude.{◌≡◌, ◌≢◌, ◌↔◌, ◌⊎◌, ◌<◌, ◌≤◌, ◌++◌, [], length};
-ghost use Rattle.std.specs.Prelude.{true, false, ℕ, List, Some, None, Ok, Err};
+ghost use Rattle.std.specs.Prelude.{◌≡◌, ◌≢◌, ◌↔◌, ◌⊎◌, ◌<◌, ◌≤◌, ◌++◌, [], length, true, false, ℕ};
+ghost use Rattle.std.specs.Prelude.{List, Some, None, Ok, Err};
 ghost use Rattle.std.specs.List.{slice_get};
 ghost use Rattle.opgp_octets.specs.declared.fault.Fault.{Fault};
 ghost use Rattle.opgp_frame.specs.Packet.{PacketValue};
 ghost use Rattle.opgp_hash.specs.SignedValue.{SignedValue};
 ghost use Rattle.opgp_ring.specs.Signed.{signature_bodies};
 ghost use Rattle.opgp_codec.specs.declared.mode.Mode.{Mode};
-ghost use Rattle.opgp_tables.specs.DocumentJobs.{document_subpacket_bytes};
-ghost use Rattle.opgp_tables.specs.DocumentJobs.{document_subpacket_rows};
+ghost use Rattle.opgp_tables.specs.DocumentJobs.{document_subpacket_bytes, document_subpacket_rows};
 ghost use Rattle.opgp_tables.specs.FaultRow.{fault_row};
 ghost use Rattle.opgp_tables.specs.GivenLimits.{MayBeGiven};
-ghost use Rattle.opgp_c.specs.Calls.{IsFilled, mode_by};
-ghost use Rattle.opgp_c.specs.Documents.{IsEnded, IsGoing, KeepsItsOwn, PutsJobs, PutsSigned};
-ghost use Rattle.opgp_c.specs.Documents.{SignaturesBy, WasGiven, bodies_in, is_message};
-ghost use Rattle.opgp_c.specs.Documents.{packets_in, side_of, signed_by, signed_in};
+ghost use Rattle.opgp_handles.specs.Calls.{IsFilled, mode_by};
+ghost use Rattle.opgp_handles.specs.Documents.{IsEnded, IsGoing, KeepsItsOwn, PutsJobs, PutsSigned};
+ghost use Rattle.opgp_handles.specs.Documents.{SignaturesBy, WasGiven, bodies_in, is_message};
+ghost use Rattle.opgp_handles.specs.Documents.{packets_in, side_of, signed_by, signed_in};
 
-use crate::calls::mode_by;
-use crate::document::Document;
-use crate::ring::Ring;
-use crate::signed::{end_document, keep_signatures, push_octets, read_detached};
-use crate::signed_tables::{put_jobs, put_row_side, put_subpackets};
-use crate::sizes::Sizes;
-use crate::status::{CLOSED, LIMITS};
+use opgp_handles::{
+    Document, Ring, Sizes, document_clear, document_close, document_end, document_jobs,
+    document_octets, document_open, document_push, document_subpackets,
+};
 use opgp_tables::{FaultRow, GivenLimits, JobRow, SubpacketRow};
 use std::alloc::Global;
 
@@ -59,13 +55,7 @@ pub extern "C" fn opgp_document_open(
     ensures status { (result ≡ 0) ⊎ ((result ≡ 1) ⊎ ((result ≡ 3) ⊎ ((result ≡ 4)
         ⊎ (result ≡ 8)))) }
 {
-    let Some(mode) = mode_by(mode) else {
-        return LIMITS;
-    };
-    match read_detached(alloc, input, mode, limits, fault) {
-        Ok(signatures) => keep_signatures(alloc, document, signatures),
-        Err(status) => status,
-    }
+    document_open(alloc, input, mode, limits, document, fault)
 }
 
 /// Takes the next piece of the document. The condition is that the handle was given so much of it.
@@ -86,12 +76,7 @@ pub extern "C" fn opgp_document_push(alloc: Global, document: &mut Document, pie
     ensures closed { (result ≡ 5) ↔ (document.old.is_open ≡ false) }
     ensures status { (result ≡ 0) ⊎ ((result ≡ 5) ⊎ (result ≡ 7)) }
 {
-    let Some(mut held) = document.take(alloc) else {
-        return CLOSED;
-    };
-    let status = push_octets(&mut held, piece);
-    document.give(held);
-    status
+    document_push(alloc, document, piece)
 }
 
 /// Ends the document. The condition is that the handle was given so much of it.
@@ -112,12 +97,7 @@ pub extern "C" fn opgp_document_end(alloc: Global, document: &mut Document) -> u
     ensures closed { (result ≡ 5) ↔ (document.old.is_open ≡ false) }
     ensures status { (result ≡ 0) ⊎ ((result ≡ 5) ⊎ (result ≡ 7)) }
 {
-    let Some(mut held) = document.take(alloc) else {
-        return CLOSED;
-    };
-    let status = end_document(&mut held);
-    document.give(held);
-    status
+    document_end(alloc, document)
 }
 
 /// Fills the tables with the signatures over a document that has ended, in order, and the octets
@@ -141,17 +121,7 @@ pub extern "C" fn opgp_document_jobs(
     ensures { PutsJobs so_far document.old document.new ring.old ring.new rows.old rows.new
         bytes.old bytes.new sizes.new result }
 {
-    let Some(signed) = document.take(alloc) else {
-        return CLOSED;
-    };
-    let Some(held) = ring.take(alloc) else {
-        document.give(signed);
-        return CLOSED;
-    };
-    let status = put_jobs(alloc, &signed, &held.keyring, rows, bytes, sizes);
-    ring.give(held);
-    document.give(signed);
-    status
+    document_jobs(alloc, document, ring, rows, bytes, sizes)
 }
 
 /// Fills the tables with the subpackets of the signatures over a document, those of each in the
@@ -172,12 +142,7 @@ pub extern "C" fn opgp_document_subpackets(
     ensures { PutsSigned document_subpacket_rows document_subpacket_bytes document.old document.new
         rows.old rows.new bytes.old bytes.new sizes.new result }
 {
-    let Some(held) = document.take(alloc) else {
-        return CLOSED;
-    };
-    let status = put_subpackets(&held, rows, bytes, sizes);
-    document.give(held);
-    status
+    document_subpackets(alloc, document, rows, bytes, sizes)
 }
 
 /// Puts the octets that the signature of a row hashes in front of its document, or behind it if
@@ -215,18 +180,13 @@ pub extern "C" fn opgp_document_octets(
     ensures status { (result ≡ 0) ⊎ ((result ≡ 2) ⊎ ((result ≡ 3) ⊎ ((result ≡ 5)
         ⊎ (result ≡ 6)))) }
 {
-    let Some(held) = document.take(alloc) else {
-        return CLOSED;
-    };
-    let status = put_row_side(alloc, &held, row, behind, octets, size);
-    document.give(held);
-    status
+    document_octets(alloc, document, row, behind, octets, size)
 }
 
 /// Lets go what a handle holds. The handle, and each copy of it, can't be used again.
 #[unsafe(no_mangle)]
 pub extern "C" fn opgp_document_close(document: Document) {
-    drop(document.into_box());
+    document_close(document);
 }
 
 /// Lets go what a handle holds, and leaves it closed.
@@ -234,5 +194,5 @@ pub extern "C" fn opgp_document_close(document: Document) {
 pub extern "C" fn opgp_document_clear(alloc: Global, document: &mut Document)
     ensures { document.new.is_open ≡ false }
 {
-    drop(document.take(alloc));
+    document_clear(alloc, document);
 }

@@ -5,8 +5,8 @@
 //! any number of threads at once.
 #![tactic(auto)]
 
-ghost use Rattle.std.specs.Prelude.{◌≡◌, ◌≢◌, ◌↔◌, ◌⊎◌, ◌<◌, ◌+◌, ◌^◌, ◌++◌, ◌∷◌, [], length};
-ghost use Rattle.std.specs.Prelude.{true, false, ℕ, List, Some, None, Ok, MatchOption, ⊤, ◌≤◌};
+ghost use Rattle.std.specs.Prelude.{◌≡◌, ◌≢◌, ◌↔◌, ◌⊎◌, ◌<◌, ◌+◌, ◌^◌, ◌++◌, ◌∷◌, [], length, true};
+ghost use Rattle.std.specs.Prelude.{false, ℕ, List, Some, None, Ok};
 ghost use Rattle.std.specs.List.{slice_get};
 ghost use Rattle.opgp_codec.specs.Writing.{packets_text};
 ghost use Rattle.opgp_tables.specs.GivenLimits.{AreThese, MayBeGiven, usual_limits};
@@ -24,67 +24,41 @@ ghost use Rattle.opgp_merge.specs.declared.choice.Choice.{Choice};
 ghost use Rattle.opgp_ring.specs.Joining.{nth_of};
 ghost use Rattle.opgp_ring.specs.Keyring.{flat};
 ghost use Rattle.opgp_ring.specs.Normal.{normal_of};
-ghost use Rattle.opgp_c.specs.Calls.{Answers, AnswersBy, HoldsTheSame, IsChoice, IsFilled};
-ghost use Rattle.opgp_c.specs.Calls.{KeepsMade, PutsTables, Refuses, RefusesBy, mode_by, out_of};
-ghost use Rattle.opgp_c.specs.declared.slot.Reading.TheVariants.{Lost};
+ghost use Rattle.opgp_handles.specs.Calls.{Answers, AnswersBy, HoldsTheSame, IsChoice, IsFilled};
+ghost use Rattle.opgp_handles.specs.Calls.{KeepsMade, PutsTables, Refuses, RefusesBy, mode_by};
+ghost use Rattle.opgp_handles.specs.Calls.{out_of};
+ghost use Rattle.opgp_handles.specs.declared.slot.Reading.TheVariants.{Lost};
 ghost use Rattle.opgp_codec.specs.declared.mode.Mode.{Mode};
 ghost use Rattle.opgp_tables.specs.HashedRows.{hashed_bytes, hashed_rows};
-ghost use Rattle.opgp_c.specs.Readings.{HasEnded, Holds, HoldsPart, IsEnded, IsGoing, IsRefused};
-ghost use Rattle.opgp_c.specs.Readings.{StaysWhat, begun, waiting_in};
+ghost use Rattle.opgp_handles.specs.Readings.{HasEnded, Holds, HoldsPart, IsEnded, IsGoing};
+ghost use Rattle.opgp_handles.specs.Readings.{IsRefused, StaysWhat, begun, waiting_in};
 ghost use Rattle.opgp_codec.specs.PartReader.{Use, given, taking};
-ghost use Rattle.opgp_tables.specs.FaultRow.{fault_of};
-ghost use Rattle.opgp_tables.specs.FaultRow.{fault_row};
-ghost use Rattle.opgp_c.specs.Whys.{named};
+ghost use Rattle.opgp_tables.specs.FaultRow.{fault_of, fault_row};
+ghost use Rattle.opgp_handles.specs.Whys.{named};
 ghost use Rattle.opgp_octets.specs.Fault.{fault_text};
 ghost use Rattle.opgp_octets.specs.declared.fault.Fault.{Fault};
 ghost use Rattle.opgp_octets.specs.declared.limits.Limits.{Limits};
 ghost use Rattle.opgp_ring.specs.Composed.{PartValue};
 
-mod beliefs;
-mod calls;
-mod document;
+pub mod beliefs;
 pub mod documents;
 pub mod finding;
-pub mod laws;
-mod making;
-mod parts;
-mod reader;
-mod reading;
 pub mod revocations;
-mod ring;
-mod signed;
-mod signed_tables;
 pub mod signed_texts;
-mod sizes;
-mod slot;
 pub mod standings;
-mod state_row;
 pub mod states;
-mod status;
-mod tables;
-mod text;
 pub mod texts;
 pub mod user_ids;
-mod whys;
 
-use crate::calls::{mode_by, put_octets, put_text, read_ring};
-use crate::making::{Making, joined, keep, keep_chosen, keep_found, keep_made, keep_picked};
-use crate::reader::Reader;
-use crate::reading::{begin, end_input, push_piece, take_part};
-use crate::ring::Ring;
-use crate::sizes::Sizes;
-use crate::status::{CLOSED, DONE, LIMITS, MEMORY, NO_ROW};
-use crate::tables::{Window, put_hashed, put_row_octets, put_table};
-use crate::whys::unbelieved_name;
-use opgp_codec::Mode;
-use opgp_merge::Choice;
-use opgp_ring::nth;
-use opgp_tables::{
-    FaultRow, GivenLimits, HashedRow, JobRow, KeyRow, NumberTable, PacketRow, SubpacketRow,
-    short_line,
+use opgp_handles::{
+    Making, Reader, Ring, Sizes, Window, keep_chosen, keep_made, keep_picked, put_fault_line,
+    put_hashed, put_name, put_table, reader_clear, reader_close, reader_end, reader_open,
+    reader_push, reader_take, ring_certificate, ring_clear, ring_close, ring_join, ring_octets,
+    ring_open, ring_open_mode, ring_write,
 };
+use opgp_merge::Choice;
+use opgp_tables::{FaultRow, GivenLimits, HashedRow, JobRow, KeyRow, PacketRow, SubpacketRow};
 use std::alloc::Global;
-use std::mem;
 
 /// The version of these calls and structs; a program that was compiled for another one can't use
 /// the library.
@@ -124,23 +98,7 @@ pub extern "C" fn opgp_name(table: u32, number: u8, text: &mut [u8], size: &mut 
     ensures size { result ≡ 6 → size.new ≡ size.old }
     ensures status { (result ≡ 0) ⊎ ((result ≡ 2) ⊎ (result ≡ 6)) }
 {
-    match name_in(table, number) {
-        Some(name) => put_octets(name.as_bytes(), text, size),
-        None => NO_ROW,
-    }
-}
-
-/// The name that the table of this number has for a number.
-fn name_in(table: u32, number: u8) -> Option<&'static str>
-    ensures value { MatchOption result (named table number ≡ None)
-        (λ name. named table number ≡ Some name.now) }
-    ensures short { MatchOption result ⊤ (λ name. length name.now ≤ 52) }
-{
-    if table == 8 {
-        unbelieved_name(number)
-    } else {
-        NumberTable::of(table)?.name(number)
-    }
+    put_name(table, number, text, size)
 }
 
 /// Puts the line of a fault, without a line end: `<layer>: <Reason> block <b> at <pos> inner
@@ -160,10 +118,7 @@ pub extern "C" fn opgp_fault_line(fault: &FaultRow, text: &mut [u8], size: &mut 
     ensures size { result ≡ 6 → size.new ≡ size.old }
     ensures status { (result ≡ 0) ⊎ ((result ≡ 2) ⊎ (result ≡ 6)) }
 {
-    match fault.fault() {
-        Some(fault) => put_octets(short_line(&fault).as_str().as_bytes(), text, size),
-        None => NO_ROW,
-    }
+    put_fault_line(fault, text, size)
 }
 
 /// Reads the keyring of an input, armored or binary, and keeps it in the handle; what the handle
@@ -187,11 +142,7 @@ pub extern "C" fn opgp_ring_open(
     ensures fault { result ≢ 1 → fault.new ≡ fault.old }
     ensures status { (result ≡ 0) ⊎ ((result ≡ 1) ⊎ ((result ≡ 3) ⊎ (result ≡ 4))) }
 {
-    let keyring = match read_ring(alloc, input, Mode::Auto, limits, fault) {
-        Ok(keyring) => keyring,
-        Err(status) => return status,
-    };
-    keep(alloc, ring, keyring)
+    ring_open(alloc, input, limits, ring, fault)
 }
 
 /// Reads the keyring of an input by a mode: 0 as [`opgp_ring_open`], 1 as armored text, 2 as
@@ -217,20 +168,13 @@ pub extern "C" fn opgp_ring_open_mode(
     ensures fault { result ≢ 1 → fault.new ≡ fault.old }
     ensures status { (result ≡ 0) ⊎ ((result ≡ 1) ⊎ ((result ≡ 3) ⊎ (result ≡ 4))) }
 {
-    let Some(mode) = mode_by(mode) else {
-        return LIMITS;
-    };
-    let keyring = match read_ring(alloc, input, mode, limits, fault) {
-        Ok(keyring) => keyring,
-        Err(status) => return status,
-    };
-    keep(alloc, ring, keyring)
+    ring_open_mode(alloc, input, mode, limits, ring, fault)
 }
 
 /// Lets go what a handle holds. The handle, and each copy of it, can't be used again.
 #[unsafe(no_mangle)]
 pub extern "C" fn opgp_ring_close(ring: Ring) {
-    drop(ring.into_box());
+    ring_close(ring);
 }
 
 /// Lets go what a handle holds, and leaves it closed.
@@ -238,7 +182,7 @@ pub extern "C" fn opgp_ring_close(ring: Ring) {
 pub extern "C" fn opgp_ring_clear(alloc: Global, ring: &mut Ring)
     ensures { ring.new.is_open ≡ false }
 {
-    drop(ring.take(alloc));
+    ring_clear(alloc, ring);
 }
 
 /// Fills the tables with the packets of a keyring, in order, and the octets of their bodies.
@@ -340,12 +284,7 @@ pub extern "C" fn opgp_ring_octets(
     ensures status { (result ≡ 0) ⊎ ((result ≡ 2) ⊎ ((result ≡ 3) ⊎ ((result ≡ 5)
         ⊎ (result ≡ 6)))) }
 {
-    let Some(held) = ring.take(alloc) else {
-        return CLOSED;
-    };
-    let status = put_row_octets(alloc, &held.keyring, row, octets, size);
-    ring.give(held);
-    status
+    ring_octets(alloc, ring, row, octets, size)
 }
 
 /// Fills the tables with what the signatures of some rows of the table of jobs hash (RFC 9580,
@@ -394,12 +333,7 @@ pub extern "C" fn opgp_ring_write(
     ensures ring { HoldsTheSame ring.old ring.new }
     ensures status { (result ≡ 0) ⊎ ((result ≡ 2) ⊎ ((result ≡ 3) ⊎ (result ≡ 5))) }
 {
-    let Some(held) = ring.take(alloc) else {
-        return CLOSED;
-    };
-    let status = put_text(alloc, &held.keyring, armor, text, size);
-    ring.give(held);
-    status
+    ring_write(alloc, ring, armor, text, size)
 }
 
 /// Keeps a copy of a keyring, with each packet in the current format and its shortest length
@@ -488,12 +422,7 @@ pub extern "C" fn opgp_ring_certificate(
     ensures ring { HoldsTheSame ring.old ring.new }
     ensures status { (result ≡ 0) ⊎ ((result ≡ 3) ⊎ ((result ≡ 5) ⊎ (result ≡ 6))) }
 {
-    let Some(held) = ring.take(alloc) else {
-        return CLOSED;
-    };
-    let found = nth(alloc, &held.keyring, number as usize);
-    ring.give(held);
-    keep_found(alloc, found, into)
+    ring_certificate(alloc, ring, number, into)
 }
 
 /// Keeps a keyring of the packets of two, those of the other behind those of the first.
@@ -517,20 +446,7 @@ pub extern "C" fn opgp_ring_join(
     ensures other { HoldsTheSame other.old other.new }
     ensures status { (result ≡ 0) ⊎ ((result ≡ 3) ⊎ (result ≡ 5)) }
 {
-    let Some(held) = ring.take(alloc) else {
-        return CLOSED;
-    };
-    let Some(more) = other.take(alloc) else {
-        ring.give(held);
-        return CLOSED;
-    };
-    let made = joined(alloc, &held.keyring, &more.keyring);
-    ring.give(held);
-    other.give(more);
-    match made {
-        Ok(made) => keep(alloc, into, made),
-        Err(_) => MEMORY,
-    }
+    ring_join(alloc, ring, other, into)
 }
 
 /// Begins to read a keyring, armored or binary, that comes in pieces; what the handle held before
@@ -547,16 +463,7 @@ pub extern "C" fn opgp_reader_open(alloc: Global, limits: &GivenLimits, reader: 
     ensures kept { result ≢ 0 → reader.new ≡ reader.old }
     ensures status { (result ≡ 0) ⊎ ((result ≡ 3) ⊎ (result ≡ 4)) }
 {
-    let Some(limits) = limits.limits() else {
-        return LIMITS;
-    };
-    match Reader::of(alloc, begin(alloc, limits)) {
-        Ok(new) => {
-            drop(mem::replace(reader, new).into_box());
-            DONE
-        }
-        Err(_) => MEMORY,
-    }
+    reader_open(alloc, limits, reader)
 }
 
 /// Takes the next piece of the input. The conditions are that the handle was used so, and that
@@ -581,12 +488,7 @@ pub extern "C" fn opgp_reader_push(alloc: Global, reader: &mut Reader, piece: &[
     ensures closed { (result ≡ 5) ↔ (reader.old.is_open ≡ false) }
     ensures status { (result ≡ 0) ⊎ ((result ≡ 3) ⊎ ((result ≡ 5) ⊎ (result ≡ 7))) }
 {
-    let Some(mut held) = reader.take(alloc) else {
-        return CLOSED;
-    };
-    let status = push_piece(&mut held, piece);
-    reader.give(held);
-    status
+    reader_push(alloc, reader, piece)
 }
 
 /// Keeps the next part of the keyring in another handle, which lets go what it held: the packets
@@ -615,12 +517,7 @@ pub extern "C" fn opgp_reader_take(alloc: Global, reader: &mut Reader, into: &mu
     ensures closed { (result ≡ 5) ↔ (reader.old.is_open ≡ false) }
     ensures status { (result ≡ 0) ⊎ ((result ≡ 3) ⊎ ((result ≡ 5) ⊎ (result ≡ 6))) }
 {
-    let Some(mut held) = reader.take(alloc) else {
-        return CLOSED;
-    };
-    let status = take_part(alloc, &mut held, into);
-    reader.give(held);
-    status
+    reader_take(alloc, reader, into)
 }
 
 /// Ends the input. The parts that weren't taken can be taken then. The condition is that the handle
@@ -648,18 +545,13 @@ pub extern "C" fn opgp_reader_end(alloc: Global, reader: &mut Reader, fault: &mu
     ensures closed { (result ≡ 5) ↔ (reader.old.is_open ≡ false) }
     ensures status { (result ≡ 0) ⊎ ((result ≡ 1) ⊎ ((result ≡ 3) ⊎ (result ≡ 5))) }
 {
-    let Some(mut held) = reader.take(alloc) else {
-        return CLOSED;
-    };
-    let status = end_input(&mut held, fault);
-    reader.give(held);
-    status
+    reader_end(alloc, reader, fault)
 }
 
 /// Lets go what a handle holds. The handle, and each copy of it, can't be used again.
 #[unsafe(no_mangle)]
 pub extern "C" fn opgp_reader_close(reader: Reader) {
-    drop(reader.into_box());
+    reader_close(reader);
 }
 
 /// Lets go what a handle holds, and leaves it closed.
@@ -667,5 +559,5 @@ pub extern "C" fn opgp_reader_close(reader: Reader) {
 pub extern "C" fn opgp_reader_clear(alloc: Global, reader: &mut Reader)
     ensures { reader.new.is_open ≡ false }
 {
-    drop(reader.take(alloc));
+    reader_clear(alloc, reader);
 }

@@ -1,37 +1,25 @@
 //! Public calls of the crates that no other test makes: a line of standard input names a call and
-//! what it is given, and a line is written with its answer.
+//! has the octets that it is given, and a line is written with the octets that it makes.
 #![tactic(auto)]
 
-mod answer;
 mod armor;
-mod codec;
-mod composer;
-mod document;
-mod end;
-mod frame;
-mod given;
+mod bodies;
 mod headers;
-mod material;
-mod numbers;
-mod octets;
-mod packet;
-mod pieces;
-mod reading;
-mod report;
-mod ring;
-mod signed;
+mod lines;
+mod packets;
 
-use crate::answer::Answer;
-use crate::end::End;
-use crate::given::Given;
-use anyhow::{Result, bail};
+use anyhow::Result;
+use opgp_packet::{Attribute, Key, Literal};
 use std::alloc::Global;
 use std::io::Read;
 
+/// The most octets of a body.
+const MOST: usize = 4_294_967_295;
+
 fn main(rt: HostRuntime) -> Result<()> {
     let text = read_all(&rt)?;
-    for (number, line) in text.as_str().lines().enumerate() {
-        answer_line(&rt, number, line)?;
+    for line in text.as_str().lines() {
+        answer(&rt, line)?;
     }
     Ok(())
 }
@@ -43,50 +31,42 @@ fn read_all(rt: &HostRuntime) -> Result<String> {
     Ok(text)
 }
 
-/// Writes the answer to a line: `memory` where the call ran out of it.
-fn answer_line(rt: &(impl Print + AllocGlobal), number: usize, line: &str) -> Result<()> {
-    let mut answer = Answer::new(rt.alloc());
-    match answered(rt.alloc(), line, &mut answer) {
-        None => rt.println(answer.text())?,
-        Some(End::Memory) => rt.println("memory")?,
-        Some(End::Bad(wanted)) => bail!("line {number}: {wanted}"),
+/// Writes the answer to a line, in hexadecimal; `memory` where there is none.
+fn answer(rt: &(impl Print + AllocGlobal), line: &str) -> Result<()> {
+    match answered(rt.alloc(), line) {
+        Some(text) => rt.println(text.as_str())?,
+        None => rt.println("memory")?,
     }
     Ok(())
 }
 
-/// Adds the answer to a line; why there is none.
-fn answered(alloc: Global, line: &str, answer: &mut Answer) -> Option<End> {
-    let (name, words) = match line.split_once(' ') {
-        Some(parts) => parts,
-        None => (line, ""),
-    };
-    match Given::of(alloc, words) {
-        Ok(given) => ended(alloc, name, &given, answer),
-        Err(end) => Some(end),
-    }
+/// The answer to a line: a name, and octets in hexadecimal.
+fn answered(alloc: Global, line: &str) -> Option<String> {
+    let (name, digits) = line.split_once(' ')?;
+    let octets = hex::decode(alloc, digits).ok()?;
+    let mut out = Vec::new(alloc);
+    call(alloc, name, &octets, &mut out)?;
+    hex::encode(alloc, out.as_slice()).ok()
 }
 
-/// Adds the answer to a call; why there is none.
-fn ended(alloc: Global, name: &str, given: &Given, answer: &mut Answer) -> Option<End> {
-    if !called(alloc, name, given, answer) {
-        return Some(End::Bad("the name of a call"));
+/// Adds what a call makes of octets; None where memory runs out, where it refuses the octets, and
+/// where there is no call of the name.
+fn call(alloc: Global, name: &str, octets: &[u8], out: &mut Vec<u8>) -> Option<()> {
+    if octets.len() > MOST {
+        return None;
     }
-    match given.lacks() {
-        Some(wanted) => Some(End::Bad(wanted)),
-        None => answer.end(),
+    match name {
+        "key" => bodies::add_value(alloc, Key::parse_body(alloc, octets), out),
+        "attribute" => bodies::add_value(alloc, Attribute::parse_body(alloc, octets), out),
+        "literal" => bodies::add_value(alloc, Literal::parse_body(alloc, octets), out),
+        "user_id" => bodies::add_user_id(alloc, octets, out),
+        "signature" => bodies::add_signature(alloc, octets, out),
+        "lengths" => bodies::add_lengths(octets, out),
+        "integer" => bodies::add_integer(alloc, octets, out),
+        "armor" => armor::add_blocks(alloc, octets, out),
+        "fields" => lines::add_fields(alloc, octets, out),
+        "errors" => lines::add_errors(alloc, out),
+        "run" => lines::add_run(alloc, octets, out),
+        _ => packets::add_made(alloc, name, octets, out),
     }
-}
-
-/// Adds the answer to a call; false where there is none of the name.
-fn called(alloc: Global, name: &str, given: &Given, answer: &mut Answer) -> bool {
-    numbers::answered(name, given, answer)
-        || octets::answered(alloc, name, given, answer)
-        || armor::answered(alloc, name, given, answer)
-        || packet::answered(alloc, name, given, answer)
-        || ring::answered(alloc, name, given, answer)
-        || codec::answered(alloc, name, given, answer)
-        || document::answered(alloc, name, given, answer)
-        || reading::answered(alloc, name, given, answer)
-        || pieces::answered(alloc, name, given, answer)
-        || report::answered(alloc, name, given, answer)
 }

@@ -1,6 +1,7 @@
 //! Reads the keyring of a source.
 
-ghost use Rattle.std.specs.Prelude.{◌≡◌, ℕ, List, Option, false};
+ghost use Rattle.std.specs.Prelude.{◌≡◌, ℕ, List, Option, Err, OnOk, true, false};
+ghost use Rattle.opgp_octets.specs.declared.fault.Fault.{Fault};
 ghost use Rattle.opgp_octets.specs.declared.limits.Limits.{Limits};
 ghost use Rattle.opgp_ring.specs.Composed.{PartValue};
 ghost use Rattle.opgp_ring.specs.Parts.{HasParts};
@@ -9,6 +10,7 @@ ghost use Rattle.opgp_codec.specs.Keyrings.{AnswersAs, ComposesTo, key_label};
 ghost use Rattle.opgp_codec.specs.Pulled.{ReadsAs, ReadsTo};
 ghost use Rattle.opgp_codec.specs.Reading.{AnswerOf};
 ghost use Rattle.opgp_codec.specs.declared.mode.Mode.{Mode};
+ghost use Rattle.opgp_codec.specs.declared.read_error.ReadError.TheVariants as read;
 
 use crate::answer::Answer;
 use crate::engine_error::EngineError;
@@ -58,10 +60,35 @@ fn keyring_of<R: Source>(
 {
     let mut ring = Keyring::empty(alloc);
     let mut parts = IncomingParts::new(alloc, mode, limits)?;
+    keep_all(&mut parts, reader, &mut ring)?;
+    finish(parts, ring)
+}
+
+/// Keeps all parts that come before the last one.
+fn keep_all<R: Source>(
+    parts: &mut IncomingParts,
+    reader: &mut R,
+    ring: &mut Keyring,
+) -> Result<(), ReadError>
+    requires sound { R.has_failed reader.old ≡ false }
+    requires came { (mode : Mode) × (limits : Limits) × (before : Option (List ℕ))
+        × (list : List PartValue)
+        × PartsCame mode limits before (R.left reader.old) parts.old list }
+    ensures came { OnOk result ((mode : Mode) (limits : Limits) (before : Option (List ℕ))
+        (list : List PartValue)
+        → PartsCame mode limits before (R.left reader.old) parts.old list → HasParts ring.old list
+        → (all : List PartValue) × PartsCame mode limits before (R.left reader.new) parts.new all
+        × HasParts ring.new all) }
+    ensures over { OnOk result (IsOver parts.new (R.left reader.new)) }
+    ensures sound { OnOk result (R.has_failed reader.new ≡ false) }
+    ensures read { result ≡ Err read.Read → R.has_failed reader.new ≡ true }
+    ensures memory { result ≡ Err read.Memory → R.has_failed reader.new ≡ false }
+    ensures other { (fault : Fault) → result ≡ Err (read.Refused fault) → ⊥ }
+{
     'each: while let Some(part) = parts.next(reader)? {
         ring.keep(part)?;
     }
-    finish(parts, ring)
+    Ok(())
 }
 
 /// With the last part, if there is one.

@@ -6,15 +6,15 @@ use Rattle.opgp_octets.specs.declared.limits.Limits.{Limits}
 use Rattle.opgp_document.specs.CanonicalText.{IsRead, TellsStray}
 use Rattle.opgp_document.specs.Text.{IsStrayAt, ends_cr, to_text}
 use Rattle.opgp_document.proofs.Text.{text_append}
-use Rattle.opgp_codec.specs.Pulled.{OfAll, Pulls}
+use Rattle.opgp_codec.specs.Pulled.{OfAll}
 use Rattle.opgp_codec.specs.Reading.{too_long}
 use Rattle.opgp_codec.specs.declared.draft.Draft.{Draft}
 use Rattle.opgp_document.specs.StrayReturn.{text_fault}
-use Rattle.opgp_stack.specs.Canonical.{IsEndOf, IsTextBy, IsTextOf, OfText}
+use Rattle.opgp_stack.specs.Canonical.{HasTextOf, IsEndOf, IsHeldOf, IsTextBy, IsTextOf, OfText}
 use Rattle.opgp_stack.specs.Running.{ReadsFor, Refused}
 use Rattle.opgp_stack.specs.declared.run_fault.RunFault.{RunFault}
 use Rattle.opgp_stack.specs.declared.run_fault.RunFault.TheVariants as run
-use Rattle.opgp_stack.proofs.DocumentLines.{ended_all}
+use Rattle.opgp_codec.proofs.Pulling.{of_all}
 use Rattle.opgp_stack.specs.declared.canonical.TextDraft.{TextDraft}
 
 -- a stray carriage return stays one, whatever comes
@@ -51,21 +51,20 @@ stray_told has t (Some place) pos document e h =
     subst (TellsStray document) same (subst (λ (l : List ℕ). TellsStray l place) (append-nil document) (h []))
 
 -- ---- the end
-pub text_ends : {R S : Type 0} (left : R → Option (List ℕ)) (failed : R → Bool) (old new : R) (limits : Limits) (has : Draft S → List ℕ → Type 0) (octets : List ℕ) → failed new ≡ false → Pulls (left old) (left new) (input_limit limits) octets
-    → length octets ≤ input_limit limits → input_limit limits < 2 ^ 63 → (result : Result (Draft S) RunFault) → IsEndOf has octets result
-    → ReadsFor (λ answer. OfAll left failed old new limits (λ octets. IsTextOf has limits octets answer)) (failed new ≡ true) (failed new ≡ false) result
-text_ends left failed old new limits has octets sound pulls within small (Ok draft) end =
-    ended_all left failed old new limits octets (λ octets. IsTextOf has limits octets (Ok draft)) sound pulls (within, end.0, end.1, end.2) (λ past more. absurd (omega (arith, past, within)))
-text_ends left failed old new limits has octets sound pulls within small (Err (run.Refused fault)) end =
-    ended_all left failed old new limits octets (λ octets. IsTextOf has limits octets (Err fault)) sound pulls (inl (within, end.0, told_place limits octets end.0 within small end.1, end.2)) (λ past more. absurd (omega (arith, past, within)))
-text_ends left failed old new limits has octets sound pulls within small (Err run.Read) end = absurd end
-text_ends left failed old new limits has octets sound pulls within small (Err run.Write) end = absurd end
-text_ends left failed old new limits has octets sound pulls within small (Err run.Memory) end = absurd end
-text_ends left failed old new limits has octets sound pulls within small (Err run.Spool) end = absurd end
-text_ends left failed old new limits has octets sound pulls within small (Err run.NoSuchRow) end = absurd end
-text_ends left failed old new limits has octets sound pulls within small (Err run.NoSuchCertificate) end = absurd end
-text_ends left failed old new limits has octets sound pulls within small (Err run.TooManySignatures) end = absurd end
-text_ends left failed old new limits has octets sound pulls within small (Err run.OtherVerdicts) end = absurd end
+pub text_of_held : {R S : Type 0} (left : R → Option (List ℕ)) (failed : R → Bool) (old new : R) (limits : Limits) (has : Draft S → List ℕ → Type 0) (t : TextDraft S) (result : Result (Draft S) RunFault) → ((document : List ℕ) → HasTextOf has t document → IsEndOf has document result)
+    → OfAll left failed old new limits (λ octets. IsHeldOf has limits t octets (Ok tt)) → ReadsFor (λ answer. OfAll left failed old new limits (λ octets. IsTextOf has limits octets answer)) (failed new ≡ true) (failed new ≡ false) result
+text_of_held left failed old new limits has t (Ok draft) end all =
+    of_all left failed old new limits _ _ (λ octets h. let e = end octets h.1 in (h.0, e.0, e.1, e.2)) all
+text_of_held left failed old new limits has t (Err (run.Refused fault)) end all =
+    of_all left failed old new limits _ _ (λ octets h. let e = end octets h.1 in inl (h.0, e.0, told_place limits octets e.0 h.0 h.2 e.1, e.2)) all
+text_of_held left failed old new limits has t (Err run.Read) end all = absurd (end all.came.0 all.came.2.1)
+text_of_held left failed old new limits has t (Err run.Write) end all = absurd (end all.came.0 all.came.2.1)
+text_of_held left failed old new limits has t (Err run.Memory) end all = absurd (end all.came.0 all.came.2.1)
+text_of_held left failed old new limits has t (Err run.Spool) end all = absurd (end all.came.0 all.came.2.1)
+text_of_held left failed old new limits has t (Err run.NoSuchRow) end all = absurd (end all.came.0 all.came.2.1)
+text_of_held left failed old new limits has t (Err run.NoSuchCertificate) end all = absurd (end all.came.0 all.came.2.1)
+text_of_held left failed old new limits has t (Err run.TooManySignatures) end all = absurd (end all.came.0 all.came.2.1)
+text_of_held left failed old new limits has t (Err run.OtherVerdicts) end all = absurd (end all.came.0 all.came.2.1)
 
 -- what is made of a document that is refused
 pub refused_text : (limits : Limits) (document : List ℕ) (fault : Fault) → ((length document ≤ input_limit limits) × (pos : ℕ) × IsStrayAt document pos × (fault ≡ text_fault pos)) ⊎ ((input_limit limits < length document) × (fault ≡ too_long limits)) → OfText limits document (Refused fault)

@@ -14,10 +14,11 @@ use Rattle.opgp_codec.specs.IncomingParts.{EndsAs, IsKeyring}
 use Rattle.opgp_codec.specs.Reading.{Outcome}
 use Rattle.opgp_codec.proofs.Pulling.{some_gives}
 use Rattle.opgp_stack.specs.Faults.{run_fault_of}
-use Rattle.opgp_stack.specs.Making.{HasMade, IsMadeOf}
+use Rattle.opgp_stack.specs.Making.{HasMade, IsFilledOf}
 use Rattle.opgp_stack.specs.Running.{ReadsFor}
 use Rattle.opgp_stack.specs.declared.making.Making.{Making}
 use Rattle.opgp_stack.specs.declared.run_fault.RunFault.{RunFault}
+use Rattle.opgp_stack.specs.declared.run_fault.RunFault.TheVariants as run
 use Rattle.opgp_stack.specs.declared.task.Action.{Action}
 use Rattle.opgp_stack.specs.declared.task.Task.{Task}
 
@@ -63,18 +64,31 @@ parts_whole mode limits before now parts h = record { ring = h.came.2.0; whole =
 pub made_same : {S : Type 0} (has : Draft S → List ℕ → Type 0) (a : Action) (m n : Making S) (parts : List PartValue) → m ≡ n → HasMade has a n parts → HasMade has a m parts
 made_same {S} has a m n parts e h = subst (λ (x : Making S). HasMade has a x parts) (sym e) h
 
-module _ {R S : Type 0} (has : Draft S → List ℕ → Type 0) (task : Task) (left : R → Option (List ℕ)) (failed : R → Bool) (old new : R) (sound : failed new ≡ false) where
+-- what ends reading ends what is made of it
+module _ {A B : Type 0} (from : Outcome A → Type 0) (to : Outcome B → Type 0) (failed sound : Type 0) (by : (fault : Fault) → from (Err fault) → to (Err fault)) where
+  pub ends_both : (e : RunFault) → ReadsFor from failed sound (Err e) → ReadsFor to failed sound (Err e)
+  ends_both (run.Refused fault) h = by fault h
+  ends_both run.Read h = h
+  ends_both run.Memory h = h
+  ends_both run.Write h = absurd h
+  ends_both run.Spool h = absurd h
+  ends_both run.NoSuchRow h = absurd h
+  ends_both run.NoSuchCertificate h = absurd h
+  ends_both run.TooManySignatures h = absurd h
+  ends_both run.OtherVerdicts h = absurd h
+
+module _ {R S : Type 0} (has : Draft S → List ℕ → Type 0) (task : Task) (left : R → Option (List ℕ)) (failed : R → Bool) (old new : R) (m : Making S) (sound : failed new ≡ false) where
   -- of its parts something is made
-  pub made_all : (m : Making S) (parts : List PartValue) → IsKeyring task.mode task.limits (left old) (left new) parts → HasMade has task.action m parts → OfAll left failed old new task.limits (λ octets. IsMadeOf has task octets (Ok m))
-  made_all m parts ring made = all_came left failed old new task.limits _ _ (λ octets h. (h.0, h.1, subst (HasMade has task.action m) (sym h.2) made)) sound ring
+  pub filled_all : (parts : List PartValue) → IsKeyring task.mode task.limits (left old) (left new) parts → HasMade has task.action m parts → OfAll left failed old new task.limits (λ octets. IsFilledOf has task m octets (Ok tt))
+  filled_all parts ring made = all_came left failed old new task.limits _ _ (λ octets h. (h.0, h.1, subst (HasMade has task.action m) (sym h.2) made)) sound ring
 
   -- octets that are none
-  none_made : (parts : List PartValue) (e : ReadError) → EndsAs task.mode task.limits (left old) (left new) parts (Err e)
-      → ReadsFor (λ answer. OfAll left failed old new task.limits (λ octets. IsMadeOf has task octets answer)) (failed new ≡ true) (failed new ≡ false) (Err (run_fault_of e))
-  none_made parts (read.Refused fault) h = all_came left failed old new task.limits _ _ (λ octets k. k) sound h
-  none_made parts read.Read h = absurd h
-  none_made parts read.Memory h = sound
+  none_filled : (parts : List PartValue) (e : ReadError) → EndsAs task.mode task.limits (left old) (left new) parts (Err e)
+      → ReadsFor (λ answer. OfAll left failed old new task.limits (λ octets. IsFilledOf has task m octets answer)) (failed new ≡ true) (failed new ≡ false) (Err (run_fault_of e))
+  none_filled parts (read.Refused fault) h = all_came left failed old new task.limits _ _ (λ octets k. k) sound h
+  none_filled parts read.Read h = absurd h
+  none_filled parts read.Memory h = sound
 
-  pub unmade : (parts : List PartValue) (result : Result (Making S) RunFault) (e : ReadError) → Returns result (run_fault_of e) → EndsAs task.mode task.limits (left old) (left new) parts (Err e)
-      → ReadsFor (λ answer. OfAll left failed old new task.limits (λ octets. IsMadeOf has task octets answer)) (failed new ≡ true) (failed new ≡ false) result
-  unmade parts result e err h = ends_with (λ answer. OfAll left failed old new task.limits (λ octets. IsMadeOf has task octets answer)) (failed new ≡ true) (failed new ≡ false) result (run_fault_of e) err (none_made parts e h)
+  pub unfilled : (parts : List PartValue) (result : Result Unit RunFault) (e : ReadError) → Returns result (run_fault_of e) → EndsAs task.mode task.limits (left old) (left new) parts (Err e)
+      → ReadsFor (λ answer. OfAll left failed old new task.limits (λ octets. IsFilledOf has task m octets answer)) (failed new ≡ true) (failed new ≡ false) result
+  unfilled parts result e err h = ends_with (λ answer. OfAll left failed old new task.limits (λ octets. IsFilledOf has task m octets answer)) (failed new ≡ true) (failed new ≡ false) result (run_fault_of e) err (none_filled parts e h)

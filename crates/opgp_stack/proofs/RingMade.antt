@@ -83,6 +83,7 @@ module _ {S : Type 0} (has : Draft S → List ℕ → Type 0) where
   written out given made e = ap (λ (o : List ℕ). Text (octets_text out o)) e
 
   pub text_made : (a : Action) (k : KeyringText S) (r : KeyringValue) → HasMade has a (making.Text k) (parts_of r) → Drafts a k.draft r
+  unfolding HasMade
   text_made action.List k r h = drafts action.List texts.Lines k r (ap Text (lines_text r)) h
   text_made action.ListValues k r h = drafts action.ListValues texts.ValuedLines k r (ap Text (valued_lines_text r)) h
   text_made (action.Write out) k r h = drafts (action.Write out) texts.AsTheyAre k r (written out _ _ (packets_text_of r)) h
@@ -119,6 +120,7 @@ module _ {S : Type 0} (has : Draft S → List ℕ → Type 0) where
       (certificates_text out (picked names except r.certificates), named.text, ap (λ (b : Bool). found_made b (certificates_text out (picked names except r.certificates))) there)
 
   pub named_made_by : (a : Action) (k : NamedCertificates S) (found : Bool) (r : KeyringValue) → FoundOf k found → HasMade has a (making.Named k) (parts_of r) → Finds a found k.draft r
+  unfolding HasMade
   named_made_by (action.SplitKeys out keys except) k found r is h = names_made out keys except k found r is h
   named_made_by (action.Octets row top.Ring explains) k found r is h = absurd h
   named_made_by (action.Octets row top.Literal explains) k found r is h = absurd h
@@ -130,6 +132,7 @@ module _ {S : Type 0} (has : Draft S → List ℕ → Type 0) where
 
   -- the certificate of a number
   nth_made : (a : Action) (k : NthCertificate) (r : KeyringValue) → HasMade has a (making.Nth k) (parts_of r) → one_text (out_of a) k.found ≡ ring_made a r
+  unfolding HasMade
   nth_made (action.Split out (Some n)) k r h = ap (one_text out) (sym (nth_of_ring n k.left k.found r h))
   nth_made (action.Split out None) k r h = absurd h
   nth_made (action.Octets row top.Ring explains) k r h = absurd h
@@ -143,6 +146,7 @@ module _ {S : Type 0} (has : Draft S → List ℕ → Type 0) where
 
   -- the row of a number
   row_made : (a : Action) (k : RowFound) (r : KeyringValue) → HasMade has a (making.Row k) (parts_of r) → question_made (explains_of a) (found_question k.found k.left) ≡ ring_made a r
+  unfolding HasMade
   row_made (action.Octets row top.Ring explains) k r h = ap (question_made explains) (sym (row_of_ring row k.left k.found r h))
   row_made (action.Octets row top.Literal explains) k r h = absurd h
   row_made (action.Split out None) k r h = absurd h
@@ -157,6 +161,7 @@ module _ {S : Type 0} (has : Draft S → List ℕ → Type 0) where
   -- reports
   pub report_made : (a : Action) (k : Checking) (report : Report) (r : KeyringValue) → ((s : KeyringValue) → Reports k.rows s.certificates → report_rows report ≡ report_of says_left s) → HasMade has a (making.Report k) (parts_of r)
       → Text (report_lines 0 (report_rows report)) ≡ ring_made a r
+  unfolding HasMade
   report_made action.Check k report r by h = ap (λ (rows : List RowValue). Text (report_lines 0 rows)) (by r (subst (λ (cs : List CertificateValue). Reports k.rows cs) (ring_certificates r) h))
   report_made (action.Octets row top.Ring explains) k report r by h = absurd h
   report_made (action.Octets row top.Literal explains) k report r by h = absurd h
@@ -168,6 +173,7 @@ module _ {S : Type 0} (has : Draft S → List ℕ → Type 0) where
 
   pub fingerprinted_made : (a : Action) (k : CheckingFingerprints) (report : FingerprintedReport) (r : KeyringValue) → ((s : KeyringValue) → ReportsPrints k.rows s.certificates → fingerprinted_rows_of report ≡ fingerprinted_report_of says_left s)
       → HasMade has a (making.Fingerprinted k) (parts_of r) → Text (fingerprinted_lines 0 (fingerprinted_rows_of report)) ≡ ring_made a r
+  unfolding HasMade
   fingerprinted_made action.CheckFingerprints k report r by h = ap (λ (rows : List FingerprintedValue). Text (fingerprinted_lines 0 rows)) (by r (subst (λ (cs : List CertificateValue). ReportsPrints k.rows cs) (ring_certificates r) h))
   fingerprinted_made (action.Octets row top.Ring explains) k report r by h = absurd h
   fingerprinted_made (action.Octets row top.Literal explains) k report r by h = absurd h
@@ -179,6 +185,7 @@ module _ {S : Type 0} (has : Draft S → List ℕ → Type 0) where
 
   pub placed_made : (a : Action) (k : CheckingPlaces) (report : Report) (places : List RowPlace) (r : KeyringValue) → ((s : KeyringValue) → Reports k.checking.rows s.certificates → report_rows report ≡ report_of says_left s)
       → ((s : KeyringValue) → HasPlaces k.places (parts_of s) → places ≡ places_of s) → HasMade has a (making.Placed k) (parts_of r) → Text (placed_lines 0 (report_rows report) places) ≡ ring_made a r
+  unfolding HasMade
   placed_made action.CheckPlaces k report places r rows at h =
       ap (λ (l : List RowValue). Text (placed_lines 0 l places)) (rows r (subst (λ (cs : List CertificateValue). Reports k.checking.rows cs) (ring_certificates r) h.0))
       ∙ ap (λ (l : List RowPlace). Text (placed_lines 0 (report_of says_left r) l)) (at r h.1)
@@ -192,6 +199,7 @@ module _ {S : Type 0} (has : Draft S → List ℕ → Type 0) where
 
   -- the octets that all signatures hash
   pub octets_made : (a : Action) (k : AllOctets S) (r : KeyringValue) → HasMade has a (making.AllOctets k) (parts_of r) → Drafts a k.draft r
+  unfolding HasMade
   octets_made action.OctetsAll k r h = (octets_rows (asked_of r), subst (λ (cs : List CertificateValue). has k.draft (octets_rows (asked_among cs))) (ring_certificates r) h.text, refl)
   octets_made (action.Octets row top.Ring explains) k r h = absurd h
   octets_made (action.Octets row top.Literal explains) k r h = absurd h
@@ -203,6 +211,7 @@ module _ {S : Type 0} (has : Draft S → List ℕ → Type 0) where
 
   -- the keyring, merged
   merged_made : (a : Action) (k : KeyringValue) (r : KeyringValue) → HasMade has a (making.Ring k) (parts_of r) → Text (packets_text (out_of a) (flat (merged_of k))) ≡ ring_made a r
+  unfolding HasMade
   merged_made (action.Join out true) k r h = ap (λ (s : KeyringValue). Text (packets_text out (flat (merged_of s)))) (same_parts k r h)
   merged_made (action.Join out false) k r h = absurd h
   merged_made (action.Octets row top.Ring explains) k r h = absurd h

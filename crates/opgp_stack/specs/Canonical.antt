@@ -1,6 +1,6 @@
 -- The canonical text of a document, or why it has none (RFC 9580, 5.2.1.2).
-use Rattle.std.specs.Prelude.{◌≡◌, ℕ, ◌<◌, ◌≤◌, ◌⊎◌, false, List, ◌++◌, length, Option, Some, None}
-use Rattle.std.specs.Prelude.{Result, Ok, Err}
+use Rattle.std.specs.Prelude.{◌≡◌, ℕ, ◌^◌, ◌<◌, ◌≤◌, ◌⊎◌, false, List, ◌++◌, length}
+use Rattle.std.specs.Prelude.{Option, Some, None, Result, Ok, Err}
 use Rattle.opgp_octets.specs.Limits.{input_limit}
 use Rattle.opgp_octets.specs.declared.limits.Limits.{Limits}
 use Rattle.opgp_document.specs.CanonicalText.{IsRead, TellsStray}
@@ -47,3 +47,11 @@ IsTextOf has limits document (Ok draft) = (length document ≤ input_limit limit
 IsTextOf has limits document (Err fault) = ((length document ≤ input_limit limits) × (pos : ℕ)
     × IsStrayAt document pos × (fault ≡ text_fault pos))
     ⊎ ((input_limit limits < length document) × (fault ≡ too_long limits))
+
+-- what is held of a document that came whole; or the fault of one that is too long
+abbrev pub IsHeldOf : {S : Type 0} → (Draft S → List ℕ → Type 0) → Limits → TextDraft S → List ℕ
+    → Outcome Unit → Type 0
+IsHeldOf has limits t document (Ok done) = (length document ≤ input_limit limits)
+    × HasTextOf has t document × (input_limit limits < 2 ^ 63)
+IsHeldOf has limits t document (Err fault) =
+    (input_limit limits < length document) × (fault ≡ too_long limits)

@@ -1,8 +1,9 @@
 -- What an action makes of a keyring, and what is made of the parts that came so far.
 use denote.Ref.{Bor}
-use Rattle.std.specs.Prelude.{◌≡◌, ℕ, Bool, true, false, List, [], map, slice_get, Some, None, Ok, Err}
-use Rattle.std.specs.Prelude.{MatchResult}
+use Rattle.std.specs.Prelude.{◌≡◌, ℕ, Bool, true, false, List, [], map, slice_get}
+use Rattle.std.specs.Prelude.{MatchResult, Option, Some, None, Ok, Err}
 use Rattle.std.specs.List.{flat_map}
+use Rattle.opgp_octets.specs.declared.limits.Limits.{Limits}
 use Rattle.opgp_ring.specs.Composed.{PartValue, parts_of}
 use Rattle.opgp_ring.specs.Keyring.{KeyringValue, flat}
 use Rattle.opgp_ring.specs.Normal.{normal_of}
@@ -15,7 +16,10 @@ use Rattle.opgp_report.specs.Fingerprinting.{ReportsPrints}
 use Rattle.opgp_report.specs.Left.{says_left}
 use Rattle.opgp_report.specs.Report.{report_of}
 use Rattle.opgp_report.specs.Reporting.{Reports}
+use Rattle.opgp_codec.specs.IncomingParts.{IsOver, PartsCame}
 use Rattle.opgp_codec.specs.declared.draft.Draft.{Draft}
+use Rattle.opgp_codec.specs.declared.incoming_parts.IncomingParts.{IncomingParts}
+use Rattle.opgp_codec.specs.declared.mode.Mode.{Mode}
 use Rattle.opgp_codec.specs.declared.out.Out.{Out}
 use Rattle.opgp_codec.specs.declared.out.Out.TheVariants as outs
 use Rattle.opgp_codec.specs.Keyrings.{ComposesTo, key_label}
@@ -66,7 +70,7 @@ HasNames has out keys except k parts = (k.out ≡ out) × (k.except ≡ except)
     k.draft (certificates_in parts)
 
 -- what an action has made of them, where a draft has a text by `has`
-abbrev pub HasMade : {S : Type 0} → (Draft S → List ℕ → Type 0) → Action → Making S
+unfoldable pub HasMade : {S : Type 0} → (Draft S → List ℕ → Type 0) → Action → Making S
     → List PartValue → Type 0
 HasMade has action.List (making.Text k) parts = HasTexts has texts.Lines k parts
 HasMade has action.ListValues (making.Text k) parts = HasTexts has texts.ValuedLines k parts
@@ -91,6 +95,18 @@ HasMade has (action.SplitKeys out keys except) (making.Named k) parts =
 HasMade has (action.Join out false) (making.Text k) parts = HasTexts has texts.AsTheyAre k parts
 HasMade has (action.Join out true) (making.Ring ring) parts = HasParts ring parts
 HasMade has other k parts = ⊥
+
+-- Parts came up to the end of what a source had, but for the one that its end completes, and each
+-- was kept.
+pub record Keeps {R S : Type 0} (has : Draft S → List ℕ → Type 0) (left : R → Option (List ℕ))
+    (failed : R → Bool) (old new : R) (p p' : IncomingParts) (m m' : Making S) : Type 0 where
+  pub parts : List PartValue
+  pub sound : failed new ≡ false
+  pub came : (mode : Mode) (limits : Limits) (before : Option (List ℕ))
+      → PartsCame mode limits before (left old) p []
+      → PartsCame mode limits before (left new) p' parts
+  pub over : IsOver p' (left new)
+  pub made : (a : Action) → HasMade has a m [] → HasMade has a m' parts
 
 -- ---- of the whole keyring
 -- how what an action made of a keyring is written: in binary, if the parts have their form already
@@ -136,6 +152,18 @@ abbrev pub IsMadeOf : {S : Type 0} → (Draft S → List ℕ → Type 0)
     → Type 0
 IsMadeOf has task octets answer = MatchResult answer
     (λ m. (r : KeyringValue)
+    × AnswerOf key_label (ComposesTo task.limits) task.mode task.limits octets (Ok r)
+    × HasMade has task.action m (parts_of r))
+    (λ fault. AnswerOf {A = KeyringValue} key_label (ComposesTo task.limits)
+    task.mode task.limits octets
+    (Err fault))
+
+-- the same of what is lent to be made of them
+abbrev pub IsFilledOf : {S : Type 0} → (Draft S → List ℕ → Type 0)
+    → Task → Making S → List ℕ → Outcome Unit
+    → Type 0
+IsFilledOf has task m octets answer = MatchResult answer
+    (λ _. (r : KeyringValue)
     × AnswerOf key_label (ComposesTo task.limits) task.mode task.limits octets (Ok r)
     × HasMade has task.action m (parts_of r))
     (λ fault. AnswerOf {A = KeyringValue} key_label (ComposesTo task.limits)

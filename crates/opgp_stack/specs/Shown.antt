@@ -1,5 +1,11 @@
 -- What is shown of the packets of octets.
-use Rattle.std.specs.Prelude.{ℕ, List, Ok, Err, MatchResult}
+use Rattle.std.specs.Prelude.{◌≡◌, ℕ, Bool, false, List, [], Option, Ok, Err, MatchResult}
+use Rattle.std.specs.List.{flat_map}
+use Rattle.opgp_octets.specs.declared.limits.Limits.{Limits}
+use Rattle.opgp_frame.specs.declared.packet.Placed.{Placed}
+use Rattle.opgp_codec.specs.IncomingPackets.{IsOver, PacketsCame}
+use Rattle.opgp_codec.specs.declared.incoming_packets.IncomingPackets.{IncomingPackets}
+use Rattle.opgp_codec.specs.declared.mode.Mode.{Mode}
 use Rattle.opgp_codec.specs.Packets.{ArePackets, BlockValue, any_label}
 use Rattle.opgp_codec.specs.Reading.{AnswerOf, Outcome}
 use Rattle.opgp_stack.specs.PacketText.{lines_of_packet}
@@ -18,3 +24,15 @@ IsShownOf has text task octets answer = MatchResult answer
     (λ fault. AnswerOf {A = List BlockValue} any_label (ArePackets task.limits)
     task.mode task.limits octets
     (Err fault))
+
+-- Packets came up to the end of what a source had, and the lines of each were added to a text.
+pub record Shows {R D : Type 0} (has : D → List ℕ → Type 0) (text : PacketText)
+    (left : R → Option (List ℕ)) (failed : R → Bool) (old new : R) (p p' : IncomingPackets)
+    (draft draft' : D) : Type 0 where
+  pub packets : List Placed
+  pub sound : failed new ≡ false
+  pub came : (mode : Mode) (limits : Limits) (before : Option (List ℕ))
+      → PacketsCame mode limits before (left old) p []
+      → PacketsCame mode limits before (left new) p' packets
+  pub over : IsOver p' (left new)
+  pub added : has draft [] → has draft' (flat_map (lines_of_packet text) packets)

@@ -3,7 +3,7 @@
 ghost use Rattle.std.specs.Prelude.{◌≡◌, ◌⊎◌, ◌++◌, [], ℕ, List, true, false, IfOk, IfSome, OnOk};
 ghost use Rattle.opgp_codec.specs.Draft.{DraftHas};
 ghost use Rattle.opgp_codec.specs.Pulled.{OfAll};
-ghost use Rattle.opgp_stack.specs.Canonical.{HasTextOf, IsEndOf, IsTextOf, OfText};
+ghost use Rattle.opgp_stack.specs.Canonical.{HasTextOf, IsEndOf, IsHeldOf, IsTextOf, OfText};
 ghost use Rattle.opgp_stack.specs.Running.{IsMade, IsSpooled, ReadsFor, RunsOf};
 
 use crate::hashing::OctetsText;
@@ -62,12 +62,36 @@ fn text_of<R: Source, S: Spool + Drop>(
         (R.has_failed source.new ≡ true) (R.has_failed source.new ≡ false) result }
 {
     let mut text = TextDraft::new(alloc, spool)?;
+    match add_all(alloc, limits, &mut text, source) {
+        Ok(()) => text.finish(),
+        Err(fault) => {
+            drop(text);
+            Err(fault)
+        }
+    }
+}
+
+/// Adds the text of a document that comes from a source to a text, which is that of no piece. It is
+/// lent: an end with an error has nothing of it to free.
+fn add_all<R: Source, S: Spool + Drop>(
+    alloc: Global,
+    limits: &Limits,
+    text: &mut TextDraft<S>,
+    source: &mut R,
+) -> Result<(), RunFault>
+    requires sound { R.has_failed source.old ≡ false }
+    requires empty { HasTextOf (DraftHas S.serves S.tells S.holds S.has_failed) text.old [] }
+    ensures { ReadsFor (λ answer. OfAll R.left R.has_failed source.old source.new limits.now
+        (λ octets. IsHeldOf (DraftHas S.serves S.tells S.holds S.has_failed) limits.now text.new
+        octets answer))
+        (R.has_failed source.new ≡ true) (R.has_failed source.new ≡ false) result }
+{
     let mut incoming = IncomingOctets::new(alloc, limits)?;
     'pieces: while incoming.next(source)? {
         text.add(incoming.piece())?;
     }
     match incoming.finish() {
-        Ok(()) => text.finish(),
+        Ok(()) => Ok(()),
         Err(fault) => Err(RunFault::Refused(fault)),
     }
 }

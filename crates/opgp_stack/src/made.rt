@@ -144,6 +144,7 @@ fn write_found<W: Sink, S: Spool + Drop>(
     if found {
         write_draft(draft, Out::Binary, writer)
     } else {
+        drop(draft);
         Err(RunFault::NoSuchCertificate)
     }
 }

@@ -51,6 +51,7 @@ pub(crate) enum Making<'a, S> {
 impl<'a, S: Spool + Drop> Making<'a, S> {
     /// Nothing yet, to be held in this spool, which is empty, or in memory. The condition is that
     /// the action makes something of a keyring. Fails only when out of memory.
+    #[tactic(auto, unfolding(crate::specs::Making::HasMade))]
     pub(crate) fn new(
         alloc: Global,
         action: Action<'a>,
@@ -96,6 +97,7 @@ impl<'a, S: Spool + Drop> Making<'a, S> {
 
     /// Keeps the next part of a keyring, or what is made of it, and gives back a part whose memory
     /// the next one may use. Fails only when out of memory; nothing is known of what is made then.
+    #[tactic(auto, unfolding(crate::specs::Making::HasMade))]
     pub(crate) fn keep(&mut self, part: Ready) -> Result<Option<Ready>, OutOfMemory>
         ensures { OnOk result ((action : Action) (parts : List PartValue)
             → HasMade (DraftHas S.serves S.tells S.holds S.has_failed) action self.old parts

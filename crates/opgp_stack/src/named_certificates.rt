@@ -11,7 +11,7 @@ ghost use Rattle.opgp_stack.specs.OnePart.{certificates_in};
 ghost use Rattle.opgp_stack.specs.WantedKeys.{AreNotes, keys_of};
 
 use crate::key_name::KeyName;
-use crate::part_text::add_alone;
+use crate::part_text::{add_alone, given_back};
 use crate::wanted_keys::WantedKeys;
 use opgp_codec::{Draft, Out, Spool};
 use opgp_octets::OutOfMemory;
@@ -77,8 +77,8 @@ impl<'a, S: Spool + Drop> NamedCertificates<'a, S> {
         if has == self.except {
             return Ok(Some(Ready::Certificate(certificate)));
         }
-        add_alone(&mut self.draft, self.out, &certificate)?;
-        Ok(Some(Ready::Certificate(certificate)))
+        let added = add_alone(&mut self.draft, self.out, &certificate);
+        given_back(added, Ready::Certificate(certificate))
     }
 
     /// What is written, and whether each of the names is that of a key that came.

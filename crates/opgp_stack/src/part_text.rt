@@ -1,6 +1,6 @@
 //! What is written of a part of a keyring.
 
-ghost use Rattle.std.specs.Prelude.{◌≡◌, ◌++◌, ℕ, List, IfOk, OnOk};
+ghost use Rattle.std.specs.Prelude.{◌≡◌, ◌++◌, ℕ, List, Ok, IfOk, OnOk};
 ghost use Rattle.opgp_codec.specs.Draft.{DraftHas};
 ghost use Rattle.opgp_codec.specs.Writing.{packets_text};
 ghost use Rattle.opgp_merge.specs.Chosen.{chosen_part};
@@ -51,29 +51,45 @@ impl<'a> PartText<'a> {
         match self {
             PartText::Lines => {
                 let packets = part.packets();
-                draft.add(ListingText { packets })?;
-                Ok(Some(part))
+                let added = draft.add(ListingText { packets });
+                given_back(added, part)
             }
             PartText::ValuedLines => {
                 let packets = part.packets();
-                draft.add(ValuedListingText { packets })?;
-                Ok(Some(part))
+                let added = draft.add(ValuedListingText { packets });
+                given_back(added, part)
             }
             PartText::AsTheyAre => {
-                add_packets(draft, &part)?;
-                Ok(Some(part))
+                let added = add_packets(draft, &part);
+                given_back(added, part)
             }
             PartText::Normalised => {
                 let normal = part.normalise();
-                add_packets(draft, &normal)?;
-                Ok(Some(normal))
+                let added = add_packets(draft, &normal);
+                given_back(added, normal)
             }
             PartText::Alone(out) => add_certificate(draft, out, part),
             PartText::Chosen(choice) => {
                 let chosen = chosen_of(alloc, part, choice)?;
-                add_packets(draft, &chosen)?;
-                Ok(Some(chosen))
+                let added = add_packets(draft, &chosen);
+                given_back(added, chosen)
             }
+        }
+    }
+}
+
+/// Gives back a part, unless adding it failed: then it is freed.
+pub(crate) fn given_back(
+    added: Result<(), OutOfMemory>,
+    part: Ready,
+) -> Result<Option<Ready>, OutOfMemory>
+    ensures { OnOk result (added ≡ Ok tt) }
+{
+    match added {
+        Ok(()) => Ok(Some(part)),
+        Err(error) => {
+            drop(part);
+            Err(error)
         }
     }
 }
@@ -107,8 +123,8 @@ pub(crate) fn add_certificate<S: Spool + Drop>(
     let Some(certificate) = part.certificate() else {
         return Ok(None);
     };
-    add_alone(draft, out, &certificate)?;
-    Ok(Some(Ready::Certificate(certificate)))
+    let added = add_alone(draft, out, &certificate);
+    given_back(added, Ready::Certificate(certificate))
 }
 
 /// Adds a certificate on its own. Fails only when out of memory.

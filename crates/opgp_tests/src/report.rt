@@ -1,254 +1,159 @@
-//! Reports of keyrings.
+//! How often a verifier is called.
 
 ghost use Rattle.opgp_report.specs.declared.verifier.Verdict.TheVariants as verdict;
 
-use crate::packets::{KEY, ring_of};
 use byteorder::{BigEndian, ByteOrder};
+use opgp_codec::{Answer, Mode, Watched, read_keyring};
 use opgp_hash::{Digest, digest};
+use opgp_octets::Limits;
 use opgp_report::{Finding, Job, Row, Verdict, Verifier, check, question_at};
 use opgp_ring::Keyring;
 use std::alloc::Global;
 use std::cell::Cell;
-use std::process::Abort;
 use std::test::Fail;
 
-// More jobs than any verifier here should be given.
-const MOST: usize = 32;
+// A primary key, which the packets below follow; its creation time is written into it.
+const KEY: &[u8] =
+    b"\xC6\x33\x04\x00\x00\x00\x00\x16\x09\x2B\x06\x01\x04\x01\xDA\x47\x0F\x01\x01\x07\x40\
+      \x3F\x09\x89\x94\xBD\xD9\x16\xED\x40\x53\x19\x79\x34\xE4\xA8\x7C\x80\x73\x3A\x12\x80\
+      \xD6\x2F\x80\x10\x99\x2E\x43\xEE\x3B\x24\x06";
 
-/// What a verifier was given: the left 16 bits that the signature states, and the digest.
-#[derive(Clone, Copy)]
-struct AskedJob {
-    left: [u8; 2],
-    digest: Digest,
-}
+const PACKETS: [&[u8]; 13] = [
+    b"\xC2\x0E\x04\x1F\x16\x08\x00\x00\x00\x00\xAB\x00\x00\x00\x00\x00",
+    b"\xCD\x01\x61",
+    b"\xC2\x0E\x04\x13\x16\x08\x00\x00\x00\x00\xAB\x01\x00\x00\x00\x00",
+    // The same once more.
+    b"\xC2\x0E\x04\x13\x16\x08\x00\x00\x00\x00\xAB\x01\x00\x00\x00\x00",
+    b"\xE8\x00",
+    // A type that isn't hashed here.
+    b"\xC2\x0E\x04\x18\x16\x08\x00\x00\x00\x00\xAB\x02\x00\x00\x00\x00",
+    b"\xD1\x03\x02\x64\x00",
+    b"\xC2\x0E\x04\x10\x16\x0A\x00\x00\x00\x00\xAB\x03\x00\x00\x00\x00",
+    b"\xCE\x33\x04\x00\x00\x00\x03\x16\x09\x2B\x06\x01\x04\x01\xDA\x47\x0F\x01\x01\x07\x40\
+      \x3F\x09\x89\x94\xBD\xD9\x16\xED\x40\x53\x19\x79\x34\xE4\xA8\x7C\x80\x73\x3A\x12\x80\
+      \xD6\x2F\x80\x10\x99\x2E\x43\xEE\x3B\x24\x06",
+    // A binding that embeds 5, 6 and 7 in its hashed area, of which the last isn't hashed there, and 8 in
+    // the other.
+    b"\xC2\x4E\x04\x18\x16\x08\x00\x30\x0F\x20\x04\x19\x16\x08\x00\x00\x00\x00\xAB\x05\x00\
+      \x00\x00\x00\x0F\x20\x04\x19\x16\x0A\x00\x00\x00\x00\xAB\x06\x00\x00\x00\x00\x0F\x20\
+      \x04\x18\x16\x08\x00\x00\x00\x00\xAB\x07\x00\x00\x00\x00\x00\x10\x0F\x20\x04\x19\x16\
+      \x09\x00\x00\x00\x00\xAB\x08\x00\x00\x00\x00\xAB\x04\x00\x00\x00\x00",
+    b"\xC2\x0E\x04\x28\x16\x08\x00\x00\x00\x00\xAB\x09\x00\x00\x00\x00",
+    b"\xCE\x33\x04\x00\x00\x00\x05\x16\x09\x2B\x06\x01\x04\x01\xDA\x47\x0F\x01\x01\x07\x40\
+      \x3F\x09\x89\x94\xBD\xD9\x16\xED\x40\x53\x19\x79\x34\xE4\xA8\x7C\x80\x73\x3A\x12\x80\
+      \xD6\x2F\x80\x10\x99\x2E\x43\xEE\x3B\x24\x06",
+    // One that embeds 11 and 12.
+    b"\xC2\x2E\x04\x18\x16\x08\x00\x10\x0F\x20\x04\x19\x16\x08\x00\x00\x00\x00\xAB\x0B\x00\
+      \x00\x00\x00\x00\x10\x0F\x20\x04\x19\x16\x02\x00\x00\x00\x00\xAB\x0C\x00\x00\x00\x00\
+      \xAB\x0A\x00\x00\x00\x00",
+];
 
-/// Says that each signature is good, and keeps what it was given, in order.
+// The numbers of the signatures that are hashed, in the order of the rows.
+const ASKING: [u8; 12] = [0, 1, 1, 3, 4, 5, 6, 8, 9, 10, 11, 12];
+
+/// Says that each signature is good, and counts how often it was asked, and how often about another
+/// one than was next.
 #[derive(Drop)]
-struct Recording {
+struct Counting {
+    wanted: Vec<(u8, Digest)>,
     asked: Cell<usize>,
-    jobs: Cell<[Option<AskedJob>; MOST]>,
+    others: Cell<usize>,
 }
 
-impl Recording {
-    fn new() -> Recording {
-        Recording {
-            asked: Cell::new(0),
-            jobs: Cell::new([None; MOST]),
+impl Counting {
+    /// Whether a job is the one of this number.
+    fn is_next(&self, at: usize, job: &Job<'_>) -> bool {
+        let Some(wanted) = self.wanted.get(at) else {
+            return false;
+        };
+        let (number, digest) = *wanted;
+        let of_it = job.digest;
+        match job.signature.left() {
+            Some(left) => left[1] == number && of_it == digest,
+            None => false,
         }
-    }
-
-    /// The jobs that it kept, in order.
-    fn jobs(&self, alloc: Global) -> Result<Vec<AskedJob>, Fail> {
-        let mut jobs = Vec::new(alloc);
-        for job in self.jobs.get().iter().flatten() {
-            jobs.push(*job)?;
-        }
-        Ok(jobs)
     }
 }
 
-impl Verifier for Recording {
+impl Verifier for Counting {
     ghost says = { λ _ _. verdict.Good };
 
     fn verify(&self, job: &Job<'_>) -> Verdict {
-        let asked = self.asked.get();
-        let mut jobs = self.jobs.get();
-        if let (Some(place), Some(left)) = (jobs.get_mut(asked), job.signature.left()) {
-            *place = Some(AskedJob {
-                left,
-                digest: job.digest,
-            });
+        let at = self.asked.get();
+        self.asked.set(at.saturating_add(1));
+        if !self.is_next(at, job) {
+            self.others.set(self.others.get().saturating_add(1));
         }
-        self.jobs.set(jobs);
-        self.asked.set(asked.saturating_add(1));
         Verdict::Good
     }
 }
 
-/// A version 4 signature by EdDSA, with integers of no octets; each has left octets of its own.
-#[derive(Clone, Copy)]
-struct Signature {
-    kind: u8,
-    hash: u8,
-    left: [u8; 2],
-}
-
-impl Signature {
-    /// Its body, with these areas.
-    fn body(self, alloc: Global, hashed: &[u8], unhashed: &[u8]) -> Result<Vec<u8>, Fail> {
-        let (mut first, mut second) = ([0; 2], [0; 2]);
-        BigEndian::write_u16(&mut first, u16::try_from(hashed.len())?);
-        BigEndian::write_u16(&mut second, u16::try_from(unhashed.len())?);
-        let fields = [4, self.kind, 22, self.hash];
-        let parts = [
-            fields.as_slice(),
-            &first,
-            hashed,
-            &second,
-            unhashed,
-            &self.left,
-            b"\x00\x00\x00\x00",
-        ];
-        Ok(parts.concat(alloc)?)
-    }
-}
-
-/// An area that embeds these signatures.
-fn embedding(alloc: Global, signatures: &[Signature]) -> Result<Vec<u8>, Fail> {
-    let mut area = Vec::new(alloc);
-    for signature in signatures {
-        let body = signature.body(alloc, b"", b"")?;
-        let size = u8::try_from(body.len())?.saturating_add(1);
-        area.extend_from_slice(&[size, 32])?;
-        area.extend_from_slice(&body)?;
-    }
-    Ok(area)
-}
-
-/// The body of the standard's key, made at this time.
-fn key_body(alloc: Global, created: u32) -> Result<Vec<u8>, Fail> {
-    let mut body = KEY[2..].to_vec(alloc)?;
-    BigEndian::write_u32(&mut body[1..], created);
-    Ok(body)
-}
-
-/// The octets of packets.
-#[derive(Drop)]
-struct Packets {
-    alloc: Global,
-    octets: Vec<u8>,
-}
-
-impl Packets {
-    fn new(alloc: Global) -> Packets {
-        Packets {
-            alloc,
-            octets: Vec::new(alloc),
+/// The octets of two certificates with a signature of each kind that has a row. The left octets of
+/// its signatures end in their numbers, from 0 in the order of the rows.
+fn octets(alloc: Global) -> Result<Vec<u8>, Fail> {
+    let mut octets = Vec::new(alloc);
+    let mut key = KEY.to_vec(alloc)?;
+    for created in [1, 2] {
+        BigEndian::write_u32(&mut key[3..], created);
+        octets.extend_from_slice(&key)?;
+        for packet in PACKETS {
+            octets.extend_from_slice(packet)?;
         }
     }
+    Ok(octets)
+}
 
-    /// Adds a packet of this tag.
-    fn add(&mut self, tag: u8, body: &[u8]) -> Result<(), Fail> {
-        self.octets
-            .extend_from_slice(&[tag, u8::try_from(body.len())?])?;
-        self.octets.extend_from_slice(body)?;
-        Ok(())
-    }
-
-    /// Adds the standard's key, made at this time, as a packet of this tag.
-    fn add_key(&mut self, tag: u8, created: u32) -> Result<(), Fail> {
-        let body = key_body(self.alloc, created)?;
-        self.add(tag, &body)
-    }
-
-    /// Adds a signature with empty areas.
-    fn add_signature(&mut self, kind: u8, hash: u8, left: [u8; 2]) -> Result<(), Fail> {
-        let signature = Signature { kind, hash, left };
-        let body = signature.body(self.alloc, b"", b"")?;
-        self.add(0xC2, &body)
-    }
-
-    /// Adds a binding in whose areas these signatures are embedded.
-    fn add_binding(
-        &mut self,
-        left: [u8; 2],
-        hashed: &[Signature],
-        unhashed: &[Signature],
-    ) -> Result<(), Fail> {
-        let hashed = embedding(self.alloc, hashed)?;
-        let unhashed = embedding(self.alloc, unhashed)?;
-        let binding = Signature {
-            kind: 0x18,
-            hash: 8,
-            left,
-        };
-        let body = binding.body(self.alloc, &hashed, &unhashed)?;
-        self.add(0xC2, &body)
-    }
-
-    /// Adds a certificate with a signature of each kind that has a row. The left octets of its
-    /// signatures are this number and their own, from 0 in the order of the rows.
-    fn add_certificate(&mut self, certificate: u8) -> Result<(), Fail> {
-        let left = |number: u8| [certificate, number];
-        let back = |hash: u8, number: u8| Signature {
-            kind: 0x19,
-            hash,
-            left: [certificate, number],
-        };
-        let created = u32::from(certificate);
-        self.add_key(0xC6, created)?;
-        self.add_signature(0x1F, 8, left(0))?;
-        self.add(0xCD, b"a")?;
-        self.add_signature(0x13, 8, left(1))?;
-        // The same once more.
-        self.add_signature(0x13, 8, left(1))?;
-        self.add(0xE8, b"")?;
-        // A type that isn't hashed here.
-        self.add_signature(0x18, 8, left(2))?;
-        self.add(0xD1, b"\x02\x64\x00")?;
-        self.add_signature(0x10, 10, left(3))?;
-        self.add_key(0xCE, created + 2)?;
-        // The third of these isn't hashed where it is embedded.
-        let other = Signature {
-            kind: 0x18,
-            ..back(8, 7)
-        };
-        self.add_binding(left(4), &[back(8, 5), back(10, 6), other], &[back(9, 8)])?;
-        self.add_signature(0x28, 8, left(9))?;
-        self.add_key(0xCE, created + 4)?;
-        self.add_binding(left(10), &[back(8, 11)], &[back(2, 12)])
+/// Their keyring.
+fn keyring(alloc: Global) -> Result<Keyring, Fail> {
+    let octets = octets(alloc)?;
+    let mut source = Watched::new(octets.as_slice());
+    match read_keyring(alloc, &mut source, Mode::Binary, &Limits::usual())? {
+        Answer::Ring(ring) => Ok(ring),
+        Answer::Refused(_) => Err("no keyring".into()),
     }
 }
 
-// The numbers of the signatures of such a certificate that are hashed, in the order of the rows.
-const ASKING: [u8; 12] = [0, 1, 1, 3, 4, 5, 6, 8, 9, 10, 11, 12];
-
-/// The keyring of two such certificates.
-fn two_certificates(alloc: Global) -> Result<Keyring, Fail> {
-    let mut packets = Packets::new(alloc);
-    packets.add_certificate(1)?;
-    packets.add_certificate(2)?;
-    ring_of(alloc, &packets.octets)
+/// What is to be asked of a keyring.
+fn wanted(alloc: Global, ring: &Keyring) -> Result<Vec<(u8, Digest)>, Fail> {
+    let mut wanted = Vec::new(alloc);
+    for row in 0..28 {
+        if let (Some(question), Some(number)) = (
+            question_at(ring, row),
+            ASKING.get(wanted.len() % 12),
+        ) {
+            wanted.push((*number, digest(&question)))?;
+        }
+    }
+    Ok(wanted)
 }
 
-/// How many rows have a question. The next of the jobs is about it, which is that of a signature of
-/// the next number, and the verdict on it is in the row.
-fn answered(
-    rt: &impl Abort,
-    ring: &Keyring,
-    rows: &[Row],
-    jobs: &[AskedJob],
-) -> Result<usize, Fail> {
-    let mut asked = 0usize;
+/// Whether each row with a question has the verdict on it, and no other row has one.
+fn are_answered(ring: &Keyring, rows: &[Row]) -> bool {
     for (number, row) in rows.iter().enumerate() {
-        match (question_at(ring, number), row.finding) {
-            (Some(question), Finding::Asked { verdict, .. }) => {
-                let job = *jobs.get(asked).ok_or("a job")?;
-                let of_its = *ASKING.get(asked % ASKING.len()).ok_or("its number")?;
-                let certificate = if asked < ASKING.len() { 1 } else { 2 };
-                asked = asked.saturating_add(1);
-                assert!(rt; job.left == [certificate, of_its], "row {number}");
-                assert!(rt; job.digest == digest(&question), "row {number}");
-                assert!(rt; verdict == Verdict::Good);
-            }
-            (None, Finding::NotAsked(_)) => {}
-            _ => return Err("another question".into()),
+        let is_right = match row.finding {
+            Finding::Asked { verdict, .. } => verdict == Verdict::Good,
+            Finding::NotAsked(_) => question_at(ring, number).is_none(),
+        };
+        if !is_right {
+            return false;
         }
     }
-    Ok(asked)
+    true
 }
 
 // A verifier is called once for each question, in the order of the rows, and never else: also if
 // two questions are equal, and for what is embedded in either area. Its verdict is in the row.
 #[test]
 fn a_verifier_is_asked_once_for_each_question(rt: HostRuntime) -> Result<(), Fail> {
-    let ring = two_certificates(rt.alloc())?;
-    let recording = Recording::new();
-    let report = check(rt.alloc(), &ring, &recording)?;
-    assert_eq!(rt; report.rows().len(), 28);
-    assert_eq!(rt; recording.asked.get(), 2 * ASKING.len());
-    let jobs = recording.jobs(rt.alloc())?;
-    let asked = answered(&rt, &ring, report.rows(), &jobs)?;
-    assert_eq!(rt; asked, jobs.len());
+    let ring = keyring(rt.alloc())?;
+    let verifier = Counting {
+        wanted: wanted(rt.alloc(), &ring)?,
+        asked: Cell::new(0),
+        others: Cell::new(0),
+    };
+    let report = check(rt.alloc(), &ring, &verifier)?;
+    assert_eq!(rt; (report.rows().len(), verifier.wanted.len()), (28, 24));
+    assert_eq!(rt; (verifier.asked.get(), verifier.others.get()), (24, 0));
+    assert!(rt; are_answered(&ring, report.rows()));
     Ok(())
 }

@@ -1,4 +1,3 @@
-mod Adding
 mod OneTask
 mod Parsing
 mod Reading

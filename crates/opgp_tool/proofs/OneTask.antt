@@ -20,7 +20,7 @@ use Rattle.opgp_stack.specs.declared.key_name.KeyName.{KeyName}
 use Rattle.opgp_stack.proofs.KeyTexts.{one_name}
 use Rattle.opgp_stack.proofs.Times.{one_time_said}
 use Rattle.opgp_stack.proofs.Zips.{zip_same}
-use Rattle.opgp_tool.specs.Program.{SaysTask}
+use Rattle.opgp_tool.specs.Saying.{SaysTask}
 use Rattle.opgp_tool.specs.Words.{AreVerdicts, Asked, AskedWork, Chosen, DocumentWork, HasKeys, HasLimits, HasNumber, HasNumbers, HasTime, IsAction, IsChosen, IsDocumentWork, IsGivenNumber, IsNumber, IsRequest, IsSplitWork, IsStatesWith, IsTask, IsWork, SplitWork, texts_of}
 use Rattle.opgp_tool.specs.Words.{of_around, of_canonical, of_cleartext, of_difference, of_digests, of_document, of_keys, of_number, of_signatures, of_split, of_states, of_task, of_write}
 use Rattle.opgp_tool.proofs.Reading.{apart, not_both, other_apart, split_named, write_named}

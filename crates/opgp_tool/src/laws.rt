@@ -2,7 +2,7 @@
 
 ghost use Rattle.std.specs.Prelude.{◌≡◌, List};
 ghost use Rattle.clap.specs.Words.{App, Text};
-ghost use Rattle.opgp_tool.specs.Program.{SaysTask};
+ghost use Rattle.opgp_tool.specs.Saying.{SaysTask};
 ghost use Rattle.opgp_tool.specs.Words.{Asked};
 
 /// A command line names one task at most, with progress or without, and one directory of a spool.

@@ -7,11 +7,9 @@ ghost use Rattle.opgp_tool.specs.Progress.{read_of};
 
 mod advising;
 mod beginning;
-mod command;
 mod difference;
 mod document;
 mod ending;
-mod help;
 mod hint;
 pub mod laws;
 mod progress;

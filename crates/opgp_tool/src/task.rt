@@ -13,10 +13,10 @@ ghost use Rattle.opgp_tool.specs.Words.{DocumentWork, IsDocument, IsGivenNumber,
 ghost use Rattle.opgp_tool.specs.Words.{AskedWork, IsWork, asked_by, document_said, is_other};
 ghost use Rattle.opgp_tool.specs.Words.{work_said};
 ghost use Rattle.opgp_codec.specs.declared.mode.Mode.{Mode};
-ghost use Rattle.opgp_tool.specs.Program.{IsProgram, SaysNone, SaysTask};
+ghost use Rattle.opgp_tool.specs.Saying.{SaysNone, SaysTask};
+ghost use Rattle.opgp_words.specs.Program.{IsProgram};
 ghost use Rattle.opgp_tool.specs.declared.task.Usage.TheVariants.{Memory};
 
-use crate::command::program;
 use crate::difference::{DifferenceTask, difference_from};
 use crate::document::{DocumentTask, document_action_of};
 use crate::split::{SplitTask, split_from};
@@ -26,6 +26,7 @@ use clap::error::ErrorKind;
 use clap::{ArgMatches, Error};
 use opgp_octets::{Limits, Malformed, OutOfMemory, Outside};
 use opgp_stack::{Action, KeyName, Mode, Out, Task, Top};
+use opgp_words::program;
 use std::alloc::Global;
 use std::convert::AsStr;
 

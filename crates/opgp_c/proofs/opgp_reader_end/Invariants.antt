@@ -1,4 +1,4 @@
 use Rattle.opgp_c.proofs.opgp_reader_end.Given as goal
 
-abbrev pub ghost-end_input : goal.ghost-end_input
-ghost-end_input g a = g.so_far
+abbrev pub ghost-reader_end : goal.ghost-reader_end
+ghost-reader_end g a = g.so_far

@@ -1,4 +1,4 @@
 use Rattle.opgp_c.proofs.opgp_reader_push.Given as goal
 
-abbrev pub ghost-push_piece : goal.ghost-push_piece
-ghost-push_piece g a = g.so_far
+abbrev pub ghost-reader_push : goal.ghost-reader_push
+ghost-reader_push g a = g.so_far

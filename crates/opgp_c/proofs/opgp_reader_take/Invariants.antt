@@ -1,4 +1,4 @@
 use Rattle.opgp_c.proofs.opgp_reader_take.Given as goal
 
-abbrev pub ghost-take_part : goal.ghost-take_part
-ghost-take_part g a = g.so_far
+abbrev pub ghost-reader_take : goal.ghost-reader_take
+ghost-reader_take g a = g.so_far

@@ -1,4 +1,4 @@
 use Rattle.opgp_c.proofs.documents.opgp_document_end.Given as goal
 
-abbrev pub ghost-end_document : goal.ghost-end_document
-ghost-end_document g a = g.so_far
+abbrev pub ghost-document_end : goal.ghost-document_end
+ghost-document_end g a = g.so_far

@@ -1,4 +1,4 @@
 use Rattle.opgp_c.proofs.documents.opgp_document_octets.Given as goal
 
-abbrev pub ghost-put_row_side : goal.ghost-put_row_side
-ghost-put_row_side g a = g.so_far
+abbrev pub ghost-document_octets : goal.ghost-document_octets
+ghost-document_octets g a = g.so_far

@@ -1,4 +1,4 @@
 use Rattle.opgp_c.proofs.documents.opgp_document_push.Given as goal
 
-abbrev pub ghost-push_octets : goal.ghost-push_octets
-ghost-push_octets g a = g.so_far
+abbrev pub ghost-document_push : goal.ghost-document_push
+ghost-document_push g a = g.so_far

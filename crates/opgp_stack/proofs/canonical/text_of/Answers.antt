@@ -1,42 +1,21 @@
-use Rattle.std.proofs.Common.{◌≡◌, ◌++◌, [], List, ℕ, true, false, Err, Ok, inr, ap, refl, arith, length-append}
+use Rattle.std.proofs.Common.{◌≡◌, true, false, inr, Err}
+use Rattle.opgp_codec.specs.declared.draft.Draft.{Draft}
 use Rattle.opgp_codec.specs.Draft.{DraftHas}
-use Rattle.opgp_codec.specs.IncomingOctets.{piece_of}
 use Rattle.opgp_codec.specs.Pulled.{OfAll}
-use Rattle.opgp_stack.specs.Canonical.{IsTextOf}
-use Rattle.opgp_stack.proofs.CanonicalText.{text_ends}
-use Rattle.opgp_stack.proofs.DocumentLines.{came_no_more, ended_all}
-use Rattle.opgp_stack.proofs.ReadFor.{unread}
+use Rattle.opgp_codec.proofs.Pulling.{of_all}
+use Rattle.opgp_stack.specs.Canonical.{IsHeldOf, IsTextOf}
+use Rattle.opgp_stack.proofs.CanonicalText.{text_of_held}
+use Rattle.opgp_stack.proofs.ReadFor.{ends_both}
 use Rattle.opgp_stack.proofs.canonical.text_of.Goals as goal
 
-pub pieces-init : goal.pieces-init
-pieces-init g c = record { sound = c.requires.sound; octets = []; came = c.in_ok-incoming.ensures _; held = c.in_ok-text.ensures }
-
-pub pieces-preserved : goal.pieces-preserved
-pieces-preserved g c = record {
-  sound = c.in_ok-next.ensures.sound;
-  octets = c.pieces.invariant.octets ++ piece_of c.next.new.self;
-  came = c.in_ok-next.ensures.came _ _ _ c.pieces.invariant.came;
-  held = rw c.piece.ensures at (c.in_ok-add.ensures c.pieces.invariant.octets c.pieces.invariant.held);
-}
-
-pub returns-in_err-next : goal.returns-in_err-next
-returns-in_err-next g c =
-    unread (λ answer. OfAll g.R.Source.left g.R.Source.has_failed c.args.source.now c.next.new.source c.args.limits.now (λ octets. IsTextOf (DraftHas g.S.Spool.serves g.S.Spool.tells g.S.Spool.holds g.S.Spool.has_failed) c.args.limits.now octets answer)) (g.R.Source.has_failed c.next.new.source ≡ true) (g.R.Source.has_failed c.next.new.source ≡ false) c.from_residual-in_err-next.result c.in_err-next.field-0.0 c.from_residual-in_err-next.ensures
-    (λ e. (c.in_err-next.ensures.read _ refl).1) (λ e. absurd (cc ((c.in_err-next.ensures.read _ refl).0, e))) (λ fault e. cc ((c.in_err-next.ensures.read _ refl).0, e))
+pub add_all-requires-clause-empty : goal.add_all-requires-clause-empty
+add_all-requires-clause-empty g c = c.in_ok-text.ensures
 
 pub returns-in-Ok : goal.returns-in-Ok
-returns-in-Ok g c =
-    let octets : List ℕ = c.pieces.invariant.octets in
-    let came = came_no_more _ _ _ c.next.new.self octets (c.in_ok-next.ensures.none (ap Ok c.if-branch.false)) (c.in_ok-next.ensures.came _ _ _ c.pieces.invariant.came) in
-    let end = c.finish.ensures _ _ _ octets came (c.in_ok-next.ensures.ended (ap Ok c.if-branch.false)) in
-    let within = rw c.in-Ok.is at end.1 in
-    text_ends g.R.Source.left g.R.Source.has_failed c.args.source.now c.next.new.source c.args.limits.now (DraftHas g.S.Spool.serves g.S.Spool.tells g.S.Spool.holds g.S.Spool.has_failed) octets c.in_ok-next.ensures.sound end.0 within (omega (arith, c.next.new.self.small, came.limit)) c.finish-in-Ok.result (c.finish-in-Ok.ensures octets c.pieces.invariant.held)
+returns-in-Ok g c = text_of_held _ _ _ _ _ (DraftHas g.S.Spool.serves g.S.Spool.tells g.S.Spool.holds g.S.Spool.has_failed) c.add_all.new.text c.finish.result c.finish.ensures c.in-Ok.ensures
 
 pub returns-in-Err : goal.returns-in-Err
 returns-in-Err g c =
-    let octets : List ℕ = c.pieces.invariant.octets in
-    let came = came_no_more _ _ _ c.next.new.self octets (c.in_ok-next.ensures.none (ap Ok c.if-branch.false)) (c.in_ok-next.ensures.came _ _ _ c.pieces.invariant.came) in
-    let end = c.finish.ensures _ _ _ octets came (c.in_ok-next.ensures.ended (ap Ok c.if-branch.false)) in
-    let past = rw c.in-Err.is at end.1 in
-    ended_all g.R.Source.left g.R.Source.has_failed c.args.source.now c.next.new.source c.args.limits.now octets (λ octets. IsTextOf (DraftHas g.S.Spool.serves g.S.Spool.tells g.S.Spool.holds g.S.Spool.has_failed) c.args.limits.now octets (Err c.in-Err.fault)) c.in_ok-next.ensures.sound end.0
-    (inr (past.1, past.0)) (λ over more. inr (omega (arith, past.1, length-append octets more), past.0))
+    ends_both {B = Draft g.row.S.Denot} (λ answer. OfAll g.R.Source.left g.R.Source.has_failed c.args.source.now c.add_all.new.source c.args.limits.now (λ octets. IsHeldOf (DraftHas g.S.Spool.serves g.S.Spool.tells g.S.Spool.holds g.S.Spool.has_failed) c.args.limits.now c.add_all.new.text octets answer))
+    (λ answer. OfAll g.R.Source.left g.R.Source.has_failed c.args.source.now c.add_all.new.source c.args.limits.now (λ octets. IsTextOf (DraftHas g.S.Spool.serves g.S.Spool.tells g.S.Spool.holds g.S.Spool.has_failed) c.args.limits.now octets answer)) (g.R.Source.has_failed c.add_all.new.source ≡ true) (g.R.Source.has_failed c.add_all.new.source ≡ false)
+    (λ fault h. of_all g.R.Source.left g.R.Source.has_failed c.args.source.now c.add_all.new.source c.args.limits.now _ (λ octets. IsTextOf (DraftHas g.S.Spool.serves g.S.Spool.tells g.S.Spool.holds g.S.Spool.has_failed) c.args.limits.now octets (Err fault)) (λ octets k. inr k) h) c.in-Err.fault c.in-Err.ensures

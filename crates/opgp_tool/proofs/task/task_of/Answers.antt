@@ -1,7 +1,8 @@
 use Rattle.std.proofs.Common.{rules, ◌∙◌, sym, ◌≡◌, inr, List, map, Some, None}
 use Rattle.std.specs.Prelude.{option_map}
 use Rattle.clap.specs.Words.{Row, Text, app_of, subcommand_rows_of, rows_of, found_of}
-use Rattle.opgp_tool.proofs.Parsing.{simple, free, both, found_given, found_none, refused_or, none_said, nothing_said}
+use Rattle.opgp_words.proofs.Simple.{simple, free}
+use Rattle.opgp_tool.proofs.Parsing.{both, found_given, found_none, refused_or, none_said, nothing_said}
 use Rattle.opgp_tool.proofs.task.task_of.Goals as goal
 use Rattle.opgp_tool.proofs.task.task_of.Goals.{in-Some, in-None}
 

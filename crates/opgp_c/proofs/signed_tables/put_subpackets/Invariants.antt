@@ -1,4 +1,0 @@
-use Rattle.opgp_c.proofs.signed_tables.put_subpackets.Given as goal
-
-abbrev pub ghost-signatures_in : goal.ghost-signatures_in
-ghost-signatures_in g a = g.so_far

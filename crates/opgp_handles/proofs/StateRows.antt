@@ -1,0 +1,25 @@
+-- The rows of certificates, one after the other.
+use Rattle.std.proofs.Common.{◌≡◌, ◌∙◌, ℕ, ◌+◌, ◌-◌, ◌≤◌, List, [], ◌∷◌, ◌++◌, length, take, drop, get_or, append_assoc, ap, arith}
+use Rattle.std.proofs.lemmas.Grind.{common_steps}
+use Rattle.opgp_ring.specs.Keyring.{CertificateValue}
+use Rattle.opgp_report.specs.Standing.{certificate_standing}
+use Rattle.opgp_report.specs.declared.verifier.Verdict.{Verdict}
+use Rattle.opgp_valid.specs.declared.known_keys.Known.{Known}
+use Rattle.opgp_valid.specs.declared.policy.Policy.{Policy}
+use Rattle.opgp_handles.specs.States.{certificate_rows, rows_from}
+use Rattle.opgp_handles.specs.declared.state_row.StateRow.{StateRow}
+
+behind_first : {A : Type 0} (x : A) (xs : List A) → take (length (x ∷ xs) - 1) (drop 1 (x ∷ xs)) ≡ xs
+behind_first x xs = grind (arith, common_steps)
+
+module _ (known : List Known) (policy : Policy) (at n : ℕ) (before after : List StateRow) (c : CertificateValue) (founds rest : List Verdict) where
+  -- the rows of the first certificate that is to come, added to those so far
+  pub first_added : (cs : List CertificateValue) → 1 ≤ length cs → c ≡ get_or cs 0 c → after ≡ before ++ certificate_rows known policy at n c founds → rest ≡ drop (length (certificate_standing 0 c)) founds
+      → after ++ rows_from known policy at (n + 1) (take (length cs - 1) (drop 1 cs)) rest ≡ before ++ rows_from known policy at n cs founds
+  first_added [] l h p q = absurd (omega arith)
+  first_added (x ∷ xs) l h p q =
+      ap (λ cs. after ++ rows_from known policy at (n + 1) cs rest) (behind_first x xs)
+      ∙ ap (λ a. a ++ rows_from known policy at (n + 1) xs rest) p
+      ∙ append_assoc before (certificate_rows known policy at n c founds) (rows_from known policy at (n + 1) xs rest)
+      ∙ ap (λ f. before ++ (certificate_rows known policy at n c founds ++ rows_from known policy at (n + 1) xs f)) q
+      ∙ ap (λ (k : CertificateValue). before ++ (certificate_rows known policy at n k founds ++ rows_from known policy at (n + 1) xs (drop (length (certificate_standing 0 k)) founds))) h

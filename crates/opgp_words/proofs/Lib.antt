@@ -1,0 +1,3 @@
+mod Adding
+mod Commands
+pub mod Simple

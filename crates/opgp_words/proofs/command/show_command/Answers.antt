@@ -1,0 +1,8 @@
+use Rattle.std.proofs.Common.{[], codes}
+use Rattle.opgp_words.specs.Program.{values_rule}
+use Rattle.opgp_words.proofs.Adding.{behind}
+use Rattle.opgp_words.proofs.command.show_command.Goals as goal
+
+pub returns : goal.returns
+returns c = behind c.new_command-command.result c.with_option.result (codes "show") [] _ values_rule
+    c.flag_option.ensures.rule c.new_command-command.ensures c.with_option.ensures

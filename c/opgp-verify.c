@@ -264,7 +264,7 @@ static int said(int status, const char *text)
 /* What the command line asks for. */
 struct task {
     const char *name; /* of the keyring, or of the document; NULL or -: standard input */
-    const char *policy, *require, *jobs, *at;
+    const char *policy, *require, *jobs, *at, *malformed;
     bool wants_states;     /* how the parts of the keyring stand, in place of its signatures */
     const char *signature; /* the file of the signatures over the document; NULL: those of the keyring, or */
     bool is_message;       /* the document is a cleartext message, which has them */
@@ -288,12 +288,12 @@ static bool is_jobs(const char *word)
 
 static bool is_time(const char *word)
 {
-    return time_in(word, false) != OPGP_NONE;
+    return time_in(word) != OPGP_NONE;
 }
 
 static uint64_t now_of(const struct task *task)
 {
-    return task->at ? time_in(task->at, false) : present_time();
+    return task->at ? time_in(task->at) : present_time();
 }
 
 /* How many threads verify. */
@@ -301,6 +301,12 @@ static size_t jobs_of(const struct task *task)
 {
     size_t usual = processors();
     return task->jobs ? jobs_in(task->jobs) : usual < MOST_JOBS ? usual : MOST_JOBS;
+}
+
+/* Whether a keyring with a malformed signature is refused. Else that is kept: nothing is ever hashed of it, or believed by it. */
+static bool refuses_malformed(const struct task *task)
+{
+    return task->malformed && strcmp(task->malformed, "refuse") == 0;
 }
 
 /* Whether no doubt about a signature decides. */
@@ -387,7 +393,7 @@ static int verified(struct run *run, const struct task *task)
 /* Says why a file can't be read, as errno has it. */
 static int cannot_read(const char *name)
 {
-    fprintf(stderr, "opgp-verify: can't read '%s': %s\n", name, strerror(errno));
+    say("opgp-verify", "can't read '%s': %s", name, strerror(errno));
     return 3;
 }
 
@@ -395,11 +401,14 @@ static int cannot_read(const char *name)
 static int verified_keyring(const char *name, const struct task *task)
 {
     int status;
+    opgp_limits limits;
     FILE *file = open_named(name);
     if (!file) {
         return cannot_read(name);
     }
-    opgp_keyring *keyring = open_whole(file, "opgp-verify", &status);
+    opgp_usual_limits(&limits);
+    limits.policies |= refuses_malformed(task) ? 0 : OPGP_KEEP_MALFORMED;
+    opgp_keyring *keyring = open_whole(file, "opgp-verify", &limits, &status);
     close_named(file);
     if (keyring) {
         struct run run = {.keyring = keyring};
@@ -463,7 +472,7 @@ static int told_of_document(const struct judging *judging)
 /* Says why a file can't be written, as errno has it. */
 static int cannot_write(const char *name)
 {
-    fprintf(stderr, "opgp-verify: can't write '%s': %s\n", name, strerror(errno));
+    say("opgp-verify", "can't write '%s': %s", name, strerror(errno));
     return 3;
 }
 
@@ -494,6 +503,9 @@ static int verified_document(const char *name, const struct task *task)
     struct judging *judging = judging_new("opgp-verify", open_named);
     if (!judging) {
         return said(3, "out of memory");
+    }
+    if (refuses_malformed(task)) {
+        judging_refuses_malformed(judging);
     }
     enum outcome outcome = task->is_message ? judging_cleartext(judging, name) : judging_signatures(judging, task->signature);
     outcome = outcome == STEP_DONE ? judging_keyrings(judging, task->keyrings, task->keyring_count) : outcome;
@@ -530,6 +542,8 @@ static const char help[] =
     "                         subpacket, for 'opgp state --verdicts' [default: usual] [possible values: usual,\n"
     "                         any, none]\n"
     "      --require <WHAT>   good: end with 1 where no signature is good [possible values: good]\n"
+    "      --malformed <HOW>  keep or refuse keyrings with malformed signatures, by which nothing is ever\n"
+    "                         believed [default: keep] [possible values: keep, refuse]\n"
     "      --jobs <N>         how many threads verify a keyring, 1 to 64 [default: as many as there are\n"
     "                         processors]\n"
     "  -V, --version          Print the version\n"
@@ -556,7 +570,9 @@ static const char *usage_of(const struct task *task)
 /* Says what is wrong with a word, between two texts. */
 static int wrong(const struct task *task, const char *front, const char *word, const char *end)
 {
-    fprintf(stderr, "error: %s'%s'%s\n\n%s%s", front, word, end, usage_of(task), MORE);
+    fprintf(stderr, "error: %s'", front);
+    put_word(stderr, word);
+    fprintf(stderr, "'%s\n\n%s%s", end, usage_of(task), MORE);
     return 2;
 }
 
@@ -578,10 +594,19 @@ static bool is_option_word(const struct option *option, const char *word)
 /* Says what is wrong with the value of an option. */
 static int wrong_value(const struct option *option, const char *value)
 {
+    if (value) {
+        fputs("error: invalid value '", stderr);
+        put_word(stderr, value);
+        fprintf(stderr, "' for '%s'", option->shown);
+    }
     if (value && option->takes) {
-        fprintf(stderr, "error: invalid value '%s' for '%s': %s %s\n", value, option->shown, value, option->otherwise);
-    } else if (value) {
-        fprintf(stderr, "error: invalid value '%s' for '%s'\n", value, option->shown);
+        bool is_date = option->takes == is_time && may_be_date(value);
+        fputs(": ", stderr);
+        put_word(stderr, value);
+        fprintf(stderr, " %s", is_date ? "may be a date: write that with hyphens, and seconds since 1970 behind an @" : option->otherwise);
+    }
+    if (value) {
+        fputc('\n', stderr);
     } else {
         fprintf(stderr, "error: a value is required for '%s' but none was supplied\n", option->shown);
     }
@@ -628,6 +653,7 @@ static int take_option(struct task *task, char ***words)
     const struct option options[] = {
         {"--policy", "--policy <POLICY>", {"usual", "any", "none"}, NULL, NULL, &task->policy},
         {"--require", "--require <WHAT>", {"good", NULL}, NULL, NULL, &task->require},
+        {"--malformed", "--malformed <HOW>", {"keep", "refuse", NULL}, NULL, NULL, &task->malformed},
         {"--jobs", "--jobs <N>", {NULL, NULL}, is_jobs, "is not in 1..=64", &task->jobs},
         {"--at", "--at <TIME>", {NULL, NULL}, is_time, "is no time: seconds since 1970 or a date, 2026-11-20T08:30:00Z", &task->at},
         {"--signature", "--signature <SIG>", {NULL, NULL}, NULL, NULL, &task->signature},

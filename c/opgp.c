@@ -232,7 +232,7 @@ uint32_t opgp_open_mode(const uint8_t *in, size_t n, uint32_t mode, const opgp_l
         limits = &usual;
     }
     if (it) {
-        status = opgp_ring_open_mode(in ? in : &nothing, n, mode, limits, &it->ring, fault ? fault : &unwanted);
+        status = opgp_ring_open_mode(in || n > 0 ? in : &nothing, n, mode, limits, &it->ring, fault ? fault : &unwanted);
         it->size = n;
     }
     return give_keyring(status, it, keyring);

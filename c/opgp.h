@@ -236,7 +236,7 @@ typedef struct opgp_fault {
     uint64_t block;      /* the armored block, from 0; 0 for binary input */
     uint64_t pos;        /* where the line begins in the text, or the packet in its block's octets */
     uint64_t inner;      /* where the header or field at fault begins within the packet, or within its body */
-    uint8_t layer;       /* 0 input, 1 armor, 2 framing, 3 body, 4 composition */
+    uint8_t layer;       /* 0 input, 1 armor, 2 framing, 3 body, 4 composition, 5 text, 6 cleartext: opgp_name has their names */
     uint8_t reason;      /* the number of the reason */
     uint8_t reserved[6];
 } opgp_fault;
@@ -738,7 +738,7 @@ OPGP_API void opgp_reader_clear(opgp_reader *reader);
  * - OPGP_DONE of jobs: each table begins with these rows or octets, which crates/opgp_tables/specs defines, and is otherwise as it
  *   was. Each digest is that of what its signature hashes over all that was pushed. A `why` is the first reason why there is none.
  * - OPGP_DONE of octets: the table begins with the octets that the standard says, and is otherwise as it was.
- * - OPGP_ENDED is returned if and only if the document had ended. OPGP_GOING is returned only if it hasn't, and then always if both
+ * - OPGP_ENDED is returned only if the document had ended. OPGP_GOING is returned only if it hasn't, and then always if both
  *   handles hold something.
  * - OPGP_CLOSED is returned if and only if a handle holds nothing.
  * - With any status but OPGP_DONE tables are unchanged.
@@ -832,7 +832,7 @@ OPGP_API uint32_t opgp_canonical_end(const opgp_text *text, opgp_fault *fault);
 
 /* Finds the armored blocks in text[0 .. size) as mail programs meet it: quoted by `> `, indented, with a break of HTML at the end of a
  * line, behind a byte order mark, among other text. Fills the caller's tables: blocks[0 .. count) with a row for each block, in order;
- * octets[0 .. room) with the blocks cleaned, one behind the other, each of which a strict reader can take; and *sizes with the room
+ * octets[0 .. room) with the blocks cleaned, one behind the other, for a strict reader to take or refuse; and *sizes with the room
  * that they need. Room for size + 1 octets is always enough.
  *
  * - A line ends in a line feed, or with the text. Its content is what is left without the spaces, tabs and `>` that it begins with, and
@@ -862,8 +862,9 @@ OPGP_API uint32_t opgp_find_blocks(const uint8_t *text, size_t size, opgp_found_
  * address; or the address stands at its end, in `<` and `>`, and there is no other `<` or `>`.
  *
  * An address is a local part, `@` and a domain, in UTF-8: each is one or more octets with dots between some of them (RFC 5322, 3.2.3).
- * These are neither spaces nor control octets, nor one of `()<>[]:;@\,"`; and in the domain none is `_`. A user ID that could be read
- * in two ways, such as one with two addresses, has none.
+ * These are neither spaces nor control octets of ASCII, nor one of `()<>[]:;@\,"`; and in the domain none is `_`. In front of
+ * `<` may be any text, another address too; that in `<` and `>` counts. Above ASCII all characters are allowed, also those that
+ * steer a terminal or turn the direction of text: escape an address where you show it.
  *
  * Proved: these are the facts, which crates/opgp_handles/specs/UserIds.antt defines. */
 OPGP_API void opgp_user_id(const uint8_t *octets, size_t size, opgp_user_id_facts *facts);
@@ -1005,8 +1006,10 @@ typedef struct opgp_question {
     opgp_span key[4];       /* its material */
 } opgp_question;
 
-/* Returns OPGP_GOOD or OPGP_BAD. Any other number is OPGP_UNDECIDED: for each algorithm, curve, key or hash that it doesn't know
- * or trust. It has to compare the algorithms of the signature and the key itself. */
+/* Returns OPGP_GOOD or OPGP_BAD: by arithmetic alone, whether the key made the signature. Any other number is OPGP_UNDECIDED:
+ * for each algorithm, curve, key or hash that it can't verify. It has to compare the algorithms of the signature and the key
+ * itself. To distrust weak ones is up to the policy of the calls that judge: a verifier that leaves a revocation by SHA-1
+ * undecided would have its key believed. Only for opgp_check, which judges nothing, may a verifier have doubts of its own. */
 typedef opgp_verdict opgp_verifier(void *context, const opgp_question *question);
 
 /* Gets the verdict on the signature in a row. A number other than 0 ends opgp_check. */
@@ -1041,8 +1044,7 @@ typedef int opgp_judge_reporter(void *context, const opgp_question *question, op
  *
  * - for each signature over the document, whose job has OPGP_NONE as certificate;
  * - if one of them is good, for those in the certificates that have its signer, but for what another key certified (types 10 to 13
- *   and 30), which says nothing. There only arithmetic is asked for, since the rule looks at the policy itself. What isn't found
- *   good counts for nothing, revocations too.
+ *   and 30), which says nothing. What isn't found good counts for nothing, revocations too.
  *
  * Then the reporter is called for each signature over the document, in order. Where a key is in several places, one at which it is
  * believed is enough; else the reason is that of the first.
@@ -1063,11 +1065,10 @@ OPGP_API uint32_t opgp_revocations(const opgp_keyring *keyring, opgp_revocation 
 /* Finds how each key, user ID and attribute of a keyring stands at a time, in seconds since 1970, by a policy (OPGP_POLICY_USUAL ..):
  * the rows of opgp_ring_states, for free(). docs/VALIDITY.md has the rule.
  *
- * The verifier is called as opgp_check calls it, and for key revocations that stand behind another part: they are over the primary
- * key alone (5.2.1.11), so their job has the digest of that; but not for what another key certified (types 10 to 13 and 30), which
- * says nothing. Only arithmetic is asked for, since the rule looks at the policy itself. What isn't found good counts for nothing,
- * revocations too; with NULL as verify nothing is. It may make calls on the keyring, but not close it. Each certificate is judged
- * alone: merge a keyring that may have one twice.
+ * The verifier is called as opgp_check calls it, and for key revocations that stand behind another part: they are over the
+ * primary key alone (5.2.1.11), so their job has the digest of that; but not for what another key certified (types 10 to 13 and
+ * 30), which says nothing. What isn't found good counts for nothing, revocations too; with NULL as verify nothing is. It may
+ * make calls on the keyring, but not close it. Each certificate is judged alone: merge a keyring that may have one twice.
  *
  * OPGP_DONE; or *rows is NULL and *count 0: OPGP_LIMITS: there is no such policy; OPGP_MEMORY. */
 OPGP_API uint32_t opgp_states(const opgp_keyring *keyring, uint32_t policy, uint64_t at, opgp_verifier *verify, void *context,

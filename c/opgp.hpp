@@ -52,7 +52,7 @@ inline void check(uint32_t status)
 /* The rows of a table, for a range-based loop. They live as long as their keyring. */
 template <class Row> class Rows {
 public:
-    Rows(const Row *rows, std::size_t count) : first(rows), rows(count) {}
+    Rows(const Row *given, std::size_t count) : first(given), rows(count) {}
     const Row *begin() const { return first; }
     const Row *end() const { return first + rows; }
     std::size_t size() const { return rows; }
@@ -135,10 +135,15 @@ public:
         return Keyring(found);
     }
 
-    Rows<opgp_packet> packets() const { return rows(&opgp_packets); }
-    Rows<opgp_key> keys() const { return rows(&opgp_keys); }
-    Rows<opgp_subpacket> subpackets() const { return rows(&opgp_subpackets); }
-    Rows<opgp_job> signatures() const { return rows(&opgp_jobs); }
+    /* The tables, which live as long as the keyring: so not of one that has no name, and is gone when a loop over them begins. */
+    Rows<opgp_packet> packets() const & { return rows(&opgp_packets); }
+    Rows<opgp_key> keys() const & { return rows(&opgp_keys); }
+    Rows<opgp_subpacket> subpackets() const & { return rows(&opgp_subpackets); }
+    Rows<opgp_job> signatures() const & { return rows(&opgp_jobs); }
+    Rows<opgp_packet> packets() const && = delete;
+    Rows<opgp_key> keys() const && = delete;
+    Rows<opgp_subpacket> subpackets() const && = delete;
+    Rows<opgp_job> signatures() const && = delete;
 
     std::string octets(uint64_t row) const
     {
@@ -201,7 +206,14 @@ public:
         return std::vector<opgp_state>(rows, rows + count);
     }
 
-    const opgp_keyring *get() const { return at.get(); }
+    /* The keyring of opgp.h. Throws std::logic_error if it was moved to another. */
+    const opgp_keyring *get() const
+    {
+        if (!at) {
+            check(OPGP_CLOSED);
+        }
+        return at.get();
+    }
 
 private:
     template <class Row> Rows<Row> rows(uint32_t (*call)(const opgp_keyring *, const Row **, std::size_t *)) const

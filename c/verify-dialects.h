@@ -51,9 +51,6 @@ int take_window(const struct words *words, size_t before, size_t after, bool has
 /* Why a signature that is good and believed isn't accepted: it was made outside of these times; NULL: it is. */
 const char *outside(const struct judged *row, const struct window *window);
 
-/* Writes a text of somebody else's: an octet of a control character, of % or of what isn't UTF-8 as % and its number in hexadecimal. */
-void put_text(FILE *file, const char *text, size_t size);
-
 /* Says on standard error what was found of a signature, and why a good one isn't accepted, if it isn't. */
 void explain(const struct program *program, const struct judged *row, const char *refusal);
 

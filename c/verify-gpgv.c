@@ -16,6 +16,7 @@ enum {
     WEAK_DIGEST,
     ASSERTED,
     IGNORE_TIME,
+    HOME_FOLDER,
     DUMP,
     VERSION,
     HELP,
@@ -29,11 +30,11 @@ static const struct option options[] = {
     [WEAK_DIGEST] = {"--weak-digest", NULL, true, true},
     [ASSERTED] = {"--assert-pubkey-algo", NULL, true, true},
     [IGNORE_TIME] = {"--ignore-time-conflict", NULL, false, true},
+    [HOME_FOLDER] = {"--homedir", NULL, true, true},
     [DUMP] = {"--dump-options", NULL, false, true},
     [VERSION] = {"--version", NULL, false, true},
     [HELP] = {"--help", "-h", false, true},
-    [OF_NO_EFFECT] = {"--homedir", NULL, true, true},
-    {"--keyid-format", NULL, true, true},
+    [OF_NO_EFFECT] = {"--keyid-format", NULL, true, true},
     {"--verbose", "-v", false, true},
     {"--quiet", "-q", false, true},
     {"--batch", NULL, false, true},
@@ -51,8 +52,9 @@ static const char help[] =
     "Usage: opgp-gpgv [OPTIONS] <SIG> <DATA>\n"
     "       opgp-gpgv [OPTIONS] [--output <FILE>] [MESSAGE]\n\n"
     "Options:\n"
-    "      --keyring <FILE>             a keyring with the signers, one for each time that this is given\n"
-    "                                   [default: that which OPGP_KEYRING names]\n"
+    "      --keyring <FILE>             a keyring with the signers, one for each time that this is given; without\n"
+    "                                   a slash it is in the home folder [default: that which OPGP_KEYRING names]\n"
+    "      --homedir <FOLDER>           that folder [default: GNUPGHOME, or ~/.gnupg]\n"
     "      --status-fd <N>              the descriptor for status lines\n"
     "  -o, --output <FILE>              write the message's document to this file, or '-', if all signatures are\n"
     "                                   good and believed\n"
@@ -319,17 +321,63 @@ static int put_document(const struct program *program, const struct judging *jud
     return kept(program, &output, found);
 }
 
-/* Verifies with these demands, and writes status lines, if they are wanted. */
-static int gpgv_verify(const struct words *words, const struct demands *demands, FILE *status)
+/* Where a keyring is looked for: the folder, and what stands between that and the name. */
+struct place {
+    const char *folder, *between;
+};
+
+/* Where GnuPG looks for a keyring of this name: behind ~/ in the user's folder; without a slash in GnuPG's own, which is never the current
+ * one; else where it says. Empty texts say that, and no folder that there is none. */
+static struct place place_of(const struct words *words, const char **name)
+{
+    const char *user = getenv("HOME"), *own = getenv("GNUPGHOME");
+    size_t given = count_of(words, HOME_FOLDER);
+    if (strncmp(*name, "~/", 2) == 0) {
+        *name += 2;
+        return (struct place){user, "/"};
+    }
+    if (strchr(*name, '/') || is_input(*name)) {
+        return (struct place){"", ""};
+    }
+    if (given > 0 || (own && own[0])) {
+        return (struct place){given > 0 ? all_of(words, HOME_FOLDER)[given - 1] : own, "/"};
+    }
+    return (struct place){user, "/.gnupg/"};
+}
+
+/* Puts the file of a keyring of this name at *file, for free(); 0, or the exit status. */
+static int find_keyring(const struct words *words, const char *name, char **file)
+{
+    const char *rest = name;
+    const struct place place = place_of(words, &rest);
+    if (!place.folder || (place.between[0] && !place.folder[0])) {
+        return said(words->program, 2, "'%s' of '--keyring' is in the home folder: give --homedir, or set HOME", name);
+    }
+    size_t size = strlen(place.folder) + strlen(place.between) + strlen(rest) + 1;
+    *file = malloc(size);
+    if (!*file) {
+        return said(words->program, 2, "out of memory");
+    }
+    snprintf(*file, size, "%s%s%s", place.folder, place.between, rest);
+    return 0;
+}
+
+static void free_all(char **texts, size_t count)
+{
+    for (size_t i = 0; texts && i < count; i++) {
+        free(texts[i]);
+    }
+    free(texts);
+}
+
+/* Verifies by these keyrings with these demands, and writes status lines, if they are wanted. */
+static int verified_by(const struct words *words, const struct demands *demands, FILE *status, const char *const *keyrings,
+                       size_t keyring_count)
 {
     const struct program *program = words->program;
-    const char *usual = getenv("OPGP_KEYRING");
     const char *output = value_of(words, OUTPUT);
-    size_t count, keyring_count = count_of(words, KEYRING);
+    size_t count;
     const char *const *operands = operands_of(words, &count);
-    if (keyring_count == 0 && (!usual || !usual[0])) {
-        return said(program, 2, "no keyring: give --keyring, or set OPGP_KEYRING");
-    }
     if (count > 2) {
         return said(program, 2, "'%s' isn't wanted: a document is one file", operands[2]);
     }
@@ -338,8 +386,8 @@ static int gpgv_verify(const struct words *words, const struct demands *demands,
     }
     const struct inputs inputs = {.signatures = count == 2 ? operands[0] : NULL,
                                   .document = count > 0 ? operands[count - 1] : "-",
-                                  .keyrings = keyring_count > 0 ? all_of(words, KEYRING) : &usual,
-                                  .keyring_count = keyring_count > 0 ? keyring_count : 1,
+                                  .keyrings = keyrings,
+                                  .keyring_count = keyring_count,
                                   .open = open_named,
                                   .ahead = count_of(words, IGNORE_TIME) > 0 ? 24 * 60 * 60 : 0};
     if (inputs_named(&inputs) > 1) {
@@ -351,6 +399,25 @@ static int gpgv_verify(const struct words *words, const struct demands *demands,
     found = !are_signatures ? no_data(status, found) : found == 0 ? tell_gpgv(program, judging, status, demands) : found;
     found = found == 0 && output ? put_document(program, judging, output) : found;
     judging_free(judging);
+    return found;
+}
+
+/* The same by the keyrings that are named. */
+static int gpgv_verify(const struct words *words, const struct demands *demands, FILE *status)
+{
+    const char *usual = getenv("OPGP_KEYRING");
+    size_t count = count_of(words, KEYRING);
+    if (count == 0) {
+        return usual && usual[0] ? verified_by(words, demands, status, &usual, 1)
+                                 : said(words->program, 2, "no keyring: give --keyring, or set OPGP_KEYRING");
+    }
+    char **files = calloc(count, sizeof *files);
+    int found = files ? 0 : said(words->program, 2, "out of memory");
+    for (size_t i = 0; found == 0 && i < count; i++) {
+        found = find_keyring(words, all_of(words, KEYRING)[i], &files[i]);
+    }
+    found = found == 0 ? verified_by(words, demands, status, (const char *const *)files, count) : found;
+    free_all(files, count);
     return found;
 }
 

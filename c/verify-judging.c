@@ -8,6 +8,9 @@
 #include <stdlib.h>
 #include <string.h>
 
+/* The most octets of a line that can be allowed. The text of a message is in memory anyway, and real ones have long lines. */
+#define MOST_LINE ((uint64_t)1 << 20)
+
 /* In place of a signature's number: all of them. */
 #define ALL SIZE_MAX
 
@@ -21,6 +24,7 @@ struct answer {
 struct judging {
     const char *program;
     FILE *(*open)(const char *name);
+    bool refuses_malformed;
     opgp_document document;
     opgp_keyring *keyring; /* all that were read */
 
@@ -54,7 +58,7 @@ struct judging {
 
 static enum outcome said(const struct judging *it, enum outcome outcome, const char *text)
 {
-    fprintf(stderr, "%s: %s\n", it->program, text);
+    say(it->program, "%s", text);
     return outcome;
 }
 
@@ -67,7 +71,7 @@ static enum outcome failed(const struct judging *it, uint32_t status)
 /* Says why a file can't be read, as errno has it. */
 static enum outcome cannot_read(const struct judging *it, enum outcome outcome, const char *name)
 {
-    fprintf(stderr, "%s: can't read '%s': %s\n", it->program, name, strerror(errno));
+    say(it->program, "can't read '%s': %s", name, strerror(errno));
     return outcome;
 }
 
@@ -76,11 +80,11 @@ static enum outcome refused(const struct judging *it, const char *name, uint32_t
 {
     char text[OPGP_FAULT_ROOM];
     if (status == OPGP_MANY) {
-        fprintf(stderr, "%s: '%s': more than %d signatures\n", it->program, name, OPGP_MOST_SIGNATURES);
+        say(it->program, "'%s': more than %d signatures", name, OPGP_MOST_SIGNATURES);
         return STEP_REFUSED;
     }
     if (status == OPGP_REFUSED) {
-        fprintf(stderr, "%s: '%s': %s\n", it->program, name, opgp_fault_text(fault, text));
+        say(it->program, "'%s': %s", name, opgp_fault_text(fault, text));
         return STEP_REFUSED;
     }
     return failed(it, status);
@@ -96,6 +100,11 @@ struct judging *judging_new(const char *program, FILE *(*open)(const char *name)
         it->open = open;
     }
     return it;
+}
+
+void judging_refuses_malformed(struct judging *it)
+{
+    it->refuses_malformed = true;
 }
 
 void judging_free(struct judging *it)
@@ -163,17 +172,18 @@ enum outcome judging_cleartext(struct judging *it, const char *name)
     size_t size;
     uint8_t *octets;
     uint64_t text_size = 0;
-    opgp_limits usual;
+    opgp_limits limits;
     opgp_fault fault;
     enum outcome outcome = read_named(it, name, &octets, &size);
     if (outcome != STEP_DONE) {
         return outcome;
     }
-    opgp_usual_limits(&usual);
+    opgp_usual_limits(&limits);
+    limits.line = MOST_LINE;
     it->text = malloc(size + 1);
     uint32_t status = OPGP_MEMORY;
     if (it->text) {
-        status = opgp_cleartext_open(octets, size, &usual, it->text, size, &text_size, &it->document, &fault);
+        status = opgp_cleartext_open(octets, size, &limits, it->text, size, &text_size, &it->document, &fault);
     }
     if (status == OPGP_DONE) {
         it->text_size = (size_t)text_size; /* less than the message has */
@@ -198,12 +208,15 @@ static enum outcome read_keyring(const struct judging *it, const char *name, opg
 {
     size_t size;
     uint8_t *octets;
+    opgp_limits limits;
     opgp_fault fault;
     enum outcome outcome = read_named(it, name, &octets, &size);
     if (outcome != STEP_DONE) {
         return outcome;
     }
-    uint32_t status = opgp_open(octets, size, NULL, keyring, &fault);
+    opgp_usual_limits(&limits);
+    limits.policies |= it->refuses_malformed ? 0 : OPGP_KEEP_MALFORMED;
+    uint32_t status = opgp_open(octets, size, &limits, keyring, &fault);
     free(octets);
     return status == OPGP_DONE ? STEP_DONE : refused(it, name, status, &fault);
 }
@@ -469,12 +482,10 @@ static void put_key_name(char text[KEY_NAME_ROOM], const opgp_question *question
     }
 }
 
-/* When a signature over the document expires; 0: never. Of several times the earliest counts, as for the rule. */
-static uint64_t expiry_of(const struct judging *it, size_t row, const opgp_job *job)
+/* When a signature with these subpackets expires; 0: never. Of several times the earliest counts, as for the rule. */
+static uint64_t expiry_of(const opgp_job *job, const opgp_subpacket *subpackets, size_t count)
 {
-    size_t count;
     uint64_t least = 0;
-    const opgp_subpacket *subpackets = subpackets_of(it, row, &count);
     for (size_t i = 0; i < count; i++) {
         const opgp_subpacket *one = &subpackets[i];
         bool counts = one->kind == OPGP_SUBPACKET_EXPIRATION_TIME && one->is_hashed && one->form == OPGP_FORM_NUMBER && one->numbers[0] > 0;
@@ -490,6 +501,8 @@ static void fill_row(struct judging *it, const opgp_question *question)
 {
     const opgp_job *job = question->job;
     const opgp_key *signer = question->signer;
+    size_t count;
+    const opgp_subpacket *subpackets = subpackets_of(it, question->row, &count);
     struct judged *row = &it->rows[question->row];
     row->number = question->row;
     row->version = job->version;
@@ -500,7 +513,7 @@ static void fill_row(struct judging *it, const opgp_question *question)
     memcpy(row->digest, job->digest, sizeof row->digest);
     row->is_dated = job->is_dated;
     row->made = job->created;
-    row->expires = expiry_of(it, question->row, job);
+    row->expires = expiry_of(job, subpackets, count);
     if (signer) {
         it->signers[question->row] = *signer;
         put_digits(row->key, signer->print, signer->print_size);
@@ -659,23 +672,34 @@ static opgp_verdict verify_own(void *context, const opgp_question *question)
     return verdict;
 }
 
-/* Whether the certification in a row marks its user ID as primary (5.2.3.27). */
-static uint32_t find_mark(const opgp_keyring *keyring, size_t row, bool *marks)
+/* Whether the certification in a row is heard at a time, as the rule has it: no doubt decides, it was made by then, at one time, and it
+ * hasn't expired; and whether it marks its user ID as primary (5.2.3.27). */
+static uint32_t find_mark(const opgp_keyring *keyring, size_t row, uint32_t policy, uint64_t now, bool *is_heard, bool *marks)
 {
     const opgp_subpacket *subpackets;
     size_t count;
-    uint32_t status = opgp_subpackets_of(keyring, row, &subpackets, &count);
-    *marks = false;
-    for (size_t i = 0; i < count; i++) {
-        bool is_mark = subpackets[i].kind == OPGP_SUBPACKET_PRIMARY_USER_ID && subpackets[i].is_hashed;
-        *marks = *marks || (is_mark && subpackets[i].numbers[0] > 0);
+    const opgp_job *jobs, *job;
+    size_t job_count;
+    uint32_t status = opgp_jobs(keyring, &jobs, &job_count);
+    status = status == OPGP_DONE ? opgp_subpackets_of(keyring, row, &subpackets, &count) : status;
+    *is_heard = *marks = false;
+    if (status == OPGP_DONE) {
+        job = &jobs[row];
+        uint64_t expiry = expiry_of(job, subpackets, count);
+        bool is_doubted = doubts_of(job, subpackets, count) & decisive_by(policy);
+        *is_heard = !is_doubted && job->is_dated && job->created <= now && (expiry == 0 || now < expiry);
+        for (size_t i = 0; i < count; i++) {
+            bool is_mark = subpackets[i].kind == OPGP_SUBPACKET_PRIMARY_USER_ID && subpackets[i].is_hashed;
+            *marks = *marks || (is_mark && subpackets[i].numbers[0] > 0);
+        }
     }
     return status;
 }
 
-/* How much a user ID is to be the primary one, by what the primary key, which is that of the first row, certifies by now: more where it
- * is marked so, and the newer that is. */
-static uint32_t rank_of(const opgp_keyring *keyring, uint64_t component, const uint8_t *verdicts, uint64_t now, uint64_t *rank)
+/* How much a user ID is to be the primary one, by the newest certification of it by the primary key, which is that of the first row: more
+ * where that marks it so, and the newer it is. */
+static uint32_t rank_of(const opgp_keyring *keyring, uint64_t component, const uint8_t *verdicts, uint32_t policy, uint64_t now,
+                        uint64_t *rank)
 {
     const opgp_job *jobs;
     size_t count;
@@ -685,10 +709,12 @@ static uint32_t rank_of(const opgp_keyring *keyring, uint64_t component, const u
         const opgp_job *job = &jobs[row];
         bool is_kind = job->kind >= OPGP_SIGNATURE_GENERIC_CERTIFICATION && job->kind <= OPGP_SIGNATURE_POSITIVE_CERTIFICATION;
         bool counts = is_kind && job->component == component && job->signer == 0 && verdicts[row] == OPGP_GOOD;
-        if (counts && job->created >= newest && job->created <= now) {
-            bool marks;
+        bool is_heard = false, marks = false;
+        if (counts && job->created >= newest) {
+            status = find_mark(keyring, row, policy, now, &is_heard, &marks);
+        }
+        if (is_heard) {
             newest = job->created;
-            status = find_mark(keyring, row, &marks);
             *rank = newest | (marks ? (uint64_t)1 << 32 : 0);
         }
     }
@@ -718,7 +744,7 @@ static uint32_t copy_user_id(const opgp_keyring *keyring, uint64_t component, ch
 
 /* Finds the text of the primary user ID of a keyring that is one certificate, by how its parts stand and the verdicts on its rows. */
 static uint32_t pick_user_id(const opgp_keyring *keyring, const opgp_state *states, size_t state_count, const uint8_t *verdicts,
-                             uint64_t now, char **text, size_t *size)
+                             uint32_t policy, uint64_t now, char **text, size_t *size)
 {
     const opgp_packet *packets;
     size_t packet_count = 0;
@@ -729,7 +755,7 @@ static uint32_t pick_user_id(const opgp_keyring *keyring, const opgp_state *stat
         /* The state of the component behind that of the primary key. */
         if (is_user_id && packets[i].component + 1 < state_count && states[packets[i].component + 1].why == OPGP_BELIEVED) {
             uint64_t rank = 0;
-            status = rank_of(keyring, packets[i].component, verdicts, now, &rank);
+            status = rank_of(keyring, packets[i].component, verdicts, policy, now, &rank);
             if (found == OPGP_NONE || rank > best) {
                 best = rank;
                 found = packets[i].component;
@@ -755,7 +781,7 @@ static uint32_t find_user_id(const struct judging *it, const opgp_keyring *keyri
                      ? opgp_states(keyring, policy, now, verify_own, &verdicts, &states, &state_count)
                      : OPGP_MEMORY;
     }
-    status = status == OPGP_DONE ? pick_user_id(keyring, states, state_count, verdicts.found, now, text, size) : status;
+    status = status == OPGP_DONE ? pick_user_id(keyring, states, state_count, verdicts.found, policy, now, text, size) : status;
     status = status == OPGP_DONE && memory_ran_out() ? OPGP_MEMORY : status;
     arithmetic_free(verdicts.arithmetic);
     free(verdicts.found);

@@ -59,6 +59,9 @@ struct judging;
 /* `program` is the name in front of what is said on standard error. `open` opens the files, which close_named closes. For judging_free,
  * which allows NULL; NULL if memory ran out. */
 struct judging *judging_new(const char *program, FILE *(*open)(const char *name));
+
+/* Before the steps, if that is wanted: refuses keyrings with malformed signatures. Else these are kept: nothing is ever hashed of one. */
+void judging_refuses_malformed(struct judging *it);
 void judging_free(struct judging *it);
 
 /* These steps are made in this order, each once: the file of the signatures, those of the keyrings, that of the document. */

@@ -92,54 +92,14 @@ int take_window(const struct words *words, size_t before, size_t after, bool has
         if (!word || (has_none && strcmp(word, "-") == 0)) {
             continue;
         }
-        *ends[i] = strcmp(word, "now") == 0 ? present_time() : time_in(word, i == 1);
+        *ends[i] = strcmp(word, "now") == 0 ? present_time() : foreign_time_in(word, i == 1);
         if (*ends[i] == OPGP_NONE) {
             const struct program *program = words->program;
-            return said(program, program->unknown, "'%s' of '%s' is no time: a date in UTC, such as 2026-11-20T08:30:00Z", word,
+            return said(program, program->unknown, "'%s' of '%s' is no time: a date, such as 2026-11-20T08:30:00Z, or seconds since 1970, as @1763629200", word,
                         program->options[options[i]].name);
         }
     }
     return 0;
-}
-
-/* How many octets the character has that a text in UTF-8 begins with; 0 if that isn't one, or is a control character or %. */
-static size_t character_size(const unsigned char *text, size_t size)
-{
-    static const struct {
-        unsigned char first, last, least, most; /* of the first octet, and of the second one */
-        size_t size;
-    } forms[] = {
-        {0xC2, 0xC2, 0xA0, 0xBF, 2}, {0xC3, 0xDF, 0x80, 0xBF, 2}, {0xE0, 0xE0, 0xA0, 0xBF, 3}, {0xE1, 0xEC, 0x80, 0xBF, 3},
-        {0xED, 0xED, 0x80, 0x9F, 3}, {0xEE, 0xEF, 0x80, 0xBF, 3}, {0xF0, 0xF0, 0x90, 0xBF, 4}, {0xF1, 0xF3, 0x80, 0xBF, 4},
-        {0xF4, 0xF4, 0x80, 0x8F, 4},
-    };
-    if (text[0] < 0x80) {
-        return text[0] >= 0x20 && text[0] != 0x7F && text[0] != '%' ? 1 : 0;
-    }
-    for (size_t i = 0; i < sizeof forms / sizeof *forms; i++) {
-        if (text[0] >= forms[i].first && text[0] <= forms[i].last && size >= forms[i].size) {
-            bool fits = text[1] >= forms[i].least && text[1] <= forms[i].most;
-            for (size_t k = 2; k < forms[i].size; k++) {
-                fits = fits && text[k] >= 0x80 && text[k] <= 0xBF;
-            }
-            return fits ? forms[i].size : 0;
-        }
-    }
-    return 0;
-}
-
-void put_text(FILE *file, const char *text, size_t size)
-{
-    const unsigned char *at = (const unsigned char *)text, *end = at + size;
-    while (at < end) {
-        size_t whole = character_size(at, (size_t)(end - at));
-        if (whole > 0) {
-            fwrite(at, 1, whole, file);
-            at += whole;
-        } else {
-            fprintf(file, "%%%02X", *at++);
-        }
-    }
 }
 
 void explain(const struct program *program, const struct judged *row, const char *refusal)

@@ -1,6 +1,8 @@
 /* The words of a command line. */
 #include "verify-options.h"
 
+#include "verify-words.h"
+
 #include <stdarg.h>
 #include <stdlib.h>
 #include <string.h>
@@ -9,9 +11,7 @@ int said(const struct program *program, int status, const char *form, ...)
 {
     va_list values;
     va_start(values, form);
-    fprintf(stderr, "%s: ", program->name);
-    vfprintf(stderr, form, values);
-    fputc('\n', stderr);
+    say_as(program->name, form, values);
     va_end(values);
     return status;
 }

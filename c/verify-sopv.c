@@ -54,7 +54,7 @@ static const char help[] =
     "                 < MESSAGE > DATA\n"
     "       opgp-sopv version [--extended|--backend|--sop-spec|--sopv]\n\n"
     "SIGNATURES and CERTS are files, @ENV:NAME (an environment variable) or @FD:N (a file descriptor). A TIME is\n"
-    "'now', '-' for none, seconds since 1970, or a date in UTC, such as 2026-11-20T08:30:00Z.\n"
+    "'now', '-' for none, a date, such as 2026-11-20T08:30:00Z, or '@' and seconds since 1970.\n"
     "A line for each good and believed signature: when it was made, the fingerprints of its key and of the\n"
     "primary key, and its mode; of a message they go to FILE, which must not exist, or @FD:N, and its document is\n"
     "written if there is one. Exit status: 0 there is one; 3 there is none; 19 an argument is missing; 37 an\n"
@@ -252,7 +252,7 @@ static int sopv_version(const struct words *words)
     } else if (count_of(words, SPEC) > 0) {
         puts("~draft-dkg-openpgp-stateless-cli-11");
     } else if (count_of(words, SOPV) > 0) {
-        puts("1.0");
+        return said(words->program, SOP_UNSUPPORTED_OPTION, "sopv isn't there whole: of signed messages only cleartext ones are read");
     } else {
         puts("opgp-sopv " OPGP_VERSION);
     }

@@ -133,7 +133,7 @@ static int sqv_verify(const struct words *words)
     if (status == 0 && wanted < 1) {
         status = said(program, 2, "'%s' of '--signatures' is no number from 1 on", value_of(words, SIGNATURES));
     }
-    if (status == 0 && as_of && time_in(as_of, false) == OPGP_NONE) {
+    if (status == 0 && as_of && foreign_time_in(as_of, false) == OPGP_NONE) {
         status = said(program, 2, "'%s' of '--policy-as-of' is no time", as_of);
     }
     status = status == 0 ? wrong_files(words) : status;

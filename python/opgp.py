@@ -629,7 +629,7 @@ class Question(NamedTuple):
     """The issuer's key, whose version is the signature's."""
 
 
-Verifier = Callable[[Question], Verdict]
+Verifier = Callable[[Question], Union[Verdict, bool]]
 
 
 class Why(enum.Enum):
@@ -811,6 +811,11 @@ _WIDEST = _Limits(2**20, 2**32 - 1, 2**40, 2**62, 2**24, 2)  # what was read is 
 _POLICIES = ("usual", "any")
 
 
+def _said(given: Union[Verdict, bool]) -> Verdict:
+    """The verdict that a verifier gave: True is GOOD, and False is BAD. Raises ValueError for what is none."""
+    return (Verdict.GOOD if given else Verdict.BAD) if isinstance(given, bool) else Verdict(given)
+
+
 def _verdict(signature: Signature, handle: _Handle, verify: Optional[Verifier]) -> Verdict:
     """The verdict on a signature whose signer is in this keyring: that of `opgp_check`."""
     if signature.is_bad:
@@ -818,7 +823,7 @@ def _verdict(signature: Signature, handle: _Handle, verify: Optional[Verifier]) 
     if not verify or signature.why_not or signature.signer is None:
         return Verdict.UNDECIDED
     signer = _key_at(handle, signature.signer)
-    return Verdict(verify(Question(signature, signer))) if signer.version == signature.version else Verdict.UNDECIDED
+    return _said(verify(Question(signature, signer))) if signer.version == signature.version else Verdict.UNDECIDED
 
 
 def _revocations(handle: _Handle) -> dict[int, bytes]:
@@ -1153,7 +1158,7 @@ class Keyring(_Held):
                 question = asked.contents
                 signature, signer = signatures[question.row], keys[question.job.contents.signer]
                 given = verify(Question(signature, signer)) if verify else Verdict.UNDECIDED
-                return Verdict(given).value
+                return _said(given).value
             except BaseException as it:  # pylint: disable=broad-except
                 raised.append(it)
                 return Verdict.UNDECIDED.value
@@ -1416,7 +1421,7 @@ def _opened(keyring: Any) -> _Handle:
 
 def _bytes(octets: Octets) -> bytes:
     """These octets. Raises TypeError for what isn't octets in memory, such as a number, a text, a list or a path."""
-    return octets if isinstance(octets, bytes) else bytes(memoryview(octets))
+    return octets if type(octets) is bytes else bytes(memoryview(octets))  # a class of bytes may lie about its length
 
 
 def _name_of(name: Union[str, Octets]) -> bytes:

@@ -41,7 +41,7 @@ static int report(void *context, size_t row, const opgp_job *job, opgp_verdict v
 int main(void)
 {
     int status;
-    opgp_keyring *keyring = open_whole(stdin, "check", &status);
+    opgp_keyring *keyring = open_whole(stdin, "check", NULL, &status);
     if (!keyring) {
         return status;
     }

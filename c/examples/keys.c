@@ -27,7 +27,7 @@ static void print_key(const opgp_key *key)
 int main(void)
 {
     int status;
-    opgp_keyring *keyring = open_whole(stdin, "keys", &status);
+    opgp_keyring *keyring = open_whole(stdin, "keys", NULL, &status);
     if (!keyring) {
         return status;
     }

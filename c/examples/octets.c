@@ -21,7 +21,7 @@ int main(int argc, char **argv)
         return 2;
     }
     int exit_status;
-    opgp_keyring *keyring = open_whole(stdin, "octets", &exit_status);
+    opgp_keyring *keyring = open_whole(stdin, "octets", NULL, &exit_status);
     if (!keyring) {
         return exit_status;
     }

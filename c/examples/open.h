@@ -28,9 +28,9 @@ static uint8_t *read_whole(FILE *file, size_t *size)
     return NULL;
 }
 
-/* The keyring of a file, for opgp_close. If it can't be read, this says why on standard error, and gives the exit status of
- * `opgp`: 1 if the input is refused, 3 if reading failed or memory ran out. */
-static opgp_keyring *open_whole(FILE *file, const char *program, int *exit_status)
+/* The keyring of a file, for opgp_close; without limits the usual ones hold. If it can't be read, this says why on standard error, and gives
+ * the exit status of `opgp`: 1 if the input is refused, 3 if reading failed or memory ran out. */
+static opgp_keyring *open_whole(FILE *file, const char *program, const opgp_limits *limits, int *exit_status)
 {
     size_t size;
     uint8_t *octets = read_whole(file, &size);
@@ -42,7 +42,7 @@ static opgp_keyring *open_whole(FILE *file, const char *program, int *exit_statu
     if (octets && ferror(file)) {
         fprintf(stderr, "%s: read failed\n", program);
     } else {
-        uint32_t status = octets ? opgp_open(octets, size, NULL, &keyring, &fault) : OPGP_MEMORY;
+        uint32_t status = octets ? opgp_open(octets, size, limits, &keyring, &fault) : OPGP_MEMORY;
         if (status == OPGP_DONE) {
             *exit_status = 0;
         } else if (status == OPGP_REFUSED) {

@@ -154,8 +154,21 @@ def user_ids():
     def revoked(text):
         return signers.identity(key, text, NOW - 20 * DAY, kind=0x30)[len(packet(13, text)) :]
 
+    def again(text, days, *more, **how):
+        return identity(text, days, *more, **how)[len(packet(13, text)) :]
+
     octets = signers.over(key, DOCUMENT, MADE)
+    lapses = subpacket(3, number(4, 10 * DAY))
+    # Certifications that mark B, and aren't heard: GnuPG's gpgv doesn't hear the first of these either.
+    unheard = (
+        ("has lapsed", again(b"B", 100, marked, lapses)), ("has an unknown critical subpacket", again(b"B", 100, marked, subpacket(99, b"x", True))),
+        ("is of the future", again(b"B", -1, marked)), ("is by SHA-1", again(b"B", 100, marked, hash=2)),
+    )
+    asked_gpgv(key, [identity(b"A", 200), identity(b"B", 300) + unheard[0][1]], octets)
     for title, parts, text in (
+        *((f"not one by a mark that {why}", [identity(b"A", 200), identity(b"B", 300) + it], "A") for why, it in unheard),
+        ("not one by a mark that was taken back", [identity(b"A", 200), identity(b"B", 300, marked) + again(b"B", 250)], "A"),
+        ("marks that turn the text", ([identity("A\u202eb\u2066c\u200fd\u061c".encode(), 300)]), "A%E2%80%AEb%E2%81%A6c%E2%80%8Fd%D8%9C"),
         ("the newest", [identity(b"A", 300), identity(b"B", 200), identity(b"C", 250)], "B"),
         ("the first of two as new", [identity(b"A", 300), identity(b"B", 300)], "A"),
         ("that which is marked", [identity(b"A", 300, marked), identity(b"B", 200)], "A"),
@@ -175,6 +188,85 @@ def user_ids():
     tried("user ID: none", [Case(octets, ring, "good", key, text="")])
     ring += signers.packet(13, b"B")
     tried("user ID: one that nobody certifies", [Case(octets, ring, "good", key, text="")])
+
+
+def asked_gpgv(key, parts, octets):
+    """The user ID that GnuPG's gpgv names of this certificate is that which opgp-gpgv names."""
+    if not shutil.which("gpgv"):
+        left_out("gpgv")
+        return
+    ring, signatures, document = kept("ring.gpg", packet(6, key.body) + b"".join(parts)), kept("signatures", octets), kept("document", DOCUMENT)
+    words = ["--keyring", ring, "--status-fd=1", signatures, document]
+    theirs = subprocess.run(["gpgv", "--homedir", ROOM, *words], capture_output=True, check=False, timeout=SECONDS).stdout.decode()
+    named = [re.findall(r" GOODSIG .*", it) for it in (theirs, run("opgp-gpgv", *words).out)]
+    verdict("the user ID that gpgv names", len(named[0]) == 1 and named[0] == named[1], named)
+
+
+def malformed_in_keyrings():
+    """A keyring with a malformed signature is taken, and nothing is believed by it; opgp-verify refuses it where that is wanted."""
+    good = cases()["good"]
+    ring = good.ring + packet(2, b"\4") + [*others()][0].ring
+    tried("a malformed signature in a keyring", [Case(good.octets, ring, "good", good.key, text=good.text)])
+    signatures, path, document = files_of([good], rings=[ring])
+    fault = "body: Short block 0 at "
+    for words in (["--signature", signatures, "--keyring", path, document], [path], ["--state", path]):
+        ended = run("opgp-verify", *words)
+        verdict(f"opgp-verify {words}: malformed", ended.status == 0 and ended.out, ended)
+        verdict(f"opgp-verify {words}: --malformed keep", run("opgp-verify", "--malformed", "keep", *words) == ended)
+        ended = run("opgp-verify", "--malformed=refuse", *words)
+        verdict(f"opgp-verify {words}: --malformed refuse", (ended.status, ended.out) == (1, "") and fault in ended.told, ended)
+    ended = run("opgp-verify", "--malformed", "x", path)
+    told = "error: invalid value 'x' for '--malformed <HOW>'\n  [possible values: keep, refuse]\n"
+    verdict("opgp-verify --malformed x", ended.status == 2 and ended.told.startswith(told), ended)
+
+
+def keyrings_at_home():
+    """A keyring's name without a slash is one of the home folder, as for gpgv: of --homedir, GNUPGHOME or ~/.gnupg, and never of the current
+    folder, in which somebody else may have put one."""
+    good, other = cases()["good"], [*others()][0]
+    signatures, _, document = files_of([good])
+    folders = {it: f"{ROOM}/{it}" for it in ("here", "given", "own", "user", "user/.gnupg", "nothing")}
+    for name, folder in folders.items():
+        os.makedirs(folder, exist_ok=True)
+        if name not in ("user", "nothing"):
+            kept(f"{name}/k.gpg", good.ring if name == "here" else other.ring)
+    kept("user/k.gpg", good.ring)
+    usual = {"HOME": folders["nothing"], "GNUPGHOME": None}
+    absent, found, no_file = 2, 0, 2
+    for words, env, status in (
+        (["k.gpg"], usual, no_file), (["./k.gpg"], usual, found), ([f"{folders['here']}/k.gpg"], usual, found),
+        (["k.gpg", "--homedir", folders["given"]], usual, absent), (["k.gpg"], {**usual, "GNUPGHOME": folders["own"]}, absent),
+        (["k.gpg"], {**usual, "HOME": folders["user"]}, absent), (["k.gpg", f"--homedir={folders['here']}"], {**usual, "GNUPGHOME": folders["own"]}, found),
+        (["k.gpg", "--homedir", folders["own"], "--homedir", folders["here"]], usual, found), (["k.gpg"], {**usual, "GNUPGHOME": folders["here"]}, found),
+        (["~/k.gpg"], {**usual, "HOME": folders["user"]}, found), (["~/k.gpg"], usual, no_file),
+        (["./k.gpg", "--homedir", folders["given"]], usual, found), (["../user/k.gpg"], usual, found),
+    ):
+        given = ["--keyring", *words, "--status-fd=1", signatures, document]
+        ended = run("opgp-gpgv", *given, env=env, cwd=folders["here"])
+        verdict(f"opgp-gpgv --keyring {words} {env}", (ended.status, "GOODSIG" in ended.out) == (status, status == found), ended)
+        if shutil.which("gpgv"):
+            env = {word: it for word, it in {**os.environ, **env}.items() if it is not None}
+            theirs = subprocess.run(["gpgv", *given], capture_output=True, check=False, timeout=SECONDS, env=env, cwd=folders["here"])
+            verdict(f"gpgv --keyring {words}", (theirs.returncode == 0) == (status == found), theirs)
+    for env in ({"HOME": None, "GNUPGHOME": None}, {"HOME": "", "GNUPGHOME": ""}):
+        ended = run("opgp-gpgv", "--keyring", "k.gpg", signatures, document, env=env, cwd=folders["here"])
+        told = "'k.gpg' of '--keyring' is in the home folder: give --homedir, or set HOME"
+        verdict("opgp-gpgv: no home folder", (ended.status, ended.lines) == (2, [told]), ended)
+
+
+def odd_names():
+    """What steers a terminal is escaped where names of files and words of the command line are said."""
+    signatures, ring, document = files_of([cases()["good"]])
+    odd = "\x1b[31mx\n\u202ey"
+    shown = "%1B[31mx%0A%E2%80%AEy"
+    for name, words in (
+        ("opgp-gpgv", ["--keyring", f"{ROOM}/{odd}", signatures, document]), ("opgp-sqv", ["--keyring", ring, f"{ROOM}/{odd}", document]),
+        ("opgp-sopv", ["verify", odd, ring]), ("opgp-verify", [odd]), ("opgp-verify", ["--signature", odd, "--keyring", ring, document]),
+        ("opgp-gpgv", [f"--{odd}"]), ("opgp-sqv", [f"--not-before={odd}", "--keyring", ring, signatures, document]), ("opgp-sopv", [odd]),
+        ("opgp-verify", [f"--{odd}"]), ("opgp-verify", ["--at", odd]), ("opgp-verify", ["--policy", odd]), ("opgp-verify", ["a", odd]),
+    ):
+        ended = run(name, *words, given=DOCUMENT)
+        verdict(f"{name} {words}, shown", ended.status and shown in ended.told and not {"\x1b", "\u202e"} & {*ended.told}, ended)
 
 
 def in_several_places():
@@ -235,15 +327,21 @@ def times():
     signatures, ring, document = files_of([good])
     day = clock("%Y-%m-%d", MADE)
     midnight = MADE // DAY * DAY
+    # The forms of ISO 8601 that sqv and sqop take, of the same second: basic, without an offset, with one, and of fewer parts.
+    forms = ("%Y%m%dT%H%M%SZ", "%Y-%m-%dT%H:%M:%S", "%Y%m%dT%H%M%S", "%Y-%m-%dT%H:%M:%S+00:00", "%Y%m%dT%H%M%S+0000", "%Y-%m-%dT%H:%M:%S-00")
+    ahead = [clock(f"%Y-%m-%dT%H:%M:%S{it}", MADE + seconds) for it, seconds in (("+01:00", 3600), ("-0330", -12_600), ("+14", 50_400))]
+    same = [*(clock(it, MADE) for it in forms), *ahead, f"@{MADE}", iso(MADE)]
     accepts = (
-        ("--not-before", str(MADE)), ("--not-before", iso(MADE)), ("--not-after", str(MADE)), ("--not-after", iso(MADE)), ("--not-before", day),
-        ("--not-after", day), ("--not-after", clock("%Y-%m-%d", MADE + DAY)), ("--not-after", "now"), ("--not-before", "0"),
-        ("--not-before", str(midnight)), ("--not-after", str(midnight + DAY - 1)),
+        *((option, value) for option in ("--not-before", "--not-after") for value in (*same, day, clock("%Y%m%d", MADE))),
+        ("--not-after", clock("%Y-%m-%d", MADE + DAY)), ("--not-after", "now"), ("--not-before", "@0"), ("--not-before", clock("%Y-%m-%dT%H", MADE)),
+        ("--not-before", clock("%Y%m%dT%H%MZ", MADE)), ("--not-before", f"@{midnight}"), ("--not-after", f"@{midnight + DAY - 1}"),
     )
     refuses = (
-        ("--not-before", str(MADE + 1), "before"), ("--not-before", iso(MADE + 1), "before"), ("--not-after", str(MADE - 1), "after"),
+        ("--not-before", f"@{MADE + 1}", "before"), ("--not-before", iso(MADE + 1), "before"), ("--not-after", f"@{MADE - 1}", "after"),
         ("--not-after", iso(MADE - 1), "after"), ("--not-before", clock("%Y-%m-%d", MADE + DAY), "before"), ("--not-before", "now", "before"),
-        ("--not-after", clock("%Y-%m-%d", MADE - DAY), "after"), ("--not-after", "0", "after"),
+        ("--not-before", clock("%Y%m%d", MADE + DAY), "before"), ("--not-before", clock("%Y%m%dT%H%M%SZ", MADE + 1), "before"),
+        ("--not-after", clock("%Y-%m-%d", MADE - DAY), "after"), ("--not-after", clock("%Y%m%d", MADE - DAY), "after"), ("--not-after", "@0", "after"),
+        ("--not-after", clock("%Y-%m-%dT%H:%M:%S+01:00", MADE + 3599), "after"),
     )  # fmt: skip
     for form in ("{}={}", None):
         for option, value, *why in (*accepts, *refuses):
@@ -258,7 +356,11 @@ def times():
     for words in (["--not-before=-"], ["--not-after=-"], ["--not-before=-", "--not-after=-"], ["--not-before", "-", "--not-after", "now"]):
         ended = run("opgp-sopv", "verify", *words, signatures, ring, given=DOCUMENT)
         verdict(f"opgp-sopv {words}", ended[:3] == (0, verification(good), ""), ended)
-    for value in ("", "x", "tomorrow", "2026-13-01", "2026-11-20T25:00:00Z", "-1", "2026-11-20T08:30:00"):
+    for value in (
+        "", "x", "tomorrow", "2026-13-01", "2026-11-20T25:00:00Z", "-1", "0", str(MADE), "2026", "20261301", "20260230", "99999999", "@", "@x", "@-1",
+        "2026-W47-5", "2026-324", "2026-11-20T083000Z", "20261120T08:30:00Z", "2026-11-20T08:30:00+24:00", "2026-11-20T08:30:00.5Z", "2026-11-20T08:30:60Z",
+        "2026-11-20 08:30:00Z", "2026-11-20T", "2026-11-20T08:30:00ZZ", "1969-12-31", "1970-01-01T00:00:00+00:01",
+    ):  # fmt: skip
         for name, status, words in (("opgp-sopv", 37, ["verify", f"--not-after={value}", signatures, ring]),
                                     ("opgp-sqv", 2, [f"--not-before={value}", "--keyring", ring, signatures, document]),
                                     ("opgp-sqv", 2, [f"--policy-as-of={value}", "--keyring", ring, signatures, document])):
@@ -267,12 +369,12 @@ def times():
             verdict(f"{name}: the time '{value}'", (ended.status, ended.out) == (status if value else wanting, "") and ended.told, ended)
     ended = run("opgp-sqv", "--not-after=-", "--keyring", ring, signatures, document)
     verdict("opgp-sqv: the time '-'", (ended.status, ended.out) == (2, ""), ended)
-    for value in ("2027-11-27", "2000-01-01", iso(NOW), "0"):
+    for value in ("2027-11-27", "2000-01-01", "20000101", iso(NOW), "@0"):
         ended = run("opgp-sqv", "--keyring", ring, signatures, document, "--policy-as-of", value)
         verdict(f"opgp-sqv --policy-as-of {value}", ended[:3] == (0, f"{digits(good.key.fingerprint)}\n", ""), ended)
     future = cases()["future"]
     signatures, ring, document = files_of([future])
-    for words in (["--not-after=-"], [f"--not-after={NOW + DAY}"]):
+    for words in (["--not-after=-"], [f"--not-after=@{NOW + DAY}"]):
         ended = run("opgp-sopv", "verify", *words, signatures, ring, given=DOCUMENT)
         verdict(f"opgp-sopv {words} of the future", (ended.status, ended.out) == (3, ""), ended)
 
@@ -540,10 +642,12 @@ def command_lines():
     for name, words in (("opgp-gpgv", ["--version"]), ("opgp-sqv", ["--version"]), ("opgp-sqv", ["-V"])):
         ended = run(name, *words)
         verdict(f"{name} {words}", ended.status == 0 and not ended.told and ended.out.startswith(f"{name} {version}, by OpenSSL "), ended)
-    for words, out in ((["version"], f"opgp-sopv {version}\n"), (["version", "--backend"], f"libopgp {version}\n"), (["version", "--sopv"], "1.0\n"),
-                       (["version", "--sop-spec"], "~draft-dkg-openpgp-stateless-cli-11\n"), (["--debug", "version", "--debug"], f"opgp-sopv {version}\n")):
+    for words, out in ((["version"], f"opgp-sopv {version}\n"), (["version", "--backend"], f"libopgp {version}\n"), (["version", "--sop-spec"], "~draft-dkg-openpgp-stateless-cli-11\n"), (["--debug", "version", "--debug"], f"opgp-sopv {version}\n")):
         ended = run("opgp-sopv", *words)
         verdict(f"opgp-sopv {words}", ended[:3] == (0, out, ""), ended)
+    ended = run("opgp-sopv", "version", "--sopv")
+    told = ["sopv isn't there whole: of signed messages only cleartext ones are read"]
+    verdict("opgp-sopv version --sopv", (ended.status, ended.out, ended.lines) == (37, "", told), ended)
     ended = run("opgp-sopv", "version", "--extended")
     verdict("opgp-sopv version --extended", ended.status == 0 and ended.out.startswith(f"opgp-sopv {version}\nlibopgp {version}\nOpenSSL "), ended)
     for name, words in (("opgp-gpgv", ["--help"]), ("opgp-gpgv", ["-h"]), ("opgp-sqv", ["--help"]), ("opgp-sqv", ["-h"]), ("opgp-sopv", ["--help"]), ("opgp-sopv", ["help"]),
@@ -817,15 +921,24 @@ WRONG = (
     ("gpgv", "refused += !is_absent(row) && (!is_believed(row) || refusal);", "refused += !is_absent(row) && !is_believed(row) && count == 1;", of_cases),
     ("gpgv", "int found = refused > 0 ? 1 : absent > 0 || count == 0 ? 2 : 0;", "int found = refused > 0 ? 1 : 0;", of_cases),
     ("gpgv", "bool is_named = demands->count == 0;", "bool is_named = true;", demands),
-    ("gpgv", "if (keyring_count == 0 && (!usual || !usual[0])) {", "if (keyring_count == 0 && !usual) {", words_of_gpgv),
+    ("gpgv", "return usual && usual[0] ? verified_by(", "return usual ? verified_by(", words_of_gpgv),
+    ("gpgv", "if (strchr(*name, '/') || is_input(*name)) {", "if (*name) {", keyrings_at_home),  # one of the current folder
+    ("gpgv", "given > 0 ? all_of(words, HOME_FOLDER)[given - 1] : own", "own ? own : all_of(words, HOME_FOLDER)[given - 1]", keyrings_at_home),
+    ("words", "return word[0] == '@' ? seconds_in(word + 1) : date_in(word, is_end);",
+     "return word[strspn(word, \"0123456789\")] == 0 ? seconds_in(word) : word[0] == '@' ? seconds_in(word + 1) : date_in(word, is_end);", times),
+    ("words", "found -= offset;", "found += offset;", times),
     ("sopv", "        if (is_believed(row) && !outside(row, window)) {", "        if (row->verdict == OPGP_GOOD && !outside(row, window)) {", of_cases),
     ("sopv", "is_believed(row) && !outside(row, window)", "is_believed(row)", times),
     ("sqv", "            counts = !(counted && strcmp(rows[other].primary, rows[i].primary) == 0);", "            counts = counts || counted;", of_several),
     ("names", "return row->verdict == OPGP_GOOD && row->standing == OPGP_BELIEVED;", "return row->verdict == OPGP_GOOD || row->standing == OPGP_BELIEVED;", of_cases),
-    ("names", "fprintf(file, \"%%%02X\", *at++);", "fputc(*at++, file);", user_ids),
+    ("words", "fprintf(file, \"%%%02X\", *at++);", "fputc(*at++, file);", user_ids),
+    ("words", "fits && !turns_direction(text, forms[i].size)", "fits", user_ids),
+    ("words", "put_text(file, word, strlen(word));", "fputs(word, file);", odd_names),
     ("judging", " && row->made - now <= most) {", " && most > 0) {", conflicts),
     ("judging", "outcome = judge_one(it, i, policy, row->made, OPGP_NONE, &row->standing);", "row->standing = OPGP_BELIEVED;", conflicts),
     ("judging", "bool counts = it->certificate == OPGP_NONE || it->certificate == question->job->certificate;", "bool counts = true;", in_several_places),
+    ("judging", "!is_doubted && job->is_dated", "job->is_dated", user_ids),
+    ("judging", " && (expiry == 0 || now < expiry);", ";", user_ids),
     ("judging", "states[packets[i].component + 1].why == OPGP_BELIEVED) {", "state_count > 0) {", user_ids),
     ("judging", "return status == OPGP_DONE ? STEP_DONE : refused(it, name, status, &fault);\n}\n\n/* Makes the first", "return STEP_DONE;\n}\n\n/* Makes the first", refused),
 )
@@ -878,7 +991,7 @@ def main():
     words.add_argument("--only", help="one part, for work on it")
     words = words.parse_args()
     resource.setrlimit(resource.RLIMIT_CORE, (0, 0))
-    parts = (of_cases, of_several, user_ids, in_several_places, multiple_keyrings, times, conflicts, of_vectors, demands, words_of_gpgv, command_lines, debug_and_verbose,
+    parts = (of_cases, of_several, user_ids, in_several_places, multiple_keyrings, malformed_in_keyrings, keyrings_at_home, odd_names, times, conflicts, of_vectors, demands, words_of_gpgv, command_lines, debug_and_verbose,
              started_as, refused, streams, designators, no_good_line, memory, by_valgrind, manuals)
     with tempfile.TemporaryDirectory() as room:
         ROOM = room

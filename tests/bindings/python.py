@@ -670,6 +670,23 @@ def inputs(opgp):
     apart = memoryview(b"".join(bytes([it, 0]) for it in octets))[::2]
     verdict("octets that stand apart", opgp.read(apart).write() == bare)
     verdict("octets aren't copied", opgp._bytes(octets) is octets)
+
+    class Lying(bytes):
+        def __len__(self):
+            return 3_000_000
+
+        def __bytes__(self):
+            return b"other octets"
+
+    verdict("a class of bytes that lies about its length", opgp.read(Lying(octets)).write() == bare)
+    for call in (opgp.read, opgp.Document, opgp.cleartext, lambda it: opgp.Reader().push(it), opgp.find_blocks):
+        outcome = []
+        for given in (b"-----BEGIN", Lying(b"-----BEGIN")):
+            try:
+                outcome.append(repr(call(given)).split(" at 0x", maxsplit=1)[0])
+            except opgp.Fault as it:
+                outcome.append(str(it))
+        verdict("what such a class is read as", outcome[0] == outcome[1], outcome)
     verdict("an input with an octet 0", opgp.read(bare).write() == bare and b"\0" in bare)
     verdict("no octets", opgp.read(b"").packets() == [] and opgp.read(b"").write() == b"")
     for it in NO_OCTETS:
@@ -923,6 +940,11 @@ def verifiers(opgp):
         found = keyring.check(answers(given))
         verdict(f"a verifier that answers {given}", found == [(it, given) for it in signatures], found)
         verdict("what it is asked", asked == [(it, keys[it.signer]) for it in signatures], asked)
+    for given, wanted in ((True, opgp.Verdict.GOOD), (False, opgp.Verdict.BAD)):
+        found = keyring.check(answers(given))
+        verdict(f"a verifier that answers {given}", found == [(it, wanted) for it in signatures], found)
+        states = [it.why for it in keyring.states(READ, answers(given))]
+        verdict(f"states by one that answers {given}", states == [it.why for it in keyring.states(READ, answers(wanted))], states)
     for given in (None, 7, "good"):
         verdict(f"a verifier that answers {given!r}", raised(ValueError, lambda given=given: keyring.check(answers(given))))
 

@@ -474,7 +474,7 @@ def moments():
         verdict(f"{stem} goes from good to expired", days == [*range(len(days))] and 0 < len(days) < 101, days)
         for at, said in ((SIGNED - 1, "good unbelieved future"), (SIGNED, "good"), (end - 1, "good"), (end, "good unbelieved expired")):
             date = time.strftime("%Y-%m-%dT%H:%M:%SZ", time.gmtime(at))
-            for given in (str(at), f"0{at}", date, *[date[:10]] * (at % DAY == 0)):
+            for given in (str(at), f"0{at}", f"@{at}", date, *[date[:10]] * (at % DAY == 0)):
                 verdict(f"{stem} at {given}: {said}", judges(f"{stem} at {given}", [stem], [it.octets], at) == [said])
                 words = ["--signature", f"{ROOM}/signature", "--keyring", f"{ROOM}/keyring0", "--at", given]
                 verdict(f"{stem} at {given}, shown", run(*words, given=DOCUMENT)[1].endswith(f" verdict {said}\n"))
@@ -651,7 +651,10 @@ def command_lines():
         ended = run("--at", value, "--signature", "x", "--keyring", "y")
         said = f"error: invalid value '{value}' for '--at <TIME>': {value} is no time: seconds since 1970 or a date, 2026-11-20T08:30:00Z\n{MORE}"
         verdict(f"at {value}", ended == (2, "", said), ended)
-    for value in ("0", "1", "2026", "1795132800", "9" * 18, "1970-01-01", "2024-02-29", "2026-11-20", "2026-11-20T08:30:00Z", "9999-12-31T23:59:59Z", "2106-02-07T06:28:16Z"):
+    for value in ("20261120", "19700101", "00000101", "99991231"):
+        said = f"error: invalid value '{value}' for '--at <TIME>': {value} may be a date: write that with hyphens, and seconds since 1970 behind an @\n{MORE}"
+        verdict(f"at {value}", run("--at", value, "--signature", "x", "--keyring", "y") == (2, "", said))
+    for value in ("0", "1", "2026", "20261301", "20261132", "020261120", "@20261120", "@0", "1795132800", "9" * 18, "1970-01-01", "2024-02-29", "2026-11-20", "2026-11-20T08:30:00Z", "9999-12-31T23:59:59Z", "2106-02-07T06:28:16Z"):
         for words in (["--at", value], [f"--at={value}"]):
             ended = run(*words, "--signature", f"{ROOM}/none", "--keyring", "y")
             verdict(f"at {value}", ended == (3, "", f"opgp-verify: can't read '{ROOM}/none': No such file or directory\n"), ended)
@@ -679,7 +682,7 @@ def command_lines():
     verdict("the help", (status, out) == (2, "") and "\nOf a keyring good is arithmetic: " in told and f"[FILE]\n{usage}\n" in told, told)
     verdict("the help of --signature", run("--signature", "x", "-h") == (2, "", told))
     shown = re.findall(r"^ +(?:-\w, )?--(\w+)(?: <\w+>)?  +\w", told, re.M)
-    verdict("the options in the help", shown == ["signature", "cleartext", "output", "keyring", "state", "at", "policy", "require", "jobs", "version", "help"], shown)
+    verdict("the options in the help", shown == ["signature", "cleartext", "output", "keyring", "state", "at", "policy", "require", "malformed", "jobs", "version", "help"], shown)
 
 
 def refused():

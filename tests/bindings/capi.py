@@ -160,6 +160,15 @@ int main()
             parts += part->write().size();
         }
         bool is_twice = keyring.joined(keyring).write() == keyring.write() + keyring.write();
+        opgp::Keyring given = opgp::Keyring::read(octets);
+        const opgp::Keyring taken(std::move(given));
+        bool is_gone = false;
+        try {
+            given.write();
+        } catch (const std::logic_error &) {
+            is_gone = true;
+        }
+        is_twice = is_twice && is_gone && taken.write() == keyring.write();
         std::printf("%zu %zu %d %d\\n", hashed, parts, is_twice, documents(keyring) && messages(keyring) && states(keyring));
     } catch (const opgp::Fault &fault) {
         std::cerr << fault.what() << std::endl;
@@ -245,9 +254,15 @@ def compiled(room):
     with open(f"{room}/ring.cc", "w", encoding="ascii") as it:
         it.write(CPP)
     for compiler in filter(shutil.which, ("g++", "clang++")):
-        ended = run(compiler, "-std=c++17", "-Wall", "-Wextra", "-Wconversion", "-pedantic", "-Werror", f"-I{HERE}/c", "-c", f"{room}/ring.cc",
-                    "-o", f"{room}/ring.o")
+        words = [compiler, "-std=c++17", "-Wall", "-Wextra", "-Wconversion", "-Wshadow", "-pedantic", "-Werror", f"-I{HERE}/c", "-c"]
+        ended = run(*words, f"{room}/ring.cc", "-o", f"{room}/ring.o")
         verdict(f"opgp.hpp by {compiler}", ended.returncode == 0, ended.stderr.decode())
+        # A loop over the rows of a keyring that is gone when it begins.
+        for table in ("packets", "keys", "subpackets", "signatures"):
+            with open(f"{room}/gone.cc", "w", encoding="ascii") as it:
+                it.write(f'#include <opgp.hpp>\nint main() {{ for (auto &it : opgp::Keyring::read("").{table}()) {{ (void)it; }} }}\n')
+            ended = run(*words, f"{room}/gone.cc", "-o", f"{room}/gone.o")
+            verdict(f"{table} of a temporary by {compiler}", ended.returncode != 0 and b"delete" in ended.stderr, ended.stderr.decode())
         ended = run(compiler, "-std=c++11", "-Wall", "-Wextra", "-pedantic", "-Werror", f"-I{HERE}/c", "-c", f"{room}/user.cc", "-o",
                     f"{room}/user.o")
         verdict(f"the header by {compiler}", ended.returncode == 0, ended.stderr.decode())

@@ -13,8 +13,8 @@ use std::cell::Cell;
 use std::test::Fail;
 
 // A primary key, which the packets below follow; its creation time is written into it.
-const KEY: &[u8] =
-    b"\xC6\x33\x04\x00\x00\x00\x00\x16\x09\x2B\x06\x01\x04\x01\xDA\x47\x0F\x01\x01\x07\x40\
+const KEY: [u8; 53] =
+    *b"\xC6\x33\x04\x00\x00\x00\x00\x16\x09\x2B\x06\x01\x04\x01\xDA\x47\x0F\x01\x01\x07\x40\
       \x3F\x09\x89\x94\xBD\xD9\x16\xED\x40\x53\x19\x79\x34\xE4\xA8\x7C\x80\x73\x3A\x12\x80\
       \xD6\x2F\x80\x10\x99\x2E\x43\xEE\x3B\x24\x06";
 
@@ -88,14 +88,19 @@ impl Verifier for Counting {
     }
 }
 
+/// The primary key, made at this time.
+fn key(created: u32) -> [u8; 53] {
+    let mut octets = KEY;
+    BigEndian::write_u32(&mut octets[3..], created);
+    octets
+}
+
 /// The octets of two certificates with a signature of each kind that has a row. The left octets of
 /// its signatures end in their numbers, from 0 in the order of the rows.
 fn octets(alloc: Global) -> Result<Vec<u8>, Fail> {
     let mut octets = Vec::new(alloc);
-    let mut key = KEY.to_vec(alloc)?;
     for created in [1, 2] {
-        BigEndian::write_u32(&mut key[3..], created);
-        octets.extend_from_slice(&key)?;
+        octets.extend_from_slice(&key(created))?;
         for packet in PACKETS {
             octets.extend_from_slice(packet)?;
         }

@@ -94,9 +94,9 @@ def small():
     """Keyrings with bodies of each small size."""
     key = bytes([6]) + bytes(4) + b"\x1b" + sized(b"k" * 32)
     primary, direct = packet(6, key), packet(2, signature(b"", kind=0x1F))
-    yield "user IDs of each size", primary + b"".join(packet(13, b"u" * n) for n in SMALL) + direct
+    yield "user IDs of each size", primary + direct + b"".join(packet(13, b"u" * n) for n in SMALL)
     yield "fillers of each size", b"".join(packet(60, b"f" * n) for n in SMALL) + primary + b"".join(packet(60, b"f" * n) for n in SMALL) + direct
-    yield "attributes of each size", primary + b"".join(packet(17, subpacket(100, b"u" * n)) for n in SMALL) + direct
+    yield "attributes of each size", primary + direct + b"".join(packet(17, subpacket(100, b"u" * n)) for n in SMALL)
     yield "signatures of each size", primary + b"".join(packet(2, signature(subpacket(100, b"s" * n), kind=0x1F)) for n in SMALL)
     yield "keys of each size", b"".join(packet(6, key[:5] + b"\xc8" + sized(b"k" * n)) for n in SMALL) + direct
 

@@ -13,6 +13,7 @@ import base64
 import collections
 import datetime
 import hashlib
+import itertools
 import multiprocessing
 import os
 import re

@@ -91,12 +91,22 @@ class Proofs(threading.Thread):
                 with open(f"/proc/{parent}/cmdline", "rb") as it:
                     if os.path.basename(it.read().split(b"\0")[0]) == b"rattle":
                         continue
+                if not self.is_below(parent):
+                    continue  # another's
             except OSError:
                 continue  # it has ended
             name = words[words.index("--crate-name") + 1] + (", its tests" if "--test" in words else "")
             self.used[name, pid, fields[19]] = sum(map(int, fields[11:15])) / TICKS
             self.begun.setdefault(name, now)
             self.seen[name] = now
+
+    @staticmethod
+    def is_below(pid):
+        """Whether a process is this one or one that it began."""
+        while pid > 1 and pid != os.getpid():
+            with open(f"/proc/{pid}/stat", "rb") as it:
+                pid = int(it.read().rpartition(b")")[2].split()[1])
+        return pid == os.getpid()
 
     def rows(self):
         spent = collections.Counter()

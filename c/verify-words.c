@@ -132,10 +132,12 @@ uint64_t foreign_time_in(const char *word, bool is_end)
 
 bool may_be_date(const char *word)
 {
-    const char *at = word + 4;
     int month, day;
-    return strspn(word, "0123456789") == 8 && word[8] == 0 && take_pair(&at, 0, 12, &month) && take_pair(&at, 0, 31, &day) && month > 0
-           && day > 0;
+    if (strspn(word, "0123456789") != 8 || word[8] != 0) {
+        return false;
+    }
+    const char *at = word + 4;
+    return take_pair(&at, 0, 12, &month) && take_pair(&at, 0, 31, &day) && month > 0 && day > 0;
 }
 
 uint64_t time_in(const char *word)

@@ -59,7 +59,7 @@ $(made)/libopgp.so.$(abi): $(made)/libopgp.a c/opgp.map
 	$(CC) -shared $(LDFLAGS) -Wl,-soname,libopgp.so.$(abi) -Wl,--version-script=c/opgp.map -Wl,-z,defs -Wl,-z,relro -Wl,-z,now -o $@ \
 		-Wl,--whole-archive $(made)/libopgp.a -Wl,--no-whole-archive
 
-$(made)/opgp-verify: $(of_verifier) $(wildcard c/verify-*.h) c/examples/open.h c/opgp.h $(made)/libopgp.a
+$(made)/opgp-verify: $(of_verifier) $(wildcard c/verify-*.h) c/opgp.h $(made)/libopgp.a
 	$(CC) $(strict) $(CFLAGS) $(LDFLAGS) -pthread $(of_verifier) $(made)/libopgp.a -lcrypto -o $@
 
 # Other programs' command lines: opgp-verify does what the name says by which it is started. (The kit wants no symbolic links in here.)

@@ -1,8 +1,8 @@
 /* Verifies the signatures of a keyring by OpenSSL's libcrypto: a line for each, as `opgp check` writes it, with the verdict good,
  * bad or undecided, and after undecided why. With --signature it judges detached signatures over a document (10.4) by the keys of
  * keyrings: a line for each, as `opgp digest` writes it, and after good why it isn't to be believed, if it isn't. With --cleartext it
- * does so with a message that has its document (7). Under the names of other programs it does that with their command lines. Section
- * numbers are those of RFC 9580.
+ * does so with a message that has its document (7). Under the names of other programs it does that with their command lines. With
+ * --verdicts it writes a file of verdicts, which other programs take for those on a keyring. Section numbers are those of RFC 9580.
  *
  * Of a keyring `good` says that the issuer's key made the signature over what `opgp octets` writes, and nothing of whether the
  * signature, the key or what it certifies is valid: expiries, revocations and key flags aren't looked at.
@@ -12,8 +12,8 @@
 #define _GNU_SOURCE /* for sched_getaffinity */
 #include <opgp.h>
 
-#include "examples/open.h"
 #include "verify-arithmetic.h"
+#include "verify-hints.h"
 #include "verify-judging.h"
 #include "verify-names.h"
 #include "verify-output.h"
@@ -25,6 +25,7 @@
 #include <pthread.h>
 #include <sched.h>
 #include <stdatomic.h>
+#include <stdlib.h>
 #include <string.h>
 #include <unistd.h>
 
@@ -266,6 +267,7 @@ struct task {
     const char *name; /* of the keyring, or of the document; NULL or -: standard input */
     const char *policy, *require, *jobs, *at, *malformed;
     bool wants_states;     /* how the parts of the keyring stand, in place of its signatures */
+    bool wants_verdicts;   /* a file of verdicts on them: by arithmetic alone, and for this keyring alone */
     const char *signature; /* the file of the signatures over the document; NULL: those of the keyring, or */
     bool is_message;       /* the document is a cleartext message, which has them */
     const char *output;    /* the file for the document of that; NULL: it isn't written */
@@ -320,10 +322,30 @@ static uint32_t policy_of(const struct task *task)
     return !task->policy || strcmp(task->policy, "usual") == 0 ? OPGP_POLICY_USUAL : OPGP_POLICY_ANY;
 }
 
+/* Writes the first line of a file of verdicts: on which keyring they are, and how many; false if memory ran out. */
+static bool print_heading(const struct run *run)
+{
+    uint8_t *octets, digest[SHA256_SIZE];
+    size_t size;
+    bool is_done = opgp_write(run->keyring, false, &octets, &size) == OPGP_DONE && arithmetic_sha256(octets, size, digest);
+    if (is_done) {
+        printf("verdicts by arithmetic of keyring sha256 ");
+        for (size_t i = 0; i < sizeof digest; i++) {
+            printf("%02X", digest[i]);
+        }
+        printf(" rows %zu\n", run->job_count);
+    }
+    free(octets);
+    return is_done;
+}
+
 /* Writes the lines, and on standard error how many signatures are good and so on; the exit status. */
 static int told(const struct run *run, const struct task *task)
 {
     size_t counts[3] = {0, 0, 0}, unhashed = 0;
+    if (task->wants_verdicts && !print_heading(run)) {
+        return said(3, "out of memory");
+    }
     for (size_t row = 0; row < run->job_count; row++) {
         bool is_hashed = run->jobs[row].why == OPGP_WHY_HASHED;
         print_row(&run->jobs[row], row, signer_of(run, row), &run->findings[row]);
@@ -339,7 +361,8 @@ static int told(const struct run *run, const struct task *task)
     }
     fprintf(stderr, "opgp-verify: %zu good, %zu bad, %zu undecided, %zu not hashed\n", counts[OPGP_GOOD], counts[OPGP_BAD],
             counts[OPGP_UNDECIDED], unhashed);
-    return counts[OPGP_BAD] > 0 || (task->require && counts[OPGP_GOOD] == 0) ? 1 : 0;
+    bool is_wanting = counts[OPGP_BAD] > 0 || (task->require && counts[OPGP_GOOD] == 0);
+    return is_wanting && !task->wants_verdicts ? 1 : 0; /* a file of verdicts is whole, whatever it says */
 }
 
 /* What was found of the signature of a question; all of the keyring's were asked about. */
@@ -373,7 +396,8 @@ static int told_states(struct run *run, const struct task *task)
 static int verified(struct run *run, const struct task *task)
 {
     int status = 3;
-    run->decisive = task->wants_states || has_no_policy(task) ? 0 : decisive_by(policy_of(task)); /* the rule has doubts of its own */
+    bool is_bare = task->wants_states || task->wants_verdicts || has_no_policy(task); /* the rule has doubts of its own */
+    run->decisive = is_bare ? 0 : decisive_by(policy_of(task));
     if (opgp_keys(run->keyring, &run->keys, &run->key_count) == OPGP_DONE
         && opgp_jobs(run->keyring, &run->jobs, &run->job_count) == OPGP_DONE) {
         run->findings = calloc(run->job_count + 1, sizeof *run->findings);
@@ -397,18 +421,38 @@ static int cannot_read(const char *name)
     return 3;
 }
 
+/* Parses a keyring; 0, or the exit status, and standard error says why. */
+static int opened(const uint8_t *octets, size_t size, const struct task *task, opgp_keyring **keyring)
+{
+    uint64_t skipped = 0;
+    opgp_limits limits;
+    opgp_fault fault;
+    char text[OPGP_FAULT_ROOM];
+    opgp_usual_limits(&limits);
+    limits.policies |= refuses_malformed(task) ? 0 : OPGP_KEEP_MALFORMED;
+    uint32_t status = octets ? opgp_open(octets, size, &limits, keyring, &fault) : OPGP_MEMORY;
+    if (status == OPGP_REFUSED) {
+        fprintf(stderr, "%s\n", opgp_fault_text(&fault, text));
+        hint_of_fault("opgp-verify", INTAKE_ONE, octets, size, &fault);
+        return 1;
+    }
+    status = status == OPGP_DONE ? opgp_skipped(*keyring, &skipped) : status;
+    hint_of_skipped("opgp-verify", skipped);
+    return status == OPGP_DONE ? 0 : said(3, opgp_status_text(status));
+}
+
 /* Opens the keyring of this name, and verifies its signatures. */
 static int verified_keyring(const char *name, const struct task *task)
 {
-    int status;
-    opgp_limits limits;
+    size_t size;
+    opgp_keyring *keyring = NULL;
     FILE *file = open_named(name);
     if (!file) {
         return cannot_read(name);
     }
-    opgp_usual_limits(&limits);
-    limits.policies |= refuses_malformed(task) ? 0 : OPGP_KEEP_MALFORMED;
-    opgp_keyring *keyring = open_whole(file, "opgp-verify", &limits, &status);
+    uint8_t *octets = read_all(file, &size);
+    int status = octets && ferror(file) ? said(3, "read failed") : opened(octets, size, task, &keyring);
+    free(octets);
     close_named(file);
     if (keyring) {
         struct run run = {.keyring = keyring};
@@ -500,7 +544,7 @@ static int verified_document(const char *name, const struct task *task)
         errno = EEXIST;
         return cannot_write(task->output);
     }
-    struct judging *judging = judging_new("opgp-verify", open_named);
+    struct judging *judging = judging_new("opgp-verify", open_named, INTAKE_OPTIONS);
     if (!judging) {
         return said(3, "out of memory");
     }
@@ -534,13 +578,14 @@ static const char help[] =
     "      --output <FILE>    write its text to this file, which must not exist, if the exit status is 0\n"
     "      --keyring <FILE>   a keyring with the signers, one for each time that this is given; or '-'\n"
     "      --state            how each key, user ID and attribute of the keyring stands\n"
+    "      --verdicts         a file of verdicts on the keyring, by arithmetic alone, for 'opgp state --verdicts' and\n"
+    "                         'opgp write --bound --verdicts'; its first line says on which keyring they are\n"
     "      --at <TIME>        the present time for --signature, --cleartext and --state: seconds since 1970, or\n"
     "                         a date in UTC, such as 2026-11-20 or 2026-11-20T08:30:00Z [default: the clock's]\n"
     "      --policy <POLICY>  usual: SHA-1, RSA keys of fewer than 2048 bits and other keys of less than\n"
     "                         112 bits of strength are undecided, and bind no key with --signature or\n"
     "                         --state; any: they are verified too; none: so is what has an unknown critical\n"
-    "                         subpacket, for 'opgp state --verdicts' [default: usual] [possible values: usual,\n"
-    "                         any, none]\n"
+    "                         subpacket [default: usual] [possible values: usual, any, none]\n"
     "      --require <WHAT>   good: end with 1 where no signature is good [possible values: good]\n"
     "      --malformed <HOW>  keep or refuse keyrings with malformed signatures, by which nothing is ever\n"
     "                         believed [default: keep] [possible values: keep, refuse]\n"
@@ -554,17 +599,19 @@ static const char help[] =
     "Of a keyring good is arithmetic: whether a key has expired, is revoked or may sign isn't judged. With\n"
     "--signature and --cleartext it is: a good one whose key isn't to be believed is 'good unbelieved' and\n"
     "why. --state writes what 'opgp state' does: what each key is of use for, from when until when, or why it isn't.\n"
-    "Exit status: 0 no signature is bad, of no signatures too; 1 one is bad, or none is good where that is\n"
-    "required, or with --signature and --cleartext none is good and believed, or an input is refused; 2 the\n"
-    "command line is invalid, or help was asked for; 3 reading, writing or memory failed.\n";
+    "Exit status: 0 no signature is bad, of no signatures too, or with --state and --verdicts all is written; 1\n"
+    "one is bad, or none is good where that is required, or with --signature and --cleartext none is good and\n"
+    "believed, or an input is refused; 2 the command line is invalid, or help was asked for; 3 reading, writing or\n"
+    "memory failed.\n";
 
 /* How to use the program for what the words name so far. */
 static const char *usage_of(const struct task *task)
 {
-    if (task->is_message && !task->wants_states) {
+    bool is_of_keyring = task->wants_states || task->wants_verdicts;
+    if (task->is_message && !is_of_keyring) {
         return "Usage: " OF_MESSAGES;
     }
-    return !task->wants_states && (task->signature || task->at || task->keyring_count > 0) ? "Usage: " OF_DOCUMENTS : USAGE;
+    return !is_of_keyring && (task->signature || task->at || task->keyring_count > 0) ? "Usage: " OF_DOCUMENTS : USAGE;
 }
 
 /* Says what is wrong with a word, between two texts. */
@@ -663,7 +710,7 @@ static int take_option(struct task *task, char ***words)
     const struct {
         const char *name;
         bool *is_there;
-    } alone[] = {{"--state", &task->wants_states}, {"--cleartext", &task->is_message}};
+    } alone[] = {{"--state", &task->wants_states}, {"--verdicts", &task->wants_verdicts}, {"--cleartext", &task->is_message}};
     for (size_t i = 0; i < sizeof alone / sizeof *alone; i++) {
         if (strcmp(**words, alone[i].name) == 0) {
             bool is_second = *alone[i].is_there;
@@ -681,11 +728,38 @@ static int take_option(struct task *task, char ***words)
     return wrong(task, "unexpected argument ", **words, " found");
 }
 
+/* Says what contradicts a file of verdicts; 0 if nothing does. */
+static int wrong_verdicts(const struct task *task)
+{
+    const struct {
+        bool is_there;
+        const char *end;
+    } others[] = {
+        {task->policy, " cannot be used with '--policy <POLICY>'"},
+        {task->wants_states, " cannot be used with '--state'"},
+        {task->signature, " cannot be used with '--signature <SIG>'"},
+        {task->is_message, " cannot be used with '--cleartext'"},
+        {task->keyring_count > 0, " cannot be used with '--keyring <FILE>'"},
+        {task->at, " cannot be used with '--at <TIME>'"},
+        {task->require, " cannot be used with '--require <WHAT>'"},
+    };
+    for (size_t i = 0; i < sizeof others / sizeof *others; i++) {
+        if (others[i].is_there) {
+            return wrong(task, "the argument ", "--verdicts", others[i].end);
+        }
+    }
+    return 0;
+}
+
 /* Says what is wrong with the task as a whole; 0 if nothing is. */
 static int wrong_task(const struct task *task)
 {
     size_t inputs = !task->name || is_input(task->name) ? 1 : 0;
     bool judges = task->signature || task->is_message;
+    int status = task->wants_verdicts ? wrong_verdicts(task) : 0;
+    if (status != 0) {
+        return status;
+    }
     if (task->at && !judges && !task->wants_states) {
         return wrong(task, "the argument ", "--at <TIME>", " cannot be used without '--signature <SIG>', '--cleartext' or '--state'");
     }

@@ -112,6 +112,10 @@ IS_AT(opgp_revocation, digest_size, 8);
 IS_AT(opgp_revocation, digest, 9);
 IS_AT(opgp_revocation, reserved, 73);
 
+_Static_assert(sizeof(opgp_place) == 16, "opgp_place");
+IS_AT(opgp_place, certificate, 0);
+IS_AT(opgp_place, component, 8);
+
 _Static_assert(sizeof(opgp_found_block) == 32, "opgp_found_block");
 IS_AT(opgp_found_block, at, 0);
 IS_AT(opgp_found_block, size, 8);
@@ -262,6 +266,12 @@ unsigned opgp_wrong_limit(const opgp_limits *limits)
         }
     }
     return sizeof given / sizeof *given;
+}
+
+uint32_t opgp_skipped(const opgp_keyring *keyring, uint64_t *count)
+{
+    opgp_keyring *it = enter(keyring);
+    return leave(it, opgp_ring_skipped(&it->ring, count));
 }
 
 uint32_t opgp_begin(const opgp_limits *limits, opgp_reader *reader)
@@ -840,11 +850,18 @@ struct judging {
     size_t key_count;
     opgp_job *jobs; /* of the document */
     uint8_t *made;
+    opgp_subpacket *subpackets; /* of its signatures, in order, and their data */
+    uint8_t *data;
     size_t count, good;
     opgp_verdict found[OPGP_MOST_SIGNATURES];
-    uint8_t whys[OPGP_MOST_SIGNATURES]; /* why each isn't believed */
-    bool *has_signer;                   /* of each certificate, whether the key of a good one is in it */
-    uint8_t *verdicts;                  /* on the rows of the keyring, but only of those certificates */
+    uint8_t whys[OPGP_MOST_SIGNATURES];      /* why each isn't believed */
+    size_t signers[OPGP_MOST_SIGNATURES];    /* the row of its signer's key, where that is so */
+    size_t firsts[OPGP_MOST_SIGNATURES + 1]; /* the number of its first subpacket, and behind the last one how many there are */
+    bool *has_signer;                        /* of each certificate, whether it says of a good one's key if that is believed */
+    uint8_t *verdicts;                       /* on the rows of the keyring, but only of those certificates */
+    opgp_place *places;                      /* room for that of each key, */
+    uint8_t *of_places;                      /* the why of each place, */
+    size_t *rows;                            /* and its key's row */
 };
 
 /* Whether the key in this row is the one that made a signature over the document. */
@@ -854,20 +871,116 @@ static bool is_signer(const struct judging *it, size_t row, size_t key)
     return one->version == other->version && memcmp(one->print, other->print, sizeof one->print) == 0;
 }
 
-/* Finds the verdicts on the document's signatures, and in which certificates the signers of good ones are. */
-static uint32_t find_signers(struct judging *it, opgp_verifier *verify, void *context)
+/* Makes the table of the subpackets of the signatures over a document. */
+static uint32_t fill_subpackets(struct judging *it, opgp_document *document)
 {
-    it->has_signer = room_for(it->key_count ? it->keys[it->key_count - 1].certificate + 1 : 0, sizeof *it->has_signer);
-    for (size_t row = 0; it->has_signer && row < it->count; row++) {
+    opgp_sizes sizes = {0, 0};
+    uint32_t status = opgp_document_subpackets(document, NULL, 0, NULL, 0, &sizes);
+    if (status == OPGP_ROOM) {
+        it->subpackets = room_for(sizes.rows, sizeof *it->subpackets);
+        it->data = room_for(sizes.bytes, 1);
+        status = !it->subpackets || !it->data ? OPGP_MEMORY
+                                              : opgp_document_subpackets(document, it->subpackets, (size_t)sizes.rows, it->data,
+                                                                         (size_t)sizes.bytes, &sizes);
+    }
+    for (size_t row = 0, at = 0; status == OPGP_DONE && row <= it->count; row++) {
+        while (at < sizes.rows && it->subpackets[at].hang < row) {
+            at++;
+        }
+        it->firsts[row] = at;
+    }
+    return status;
+}
+
+/* Whether two signatures over the document have the same subpackets, in the same areas. */
+static bool has_same_subpackets(const struct judging *it, size_t row, size_t other)
+{
+    size_t count = it->firsts[row + 1] - it->firsts[row];
+    bool is_same = count == it->firsts[other + 1] - it->firsts[other];
+    for (size_t i = 0; is_same && i < count; i++) {
+        const opgp_subpacket *one = &it->subpackets[it->firsts[row] + i], *two = &it->subpackets[it->firsts[other] + i];
+        is_same = one->kind == two->kind && one->is_critical == two->is_critical && one->is_hashed == two->is_hashed
+                  && one->size == two->size && memcmp(it->data + one->at, it->data + two->at, (size_t)one->size) == 0;
+    }
+    return is_same;
+}
+
+/* Whether two signatures over the document are equal in all that judging looks at. */
+static bool is_equal(const struct judging *it, size_t row, size_t other)
+{
+    const opgp_job *one = &it->jobs[row], *two = &it->jobs[other];
+    size_t size = (size_t)(one->sizes[0] + one->sizes[1]) + one->issuer_size;
+    return one->signer == two->signer && one->version == two->version && one->kind == two->kind && one->algorithm == two->algorithm
+           && one->hash == two->hash && one->sizes[0] == two->sizes[0] && one->sizes[1] == two->sizes[1]
+           && one->issuer_size == two->issuer_size && memcmp(one->digest, two->digest, sizeof one->digest) == 0
+           && memcmp(it->made + one->at, it->made + two->at, size) == 0 && has_same_subpackets(it, row, other);
+}
+
+/* Finds the verdicts on the document's signatures. */
+static void find_good(struct judging *it, opgp_verifier *verify, void *context)
+{
+    for (size_t row = 0; row < it->count; row++) {
         opgp_question question = question_of(it->keyring, row, &it->jobs[row], it->made);
         it->found[row] = verdict_of(&question, verify, context);
-        it->whys[row] = OPGP_NOT_GOOD;
         it->good += it->found[row] == OPGP_GOOD;
-        for (size_t key = 0; it->found[row] == OPGP_GOOD && key < it->key_count; key++) {
-            it->has_signer[it->keys[key].certificate] |= is_signer(it, row, key);
+        it->whys[row] = OPGP_NOT_GOOD;
+        it->signers[row] = question.signer ? (size_t)it->jobs[row].signer : it->key_count;
+    }
+}
+
+/* Whether an equal signer made a good signature in front of this one. */
+static bool is_marked(const struct judging *it, size_t row)
+{
+    for (size_t other = 0; other < row; other++) {
+        if (it->found[other] == OPGP_GOOD && it->jobs[other].signer == it->jobs[row].signer) {
+            return true;
         }
     }
-    return it->has_signer ? OPGP_DONE : OPGP_MEMORY;
+    return false;
+}
+
+/* Whether a signature of a keyring may bind a subkey to its certificate. Where none may, it is unbound, whatever else is found. */
+static bool may_bind(const opgp_job *job, const opgp_key *key)
+{
+    return job->kind == OPGP_SIGNATURE_SUBKEY_BINDING && job->component == key->component && job->why == OPGP_WHY_HASHED && !job->is_bad
+           && job->signer != OPGP_NONE;
+}
+
+/* Marks the certificates that have the signer of a good signature over the document, and whose own signatures say whether it is believed
+ * there, or why not at its first place. Both tables are in the order of the certificates. */
+static void mark_signer(struct judging *it, size_t row)
+{
+    const opgp_keyring *keyring = it->keyring;
+    size_t next = 0;
+    for (size_t key = (size_t)it->jobs[row].signer; key < it->key_count; key++) {
+        uint64_t certificate = it->keys[key].certificate;
+        if (!is_signer(it, row, key)) {
+            continue;
+        }
+        bool counts = key == it->jobs[row].signer || it->keys[key].component == OPGP_NONE;
+        while (next < keyring->job_sizes.rows && keyring->jobs[next].certificate < certificate) {
+            next++;
+        }
+        for (size_t at = next; !counts && at < keyring->job_sizes.rows && keyring->jobs[at].certificate == certificate; at++) {
+            counts = may_bind(&keyring->jobs[at], &it->keys[key]);
+        }
+        it->has_signer[certificate] |= counts;
+    }
+}
+
+/* Marks them for each signer of good ones, once. */
+static uint32_t mark_signers(struct judging *it)
+{
+    const opgp_job *jobs;
+    size_t count;
+    uint32_t status = opgp_jobs(it->keyring, &jobs, &count);
+    it->has_signer = room_for(it->key_count ? it->keys[it->key_count - 1].certificate + 1 : 0, sizeof *it->has_signer);
+    for (size_t row = 0; status == OPGP_DONE && it->has_signer && row < it->count; row++) {
+        if (it->found[row] == OPGP_GOOD && !is_marked(it, row)) {
+            mark_signer(it, row);
+        }
+    }
+    return status == OPGP_DONE && !it->has_signer ? OPGP_MEMORY : status;
 }
 
 /* The verdict on the signature in a row of a keyring. A key revocation is over the primary key alone, wherever it is (5.2.1.11): so
@@ -950,20 +1063,61 @@ static uint32_t find_verdicts(const opgp_keyring *keyring, const bool *of_certif
     return status == OPGP_DONE && !*verdicts ? OPGP_MEMORY : status;
 }
 
-/* Finds why a good signature isn't believed: at no place of its key, and then what is so at the first one. */
+/* Finds the places of the key that made a signature over the document; how many they are. */
+static size_t find_places(struct judging *it, size_t row)
+{
+    size_t count = 0;
+    for (size_t key = 0; key < it->key_count; key++) {
+        if (is_signer(it, row, key)) {
+            it->places[count] = (opgp_place){it->keys[key].certificate, it->keys[key].component};
+            it->rows[count++] = key;
+        }
+    }
+    return count;
+}
+
+/* Finds why a good signature isn't believed: at no place of its key, and then what is so at the first one. An equal one in front of it has
+ * the same answer. */
 static uint32_t find_why(struct judging *it, opgp_document *document, size_t row, uint32_t policy, uint64_t now)
 {
-    opgp_keyring *keyring = enter(it->keyring);
-    uint32_t status = OPGP_DONE;
-    for (size_t key = 0; status == OPGP_DONE && key < it->key_count && it->whys[row] != OPGP_BELIEVED; key++) {
-        uint8_t why = OPGP_NOT_GOOD;
-        if (is_signer(it, row, key)) {
-            status = opgp_document_standing(document, &keyring->ring, it->verdicts, (size_t)keyring->job_sizes.rows, policy, row,
-                                            it->keys[key].certificate, it->keys[key].component, now, &why);
+    for (size_t other = 0; other < row; other++) {
+        if (it->found[other] == OPGP_GOOD && is_equal(it, row, other)) {
+            it->whys[row] = it->whys[other];
+            it->signers[row] = it->signers[other];
+            return OPGP_DONE;
         }
-        it->whys[row] = why == OPGP_BELIEVED || it->whys[row] == OPGP_NOT_GOOD ? why : it->whys[row];
+    }
+    uint64_t size;
+    size_t count = find_places(it, row), best = 0;
+    opgp_keyring *keyring = enter(it->keyring);
+    uint32_t status = opgp_document_standings(document, &keyring->ring, it->verdicts, (size_t)keyring->job_sizes.rows, policy, row,
+                                              it->places, count, now, it->of_places, count, &size);
+    for (size_t place = 0; status == OPGP_DONE && place < count && it->of_places[best] != OPGP_BELIEVED; place++) {
+        best = it->of_places[place] == OPGP_BELIEVED ? place : 0;
+    }
+    if (status == OPGP_DONE) {
+        it->whys[row] = it->of_places[best];
+        it->signers[row] = it->rows[best];
     }
     return leave(keyring, status);
+}
+
+/* Finds why the good signatures aren't believed. */
+static uint32_t find_whys(struct judging *it, opgp_document *document, uint32_t policy, uint64_t now, opgp_verifier *verify, void *context)
+{
+    uint32_t status = mark_signers(it);
+    status = status == OPGP_DONE ? find_verdicts(it->keyring, it->has_signer, verify, context, &it->verdicts) : status;
+    status = status == OPGP_DONE ? fill_subpackets(it, document) : status;
+    it->places = room_for(it->key_count, sizeof *it->places);
+    it->of_places = room_for(it->key_count, sizeof *it->of_places);
+    it->rows = room_for(it->key_count, sizeof *it->rows);
+    if (status == OPGP_DONE && (!it->places || !it->of_places || !it->rows)) {
+        status = OPGP_MEMORY;
+    }
+    for (size_t row = 0; status == OPGP_DONE && row < it->count; row++) {
+        status = it->found[row] == OPGP_GOOD ? find_why(it, document, row, policy, now) : OPGP_DONE;
+    }
+    return status;
 }
 
 /* Finds all of that. */
@@ -972,12 +1126,21 @@ static uint32_t judge(struct judging *it, opgp_document *document, uint32_t poli
 {
     uint32_t status = opgp_keys(it->keyring, &it->keys, &it->key_count);
     status = status == OPGP_DONE ? opgp_signatures(document, it->keyring, &it->jobs, &it->count, &it->made) : status;
-    status = status == OPGP_DONE ? find_signers(it, verify, context) : status;
-    status = status == OPGP_DONE && it->good > 0 ? find_verdicts(it->keyring, it->has_signer, verify, context, &it->verdicts) : status;
-    for (size_t row = 0; status == OPGP_DONE && row < it->count; row++) {
-        status = it->found[row] == OPGP_GOOD ? find_why(it, document, row, policy, now) : OPGP_DONE;
+    if (status == OPGP_DONE) {
+        find_good(it, verify, context);
     }
-    return status;
+    return status == OPGP_DONE && it->good > 0 ? find_whys(it, document, policy, now, verify, context) : status;
+}
+
+/* The question about a signature over the document that is reported: by its signer's key where that is judged. */
+static opgp_question reported(const struct judging *it, size_t row)
+{
+    opgp_question question = question_of(it->keyring, row, &it->jobs[row], it->made);
+    question.signer = question.signer ? &it->keys[it->signers[row]] : NULL;
+    for (unsigned k = 0; question.signer && k < 4; k++) {
+        question.key[k] = opgp_key_field(it->keyring, question.signer, k);
+    }
+    return question;
 }
 
 uint32_t opgp_judge(opgp_document *document, const opgp_keyring *keyring, uint32_t policy, uint64_t now,
@@ -987,13 +1150,18 @@ uint32_t opgp_judge(opgp_document *document, const opgp_keyring *keyring, uint32
     uint32_t status = policy > OPGP_POLICY_ANY ? OPGP_LIMITS : opgp_merged(keyring, &it.keyring);
     status = status == OPGP_DONE ? judge(&it, document, policy, now, verify, context) : status;
     for (size_t row = 0; status == OPGP_DONE && row < it.count; row++) {
-        opgp_question question = question_of(it.keyring, row, &it.jobs[row], it.made);
+        opgp_question question = reported(&it, row);
         status = report(context, &question, it.found[row], it.whys[row]) == 0 ? OPGP_DONE : OPGP_ENDED;
     }
     free(it.jobs);
     free(it.made);
+    free(it.subpackets);
+    free(it.data);
     free(it.has_signer);
     free(it.verdicts);
+    free(it.places);
+    free(it.of_places);
+    free(it.rows);
     return status;
 }
 
@@ -1042,6 +1210,24 @@ uint32_t opgp_states(const opgp_keyring *keyring, uint32_t policy, uint64_t at, 
     }
     *count = *rows ? (size_t)found : 0;
     return status;
+}
+
+/* A file of verdicts has more than ROW octets for each of its rows, so that room for so many is nearly always enough. */
+uint32_t opgp_read_verdicts(const opgp_keyring *keyring, const uint8_t *file, size_t n, uint8_t **verdicts, size_t *count)
+{
+    enum { ROW = 32 };
+    const uint8_t nothing = 0;
+    uint8_t *room = NULL;
+    uint64_t wanted = n / ROW;
+    opgp_keyring *it = enter(keyring);
+    uint32_t status = OPGP_ROOM;
+    while (status == OPGP_ROOM) {
+        size_t size = (size_t)wanted;
+        free(room);
+        room = room_for(wanted, 1);
+        status = room ? opgp_ring_verdicts(&it->ring, file || n > 0 ? file : &nothing, n, room, size, &wanted) : OPGP_MEMORY;
+    }
+    return leave(it, give(status, room, wanted, verdicts, count));
 }
 
 /* ---- Texts */

@@ -43,7 +43,8 @@ extern "C" {
  * one is added. New in 3: opgp_document and its calls, opgp_signatures, opgp_canonical, opgp_state and opgp_ring_states,
  * opgp_revocation and opgp_ring_revocations, opgp_ring_standing, opgp_document_standing, opgp_judge, opgp_states and
  * opgp_revocations, and opgp_cleartext_open; opgp_ring_choose, opgp_choose, opgp_ring_pick, opgp_pick, opgp_merged,
- * opgp_find_blocks and opgp_user_id; the statuses 8 and 9; and the why 6. */
+ * opgp_find_blocks and opgp_user_id; opgp_place, opgp_document_standings, opgp_ring_verdicts, opgp_ring_skipped, opgp_read_verdicts
+ * and opgp_skipped; the statuses 8 and 9; and the why 6. */
 #define OPGP_ABI 3
 
 /* The version of the library, for people. */
@@ -57,7 +58,8 @@ enum {
     OPGP_MEMORY = 3,  /* out of memory, or there is more than a size_t counts */
     OPGP_LIMITS = 4,  /* a limit is out of its range, or there is no such policy or mode */
     OPGP_CLOSED = 5,  /* the handle holds nothing, or another call is using it */
-    OPGP_NO_ROW = 6,  /* no such row, or its signature isn't hashed; no such certificate, name or fault; no part is complete */
+    OPGP_NO_ROW = 6,  /* no such row, or its signature isn't hashed; no such certificate, name or fault; no part is complete; no file of
+                         verdicts on this keyring */
     OPGP_ENDED = 7,   /* the input of the reader, or the document, has ended; or the reporter ended opgp_check */
     OPGP_MANY = 8,    /* there are more signatures than one document is hashed for: OPGP_MOST_SIGNATURES */
     OPGP_GOING = 9    /* the document hasn't ended */
@@ -358,6 +360,12 @@ typedef struct opgp_state {
     uint8_t reserved[7];
 } opgp_state;
 
+/* The place of a key. */
+typedef struct opgp_place {
+    uint64_t certificate; /* the number of its certificate */
+    uint64_t component;   /* the number of the component that it is; OPGP_NONE for a primary key */
+} opgp_place;
+
 /* An armored block in a text. */
 typedef struct opgp_found_block {
     uint64_t at;          /* where it begins in the text: the first octet of its `-----BEGIN` */
@@ -462,6 +470,18 @@ OPGP_API uint32_t opgp_ring_open_mode(const uint8_t *in, size_t n, uint32_t mode
  * Proved: opgp_ring_clear leaves the handle closed. */
 OPGP_API void opgp_ring_close(opgp_ring ring);
 OPGP_API void opgp_ring_clear(opgp_ring *ring);
+
+/* Says in *count how many octets of the input lie outside of its armored blocks and were skipped, if some of them are in no text: packets,
+ * perhaps. It is 0 if all of that is text, for binary input, and for a ring that another call made.
+ *
+ * OPGP_DONE, OPGP_CLOSED.
+ *
+ * Proved:
+ *
+ * - OPGP_DONE: *count is the number that `opgp` says was skipped.
+ * - OPGP_CLOSED is returned if and only if the handle holds nothing, and *count is unchanged then.
+ * - The handle holds what it held. */
+OPGP_API uint32_t opgp_ring_skipped(opgp_ring *ring, uint64_t *count);
 
 /* Fill the caller's tables, rows[0 .. row_room) and bytes[0 .. byte_room), and *sizes with the room that they need:
  *
@@ -572,6 +592,24 @@ OPGP_API uint32_t opgp_ring_standing(opgp_ring *ring, const uint8_t *verdicts, s
  * - The handle holds what it held. */
 OPGP_API uint32_t opgp_ring_states(opgp_ring *ring, const uint8_t *verdicts, size_t count, uint32_t policy, uint64_t at,
                                    opgp_state *rows, size_t row_room, uint64_t *size);
+
+/* Reads a file of verdicts on the signatures of the keyring, file[0 .. n), as `opgp-verify --verdicts` writes it, to verdicts[0 .. room):
+ * one for each row of the jobs, in order, which is OPGP_GOOD, OPGP_BAD or OPGP_UNDECIDED. *size is how many rows there are.
+ *
+ * The file's first line has the SHA2-256 of the keyring's packets, as opgp_ring_write writes them, so a file on another keyring is
+ * refused, and one that was made by a policy too.
+ *
+ * OPGP_DONE; OPGP_ROOM: the table is too short; OPGP_NO_ROW: the file isn't one of verdicts on this keyring; OPGP_MEMORY; OPGP_CLOSED. With
+ * the last three *size means nothing.
+ *
+ * Proved:
+ *
+ * - OPGP_DONE: the table begins with the verdicts that the file has, and is otherwise as it was.
+ * - OPGP_ROOM: it has less room than *size says.
+ * - OPGP_NO_ROW is returned only if the file isn't one of verdicts on this keyring.
+ * - With any status but OPGP_DONE the table is unchanged.
+ * - The handle holds what it held. */
+OPGP_API uint32_t opgp_ring_verdicts(opgp_ring *ring, const uint8_t *file, size_t n, uint8_t *verdicts, size_t room, uint64_t *size);
 
 /* Writes the digest of what the revocation of a primary key in a row of the jobs hashes to digest[0 .. room): that key alone, wherever
  * in its certificate the revocation is (5.2.1.11). *size is how much that is, 64 octets at most. So it can be verified where the
@@ -756,8 +794,9 @@ OPGP_API uint32_t opgp_document_octets(opgp_document *document, uint64_t row, ui
 
 /* Says in *why whether the signature in a row of opgp_document_jobs may be believed as one by a key of the keyring, where a verifier
  * finds it good, and it is read now, in seconds since 1970. The other arguments are those of opgp_ring_standing, and made is when the
- * signature says that it was made. Ask for each place where the issuer's key is: it is believed if it is at one of them. Of the document
- * only one thing counts: where it is a cleartext message's, the answer is OPGP_NO_DOCUMENT for signatures of another type than 01.
+ * signature says that it was made. Ask for each place where the issuer's key is, or opgp_document_standings of all at once: it is
+ * believed if it is at one of them. Of the document only one thing counts: where it is a cleartext message's, the answer is
+ * OPGP_NO_DOCUMENT for signatures of another type than 01.
  *
  * OPGP_DONE; OPGP_NO_ROW: there is no such key or row, or the signature is malformed; OPGP_LIMITS: there is no such policy;
  * OPGP_MEMORY; OPGP_CLOSED.
@@ -772,6 +811,25 @@ OPGP_API uint32_t opgp_document_octets(opgp_document *document, uint64_t row, ui
 OPGP_API uint32_t opgp_document_standing(opgp_document *document, opgp_ring *ring, const uint8_t *verdicts, size_t count,
                                          uint32_t policy, uint64_t row, uint64_t certificate, uint64_t component, uint64_t now,
                                          uint8_t *why);
+
+/* Says the same of several places at once: of each of places[0 .. place_count) what opgp_document_standing says in *why of it, in
+ * whys[0 .. room). *size is how many places these are. Where they come in the order of their certificates, the time is linear in the
+ * keyring and the places.
+ *
+ * OPGP_DONE; OPGP_ROOM: room is less than *size; OPGP_NO_ROW: there is no such row, its signature is malformed, or at one of the places
+ * there is no key; OPGP_LIMITS: there is no such policy; OPGP_MEMORY; OPGP_CLOSED. With the last four *size means nothing.
+ *
+ * Proved:
+ *
+ * - OPGP_DONE: the table begins with what opgp_document_standing says of each place, and is otherwise as it was.
+ * - OPGP_ROOM: it has less room than *size says.
+ * - OPGP_NO_ROW is returned only if there is no such row, its signature is malformed, or at one of the places there is no key.
+ * - OPGP_LIMITS is returned if and only if there is no such policy.
+ * - With any status but OPGP_DONE the table is unchanged.
+ * - The handles hold what they held. */
+OPGP_API uint32_t opgp_document_standings(opgp_document *document, opgp_ring *ring, const uint8_t *verdicts, size_t count,
+                                          uint32_t policy, uint64_t row, const opgp_place *places, size_t place_count, uint64_t now,
+                                          uint8_t *whys, size_t room, uint64_t *size);
 
 OPGP_API void opgp_document_close(opgp_document document);
 OPGP_API void opgp_document_clear(opgp_document *document);
@@ -888,6 +946,12 @@ typedef struct opgp_span {
 OPGP_API uint32_t opgp_open(const uint8_t *in, size_t n, const opgp_limits *limits, opgp_keyring **keyring, opgp_fault *fault);
 OPGP_API uint32_t opgp_open_mode(const uint8_t *in, size_t n, uint32_t mode, const opgp_limits *limits, opgp_keyring **keyring,
                                  opgp_fault *fault);
+
+/* How many octets of the input lie outside of its armored blocks and were skipped, if some are in no text, as opgp_ring_skipped says.
+ * Tell it to whoever gave the input: keys may be among them, which aren't in the keyring.
+ *
+ * OPGP_DONE. */
+OPGP_API uint32_t opgp_skipped(const opgp_keyring *keyring, uint64_t *count);
 
 /* Which of these limits is out of its range: its number in opgp_limits, from 0; 5 if there is no such policy; 6 if none is. */
 OPGP_API unsigned opgp_wrong_limit(const opgp_limits *limits);
@@ -1033,7 +1097,9 @@ OPGP_API uint32_t opgp_check(const opgp_keyring *keyring, opgp_verifier *verify,
 
 /* Gets the question about a signature over a document, the verdict on it, and why it isn't to be believed: OPGP_BELIEVED if it is,
  * else the first reason, as opgp_document_standing gives it; OPGP_NOT_GOOD if the verdict isn't OPGP_GOOD. The signer of the
- * question is NULL if the issuer's key isn't in the keyring. A number other than 0 ends opgp_judge. */
+ * question is the issuer's key at the first place at which the signature is believed, else at its first place, which is the row that the
+ * job names: so its certificate is that by whose signatures it is believed. NULL: that key isn't in the keyring. A number other than 0
+ * ends opgp_judge. */
 typedef int opgp_judge_reporter(void *context, const opgp_question *question, opgp_verdict verdict, uint8_t why);
 
 /* Judges the signatures over a document that has ended, by a policy (OPGP_POLICY_USUAL ..) and at a present time in seconds since
@@ -1043,11 +1109,12 @@ typedef int opgp_judge_reporter(void *context, const opgp_question *question, op
  * The verifier is called as opgp_check calls it:
  *
  * - for each signature over the document, whose job has OPGP_NONE as certificate;
- * - if one of them is good, for those in the certificates that have its signer, but for what another key certified (types 10 to 13
- *   and 30), which says nothing. What isn't found good counts for nothing, revocations too.
+ * - if one of them is good, for those in the certificates that have its signer as primary key, or at its first place, or where a
+ *   signature may bind it; but not for what another key certified (types 10 to 13 and 30), which says nothing. What isn't found good
+ *   counts for nothing, revocations too.
  *
  * Then the reporter is called for each signature over the document, in order. Where a key is in several places, one at which it is
- * believed is enough; else the reason is that of the first.
+ * believed is enough; else the reason is that of the first. Of equal signatures one is judged for all of them.
  *
  * Both get the context. They may make calls on the keyring and the document, but not close them. What a question points to lives
  * until opgp_judge returns, but for the signer, which is a row of opgp_keys of opgp_merged.
@@ -1073,6 +1140,13 @@ OPGP_API uint32_t opgp_revocations(const opgp_keyring *keyring, opgp_revocation 
  * OPGP_DONE; or *rows is NULL and *count 0: OPGP_LIMITS: there is no such policy; OPGP_MEMORY. */
 OPGP_API uint32_t opgp_states(const opgp_keyring *keyring, uint32_t policy, uint64_t at, opgp_verifier *verify, void *context,
                               opgp_state **rows, size_t *count);
+
+/* Reads a file of verdicts on the keyring's signatures, as opgp_ring_verdicts does: (*verdicts)[0 .. *count), for free(). They are on the
+ * rows of opgp_jobs. `file` may be NULL if n is 0.
+ *
+ * OPGP_DONE; OPGP_NO_ROW: the file isn't one of verdicts on this keyring; OPGP_MEMORY. With any but OPGP_DONE *verdicts is NULL, and
+ * *count 0. */
+OPGP_API uint32_t opgp_read_verdicts(const opgp_keyring *keyring, const uint8_t *file, size_t n, uint8_t **verdicts, size_t *count);
 
 /* What a status means, in a few words, or "unknown". The text is static. */
 OPGP_API const char *opgp_status_text(uint32_t status);

@@ -206,6 +206,25 @@ public:
         return std::vector<opgp_state>(rows, rows + count);
     }
 
+    /* The verdicts on the signatures, in order, that a file of opgp-verify --verdicts has. Throws std::out_of_range for any other file, and
+     * for one on another keyring. */
+    std::vector<uint8_t> verdicts(std::string_view file) const
+    {
+        uint8_t *found = nullptr;
+        std::size_t count = 0;
+        check(opgp_read_verdicts(get(), reinterpret_cast<const uint8_t *>(file.data()), file.size(), &found, &count));
+        std::unique_ptr<uint8_t, decltype(&std::free)> owned(found, &std::free);
+        return std::vector<uint8_t>(found, found + count);
+    }
+
+    /* How many octets outside of armored blocks were skipped, if some of them are in no text. */
+    uint64_t skipped() const
+    {
+        uint64_t count = 0;
+        check(opgp_skipped(get(), &count));
+        return count;
+    }
+
     /* The keyring of opgp.h. Throws std::logic_error if it was moved to another. */
     const opgp_keyring *get() const
     {

@@ -460,6 +460,13 @@ static opgp_verdict verdict_of(struct arithmetic *it, const opgp_question *quest
     }
 }
 
+/* ---- Digests */
+
+bool arithmetic_sha256(const uint8_t *octets, size_t size, uint8_t digest[SHA256_SIZE])
+{
+    return EVP_Digest(octets, size, digest, NULL, EVP_sha256(), NULL) == 1 && !ran_out;
+}
+
 /* ---- Questions */
 
 struct arithmetic *arithmetic_new(void)

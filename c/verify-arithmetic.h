@@ -42,6 +42,10 @@ const char *arithmetic_version(void);
 struct arithmetic *arithmetic_new(void);
 void arithmetic_free(struct arithmetic *it);
 
+/* The SHA2-256 of octets; false if memory ran out. */
+enum { SHA256_SIZE = 32 };
+bool arithmetic_sha256(const uint8_t *octets, size_t size, uint8_t digest[SHA256_SIZE]);
+
 /* The doubts that need no arithmetic, about a signature with these subpackets. */
 unsigned doubts_of(const opgp_job *job, const opgp_subpacket *subpackets, size_t count);
 

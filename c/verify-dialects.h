@@ -10,13 +10,14 @@
 
 dialect sopv, sqv, gpgv;
 
-/* What is to be judged, and how long after the present time a signature may be made. Without a file of signatures the document is a
- * cleartext message. */
+/* What is to be judged, how keyrings are given, and how long after the present time a signature may be made. Without a file of signatures
+ * the document is a cleartext message. */
 struct inputs {
     const char *signatures, *document;
     const char *const *keyrings;
     size_t keyring_count;
     FILE *(*open)(const char *name);
+    enum intake intake;
     uint64_t ahead;
 };
 

@@ -2,6 +2,7 @@
  * RFC 9580. */
 #include "verify-judging.h"
 
+#include "verify-hints.h"
 #include "verify-words.h"
 
 #include <errno.h>
@@ -11,19 +12,23 @@
 /* The most octets of a line that can be allowed. The text of a message is in memory anyway, and real ones have long lines. */
 #define MOST_LINE ((uint64_t)1 << 20)
 
-/* In place of a signature's number: all of them. */
-#define ALL SIZE_MAX
-
-/* What arithmetic said of a signature of the keyring, and to which question, as octets_of has it. */
+/* What arithmetic said of a signature, and to which question, as octets_of has it. */
 struct answer {
     uint8_t *asked;
     size_t size;
-    opgp_verdict verdict;
+    struct finding finding;
+};
+
+/* Those that were kept, in order. */
+struct answers {
+    struct answer *all;
+    size_t count, room;
 };
 
 struct judging {
     const char *program;
     FILE *(*open)(const char *name);
+    enum intake intake;
     bool refuses_malformed;
     opgp_document document;
     opgp_keyring *keyring; /* all that were read */
@@ -34,21 +39,20 @@ struct judging {
     opgp_subpacket *subpackets; /* of the document's signatures, in order */
     size_t subpacket_count;
 
-    struct answer *answers; /* of the first call of opgp_judge, in order */
-    size_t answer_count, answer_room;
+    uint64_t skipped; /* octets outside of the armored blocks of keyrings */
+
+    struct answers of_keyrings, of_document; /* of the first call of opgp_judge */
 
     /* Of the call of opgp_judge that is made now. */
     struct arithmetic *arithmetic;
     unsigned decisive;
-    size_t only;          /* the number of the signature that is taken from it; or ALL */
-    uint64_t certificate; /* the one whose signatures count; OPGP_NONE: all do */
+    bool is_again;                        /* it isn't the first one: what arithmetic says of the document's signatures is known */
+    bool is_taken[OPGP_MOST_SIGNATURES];  /* what is found of the signature is taken from it */
+    size_t next;                          /* the next of the answers on signatures of keyrings */
     struct finding findings[OPGP_MOST_SIGNATURES];
-    uint8_t standings[OPGP_MOST_SIGNATURES];
 
     struct judged rows[OPGP_MOST_SIGNATURES];
-    opgp_key signers[OPGP_MOST_SIGNATURES]; /* where a row has a key: that */
-    uint64_t homes[OPGP_MOST_SIGNATURES];   /* the certificate that judging_names found for it */
-    uint64_t times[OPGP_MOST_SIGNATURES];   /* the present time by which it was judged */
+    uint64_t homes[OPGP_MOST_SIGNATURES]; /* where a row has a key: the certificate of it, of the keyring merged */
     size_t count;
     char *texts[OPGP_MOST_SIGNATURES]; /* the user IDs, for free() */
     char whys[OPGP_MOST_SIGNATURES][OPGP_NAME_ROOM]; /* why they aren't hashed */
@@ -90,14 +94,26 @@ static enum outcome refused(const struct judging *it, const char *name, uint32_t
     return failed(it, status);
 }
 
+/* The same of a file of keys or signatures, with these octets, by a second line where there is one. */
+static enum outcome refused_packets(const struct judging *it, const char *name, enum intake intake, const uint8_t *octets, size_t size,
+                                    uint32_t status, const opgp_fault *fault)
+{
+    enum outcome outcome = refused(it, name, status, fault);
+    if (status == OPGP_REFUSED) {
+        hint_of_fault(it->program, intake, octets, size, fault);
+    }
+    return outcome;
+}
+
 /* ---- Reading */
 
-struct judging *judging_new(const char *program, FILE *(*open)(const char *name))
+struct judging *judging_new(const char *program, FILE *(*open)(const char *name), enum intake intake)
 {
     struct judging *it = calloc(1, sizeof *it);
     if (it) {
         it->program = program;
         it->open = open;
+        it->intake = intake;
     }
     return it;
 }
@@ -107,16 +123,22 @@ void judging_refuses_malformed(struct judging *it)
     it->refuses_malformed = true;
 }
 
+static void free_answers(struct answers *it)
+{
+    for (size_t i = 0; i < it->count; i++) {
+        free(it->all[i].asked);
+    }
+    free(it->all);
+}
+
 void judging_free(struct judging *it)
 {
     if (it) {
         for (size_t row = 0; row < it->count; row++) {
             free(it->texts[row]);
         }
-        for (size_t i = 0; i < it->answer_count; i++) {
-            free(it->answers[i].asked);
-        }
-        free(it->answers);
+        free_answers(&it->of_keyrings);
+        free_answers(&it->of_document);
         free(it->subpackets);
         free(it->text);
         opgp_close(it->keyring);
@@ -156,8 +178,9 @@ enum outcome judging_signatures(struct judging *it, const char *name)
     }
     opgp_usual_limits(&usual);
     uint32_t status = opgp_document_open(octets, size, OPGP_MODE_AUTO, &usual, &it->document, &fault);
+    outcome = status == OPGP_DONE ? STEP_DONE : refused_packets(it, name, INTAKE_NONE, octets, size, status, &fault);
     free(octets);
-    return status == OPGP_DONE ? STEP_DONE : refused(it, name, status, &fault);
+    return outcome;
 }
 
 /* Whether octets that are no cleartext message are another signed one: packets, or an armored text of them. */
@@ -204,10 +227,11 @@ const uint8_t *judging_text(const struct judging *it, size_t *size)
     return it->text;
 }
 
-static enum outcome read_keyring(const struct judging *it, const char *name, opgp_keyring **keyring)
+static enum outcome read_keyring(struct judging *it, const char *name, opgp_keyring **keyring)
 {
     size_t size;
     uint8_t *octets;
+    uint64_t skipped = 0;
     opgp_limits limits;
     opgp_fault fault;
     enum outcome outcome = read_named(it, name, &octets, &size);
@@ -217,8 +241,11 @@ static enum outcome read_keyring(const struct judging *it, const char *name, opg
     opgp_usual_limits(&limits);
     limits.policies |= it->refuses_malformed ? 0 : OPGP_KEEP_MALFORMED;
     uint32_t status = opgp_open(octets, size, &limits, keyring, &fault);
+    status = status == OPGP_DONE ? opgp_skipped(*keyring, &skipped) : status;
+    it->skipped += skipped;
+    outcome = status == OPGP_DONE ? STEP_DONE : refused_packets(it, name, it->intake, octets, size, status, &fault);
     free(octets);
-    return status == OPGP_DONE ? STEP_DONE : refused(it, name, status, &fault);
+    return outcome;
 }
 
 /* Makes the first of these keyrings all of them, in order: neighbours are joined until one is left, so that none is copied often. */
@@ -255,6 +282,7 @@ enum outcome judging_keyrings(struct judging *it, const char *const *names, size
     if (outcome == STEP_DONE) {
         it->keyring = keyrings[0];
         keyrings[0] = NULL;
+        hint_of_skipped(it->program, it->skipped);
     }
     for (size_t i = 0; keyrings && i < count; i++) {
         opgp_close(keyrings[i]);
@@ -343,11 +371,11 @@ static uint8_t *put_octets(uint8_t *room, const void *octets, size_t size)
     return room + sizeof size + size;
 }
 
-/* All that the answer to a question depends on, for free(): numbers of algorithms, the digest, what the signature's algorithm made, and
- * the key's material. NULL if memory ran out. */
-static uint8_t *octets_of(const opgp_question *question, size_t *size)
+/* All that the answer to a question about which there are these doubts depends on, for free(): the doubts, numbers of algorithms, the
+ * digest, what the signature's algorithm made, and the key's material. NULL if memory ran out. */
+static uint8_t *octets_of(const opgp_question *question, unsigned doubts, size_t *size)
 {
-    const uint8_t numbers[] = {question->job->algorithm, question->job->hash, question->signer->algorithm};
+    const uint8_t numbers[] = {(uint8_t)doubts, question->job->algorithm, question->job->hash, question->signer->algorithm};
     const opgp_span spans[] = {
         {numbers, sizeof numbers}, {question->job->digest, question->job->digest_size},
         question->made[0],         question->made[1],
@@ -366,39 +394,68 @@ static uint8_t *octets_of(const opgp_question *question, size_t *size)
 }
 
 /* Keeps the answer to a question. Where there is no memory for it, it isn't kept: the question can be asked again. */
-static void keep_answer(struct judging *it, const opgp_question *question, opgp_verdict verdict)
+static void keep_answer(struct answers *it, const opgp_question *question, unsigned doubts, struct finding finding)
 {
-    if (it->answer_count == it->answer_room) {
-        size_t room = 2 * it->answer_room + 16;
-        struct answer *more = realloc(it->answers, room * sizeof *more);
+    if (it->count == it->room) {
+        size_t room = 2 * it->room + 16;
+        struct answer *more = realloc(it->all, room * sizeof *more);
         if (!more) {
             return;
         }
-        it->answers = more;
-        it->answer_room = room;
+        it->all = more;
+        it->room = room;
     }
-    struct answer answer = {NULL, 0, verdict};
-    answer.asked = octets_of(question, &answer.size);
+    struct answer answer = {NULL, 0, finding};
+    answer.asked = octets_of(question, doubts, &answer.size);
     if (answer.asked) {
-        it->answers[it->answer_count++] = answer;
+        it->all[it->count++] = answer;
     }
 }
 
-/* Finds the answer to a question among those kept, from this one on, which is then the next one; NULL if it isn't there. */
-static const struct answer *find_answer(const struct judging *it, size_t *next, const opgp_question *question)
+/* Finds the answer to a question among those kept, from this one on, which is then the next one; false if it isn't there. */
+static bool is_known(const struct answers *it, size_t *next, const opgp_question *question, unsigned doubts, struct finding *found)
 {
     size_t size;
-    uint8_t *asked = octets_of(question, &size);
-    const struct answer *found = NULL;
-    while (asked && !found && *next < it->answer_count) {
-        const struct answer *one = &it->answers[(*next)++];
-        found = one->size == size && memcmp(one->asked, asked, size) == 0 ? one : NULL;
+    uint8_t *asked = octets_of(question, doubts, &size);
+    bool is_found = false;
+    while (asked && !is_found && *next < it->count) {
+        const struct answer *one = &it->all[(*next)++];
+        is_found = one->size == size && memcmp(one->asked, asked, size) == 0;
+        *found = is_found ? one->finding : *found;
     }
     free(asked);
+    return is_found;
+}
+
+/* Asks the key of a signature of a keyring: the rule has doubts of its own about those. A later call of opgp_judge asks in the order of the
+ * first one. */
+static opgp_verdict verify_of_keyring(struct judging *it, const opgp_question *question)
+{
+    struct finding found = {OPGP_UNDECIDED, NULL, 0};
+    if (!it->is_again || !is_known(&it->of_keyrings, &it->next, question, 0, &found)) {
+        found = arithmetic_of(it->arithmetic, question, 0, 0);
+    }
+    if (!it->is_again) {
+        keep_answer(&it->of_keyrings, question, 0, found);
+    }
+    return found.verdict;
+}
+
+/* Asks the key of a signature over the document, about which doubts decide; of equal ones once. */
+static struct finding found_of_document(struct judging *it, const opgp_question *question)
+{
+    size_t count, next = 0;
+    const opgp_subpacket *subpackets = subpackets_of(it, question->row, &count);
+    unsigned doubts = doubts_of(question->job, subpackets, count);
+    struct finding found = {OPGP_UNDECIDED, NULL, doubts};
+    if (!is_known(&it->of_document, &next, question, doubts, &found)) {
+        found = arithmetic_of(it->arithmetic, question, doubts, it->decisive);
+        keep_answer(&it->of_document, question, doubts, found);
+    }
     return found;
 }
 
-/* Asks the key of a signature. Doubts decide over the document's alone: the rule has its own about those of the keyring. */
+/* Finds the verdict on a signature. One over the document is good only in a call of opgp_judge from which it is taken. */
 static opgp_verdict verify(void *context, const opgp_question *question)
 {
     struct judging *it = context;
@@ -406,18 +463,12 @@ static opgp_verdict verify(void *context, const opgp_question *question)
         return OPGP_UNDECIDED;
     }
     if (question->job->certificate != OPGP_NONE) {
-        bool counts = it->certificate == OPGP_NONE || it->certificate == question->job->certificate;
-        opgp_verdict verdict = counts ? arithmetic_of(it->arithmetic, question, 0, 0).verdict : OPGP_UNDECIDED;
-        if (it->only == ALL) {
-            keep_answer(it, question, verdict);
-        }
-        return verdict;
+        return verify_of_keyring(it, question);
     }
-    size_t count;
-    const opgp_subpacket *subpackets = subpackets_of(it, question->row, &count);
-    unsigned doubts = doubts_of(question->job, subpackets, count);
-    it->findings[question->row] = arithmetic_of(it->arithmetic, question, doubts, it->decisive);
-    return it->findings[question->row].verdict;
+    if (!it->is_again) {
+        it->findings[question->row] = found_of_document(it, question);
+    }
+    return it->is_taken[question->row] ? it->findings[question->row].verdict : OPGP_UNDECIDED;
 }
 
 /* Writes octets in hexadecimal, and a NUL. */
@@ -515,30 +566,32 @@ static void fill_row(struct judging *it, const opgp_question *question)
     row->made = job->created;
     row->expires = expiry_of(job, subpackets, count);
     if (signer) {
-        it->signers[question->row] = *signer;
         put_digits(row->key, signer->print, signer->print_size);
         put_digits(row->key_id, signer->key_id, sizeof signer->key_id);
         put_key_name(row->key_name, question);
     }
 }
 
-/* Takes what was found of a signature. */
+/* Takes what was found of a signature: in the first call all of it, in a later one whether it is believed. opgp_judge reports it by the key
+ * in that certificate by whose signatures it is believed. */
 static int take(void *context, const opgp_question *question, opgp_verdict verdict, uint8_t why)
 {
     struct judging *it = context;
+    struct judged *row = &it->rows[question->row];
     if (memory_ran_out()) {
         return 1;
     }
     const opgp_job *job = question->job;
-    it->standings[question->row] = verdict == OPGP_GOOD ? why : OPGP_NOT_GOOD;
-    if (it->only == ALL) {
-        struct judged *row = &it->rows[question->row];
+    if (!it->is_again) {
         fill_row(it, question);
         struct finding found = is_asked(job, question->signer) ? it->findings[question->row] : found_without(job);
         row->verdict = verdict;
         row->why = row->is_hashed ? found.why : opgp_name_text(OPGP_WHYS, job->why, it->whys[question->row]);
-        row->standing = it->standings[question->row];
         it->count = question->row + 1;
+    }
+    if (it->is_taken[question->row]) {
+        row->standing = verdict == OPGP_GOOD ? why : OPGP_NOT_GOOD;
+        it->homes[question->row] = question->signer ? question->signer->certificate : OPGP_NONE;
     }
     return 0;
 }
@@ -547,6 +600,7 @@ static int take(void *context, const opgp_question *question, opgp_verdict verdi
 static enum outcome judge(struct judging *it, uint32_t policy, uint64_t now)
 {
     it->decisive = decisive_by(policy);
+    it->next = 0;
     it->arithmetic = arithmetic_new();
     uint32_t status = it->arithmetic ? opgp_judge(&it->document, it->keyring, policy, now, verify, take, it) : OPGP_MEMORY;
     arithmetic_free(it->arithmetic);
@@ -580,75 +634,42 @@ static uint32_t take_issuers(struct judging *it)
 enum outcome judging_verdicts(struct judging *it, uint32_t policy, uint64_t now)
 {
     uint32_t status = make_subpackets(it);
-    it->only = ALL;
-    it->certificate = OPGP_NONE;
-    enum outcome outcome = status == OPGP_DONE ? judge(it, policy, now) : failed(it, status);
-    for (size_t row = 0; row < it->count; row++) {
-        it->times[row] = now;
+    it->is_again = false;
+    for (size_t row = 0; row < OPGP_MOST_SIGNATURES; row++) {
+        it->is_taken[row] = true;
     }
-    return outcome;
+    return status == OPGP_DONE ? judge(it, policy, now) : failed(it, status);
 }
 
-/* Says in *standing what is found of one signature at a present time, by the signatures of one certificate or of all. */
-static enum outcome judge_one(struct judging *it, size_t row, uint32_t policy, uint64_t now, uint64_t certificate, uint8_t *standing)
+/* From the next call of opgp_judge those of the signatures that are left are taken that were made then. */
+static void take_made(struct judging *it, bool is_left[OPGP_MOST_SIGNATURES], uint64_t made)
 {
-    it->only = row;
-    it->certificate = certificate;
-    enum outcome outcome = judge(it, policy, now);
-    *standing = outcome == STEP_DONE ? it->standings[row] : OPGP_NOT_GOOD;
-    return outcome;
+    for (size_t row = 0; row < it->count; row++) {
+        it->is_taken[row] = is_left[row] && it->rows[row].made == made;
+        is_left[row] = is_left[row] && !it->is_taken[row];
+    }
 }
 
 enum outcome judging_ahead(struct judging *it, uint32_t policy, uint64_t now, uint64_t most)
 {
+    bool is_left[OPGP_MOST_SIGNATURES] = {false};
     enum outcome outcome = STEP_DONE;
+    for (size_t i = 0; i < it->count; i++) {
+        const struct judged *row = &it->rows[i];
+        bool is_future = row->verdict == OPGP_GOOD && row->standing == OPGP_IN_FUTURE;
+        is_left[i] = is_future && row->made > now && row->made - now <= most;
+    }
+    it->is_again = true;
     for (size_t i = 0; outcome == STEP_DONE && i < it->count; i++) {
-        struct judged *row = &it->rows[i];
-        if (row->verdict == OPGP_GOOD && row->standing == OPGP_IN_FUTURE && row->made > now && row->made - now <= most) {
-            it->times[i] = row->made;
-            outcome = judge_one(it, i, policy, row->made, OPGP_NONE, &row->standing);
+        if (is_left[i]) {
+            take_made(it, is_left, it->rows[i].made);
+            outcome = judge(it, policy, it->rows[i].made);
         }
     }
     return outcome;
 }
 
 /* ---- Names */
-
-static bool is_same_key(const opgp_key *one, const opgp_key *other)
-{
-    return one->version == other->version && memcmp(one->print, other->print, sizeof one->print) == 0;
-}
-
-/* Finds the certificate of a row's signer among these keys, which are those of the keyring, merged: the first one that has it; but if it
- * is believed, the first one by whose own signatures it is. Where none is, it isn't believed: its primary key isn't known. */
-static enum outcome find_home(struct judging *it, size_t row, uint32_t policy, const opgp_key *keys, size_t count)
-{
-    uint64_t first = OPGP_NONE, last = OPGP_NONE;
-    for (size_t key = 0; key < count; key++) {
-        if (is_same_key(&keys[key], &it->signers[row])) {
-            first = first == OPGP_NONE ? keys[key].certificate : first;
-            last = keys[key].certificate;
-        }
-    }
-    it->homes[row] = first;
-    if (it->rows[row].standing != OPGP_BELIEVED || first == last) {
-        return STEP_DONE;
-    }
-    uint8_t standing = OPGP_NOT_GOOD;
-    for (size_t key = 0, next = 0; key < count; key = next) {
-        bool has_it = false;
-        for (; next < count && keys[next].certificate == keys[key].certificate; next++) {
-            has_it = has_it || is_same_key(&keys[next], &it->signers[row]);
-        }
-        enum outcome outcome = has_it ? judge_one(it, row, policy, it->times[row], keys[key].certificate, &standing) : STEP_DONE;
-        if (outcome != STEP_DONE || standing == OPGP_BELIEVED) {
-            it->homes[row] = keys[key].certificate;
-            return outcome;
-        }
-    }
-    it->rows[row].standing = OPGP_UNBOUND;
-    return STEP_DONE;
-}
 
 /* The verdicts on the rows of a certificate, by arithmetic alone. */
 struct verdicts {
@@ -666,52 +687,58 @@ static opgp_verdict verify_own(void *context, const opgp_question *question)
     if (memory_ran_out()) {
         return OPGP_UNDECIDED;
     }
-    const struct answer *answer = find_answer(it->judging, &it->next, question);
-    opgp_verdict verdict = answer ? answer->verdict : arithmetic_of(it->arithmetic, question, 0, 0).verdict;
-    it->found[question->row] = (uint8_t)verdict;
-    return verdict;
+    struct finding found = {OPGP_UNDECIDED, NULL, 0};
+    if (!is_known(&it->judging->of_keyrings, &it->next, question, 0, &found)) {
+        found = arithmetic_of(it->arithmetic, question, 0, 0);
+    }
+    it->found[question->row] = (uint8_t)found.verdict;
+    return found.verdict;
 }
 
-/* Whether the certification in a row is heard at a time, as the rule has it: no doubt decides, it was made by then, at one time, and it
- * hasn't expired; and whether it marks its user ID as primary (5.2.3.27). */
+/* Whether the certification in a row is heard at a time, as the rule has it: no doubt decides, no hashed subpacket is malformed, it was made by
+ * then, at one time, and it hasn't expired; and whether it marks its user ID as primary (5.2.3.27). One that is older than the key needn't be
+ * looked for: those that certify the user ID are newer. */
 static uint32_t find_mark(const opgp_keyring *keyring, size_t row, uint32_t policy, uint64_t now, bool *is_heard, bool *marks)
 {
     const opgp_subpacket *subpackets;
-    size_t count;
-    const opgp_job *jobs, *job;
-    size_t job_count;
+    const opgp_job *jobs;
+    size_t count, job_count;
     uint32_t status = opgp_jobs(keyring, &jobs, &job_count);
     status = status == OPGP_DONE ? opgp_subpackets_of(keyring, row, &subpackets, &count) : status;
     *is_heard = *marks = false;
     if (status == OPGP_DONE) {
-        job = &jobs[row];
+        const opgp_job *job = &jobs[row];
         uint64_t expiry = expiry_of(job, subpackets, count);
         bool is_doubted = doubts_of(job, subpackets, count) & decisive_by(policy);
-        *is_heard = !is_doubted && job->is_dated && job->created <= now && (expiry == 0 || now < expiry);
         for (size_t i = 0; i < count; i++) {
             bool is_mark = subpackets[i].kind == OPGP_SUBPACKET_PRIMARY_USER_ID && subpackets[i].is_hashed;
             *marks = *marks || (is_mark && subpackets[i].numbers[0] > 0);
+            is_doubted = is_doubted || (subpackets[i].is_hashed && subpackets[i].meaning == 1);
         }
+        *is_heard = !is_doubted && job->is_dated && job->created <= now && (expiry == 0 || now < expiry);
     }
     return status;
 }
 
 /* How much a user ID is to be the primary one, by the newest certification of it by the primary key, which is that of the first row: more
- * where that marks it so, and the newer it is. */
-static uint32_t rank_of(const opgp_keyring *keyring, uint64_t component, const uint8_t *verdicts, uint32_t policy, uint64_t now,
-                        uint64_t *rank)
+ * where that marks it so, and the newer it is. The rows from the next one on are looked at, which are in the order of the components. */
+static uint32_t rank_of(const opgp_keyring *keyring, uint64_t component, size_t *next, const uint8_t *verdicts, uint32_t policy,
+                        uint64_t now, uint64_t *rank)
 {
     const opgp_job *jobs;
     size_t count;
     uint64_t newest = 0;
     uint32_t status = opgp_jobs(keyring, &jobs, &count);
-    for (size_t row = 0; status == OPGP_DONE && row < count; row++) {
-        const opgp_job *job = &jobs[row];
+    while (*next < count && jobs[*next].component + 1 < component + 1) {
+        ++*next;
+    }
+    for (; status == OPGP_DONE && *next < count && jobs[*next].component == component; ++*next) {
+        const opgp_job *job = &jobs[*next];
         bool is_kind = job->kind >= OPGP_SIGNATURE_GENERIC_CERTIFICATION && job->kind <= OPGP_SIGNATURE_POSITIVE_CERTIFICATION;
-        bool counts = is_kind && job->component == component && job->signer == 0 && verdicts[row] == OPGP_GOOD;
+        bool counts = is_kind && job->signer == 0 && verdicts[*next] == OPGP_GOOD;
         bool is_heard = false, marks = false;
         if (counts && job->created >= newest) {
-            status = find_mark(keyring, row, policy, now, &is_heard, &marks);
+            status = find_mark(keyring, *next, policy, now, &is_heard, &marks);
         }
         if (is_heard) {
             newest = job->created;
@@ -747,7 +774,7 @@ static uint32_t pick_user_id(const opgp_keyring *keyring, const opgp_state *stat
                              uint32_t policy, uint64_t now, char **text, size_t *size)
 {
     const opgp_packet *packets;
-    size_t packet_count = 0;
+    size_t packet_count = 0, next = 0;
     uint64_t best = 0, found = OPGP_NONE;
     uint32_t status = opgp_packets(keyring, &packets, &packet_count);
     for (size_t i = 0; status == OPGP_DONE && i < packet_count; i++) {
@@ -755,7 +782,7 @@ static uint32_t pick_user_id(const opgp_keyring *keyring, const opgp_state *stat
         /* The state of the component behind that of the primary key. */
         if (is_user_id && packets[i].component + 1 < state_count && states[packets[i].component + 1].why == OPGP_BELIEVED) {
             uint64_t rank = 0;
-            status = rank_of(keyring, packets[i].component, verdicts, policy, now, &rank);
+            status = rank_of(keyring, packets[i].component, &next, verdicts, policy, now, &rank);
             if (found == OPGP_NONE || rank > best) {
                 best = rank;
                 found = packets[i].component;
@@ -817,22 +844,14 @@ static uint32_t name_row(struct judging *it, size_t row, const opgp_keyring *mer
 
 enum outcome judging_names(struct judging *it, uint32_t policy, uint64_t now)
 {
-    const opgp_key *keys;
-    size_t count = 0;
     const opgp_keyring *merged = NULL;
-    enum outcome outcome = STEP_DONE;
     uint32_t status = take_issuers(it);
     status = status == OPGP_DONE ? opgp_merged(it->keyring, &merged) : status;
-    status = status == OPGP_DONE ? opgp_keys(merged, &keys, &count) : status;
-    for (size_t row = 0; status == OPGP_DONE && outcome == STEP_DONE && row < it->count; row++) {
-        it->homes[row] = OPGP_NONE;
+    for (size_t row = 0; status == OPGP_DONE && row < it->count; row++) {
         it->rows[row].user_id = "";
-        if (it->rows[row].key[0]) {
-            outcome = find_home(it, row, policy, keys, count);
-            status = outcome == STEP_DONE ? name_row(it, row, merged, policy, now) : status;
-        }
+        status = it->homes[row] != OPGP_NONE ? name_row(it, row, merged, policy, now) : OPGP_DONE;
     }
-    return status == OPGP_DONE ? outcome : failed(it, status);
+    return status == OPGP_DONE ? STEP_DONE : failed(it, status);
 }
 
 const struct judged *judging_rows(const struct judging *it, size_t *count)

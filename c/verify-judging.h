@@ -6,6 +6,7 @@
 #define OPGP_VERIFY_JUDGING_H
 
 #include "verify-arithmetic.h"
+#include "verify-hints.h"
 
 #include <opgp.h>
 
@@ -56,9 +57,9 @@ struct finding found_without(const opgp_job *job);
 /* What is read, and found. */
 struct judging;
 
-/* `program` is the name in front of what is said on standard error. `open` opens the files, which close_named closes. For judging_free,
- * which allows NULL; NULL if memory ran out. */
-struct judging *judging_new(const char *program, FILE *(*open)(const char *name));
+/* `program` is the name in front of what is said on standard error. `open` opens the files, which close_named closes. `intake` is how the
+ * program takes keyrings. For judging_free, which allows NULL; NULL if memory ran out. */
+struct judging *judging_new(const char *program, FILE *(*open)(const char *name), enum intake intake);
 
 /* Before the steps, if that is wanted: refuses keyrings with malformed signatures. Else these are kept: nothing is ever hashed of one. */
 void judging_refuses_malformed(struct judging *it);

@@ -21,7 +21,7 @@ int judged(const struct program *program, const struct inputs *inputs, struct ju
 {
     const uint64_t now = present_time();
     *are_signatures = true;
-    *judging = arithmetic_stands() ? judging_new(program->name, inputs->open) : NULL;
+    *judging = arithmetic_stands() ? judging_new(program->name, inputs->open, inputs->intake) : NULL;
     if (!*judging) {
         return said(program, program->failed, "out of memory");
     }

@@ -142,7 +142,7 @@ static int sopv_verify(const struct words *words)
         status = wrong_name(words->program, operands[i]);
     }
     if (status == 0) {
-        const struct inputs inputs = {operands[0], "-", operands + 1, count - 1, open_of_sop, 0};
+        const struct inputs inputs = {operands[0], "-", operands + 1, count - 1, open_of_sop, INTAKE_OPERANDS, 0};
         status = judged(words->program, &inputs, &judging, &are_signatures);
         status = status == 0 ? tell_sopv(words, judging, &window, stdout) : status;
         status = status == 0 ? ended(words->program, stdout, 0) : status;
@@ -194,7 +194,7 @@ static int put_message(const struct words *words, const struct judging *judging,
 /* Judges a message by the keys in these files, and writes what is to be written. */
 static int inline_verified(const struct words *words, const char *const *certs, size_t count, const struct window *window)
 {
-    const struct inputs inputs = {NULL, "-", certs, count, open_of_sop, 0};
+    const struct inputs inputs = {NULL, "-", certs, count, open_of_sop, INTAKE_OPERANDS, 0};
     struct judging *judging = NULL;
     char *verifications = NULL;
     size_t size = 0;

@@ -246,6 +246,8 @@ def _load() -> ctypes.CDLL:
         ("ring_states", status, pointer(_Ring), *verdicts, number, pointer(_State), size, pointer(number)),
         ("document_standing", status, pointer(_Document), pointer(_Ring), *verdicts, *[number] * 4, octets),
         ("check", status, keyring, _Verifier, _Reporter, ctypes.c_void_p),
+        ("read_verdicts", status, keyring, ctypes.c_char_p, size, pointer(octets), pointer(size)),
+        ("skipped", status, keyring, pointer(number)),
         ("find_blocks", status, ctypes.c_char_p, size, pointer(_FoundBlock), size, octets, size, pointer(_Sizes)),
         ("user_id", None, ctypes.c_char_p, size, pointer(_UserIdFacts)),
         ("status_text", ctypes.c_char_p, status),
@@ -340,7 +342,7 @@ def _given(call: Callable[[Any, Any], Any]) -> bytes:
     octets, size = ctypes.POINTER(ctypes.c_uint8)(), ctypes.c_size_t()
     _raise_but_for_done(call(ctypes.byref(octets), ctypes.byref(size)))
     try:
-        return _octets_at(ctypes.addressof(octets.contents), size.value)
+        return _octets_at(ctypes.addressof(octets.contents), size.value) if size.value else b""
     finally:
         _free(octets)
 
@@ -397,7 +399,7 @@ class Fault(ValueError):
     """
 
     layer: str
-    """input, armor, framing, body or composition."""
+    """input, armor, framing, body or composition; of a document that is to be text also text, of a cleartext message cleartext."""
     reason: str
     """The reason's name."""
     number: int
@@ -826,6 +828,14 @@ def _verdict(signature: Signature, handle: _Handle, verify: Optional[Verifier]) 
     return _said(verify(Question(signature, signer))) if signer.version == signature.version else Verdict.UNDECIDED
 
 
+def _read_verdicts(handle: _Handle, file: bytes) -> Optional[bytes]:
+    """The numbers of the verdicts on a keyring's rows in a file that `opgp-verify --verdicts` wrote of it; None: it is no such file."""
+    try:
+        return _given(lambda verdicts, count: _library.opgp_read_verdicts(handle, file, len(file), verdicts, count))
+    except IndexError:
+        return None
+
+
 def _revocations(handle: _Handle) -> dict[int, bytes]:
     """What the key revocations of a keyring hash, over the primary key alone, by their rows: the digests."""
     size = ctypes.c_uint64()
@@ -1076,9 +1086,16 @@ class Keyring(_Held):
         _raise_but_for_done(_library.opgp_certificate_count(handle, ctypes.byref(count)))
         return [Certificate(handle, number) for number in range(count.value)]
 
+    def skipped(self) -> int:
+        """How many octets outside of armored blocks were passed over, if they aren't text: 0 if none were, or the input was binary, or
+        another call made this keyring. Such octets may be packets, which are lost then."""
+        handle, count = self._open(), ctypes.c_uint64()
+        _raise_but_for_done(_library.opgp_skipped(handle, count))
+        return count.value
+
     def find(self, name: Union[str, Octets]) -> list[Key]:
         """The keys with this fingerprint or key ID. It is octets, or a text of hexadecimal digits, perhaps with spaces and `0x`.
-        Any other text raises ValueError."""
+        A text of other letters raises ValueError. A name of another size names no key."""
         wanted = _name_of(name)
         return [it for it in self.keys() if wanted in (it.fingerprint, it.key_id)]
 
@@ -1595,7 +1612,8 @@ class UserIdFacts(NamedTuple):
 
 def user_id(octets: Octets) -> UserIdFacts:
     """What the octets of a user ID say: whether they are UTF-8, and where their mail address is. All of them are the address; or it
-    stands at their end, in `<` and `>`, and there is no other `<` or `>`. One that could be read in two ways has none."""
+    stands at their end, in `<` and `>`, and there is no other `<` or `>`. What is in front may look like another address. Octets of an
+    address may be control characters of UTF-8, or turn the direction of text."""
     whole, facts = _bytes(octets), _UserIdFacts()
     _library.opgp_user_id(whole, len(whole), facts)
     if not facts.has_address:

@@ -1,4 +1,4 @@
-/* Opens the keyring of a file, or says why not: for the programs here, and opgp-verify. */
+/* Opens the keyring of a file, or says why not: for the programs here. */
 #ifndef OPGP_EXAMPLES_OPEN_H
 #define OPGP_EXAMPLES_OPEN_H
 

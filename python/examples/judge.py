@@ -13,6 +13,7 @@ signature, and none is believed."""
 
 import argparse
 import collections
+import re
 import sys
 import time
 
@@ -75,12 +76,19 @@ def verify(question: opgp.Question) -> opgp.Verdict:
     return opgp.Verdict.UNDECIDED
 
 
+def seconds(word: str) -> int:
+    """A time in seconds since 1970. Eight digits that may be a date are refused: who means one would be told of 1970."""
+    if re.fullmatch("[0-9]{4}(?:0[1-9]|1[0-2])(?:0[1-9]|[12][0-9]|3[01])", word):
+        raise argparse.ArgumentTypeError(f"{word} may be a date: write seconds since 1970, behind an @")
+    return int(word.removeprefix("@"))
+
+
 def main() -> int:
     """Ends with 1 unless a signature is believed."""
     words = argparse.ArgumentParser(description="Says which detached signatures of a file may be believed.")
     for name in ("KEYRING", "SIGNATURES", "FILE"):
         words.add_argument(name)
-    words.add_argument("--at", metavar="T", type=int, default=int(time.time()), help="seconds since 1970; else now")
+    words.add_argument("--at", metavar="T", type=seconds, default=int(time.time()), help="seconds since 1970; else now")
     told, believed = words.parse_args(), 0
     try:
         with open(told.KEYRING, "rb") as keys, open(told.SIGNATURES, "rb") as signatures, open(told.FILE, "rb") as file:

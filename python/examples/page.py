@@ -4,8 +4,8 @@ signature what it hashes, with where each part of that comes from.
 
     python3 page.py KEYRING > page.html
 
-Ends with 1 if the input is refused: the page then shows the fault, and its place in the input. Ends with 2, and writes nothing, if the
-keyring has more packets than --packets allows, or there is no such file.
+Ends with 1 if the input is refused: the page then shows the fault, and its place in the input. Of an input with a secret key it shows no
+octet. Ends with 2, and writes nothing, if the keyring has more packets than --packets allows, or there is no such file.
 
 All is made of the library's rows (page_nodes.py, page_fields.py). The page loads nothing: page.css and page.js become part of it, and
 its policy lets nothing else count. No signature is verified: a user ID is what the input says."""
@@ -23,11 +23,13 @@ import sys
 from typing import Any, Optional, Sequence
 
 import opgp
+from opgp.secret import SECRET_KEY, has_secret_key
 from page_fields import Field, Misfit, Ref, counted, size_of_header, text_of
 from page_nodes import Node, Rows, nodes_of
 
 MOST = 5000  # packets
 AROUND = 256  # octets of an input that are shown on each side of a fault
+BEHIND_KEY = ("Trailing", "Count")  # reasons of a key's body, behind which the fields of a secret key may be
 
 MARKS = {
     "good": "Its digest begins with the left 16 bits that it states",
@@ -212,7 +214,7 @@ def marked_octets(fault: opgp.Fault, octets: bytes) -> tuple[Node, bytes, int]:
     place = min(place_of(fault, octets), len(octets))
     packet = min(fault.pos, place)
     begin = max(0, place - AROUND) & ~15
-    end = min(len(octets), place + AROUND)
+    end = min(len(octets), place + (1 if fault.reason in BEHIND_KEY else AROUND))
     packet = max(packet, begin)
     fields = [Field("Octets in front", packet - begin)] * (packet > begin)
     fields += [Field("The packet, up to the fault", place - packet)] * (place > packet)
@@ -232,8 +234,8 @@ def marked_text(text: bytes, at: int) -> str:
     return f'<ol class="text">{"".join(found)}</ol>'
 
 
-def fault_page(name: str, octets: bytes, fault: opgp.Fault) -> str:
-    """The page of a refused input."""
+def fault_page(name: str, octets: bytes, fault: opgp.Fault, is_secret: bool) -> str:
+    """The page of a refused input. What may be of a secret key isn't shown."""
     is_text = fault.layer in ("input", "armor")
     begins = "" if fault.layer == "input" else ", where the line begins" if is_text else ", where the packet begins in its block"
     facts = [("Layer", f"{fault.layer}: {LAYERS.get(fault.layer, '')}"), ("Reason", f"{fault.reason}: {REFUSED.get(fault.reason, '')}")]
@@ -242,11 +244,22 @@ def fault_page(name: str, octets: bytes, fault: opgp.Fault) -> str:
     told = "".join(f"<dt>{key}</dt><dd>{safe(said)}</dd>" for key, said in facts)
     body = f'<article class="fault"><p class="place">This is no keyring:</p><h2>{safe(str(fault))}</h2><dl class="facts">{told}</dl>'
     summary = f"refused · {counted(len(octets), 'octet')}"
+    if is_secret:
+        return page(name, summary, f"{body}<h3>No octet of it is shown</h3><p>It has {safe(SECRET_KEY)}.</p></article>", [], b"")
     if is_text:
         return page(name, summary, f"{body}<h3>The text</h3>{marked_text(octets, fault.pos)}</article>", [], b"")
     is_armored = bool(octets) and octets[0] < 128
     node, around, base = marked_octets(fault, dearmored(octets, fault.block) if is_armored else octets)
     return page(name, summary, f'{body}<div id="octets"></div></article>', [node], around, base)
+
+
+def tell(line: str, octets: bytes) -> bool:
+    """Writes this line to standard error, unless it is empty, and behind it that the input has a secret key, if it has one. Whether it has
+    one."""
+    is_secret = has_secret_key(octets)
+    for it in [line] * bool(line) + [SECRET_KEY] * is_secret:
+        print(f"opgp: {it}", file=sys.stderr)
+    return is_secret
 
 
 def words() -> argparse.Namespace:
@@ -271,13 +284,15 @@ def main() -> int:
     name, status = text_of(os.fsencode(os.path.basename(told.KEYRING))), 0
     try:
         with opgp.read(octets, opgp.Limits(keep_malformed=told.malformed == "keep")) as keyring:
+            if skipped := keyring.skipped():
+                tell(f"{skipped} octets outside of armored blocks were skipped; read a binary file by itself", octets)
             if (count := len(keyring.packets())) > told.packets:
                 print(f"the keyring has {count:,} packets, and a page at most {told.packets:,}: see --packets", file=sys.stderr)
                 return 2
             made = keyring_page(name, keyring)
     except opgp.Fault as fault:
         print(fault, file=sys.stderr)
-        made, status = fault_page(name, octets, fault), 1
+        made, status = fault_page(name, octets, fault, tell("", octets)), 1
     sys.stdout.buffer.write(made.encode())
     return status
 

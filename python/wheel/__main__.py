@@ -17,6 +17,7 @@ from typing import Any, NoReturn, Optional, Sequence
 
 import opgp
 from opgp import everyday
+from opgp.secret import SECRET_KEY, has_secret_key
 
 _VERIFIER = "opgp-verify"
 _LAST = 2**32 - 1  # the last time that a date may be
@@ -119,12 +120,12 @@ def _revocations(told: argparse.Namespace) -> tuple[int, bytes]:
 
 
 def _revoke(told: argparse.Namespace) -> tuple[int, bytes]:
-    keyring = everyday.once(opgp.read(_read(told.FILE), _limits(told), told.mode))
+    keyring = everyday.once(_keyring(told, _read(told.FILE)))
     revocation, name = _read(told.revocation), everyday.escaped(told.revocation)
     try:
         made = everyday.revoked(keyring, revocation)
     except opgp.Fault as fault:
-        raise _End(1, f"opgp: {name}: {fault}") from fault
+        raise _End(1, f"opgp: {name}: {_said(fault, revocation)}") from fault
     except ValueError as why:
         raise _End(1, f"opgp: {name}: {why}") from why
     verdicts = _verified(told, made, must_be=True)
@@ -142,9 +143,9 @@ def _new(made: opgp.Keyring, keyring: opgp.Keyring) -> list[opgp.Signature]:
 
 def _listed(it: everyday.CertificateEntry) -> Sequence[str]:
     """The lines of `find` for a certificate."""
-    word = "verified" if it.is_verified else "unverified"
-    first = f"pub {it.primary.key.fingerprint.hex().upper()} {word} {it.primary.how}"
-    return [first, *(f'uid {word} {at.how} "{everyday.escaped(at.text)}"' for at in it.user_ids)]
+    word = everyday.checked(it.is_verified)
+    first = f"pub {it.primary.how} {word} {it.primary.key.fingerprint.hex().upper()}"
+    return [first, *(f'uid {at.how} {word} "{everyday.escaped(at.text)}"' for at in it.user_ids)]
 
 
 def _wkd_hash(told: argparse.Namespace) -> tuple[int, bytes]:
@@ -170,7 +171,7 @@ def _wkd_tree(told: argparse.Namespace) -> tuple[int, bytes]:
                 file.write(it.octets)
     except OSError as why:
         raise _End(3, f"opgp: write failed: {_reason(why)}") from why
-    word = "verified" if all(it.is_verified for it in entries) else "unverified"
+    word = everyday.checked(all(it.is_verified for it in entries))
     return 0, _lines(f"{it.path} {word} {_prints(it)} {it.address}" for it in files if it.address)
 
 
@@ -201,13 +202,31 @@ def _judged(
     octets = _read(path)
     if not octets:
         _tell("opgp: the input is empty")
-    given = opgp.read(octets, _limits(told), told.mode)
+    given = _keyring(told, octets)
     keyring = everyday.once(given)
     if told.verdicts is not None:
         if keyring is not given:
             raise _End(1, "opgp: a certificate is there twice: merge the keyring (opgp join --merge), and verify that")
         return keyring, everyday.verdicts_in(keyring, _read(told.verdicts))
     return keyring, _verified(told, keyring, must_be_verified)
+
+
+def _keyring(told: argparse.Namespace, octets: bytes) -> opgp.Keyring:
+    """The keyring in these octets. Tells what lies outside of armored blocks, and of a secret key."""
+    try:
+        keyring = opgp.read(octets, _limits(told), told.mode)
+    except opgp.Fault as fault:
+        raise _End(1, _said(fault, octets)) from fault
+    if count := keyring.skipped():
+        _tell(f"opgp: {count} octets outside of armored blocks were skipped; read a binary file by itself")
+        if has_secret_key(octets):
+            _tell(f"opgp: {SECRET_KEY}")
+    return keyring
+
+
+def _said(fault: opgp.Fault, octets: bytes) -> str:
+    """A fault's line; and another one, if the input has a secret key."""
+    return f"{fault}\nopgp: {SECRET_KEY}" if has_secret_key(octets) else str(fault)
 
 
 def _limits(told: argparse.Namespace) -> opgp.Limits:
@@ -249,10 +268,16 @@ def _reason(why: OSError) -> str:
 # ---- The command line
 
 
+_DATE = re.compile("[0-9]{4}(?:0[1-9]|1[0-2])(?:0[1-9]|[12][0-9]|3[01])")  # without hyphens
+
+
 def _time(word: str) -> int:
-    """A time: seconds since 1970, or a date in UTC."""
-    if re.fullmatch("[0-9]{1,18}", word):
-        return int(word)
+    """A time: seconds since 1970, perhaps behind an @, or a date in UTC. Eight digits that may be a date are refused: who means one
+    would be told of 1970."""
+    if _DATE.fullmatch(word):
+        raise argparse.ArgumentTypeError(f"{word} may be a date: write that with hyphens, and seconds since 1970 behind an @")
+    if re.fullmatch("@?[0-9]{1,18}", word):
+        return int(word.removeprefix("@"))
     for form in ("%Y-%m-%d", "%Y-%m-%dT%H:%M:%SZ"):
         try:
             found = datetime.datetime.strptime(word, form).replace(tzinfo=datetime.timezone.utc)
@@ -342,7 +367,7 @@ def _add(commands: Any, name: str, call: Any, about: str, is_survey: bool = True
         it.add_argument("--at", metavar="TIME", type=_time, default=int(time.time()), help="the present time; else that of the clock")
         it.add_argument("--rely", choices=("usual", "any"), default="usual", help="the hash algorithms and keys that are relied on")
         how = _add_verifier(it)
-        how.add_argument("--verdicts", metavar="FILE", help=f"what {_VERIFIER} --policy none wrote of the keyring")
+        how.add_argument("--verdicts", metavar="FILE", help=f"what {_VERIFIER} --verdicts wrote of the keyring")
         _add_limits(it)
     return it
 

@@ -27,7 +27,7 @@ from opgp.surveys import CertificateEntry, KeyEntry, Name, Size, UserIdEntry, Ve
 from opgp.surveys import _WIDEST, claims, cut, escaped, name_in, once, size_of, survey, verdicts_by, verdicts_in
 
 __all__ = ["AuditRow", "CertificateEntry", "EmailRow", "KeyEntry", "Name", "Policy", "PolicyError", "Size", "UserIdEntry"]
-__all__ += ["VerifierFailed", "WkdFile", "WrongVerdicts", "audit", "claims", "emails", "escaped", "find", "hkp_index", "json_of"]
+__all__ += ["VerifierFailed", "WkdFile", "WrongVerdicts", "audit", "checked", "claims", "emails", "escaped", "find", "hkp_index", "json_of"]
 __all__ += ["name_in", "once", "policy_in", "revocations", "revoked", "size_of", "survey", "verdicts_by", "verdicts_in", "wkd_files"]
 __all__ += ["wkd_hash", "wkd_path"]
 
@@ -38,8 +38,9 @@ _WORDS = {1: "rsa", 2: "rsa", 3: "rsa", 16: "elgamal", 17: "dsa", 18: "ecdh", 19
 _WORDS |= {27: "ed25519", 28: "ed448"}
 
 
-def _word(is_verified: bool) -> str:
-    return "verified" if is_verified else "unverified"
+def checked(is_verified: bool) -> str:
+    """The word of lines that says whether a verifier was asked. It says nothing of what it found."""
+    return "checked" if is_verified else "unchecked"
 
 
 def _date(seconds: Optional[int]) -> str:
@@ -128,7 +129,7 @@ class AuditRow:
         kind = "pub" if it.key.is_primary else "sub"
         algorithm = _WORDS.get(it.key.algorithm, f"alg{it.key.algorithm}")
         uses, hashes, short = (",".join(them) or "-" for them in (it.uses, it.hashes, self.short))
-        front = f"{kind} {_digits(it.key.fingerprint)} {_word(it.is_verified)} {it.how} {algorithm} {it.size}"
+        front = f"{kind} {_digits(it.key.fingerprint)} {checked(it.is_verified)} {it.how} {algorithm} {it.size}"
         return f"{front} uses {uses} end {_date(it.state.end)} hash {hashes} short {short}"
 
 
@@ -385,8 +386,8 @@ class EmailRow(NamedTuple):
 
     def line(self) -> str:
         """The line of `emails`, without its end."""
-        front = f"{escaped(self.address)} {_digits(self.certificate.primary.key.fingerprint)}"
-        return f"{front} {_word(self.user_id.is_verified)} {self.user_id.how}"
+        front = f"{self.user_id.how} {checked(self.user_id.is_verified)}"
+        return f"{front} {escaped(self.address)} {_digits(self.certificate.primary.key.fingerprint)}"
 
 
 def emails(entries: Sequence[CertificateEntry]) -> list[EmailRow]:

@@ -17,7 +17,6 @@ from __future__ import annotations
 import ctypes
 import dataclasses
 import functools
-import re
 import subprocess
 from typing import Any, Callable, Iterable, NamedTuple, Optional, Sequence, Union
 
@@ -116,8 +115,8 @@ class Name(NamedTuple):
 
 
 def name_in(text: str) -> Name:
-    """The name, comment and address in the text of a user ID (5.11); each None if it isn't there. A text that could be read in
-    two ways, such as one with two addresses, has no address."""
+    """The name, comment and address in the text of a user ID (5.11); each None if it isn't there. The address is the whole text, or
+    stands in the only `<` and `>`, at its end. A name may look like another address."""
     whole = text.strip()
     address = _address_in(whole)
     if not address:
@@ -152,35 +151,22 @@ def _digits(letter: str) -> str:
 # ---- Verdicts
 
 
-def verdicts_in(keyring: Keyring, lines: bytes) -> list[Verdict]:
-    """The verdicts on the keyring's signatures, by their rows, in the lines that `opgp-verify --policy none` wrote of it. Raises
-    WrongVerdicts if they are lines of another keyring, or others."""
-    told = lines.split(b"\n")
-    rows = _jobs(opgp._opened(keyring))
-    if told.pop() or len(told) != len(rows.jobs):
-        raise WrongVerdicts("the verdicts aren't those of this keyring")
-    return [_verdict_in(line, *it) for line, it in zip(told, rows.fronts())]
+_NOT_THOSE = "the verdicts aren't those of this keyring: opgp-verify --verdicts makes a file of them"
 
 
-_SAID = re.compile(rb" verdict (?:(good)|(bad)|undecided(?: [a-z0-9-]+)?)")
-
-
-def _verdict_in(line: bytes, front: str, is_asked: bool, is_bad: bool, may_count: bool) -> Verdict:
-    """The verdict behind the front of a line; of what isn't hashed there may be none."""
-    said = _SAID.fullmatch(line, len(front)) if line.startswith(front.encode("ascii")) else None
-    if said is None and (is_asked or line != front.encode("ascii")):
-        raise WrongVerdicts("the verdicts aren't those of this keyring")
-    if said is None:
-        return Verdict.UNDECIDED
-    if is_bad and not said[2]:
-        raise WrongVerdicts("the verdicts aren't those of this keyring")
-    return Verdict.GOOD if said[1] and may_count else Verdict.BAD if said[2] else Verdict.UNDECIDED
+def verdicts_in(keyring: Keyring, file: bytes) -> list[Verdict]:
+    """The verdicts on the keyring's signatures, by their rows, in a file that `opgp-verify --verdicts` wrote of it: the library reads it.
+    Raises WrongVerdicts for any other, such as one that is cut, that is of another keyring, or that a policy has changed."""
+    found = opgp._read_verdicts(opgp._opened(keyring), opgp._bytes(file))
+    if found is None:
+        raise WrongVerdicts(_NOT_THOSE)
+    return [Verdict(it) for it in found]
 
 
 def verdicts_by(keyring: Keyring, program: str = "opgp-verify") -> list[Verdict]:
     """The verdicts of the program opgp-verify, by this name or path, on the keyring's signatures, by their rows. It isn't asked about
     what other keys certify: that says nothing of how a certificate's parts stand, and is most of the work. Raises VerifierFailed if
-    the program can't be run or fails, and WrongVerdicts if it writes other lines."""
+    the program can't be run or fails, and WrongVerdicts if it writes no such file as `verdicts_in` takes."""
     rows = _jobs(opgp._opened(keyring))
     primary = {it.certificate: bytes(it.print) for it in rows.keys if it.component == opgp._NONE}
     theirs = {row for row, it in enumerate(rows.jobs) if it.kind in _CERTIFICATIONS and it.nested == opgp._NONE and it.hang != opgp._NONE
@@ -205,13 +191,13 @@ def cut(keyring: Keyring) -> list[tuple[tuple[int, int, int], bytes]]:
 
 
 def _run(program: str, octets: bytes) -> bytes:
-    """What a verifier writes of a keyring."""
+    """What a verifier writes of a keyring. It ends with 1 if a signature is bad; or, and then it writes nothing, if it doesn't read it."""
     try:
-        ended = subprocess.run([program, "--policy", "none"], input=octets, capture_output=True, check=False)
+        ended = subprocess.run([program, "--verdicts"], input=octets, capture_output=True, check=False)
     except OSError as why:
         raise VerifierFailed(f"{escaped(program)}: {why.strerror or why}") from why
-    if ended.returncode not in (0, 1):
-        said = ended.stderr.decode("utf-8", "replace").strip().split("\n")[-1]
+    if ended.returncode not in (0, 1) or (ended.returncode and not ended.stdout):
+        said = ended.stderr.decode("utf-8", "replace").strip().split("\n")[0 if ended.returncode == 2 else -1]
         raise VerifierFailed(f"{escaped(program)} ended with {ended.returncode}: {escaped(said)}")
     return ended.stdout
 
@@ -245,25 +231,6 @@ class _Jobs(NamedTuple):
         """The numbers of the verdicts that count if nothing is verified."""
         good, bad = Verdict.GOOD.value, Verdict.BAD.value
         return bytes((bad if self.is_bad(it) else good) if self.may_count(it) else 0 for it in range(len(self.jobs)))
-
-    def fronts(self) -> Iterable[tuple[str, bool, bool, bool]]:
-        """What each row's line of `opgp check` has in front of the verdict; whether there must be one; and whether it is bad, and
-        may count."""
-        names = [bytes(it.key_id).hex().upper() for it in self.keys]
-        whys = [opgp._name(opgp._WHYS, it) for it in range(8)]
-        for row, it in enumerate(self.jobs):
-            part, nested = _dash(it.component), _dash(it.nested)
-            front = f"row {row} cert {it.certificate} part {part} hang {it.hang} nested {nested} : "
-            if it.why:
-                front += f"none {whys[it.why]}"
-            else:
-                signer = "-" if it.signer == opgp._NONE else names[it.signer]
-                front += f"asked type {it.kind:02X} hash {it.hash} signer {signer} digest {bytes(it.digest[:2]).hex().upper()}"
-            yield front, not it.why, self.is_bad(row), self.may_count(row)
-
-
-def _dash(number: int) -> str:
-    return "-" if number == opgp._NONE else str(number)
 
 
 def _jobs(handle: Any) -> _Jobs:

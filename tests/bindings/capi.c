@@ -566,6 +566,9 @@ static void closed(void)
     holds(opgp_ring_jobs(&ring, &job, 1, &byte, 1, &sizes) == OPGP_CLOSED, "jobs of a closed handle");
     holds(opgp_ring_octets(&ring, 0, &byte, 1, &wanted) == OPGP_CLOSED, "octets of a closed handle");
     holds(opgp_ring_write(&ring, 0, &byte, 1, &wanted) == OPGP_CLOSED, "writing a closed handle");
+    wanted = byte = 0xA5;
+    holds(opgp_ring_skipped(&ring, &wanted) == OPGP_CLOSED && wanted == 0xA5, "what a closed handle skipped");
+    holds(opgp_ring_verdicts(&ring, &byte, 1, &byte, 1, &wanted) == OPGP_CLOSED && byte == 0xA5, "verdicts on a closed handle");
     opgp_ring into = {false, NULL}, other = {false, NULL};
     holds(opgp_ring_normalise(&ring, &into) == OPGP_CLOSED && opgp_ring_merge(&ring, &into) == OPGP_CLOSED
               && opgp_ring_certificate(&ring, 0, &into) == OPGP_CLOSED && opgp_ring_join(&ring, &other, &into) == OPGP_CLOSED
@@ -1334,6 +1337,87 @@ static uint32_t read_joined(opgp_keyring **keyring)
     return status;
 }
 
+/* Puts what opgp_document_standing says of each place; the first status that isn't OPGP_DONE. */
+static uint32_t each_standing(opgp_document *document, opgp_ring *ring, const uint8_t *verdicts, size_t count, uint32_t policy,
+                              const opgp_place *places, size_t place_count, uint64_t now, uint8_t *whys)
+{
+    uint32_t status = OPGP_DONE;
+    for (size_t i = 0; status == OPGP_DONE && i < place_count; i++) {
+        status = opgp_document_standing(document, ring, verdicts, count, policy, 0, places[i].certificate, places[i].component, now, &whys[i]);
+    }
+    return status;
+}
+
+/* Whether several places are judged as each of them is: of all keys, which are given their places. */
+static void places_judged(opgp_document *document, opgp_ring *ring, const opgp_place *places, size_t count)
+{
+    static const uint8_t verdicts[] = {OPGP_GOOD, OPGP_GOOD, OPGP_BAD, OPGP_UNDECIDED, 255, OPGP_GOOD, OPGP_GOOD, OPGP_GOOD};
+    uint8_t *each = block_of(count);
+    for (uint32_t policy = 0; policy < 2; policy++) {
+        for (uint64_t now = made_then - 1; now < made_then + 2; now++) {
+            uint32_t wanted = each_standing(document, ring, verdicts, sizeof verdicts, policy, places, count, now, each);
+            for (size_t room = 0; room <= count + 1; room++) {
+                uint8_t *whys = block_of(room);
+                uint64_t n = 0;
+                bool fits = room >= count;
+                uint32_t status = opgp_document_standings(document, ring, verdicts, sizeof verdicts, policy, 0, places, count, now, whys, room, &n);
+                holds(wanted == OPGP_DONE && status == (fits ? OPGP_DONE : OPGP_ROOM) && n == count && is_blank(whys, fits ? count : 0, room)
+                          && (!fits || memcmp(whys, each, count) == 0),
+                      "several places");
+                free(whys);
+            }
+        }
+    }
+    free(each);
+}
+
+/* Each status of opgp_document_standings. */
+static void several_places(opgp_document *document)
+{
+    opgp_ring ring = {false, NULL}, none = {false, NULL};
+    opgp_document nothing = {false, NULL};
+    opgp_limits limits;
+    opgp_fault fault;
+    opgp_sizes sizes = {0, 0};
+    uint8_t whys[2] = {0xA5, 0xA5};
+    uint64_t n = 0;
+    opgp_usual_limits(&limits);
+    holds(opgp_ring_open((const uint8_t *)key_of_it, sizeof key_of_it - 1, &limits, &none, &fault) == OPGP_DONE
+              && opgp_ring_open(in, size, &limits, &ring, &fault) == OPGP_DONE,
+          "two keyrings");
+    opgp_ring both = {false, NULL};
+    holds(opgp_ring_join(&none, &ring, &both) == OPGP_DONE, "both");
+    opgp_ring_close(none);
+    none = (opgp_ring){false, NULL};
+    opgp_ring_keys(&both, NULL, 0, NULL, 0, &sizes);
+    opgp_key *keys = calloc((size_t)sizes.rows + 1, sizeof *keys);
+    uint8_t *bytes = malloc((size_t)sizes.bytes + 1);
+    opgp_place *places = calloc((size_t)sizes.rows + 1, sizeof *places);
+    opgp_ring_keys(&both, keys, (size_t)sizes.rows, bytes, (size_t)sizes.bytes, &sizes);
+    for (size_t i = 0; i < sizes.rows; i++) {
+        places[i] = (opgp_place){keys[i].certificate, keys[i].component};
+    }
+    for (size_t count = 0; count <= sizes.rows; count++) {
+        places_judged(document, &both, places, count);
+    }
+    const opgp_place twice[] = {places[0], places[0]}, wrong[][2] = {{places[0], {UINT64_MAX, OPGP_NONE}}, {{0, OPGP_NONE - 1}, places[0]}};
+    places_judged(document, &both, twice, 2);
+    for (size_t i = 0; i < 2; i++) {
+        holds(opgp_document_standings(document, &both, NULL, 0, 0, 0, wrong[i], 2, 0, whys, 2, &n) == OPGP_NO_ROW, "a place without a key");
+    }
+    holds(opgp_document_standings(document, &both, NULL, 0, 0, 1, places, 1, 0, whys, 2, &n) == OPGP_NO_ROW, "a row that isn't there");
+    holds(opgp_document_standings(document, &both, NULL, 0, 2, 0, places, 1, 0, whys, 2, &n) == OPGP_LIMITS, "places by no policy");
+    holds(opgp_document_standings(document, &none, NULL, 0, 0, 0, places, 1, 0, whys, 2, &n) == OPGP_CLOSED
+              && opgp_document_standings(&nothing, &both, NULL, 0, 0, 0, places, 1, 0, whys, 2, &n) == OPGP_CLOSED,
+          "places of a closed handle");
+    holds(whys[0] == 0xA5 && whys[1] == 0xA5 && both.is_open && document->is_open, "whys stay as they are");
+    free(keys);
+    free(bytes);
+    free(places);
+    opgp_ring_close(ring);
+    opgp_ring_close(both);
+}
+
 /* What opgp_merged gives: always the same, whose packets are those of opgp_merge. */
 static void merged_once(const opgp_keyring *keyring)
 {
@@ -1385,8 +1469,66 @@ static void judgements(void)
         }
     }
     merged_once(keyring);
+    several_places(&document);
     opgp_close(keyring);
     opgp_document_close(document);
+}
+
+/* Reads a file of verdicts on the input: in one call, and by a handle in each room. Prints the verdicts, the status, and how many octets of the
+ * input were skipped. */
+static int read_verdicts(const char *path)
+{
+    static uint8_t octets[MOST];
+    opgp_keyring *keyring;
+    opgp_ring ring = {false, NULL};
+    opgp_limits limits;
+    opgp_fault fault;
+    uint8_t *verdicts = (uint8_t *)octets;
+    size_t count = 1;
+    uint64_t n = 0, skipped[2] = {1, 2};
+    FILE *file = fopen(path, "rb");
+    opgp_usual_limits(&limits);
+    if (!file || opgp_open(in, size, NULL, &keyring, NULL) != OPGP_DONE || opgp_ring_open(in, size, &limits, &ring, &fault) != OPGP_DONE) {
+        return 2;
+    }
+    size_t length = fread(octets, 1, sizeof octets, file);
+    fclose(file);
+    uint32_t status = opgp_read_verdicts(keyring, length ? octets : NULL, length, &verdicts, &count);
+    holds(status == OPGP_DONE ? verdicts != NULL : !verdicts && count == 0, "what is given of a file of verdicts");
+    for (size_t room = 0; room <= count + 1; room++) {
+        uint8_t *found = block_of(room);
+        bool fits = room >= count;
+        uint32_t wanted = status != OPGP_DONE || fits ? status : OPGP_ROOM;
+        holds(opgp_ring_verdicts(&ring, octets, length, found, room, &n) == wanted && (status != OPGP_DONE || n == count)
+                  && is_blank(found, wanted == OPGP_DONE ? count : 0, room) && (wanted != OPGP_DONE || !count || memcmp(found, verdicts, count) == 0),
+              "a file of verdicts in some room");
+        free(found);
+    }
+    holds(opgp_skipped(keyring, &skipped[0]) == OPGP_DONE && opgp_ring_skipped(&ring, &skipped[1]) == OPGP_DONE && skipped[0] == skipped[1], "what was skipped");
+    for (size_t i = 0; i < count; i++) {
+        printf("%u", verdicts[i]);
+    }
+    printf(" %u %" PRIu64 "\n", status, skipped[0]);
+    free(verdicts);
+    opgp_close(keyring);
+    opgp_ring_close(ring);
+    return failed > 0;
+}
+
+/* Reads a file that has no verdicts until memory runs out. */
+static bool read_no_verdicts(void)
+{
+    static const uint8_t text[] = "verdicts by arithmetic of keyring sha256 ";
+    opgp_keyring *keyring = NULL;
+    uint8_t *verdicts = NULL;
+    size_t count = 1;
+    uint32_t status = opgp_open(in, size, NULL, &keyring, NULL);
+    if (status == OPGP_DONE) {
+        status = opgp_read_verdicts(keyring, text, sizeof text, &verdicts, &count);
+        holds((status == OPGP_NO_ROW || status == OPGP_MEMORY) && !verdicts && count == 0, "a file without verdicts");
+    }
+    opgp_close(keyring);
+    return status == OPGP_NO_ROW;
 }
 
 /* Judges until memory runs out; then nobody is told. */
@@ -1809,6 +1951,7 @@ static void memory(void)
     wants_memory(take_everything);
     wants_memory(judge_everything);
     wants_memory(judge_document);
+    wants_memory(read_no_verdicts);
     wants_memory(find_states);
     take_patiently();
     wants_memory(take_patiently);
@@ -2212,7 +2355,7 @@ int main(int argc, char **argv)
     } options[] = {{"--line=", &limits.line}, {"--body=", &limits.body}, {"--cert=", &limits.cert}, {"--input=", &limits.input},
                    {"--pieces=", &limits.pieces}, {"--policies=", &limits.policies}};
     bool is_told = false;
-    const char *making = NULL, *document = NULL, *piece = NULL;
+    const char *making = NULL, *document = NULL, *piece = NULL, *verdicts = NULL;
     opgp_usual_limits(&limits);
     size = fread(in, 1, sizeof in, stdin);
     for (int i = 1; i < argc; i++) {
@@ -2232,6 +2375,10 @@ int main(int argc, char **argv)
         }
         if (strncmp(argv[i], "canonical=", 10) == 0) {
             piece = argv[i] + 10;
+            is_known = true;
+        }
+        if (strncmp(argv[i], "verdicts=", 9) == 0) {
+            verdicts = argv[i] + 9;
             is_known = true;
         }
         for (size_t k = 0; k < sizeof options / sizeof *options; k++) {
@@ -2260,6 +2407,9 @@ int main(int argc, char **argv)
     }
     if (piece) {
         return canonical(piece);
+    }
+    if (verdicts) {
+        return read_verdicts(verdicts);
     }
     if (is_told) {
         return told(&limits);

@@ -111,6 +111,20 @@ static bool messages(const opgp::Keyring &keyring)
     return is_well && judged.size() == 2 && judged[0].verdict == OPGP_UNDECIDED && judged[1].verdict == OPGP_BAD;
 }
 
+// A file of verdicts is one on its keyring alone; and what was skipped is counted.
+static bool verdicts(const opgp::Keyring &keyring)
+{
+    const std::string key("\\xC6\\x08\\x04\\x00\\x00\\x00\\x00\\x63kk", 10), head = "verdicts by arithmetic of keyring sha256 ";
+    const std::string digest = "DIGEST", file = head + digest + " rows 0\\n";
+    const opgp::Keyring bare = opgp::Keyring::read(key);
+    try {
+        keyring.verdicts(file);
+        return false;
+    } catch (const std::out_of_range &) {
+    }
+    return bare.verdicts(file).empty() && bare.skipped() == 0 && keyring.skipped() == 0;
+}
+
 // Each part has a state, and what a verifier throws comes through.
 static bool states(const opgp::Keyring &keyring)
 {
@@ -169,7 +183,7 @@ int main()
             is_gone = true;
         }
         is_twice = is_twice && is_gone && taken.write() == keyring.write();
-        std::printf("%zu %zu %d %d\\n", hashed, parts, is_twice, documents(keyring) && messages(keyring) && states(keyring));
+        std::printf("%zu %zu %d %d\\n", hashed, parts, is_twice, documents(keyring) && messages(keyring) && verdicts(keyring) && states(keyring));
     } catch (const opgp::Fault &fault) {
         std::cerr << fault.what() << std::endl;
         return 1;
@@ -177,6 +191,8 @@ int main()
     return 0;
 }
 """
+# The SHA2-256 of the key there.
+CPP = CPP.replace("DIGEST", hashlib.sha256(b"\xC6\x08\x04\0\0\0\0\x63kk").hexdigest().upper())
 HASHES = {2: "sha1", 8: "sha256", 9: "sha384", 10: "sha512", 11: "sha224"}
 with open(f"{HERE}/c/opgp.h", encoding="ascii") as header:
     HEADER = header.read()
@@ -637,6 +653,52 @@ def faults(program):
         verdict(f"the fault of {example}", (ended.returncode, ended.stderr) == (wanted.returncode, said), (said, ended.stderr))
         seen.update(re.findall(rb"^\w+: (\w+)", said))
     verdict("most reasons are seen", len(seen) >= 33, sorted(seen))
+
+
+def verdict_files(program, room):
+    """Files of verdicts: of a keyring what they say; any other file, and one on another keyring, is none."""
+    def read(source, file):
+        with open(f"{room}/verdicts", "wb") as it:
+            it.write(file)
+        ended = opens(program, f"verdicts={room}/verdicts", source=source)
+        return ended.returncode, ended.stdout.decode().split(), ended.stderr
+
+    seen, before = set(), b""
+    for source in SMALL + MADE:
+        lines = lines_of(opens(PROGRAM, "check", source=source).stdout)
+        # The first that is undecided is good, the next one bad, and so on.
+        for number, row in enumerate([it for it in range(len(lines)) if lines[it].endswith(" undecided")]):
+            lines[row] = lines[row].replace("undecided", ("good", "bad", "undecided absent")[number % 3])
+        digest = hashlib.sha256(opens(PROGRAM, "write", "--out", "binary", source=source).stdout).hexdigest().upper()
+        head = f"verdicts by arithmetic of keyring sha256 {digest} rows {len(lines)}"
+        file = "".join(f"{it}\n" for it in (head, *lines)).encode()
+        wanted = "".join("1" if it.endswith(" good") else "2" if it.endswith(" bad") else "0" for it in lines)
+        seen |= {*wanted}
+        verdict(f"verdicts of {name_of(source)}", read(source, file) == (0, [it for it in (wanted, "0", "0") if it], b""), read(source, file))
+        others = [b"", file[:-1], file + b"\n", file.partition(b"\n")[2], b"\n" + file, file.lower(), file.replace(b" rows ", b" rows 0"), file + file,
+                  file.replace(digest.encode(), digest.lower().encode()), file.replace(b"arithmetic", b"policy"), before]  # fmt: skip
+        if lines:
+            others += ["".join(f"{it}\n" for it in (head, *lines, lines[-1])).encode(), "".join(f"{it}\n" for it in (head, *lines[:-1])).encode(),
+                       file.replace(b"row 0 ", b"row 1 ", 1), file.replace(b"\n", b"\r\n")]  # fmt: skip
+        for number, other in enumerate(others):
+            verdict(f"no verdicts of {name_of(source)}, {number}", other == file or read(source, other) == (0, ["6", "0"], b""), read(source, other))
+        before = file
+    verdict("each verdict", seen == {*"012"}, seen)
+
+
+def skipped(program, room):
+    """How many octets outside of armored blocks were skipped, as the program says."""
+    with open(f"{room}/empty", "wb") as it:
+        it.write(b"")
+    with open(SMALL[0], "rb") as it:
+        key = it.read()
+    for octets in (key, key + key, b"text\n" + key, key + b"\1", key + b"\n\x7f\n" + key, b"a\0b\n" + key + b"text\n" + key + b"end", key + bytes(70_000), model.dearmored(key, model.USUAL)[0][1]):
+        with open(f"{room}/input", "wb") as it:
+            it.write(octets)
+        told = subprocess.run([PROGRAM, "list"], input=octets, capture_output=True, check=False).stderr.decode()
+        count = (re.findall(r"^opgp: (\d+) octets outside of armored blocks were skipped; read a binary file by itself$", told, re.M) or ["0"])[0]
+        ended = opens(program, f"verdicts={room}/empty", source=f"{room}/input")
+        verdict(f"skipped in {len(octets)} octets", (ended.returncode, ended.stdout.decode().split()[-1]) == (0, count), (ended, told))
 
 
 def registered():
@@ -1457,6 +1519,41 @@ def wanting_verified(program, env, room, words_given=()):
         verdict(f"opgp-verify, allocation {number} refused", fits, ended)
 
 
+def verdicts_written(program, env):
+    """A file of verdicts: a line that says on which keyring they are, and how many; and the lines that are written without a policy. Its status
+    is 0 also where a signature is bad."""
+    statuses = set()
+    for source in (*SMALL, *MADE, os.devnull, *(it for it in ARCHIVE if os.path.getsize(it) <= MOST)):
+        binary = opens(PROGRAM, "write", "--malformed", "keep", "--out", "binary", source=source).stdout
+        bare = opens(program, "--policy=none", source=source, env=env)
+        statuses.add(bare.returncode)
+        wanted = f"verdicts by arithmetic of keyring sha256 {hashlib.sha256(binary).hexdigest().upper()} rows {len(lines_of(bare.stdout))}\n"
+        for given in (["--verdicts"], ["--verdicts", "--jobs", "3", source], ["--malformed=keep", "--verdicts", "-"]):
+            ended = opens(program, *given, source=source, env=env)
+            fits = (ended.returncode, ended.stdout, ended.stderr) == (0, wanted.encode() + bare.stdout, bare.stderr)
+            verdict(f"verdicts on {name_of(source)} by {given}", fits, ended)
+        ended = run(program, "--verdicts", input=binary, env=env)
+        verdict(f"verdicts on {name_of(source)}, in binary", (ended.returncode, ended.stdout) == (0, wanted.encode() + bare.stdout), ended)
+    verdict("verdicts on keyrings with bad signatures, and without", statuses == {0, 1}, statuses)
+    others = (("--policy", "usual", " <POLICY>"), ("--policy", "none", " <POLICY>"), ("--signature", "x", " <SIG>"), ("--keyring", "x", " <FILE>"),
+              ("--at", "0", " <TIME>"), ("--require", "good", " <WHAT>"), ("--state",), ("--cleartext",))  # fmt: skip
+    for option, *value in others:
+        said = f"error: the argument '--verdicts' cannot be used with '{option}{''.join(value[1:])}'\n\nUsage: opgp-verify [OPTIONS] [FILE]\n"
+        for given in (["--verdicts", option, *value[:1]], [option, *value[:1], "--verdicts"]):
+            ended = opens(program, *given, source=SMALL[1], env=env)
+            verdict(f"opgp-verify {given}", (ended.returncode, ended.stdout) == (2, b"") and ended.stderr.decode().startswith(said), ended)
+    for given, said in ((["--verdicts", "--verdicts"], "the argument '--verdicts' cannot be used multiple times"),
+                        (["--verdicts=x"], "unexpected argument '--verdicts=x' found"), (["--verdicts", "a", "b"], "unexpected argument 'b' found")):
+        ended = opens(program, *given, source=SMALL[1], env=env)
+        verdict(f"opgp-verify {given}", (ended.returncode, ended.stdout) == (2, b"") and said in ended.stderr.decode(), ended)
+    for octets in (b"text", b"\xc6\1\3"):
+        ended = run(program, "--verdicts", input=octets, env=env)
+        verdict(f"verdicts on {octets}", (ended.returncode, ended.stdout, ended.stderr) == (1, b"", run(program, input=octets, env=env).stderr), ended)
+    with open("/dev/full", "wb") as full, open(SMALL[1], "rb") as it:
+        ended = subprocess.run([program, "--verdicts"], stdin=it, stdout=full, stderr=subprocess.PIPE, env=env, check=False)
+    verdict("verdicts to a full device", (ended.returncode, ended.stderr) == (3, b"opgp-verify: write failed\n"), ended)
+
+
 def states_verified(program, env, room):
     """How the parts of keyrings stand is what `opgp state` says by the verdicts, and of the vectors what the model says."""
     sources = [(it, None) for it in (*SMALL, *(it for it in ARCHIVE if os.path.getsize(it) <= MOST))]
@@ -1470,7 +1567,7 @@ def states_verified(program, env, room):
                 continue  # it has malformed signatures
         name = vector.stem if vector else name_of(source)
         with open(f"{room}/verdicts", "wb") as it:
-            it.write(opens(program, "--policy", "none", source=source, env=env).stdout)
+            it.write(opens(program, "--verdicts", source=source, env=env).stdout)
         for at, policy in (("2026-11-20", "usual"), ("2020-01-01T00:00:00Z", "any"), ("0", "usual"))[: 1 if vector else 3]:
             by = [opens(program, "--state", "--at", at, "--policy", policy, source=source, env=env)]
             by.append(opens(PROGRAM, "state", "--at", at, "--policy", policy, "--verdicts", f"{room}/verdicts", source=source))
@@ -1518,6 +1615,8 @@ def verified(room):
     large_verified(program, env, room)
     wanting_verified(program, env, room)
     wanting_verified(program, env, room, ("--state", "--at", "2026-11-20"))
+    wanting_verified(program, env, room, ("--verdicts",))
+    verdicts_written(program, env)
     archive_verified(program, env)
     states_verified(program, env, room)
     beside_gpg(program, env, room)
@@ -1538,6 +1637,8 @@ def main():
             made(program)
             materials(program)
             faults(program)
+            verdict_files(program, room)
+            skipped(program, room)
             names(program)
             documents(program)
             verified(room)

@@ -1,10 +1,10 @@
 #!/usr/bin/env python3
 """Tries `python3 -m opgp` and the functions behind it, over the library for C, which OPGP_LIBRARY names or which is made: sizes and
 names, how keys stand and which self-signatures count beside tests/lib/standing.py, files of verdicts and verifiers, each command to the
-octet over keyrings that are made here, wrong command lines, policies and inputs. Beside programs of others, where they are here: sizes,
-curves, times and states beside gpg over the machine's keyrings and tests/vectors, names in a Web Key Directory and its files beside
-gpg-wks-client, the types by mypy. opgp-verify is made with the library, or stands beside that which is named. The last line counts what
-was tried."""
+octet over keyrings that are made here, what lies outside of blocks, secret keys, wrong command lines, policies and inputs. Beside programs
+of others, where they are here: sizes, curves, times and states beside gpg over the machine's keyrings and tests/vectors, names in a Web
+Key Directory and its files beside gpg-wks-client, the types by mypy. opgp-verify is made with the library, or stands beside that which is
+named. The last line counts what was tried."""
 
 import base64
 import hashlib
@@ -28,15 +28,18 @@ sys.path.insert(0, f"{sys.path[0]}/../lib")
 
 import model  # noqa: E402
 import openpgp_signers as signers  # noqa: E402
+import secret_keys  # noqa: E402
 import standing  # noqa: E402
 import standing_cases  # noqa: E402
 from openpgp_maker import Key, integer, number, on_identity, packet, signature, subpacket  # noqa: E402
 from running import HERE  # noqa: E402
+from verdict_files import dash, file_of, first_of, honest_and_forged, lines_of, revoked_by_sha1, text_of, verdicts_of  # noqa: E402
 
 START, NOW, YEAR = 1577836800, 1767225600, 365 * 86400  # 2020-01-01, 2026-01-01
 GPG_WKS = next((it for it in (shutil.which("gpg-wks-client"), "/usr/lib/gnupg/gpg-wks-client") if it and os.access(it, os.X_OK)), None)
 KEYRINGS = "/usr/share/keyrings"
-NOT_THOSE = "opgp: the verdicts aren't those of this keyring\n"
+NOT_THOSE = "opgp: the verdicts aren't those of this keyring: opgp-verify --verdicts makes a file of them\n"
+PROGRAM = f"{HERE}/crates/opgp_tool/out/opgp_tool"
 passed = failed = 0
 ENV = {}
 SEEN = set()
@@ -295,50 +298,39 @@ def surveys_refused(opgp, everyday):
 # ---- Verdicts
 
 
-def dash(value):
-    return "-" if value is None else str(value)
-
-
-def lines_of(keyring, words):
-    """What opgp-verify would write, if its verdicts were these words."""
-    keys = keyring.keys()
-    for it, word in zip(keyring.signatures(), words, strict=True):
-        place = f"row {it.row} cert {it.certificate} part {dash(it.component)} hang {it.hang} nested {dash(it.nested)} :"
-        if it.why_not:
-            yield f"{place} none {it.why_not}"
-        else:
-            signer = "-" if it.signer is None else keys[it.signer].key_id.hex().upper()
-            yield f"{place} asked type {it.kind:02X} hash {it.hash} signer {signer} digest {it.digest[:2].hex().upper()} verdict {word}"
-
-
-def text_of(lines):
-    return "".join(f"{it}\n" for it in lines).encode()
-
-
 def verdicts(opgp, everyday):
     """Files of verdicts are read, and other files are refused."""
     keyring = opgp.read(octets_of(f"{HERE}/tests/vectors/algorithms/eddsa_legacy.gpg"))
     other = opgp.read(octets_of(f"{HERE}/tests/vectors/algorithms/dsa_1024.gpg"))
-    words = ("good", "bad", "undecided", "undecided weak-hash")
-    for word in words:
-        found = everyday.verdicts_in(keyring, text_of(lines_of(keyring, [word] * 3)))
+    for word in ("good", "bad", "undecided", "undecided absent"):
+        found = everyday.verdicts_in(keyring, verdicts_of(keyring, word))
         verdict(f"verdicts {word}", found == [opgp.Verdict[word.split()[0].upper()]] * 3, found)
-    verdict("no verdicts of nothing", everyday.verdicts_in(opgp.read(b""), b"") == [])
-    right = text_of(lines_of(keyring, ["good"] * 3))
-    first = right.splitlines(keepends=True)
+    verdict("no verdicts of nothing", everyday.verdicts_in(opgp.read(b""), verdicts_of(opgp.read(b""))) == [])
+    right = verdicts_of(keyring)
+    first, *lines = right.splitlines(keepends=True)
+    plain, digest = b"".join(lines), first.split()[6]
     wrongs = {
-        "empty": b"", "a line less": b"".join(first[1:]), "the last line less": b"".join(first[:-1]), "a line twice": first[0] + right,
-        "no end": right[:-1], "carriage returns": right.replace(b"\n", b"\r\n"), "an empty line": right + b"\n", "more": right + b"row",
-        "a blank": right.replace(b" cert ", b"  cert ", 1), "another number": right.replace(b"row 0 ", b"row 1 "),
-        "another place": right.replace(b" hang 0 ", b" hang 9 ", 1), "lower case": right.lower(), "text": b"opgp\n" * 3, "zeros": bytes(9),
-        "another keyring's": text_of(lines_of(other, ["good"] * len(other.signatures()))), "not ASCII": right.replace(b"row", b"r\xf8w"),
+        "empty": b"", "the first line alone": first, "no first line": plain, "the first line twice": first + right, "a line less": first + b"".join(lines[1:]),
+        "the last line less": first + b"".join(lines[:-1]), "a line twice": first + lines[0] + plain, "all lines twice": right + plain,
+        "the file twice": right + right, "lines in another order": first + b"".join(lines[::-1]), "the first line behind": plain + first,
+        "no end": right[:-1], "carriage returns": right.replace(b"\n", b"\r\n"), "an empty line": right + b"\n", "an empty line in front": b"\n" + right,
+        "more": right + b"row", "a blank": right.replace(b" cert ", b"  cert ", 1), "a blank behind": right.replace(b" rows 3", b" rows 3 "),
+        "another number": right.replace(b"row 0 ", b"row 1 "), "another place": right.replace(b" hang 0 ", b" hang 9 ", 1), "lower case": right.lower(),
+        "a digest in lower case": right.replace(digest, digest.lower()), "another digest": right.replace(digest, bytes(reversed(digest))),
+        "half a digest": right.replace(digest, digest[:32]), "more of a digest": right.replace(digest, digest + b"00"), "no digest": right.replace(digest + b" ", b""),
+        "fewer rows": right.replace(b" rows 3", b" rows 2"), "more rows": right.replace(b" rows 3", b" rows 4"), "zeros in front": right.replace(b" rows 3", b" rows 03"),
+        "no rows": right.replace(b" rows 3", b""), "another word": right.replace(b"arithmetic", b"policy"), "text": b"opgp\n" * 3, "zeros": bytes(9),
+        "another keyring's": verdicts_of(other), "another keyring's lines": first + b"".join(verdicts_of(other).splitlines(keepends=True)[1:]),
+        "another keyring's first line": verdicts_of(other).splitlines(keepends=True)[0] + plain, "not ASCII": right.replace(b"row", b"r\xf8w"),
+        "another digest of a row": re.sub(rb"digest ....", b"digest 0000", right, count=1), "a byte order mark": b"\xef\xbb\xbf" + right,
     }  # fmt: skip
     for odd in ("", "Good", "goo", "good ", "good fine", "bad fine", "undecided ", "undecided  weak", "undecided Weak", "undecided a b"):
         wrongs[f"the verdict {odd!r}"] = right.replace(b"verdict good", b"verdict " + odd.encode(), 1)
-    wrongs["another digest"] = re.sub(rb"digest ....", b"digest 0000", right, count=1)
+    wrongs |= {f"the first {size} octets": right[:size] for size in range(0, len(right), 7)}
     for what, wrong in wrongs.items():
         error = raised(everyday.WrongVerdicts, lambda wrong=wrong: everyday.verdicts_in(keyring, wrong))
         verdict(f"a file of verdicts: {what}", error and f"opgp: {error}\n" == NOT_THOSE, error)
+    verdict("a file of verdicts is octets", raised(TypeError, lambda: everyday.verdicts_in(keyring, right.decode())))
     # What isn't good says so whoever asks: its digest doesn't begin as it states.
     octets = bytearray(keyring.write())
     left = keyring.signatures()[0].left
@@ -346,10 +338,52 @@ def verdicts(opgp, everyday):
     changed = opgp.read(bytes(octets))
     verdict("a bad claim", everyday.claims(changed)[0] is opgp.Verdict.BAD)
     for word, holds in (("bad", True), ("good", False), ("undecided", False)):
-        lines = text_of(lines_of(changed, [word, "good", "good"]))
-        error = raised(everyday.WrongVerdicts, lambda lines=lines: everyday.verdicts_in(changed, lines))
+        file = file_of(changed, lines_of(changed, [word, "good", "good"]))
+        error = raised(everyday.WrongVerdicts, lambda file=file: everyday.verdicts_in(changed, file))
         verdict(f"a bad one said to be {word}", (error is None) == holds)
     misplaced_verdicts(opgp, everyday)
+
+
+def verdicts_of_others(opgp, verifier):
+    """A file of verdicts is of the octets of one keyring, and by arithmetic alone: else an expired key or a revoked one would be usable."""
+    room = tempfile.mkdtemp(dir=ENV["ROOM"])
+    honest, forged = map(opgp.read, honest_and_forged(START))
+    verdict("the forged keyring has the honest one's lines", [*lines_of(honest, ["good"])] == [*lines_of(forged, ["good"])])
+    file = put(f"{room}/honest", verdicts_of(honest))
+    words = ("audit", "--at", str(START + 900 * 86400), "--verdicts", file)
+    ended = command(*words, given=honest.write())
+    verdict("the honest keyring by its file", ended[0] == 1 and b" checked expired " in ended[1], ended)
+    ended = command(*words, given=forged.write())
+    verdict("the forged keyring by the file of the honest one", ended == (1, b"", NOT_THOSE), ended)
+    revoked = opgp.read(revoked_by_sha1(START))
+    put(f"{room}/revoked.gpg", revoked.write())
+    words = ("audit", "--at", str(NOW), "--verdicts")
+    for what, them in (("usual", ["undecided weak-hash", "good"]), ("none", ["good", "good"])):
+        lines = [*lines_of(revoked, them)]
+        ended = command(*words, put(f"{room}/plain", text_of(lines)), f"{room}/revoked.gpg")
+        verdict(f"what opgp-verify prints by the policy {what}", ended == (1, b"", NOT_THOSE), ended)
+    ended = command(*words, put(f"{room}/right", verdicts_of(revoked)), f"{room}/revoked.gpg")
+    verdict("the file of verdicts", ended[0] == 1 and b" checked revoked " in ended[1], ended)
+    for what, it in (("its octets again", revoked.write()), ("armored", revoked.write(armor=True)), ("in another block", model.armor(revoked.write()))):
+        ended = command(*words, f"{room}/right", given=it)
+        verdict(f"a file of verdicts is of the packets: {what}", ended[0] == 1 and b" checked revoked " in ended[1], ended)
+    framed = revoked.write()
+    framed = bytes([0x98]) + framed[1:]  # the same key in the legacy format
+    ended = command(*words, f"{room}/right", given=framed)
+    verdict("and of how they are framed", ended == (1, b"", NOT_THOSE), ended)
+    if not verifier:
+        return
+    for policy in ("usual", "any", "none"):
+        ended = run(verifier, "--policy", policy, f"{room}/revoked.gpg")
+        told = command(*words, put(f"{room}/plain", ended.stdout), f"{room}/revoked.gpg")
+        verdict(f"the output of opgp-verify --policy {policy}", ended.stdout.count(b"\n") == 2 and told == (1, b"", NOT_THOSE), (ended, told))
+    ended = run(verifier, "--verdicts", f"{room}/revoked.gpg")
+    verdict("what opgp-verify --verdicts writes", (ended.returncode, ended.stdout) == (0, verdicts_of(revoked)), ended)
+    told = command(*words, put(f"{room}/made", ended.stdout), f"{room}/revoked.gpg")
+    verdict("by that it is revoked", told[0] == 1 and b" checked revoked " in told[1], told)
+    ended = run(verifier, "--verdicts", input=forged.write())
+    verdict("a forged certification is bad", ended.stdout == verdicts_of(forged, "bad"), ended)
+    verdict("how many rows", ended.stdout.startswith(first_of(forged, 1).encode() + b"\n"), ended)
 
 
 def misplaced_verdicts(opgp, everyday):
@@ -362,9 +396,10 @@ def misplaced_verdicts(opgp, everyday):
     verdict("what is misplaced", whys == [None, None, None, "misplaced", "misplaced"], whys)
     lines = [*lines_of(keyring, ["good"] * 5)]
     for said, wanted, how in (("", "UNDECIDED", "usable"), (" verdict good", "GOOD", "revoked"), (" verdict undecided absent", "UNDECIDED", "usable")):
-        found = everyday.verdicts_in(keyring, text_of([*lines[:3], lines[3] + said, lines[4] + " verdict good"]))
-        verdict(f"a misplaced revocation{said}", [it.name for it in found] == ["GOOD"] * 3 + [wanted, "UNDECIDED"], found)
-        verdict(f"the key of it{said}", everyday.survey(keyring, NOW, found)[0].primary.how == how)
+        for other in ("", " verdict good"):  # of the certification on a subkey, which says nothing
+            found = everyday.verdicts_in(keyring, file_of(keyring, [*lines[:3], lines[3] + said, lines[4] + other]))
+            verdict(f"a misplaced revocation{said}", [it.name for it in found][:4] == ["GOOD"] * 3 + [wanted], found)
+            verdict(f"the key of it{said}", everyday.survey(keyring, NOW, found)[0].primary.how == how)
     verdict("the claim of a misplaced revocation", everyday.claims(keyring)[3:] == [opgp.Verdict.GOOD, opgp.Verdict.UNDECIDED])
     verdict("a verifier's", everyday.survey(keyring, NOW, lambda _: opgp.Verdict.GOOD)[0].primary.how == "revoked")
     verdict("what claims say", everyday.survey(keyring, NOW)[0].primary.how == "revoked")
@@ -454,14 +489,14 @@ def audits_of_one(made, room, way):
     """The audit of one certificate, at several times."""
     word, words = way
     fine = command("audit", "--at", str(NOW), *words, put(f"{room}/dave", made.of_dave))
-    verdict("audit of one that is fine", fine[0] == 0 and fine[1].endswith(b" short -\n") and fine[2] == "" or word == "verified" and
+    verdict("audit of one that is fine", fine[0] == 0 and fine[1].endswith(b" short -\n") and fine[2] == "" or word == "checked" and
             "--verdicts" in words, fine)  # fmt: skip
     later = command("audit", "--at", "2031-01-01T00:00:00Z", "--unverified", given=made.of_alice)
     verdict("audit of what has expired", later[0] == 1 and b" expired eddsa ed25519 " in later[1] and b"short expired\n" in later[1], later)
     early = command("audit", "--at", "1", "--unverified", given=made.of_dave)
     verdict("audit of what isn't there yet", early[0] == 1 and early[1].endswith(b" hash - short early\n"), early)
     any_ = command("audit", "--at", str(NOW), "--unverified", "--rely", "any", given=made.of_bob)
-    verdict("audit that relies on all", any_[0] == 1 and b" unverified usable rsa 1024 uses certify,sign end never hash SHA-1 short size,sha1\n" in any_[1], any_)
+    verdict("audit that relies on all", any_[0] == 1 and b" unchecked usable rsa 1024 uses certify,sign end never hash SHA-1 short size,sha1\n" in any_[1], any_)
 
 
 def policies(_, everyday):
@@ -503,7 +538,7 @@ def as_json(_, everyday, made, ways):
             continue
         verdict("it is plain", re.fullmatch(rb"[\x20-\x7e\n]*\n", ended[1]), ended)
         found = json.loads(ended[1])
-        is_verified = word == "verified"
+        is_verified = word == "checked"
         verdict("what it begins with", [*found.items()][:3] == [("schema", "opgp-keyring-1"), ("at", NOW), ("verified", is_verified)], found)
         them = found["certificates"]
         verdict("a line for each certificate", len(ended[1].splitlines()) == 6 and len(them) == 4)
@@ -558,21 +593,25 @@ def addresses(_, __, made, ways):
     a, b, c, d = map(hexed, (made.alice, made.bob, made.carol, made.dave))
     for word, words in ways:
         ended = command("emails", "--at", str(NOW), *words, given=made.octets)
-        wanted = (f"alice@example.org {a} {word} certified\nAlice.B@EXAMPLE.org {a} {word} certified\nmallory@example.org {a} {word} unbound\n"
-                  f"bob@example.net {b} {word} unbound\ncarol@example.org {c} {word} certified\n").encode()  # fmt: skip
+        wanted = (f"certified {word} alice@example.org {a}\ncertified {word} Alice.B@EXAMPLE.org {a}\nunbound {word} mallory@example.org {a}\n"
+                  f"unbound {word} bob@example.net {b}\ncertified {word} carol@example.org {c}\n").encode()  # fmt: skip
         verdict(f"emails, {word}", ended == (0, wanted, ""), ended)
     word, words = ways[0]
     listed = {
-        a: f'pub {a} {word} usable\nuid {word} certified "Alice (work) <alice@example.org>"\nuid {word} certified '
-           f'"Al\\x0Ai\\x1B[1mce\\x7F \\xF8 (o\\x22e) <Alice.B@EXAMPLE.org>"\nuid {word} unbound "Mallory <mallory@example.org>"\n',
-        c: f'pub {c} {word} revoked\nuid {word} certified "Carol: 100% + <carol@example.org>"\n',
-        d: f'pub {d} {word} usable\nuid {word} certified "Dave"\n',
+        a: f'pub usable {word} {a}\nuid certified {word} "Alice (work) <alice@example.org>"\nuid certified {word} '
+           f'"Al\\x0Ai\\x1B[1mce\\x7F \\xF8 (o\\x22e) <Alice.B@EXAMPLE.org>"\nuid unbound {word} "Mallory <mallory@example.org>"\n',
+        c: f'pub revoked {word} {c}\nuid certified {word} "Carol: 100% + <carol@example.org>"\n',
+        d: f'pub usable {word} {d}\nuid certified {word} "Dave"\n',
     }  # fmt: skip
     key_id = made.alice.key_id.hex()
     for names_, found in (((a,), a), ((a.lower(),), a), ((f"0x{key_id}",), a), ((hexed(made.old),), a), (("ALICE@example.ORG",), a),
                           (("alice.b@example.org", "carol@example.org"), a + " " + c), ((d, a, key_id), a + " " + d), ((c,), c)):  # fmt: skip
         ended = command("find", "--at", str(NOW), *words, *names_, given=made.octets)
         verdict(f"find {names_}", ended == (0, "".join(listed[it] for it in found.split()).encode(), ""), ended)
+    for line in (line for it in listed.values() for line in it.splitlines()):
+        kind, state, checked = line.split()[:3]
+        states = ("usable", "revoked") if kind == "pub" else ("certified", "unbound")
+        verdict("the state comes first, and no word says that what nobody signed is verified", state in states and checked == word and "verified" not in line)
     for name in ("mallory@example.org", "bob@example.net", "nobody@example.org", "0" * 40, "0" * 16):
         ended = command("find", "--at", str(NOW), *words, name, given=made.octets)
         verdict(f"find {name}", ended == (1, b"", f"opgp: no certificate for {name}\n"), ended)
@@ -753,7 +792,7 @@ def z_base_32(local):
 def verifiers(opgp, made, verifier):
     """What runs as the verifier, and what can't."""
     room = tempfile.mkdtemp(dir=ENV["ROOM"])
-    right = text_of(lines_of(opgp.read(made.of_dave), ["good"]))
+    right = verdicts_of(opgp.read(made.of_dave))
     put(f"{room}/said", right)
     given = ("emails", "--at", str(NOW))
 
@@ -768,14 +807,17 @@ def verifiers(opgp, made, verifier):
         f"cat > /dev/null; cat {room}/said; echo some bad >&2; exit 1": (0, ""),
         "cat > /dev/null; echo row": (1, NOT_THOSE),
         "cat > /dev/null": (1, NOT_THOSE),
+        f"cat > /dev/null; tail -n 1 {room}/said": (1, NOT_THOSE),
         "cat > /dev/null; echo first >&2; printf 'no \\033 memory\\n' >&2; exit 3": (3, "opgp: the verifier failed: {} ended with 3: no \\x1B memory\n"),
+        "cat > /dev/null; echo refused >&2; exit 1": (3, "opgp: the verifier failed: {} ended with 1: refused\n"),
         "exit 2": (3, "opgp: the verifier failed: {} ended with 2: \n"),
+        "echo \"no '$1'\" >&2; echo More >&2; exit 2": (3, "opgp: the verifier failed: {} ended with 2: no '--verdicts'\n"),
     }
     for number_, (text, (status, said)) in enumerate(them.items()):
         path = script(f"verifier{number_}", text)
         ended = command(*given, "--verifier", path, given=made.of_dave)
         verdict(f"the verifier {text}", ended == (status, b"", said.format(path)), ended)
-    verdict("what it is given", octets_of(f"{room}/given") == made.of_dave and octets_of(f"{room}/words") == b"--policy none\n")
+    verdict("what it is given", octets_of(f"{room}/given") == made.of_dave and octets_of(f"{room}/words") == b"--verdicts\n")
     asked_less(opgp, made, room)
     put(f"{room}/said", right)
     for name, why in ((f"{room}/none", "No such file or directory"), (f"{room}/said", "Permission denied")):
@@ -786,7 +828,7 @@ def verifiers(opgp, made, verifier):
     verdict("no verifier", ended == (1, b"", said), ended)
     os.rename(f"{room}/verifier0", f"{room}/opgp-verify")
     ended = command("find", hexed(made.dave), given=made.of_dave, path=f"{room}:{os.environ['PATH']}")
-    verdict("the verifier of the path", ended[0] == 0 and ended[1].startswith(f"pub {hexed(made.dave)} verified usable\n".encode()), ended)
+    verdict("the verifier of the path", ended[0] == 0 and ended[1].startswith(f"pub usable checked {hexed(made.dave)}\n".encode()), ended)
     twice_given(made, room, right)
     if verifier:
         beside_states(opgp, made, verifier)
@@ -798,7 +840,7 @@ def asked_less(opgp, made, room):
     raised(ValueError, lambda: everyday.verdicts_by(keyring, f"{room}/verifier0"))
     own = [it.body for it in keyring.packets() if (it.certificate, it.component, it.hang) != (0, 1, 1)]
     verdict("what others certify isn't asked", [it.body for it in opgp.read(octets_of(f"{room}/given")).packets()] == own)
-    put(f"{room}/said", text_of(lines_of(opgp.read(octets_of(f"{room}/given")), ["good"] * (len(keyring.signatures()) - 1))))
+    put(f"{room}/said", verdicts_of(opgp.read(octets_of(f"{room}/given"))))
     found = everyday.verdicts_by(keyring, f"{room}/verifier0")
     wanted = ["UNDECIDED" if (it.certificate, it.component, it.hang) == (0, 1, 1) else "GOOD" for it in keyring.signatures()]
     verdict("the verdicts are those of their rows", [it.name for it in found] == wanted, found)
@@ -825,7 +867,7 @@ def beside_states(opgp, made, verifier):
     for octets in sources:
         keyring = opgp.read(octets)
         told = run(verifier, "--state", "--at", str(NOW), input=keyring.write()).stdout.decode().splitlines()
-        whole = everyday.verdicts_in(keyring, run(verifier, "--policy", "none", input=keyring.write()).stdout)
+        whole = everyday.verdicts_in(keyring, run(verifier, "--verdicts", input=keyring.write()).stdout)
         less = everyday.verdicts_by(keyring, verifier)
         verdict("what isn't asked changes nothing", everyday.survey(keyring, NOW, whole) == everyday.survey(keyring, NOW, less))
         wanted = [re.sub("^cert \\d+ part \\S+ : ", "", it) for it in told]
@@ -845,7 +887,7 @@ def wrong_words(made):
     """Wrong command lines, and what can't be read or written."""
     for words in ((), ("fly",), ("audit", "--fly"), ("audit", "a", "b"), ("find",), ("wkd",), ("wkd", "fly"), ("wkd", "hash"), ("wkd", "tree", "a"),
                   ("audit", "--at"), ("audit", "--at", "now"), ("audit", "--at", "-1"), ("audit", "--at", "2026-02-30"), ("audit", "--at", "1" * 19),
-                  ("audit", "--at", "2026-1-1"), ("audit", "--at", "2106-02-07T06:28:16Z"), ("audit", "--rely", "none"), ("json", "--policy", "x"),
+                  ("audit", "--at", "2026-1-1"), ("audit", "--at", "2106-02-07T06:28:16Z"), ("audit", "--at", "@"), ("audit", "--at", "@2026-01-01"), ("audit", "--rely", "none"), ("json", "--policy", "x"),
                   ("audit", "--unverified", "--verdicts", "x"), ("audit", "--verifier", "x", "--verdicts", "x"), ("find", "--out", "text", "x"),
                   ("wkd", "hash", "--at", "1", "a@b"), ("audit", "--unver"), ("wkd", "tree", "--method", "other", "a", "b")):  # fmt: skip
         ended = command(*words, given=made.of_dave)
@@ -854,6 +896,7 @@ def wrong_words(made):
                   ("wkd", "hash", "-h"), ("wkd", "tree", "-h")):  # fmt: skip
         ended = command(*words)
         verdict(f"help by {words}", ended[:2] == (2, b"") and ended[2].startswith("usage: python3 -m opgp ") and "--help" in ended[2], ended)
+    dated(made)
     limited(made)
     fault = "armor: NoBlock block 0 at 4 inner 0\n"
     for words in (("json",), ("audit",), ("hkp",), ("emails",), ("find", "a@b"), ("wkd", "tree", "b", f"{ENV['ROOM']}/none")):
@@ -874,10 +917,95 @@ def wrong_words(made):
     verdict("the JSON of nothing", json.loads(command("json", "--unverified")[1])["certificates"] == [])
 
 
+def dated(made):
+    """Eight digits that may be a date aren't taken for seconds since 1970, of which `@` says that they are."""
+    for word in ("20261101", "20260101", "20261231", "19700101", "00010101", "99991231"):
+        for words in (("audit",), ("json",), ("emails",), ("hkp",), ("find", hexed(made.dave))):
+            ended = command(*words, "--unverified", "--at", word, given=made.of_dave)
+            said = f"{word} may be a date: write that with hyphens, and seconds since 1970 behind an @\n"
+            verdict(f"{words[0]} --at {word}", ended[:2] == (2, b"") and ended[2].endswith(f" error: argument --at: {said}"), ended)
+    for word, at in ((str(NOW), NOW), (f"@{NOW}", NOW), ("@20261101", 20261101), ("20261301", 20261301), ("20261100", 20261100), ("20261132", 20261132), ("0", 0),
+                     ("2026110", 2026110), ("202611011", 202611011), ("@0", 0), ("2026-01-01", NOW), ("2026-01-01T00:00:00Z", NOW)):  # fmt: skip
+        ended = command("json", "--unverified", "--at", word, given=made.of_dave)
+        verdict(f"json --at {word}", ended[0] == 0 and json.loads(ended[1])["at"] == at, ended)
+
+
+def skipped(opgp, made):
+    """Octets outside of armored blocks are told of, as by `opgp`, and what lies in blocks is written."""
+    alice, dave = model.armor(made.of_alice), model.armor(made.of_dave)
+    count = "opgp: {} octets outside of armored blocks were skipped; read a binary file by itself\n".format
+    cases = [
+        ("packets behind a block", dave + made.of_alice, count(len(made.of_alice))),
+        ("packets between two blocks", dave + made.of_carol + b"\n" + alice, count(len(made.of_carol) + 1)),
+        ("a text with packets", b"Hello\n" + dave + made.of_alice, count(len(made.of_alice) + 6)),
+        ("a zero", dave + b"\0", count(1)), ("a text", b"Hello\n" + dave + b"\n> me\n", ""), ("a text in UTF-8", "Jürgen\n".encode() + dave, ""),
+        ("blank lines", b"\n \n" + dave + b"\n\n", ""), ("packets", made.of_dave + made.of_alice, ""), ("blocks", dave + alice, ""),
+    ]  # fmt: skip
+    for what, octets, said in cases:
+        keyring = opgp.read(octets)
+        verdict(f"{what}: the count", keyring.skipped() == int(re.sub(r"\D", "", said) or 0), keyring.skipped())
+        it = keyring.merged()
+        verdict(f"{what}: of what another call made", it.skipped() == keyring.normalised().skipped() == keyring.certificate(0).skipped() == 0)
+        for words in (("audit",), ("json",), ("hkp",), ("emails",), ("find", hexed(made.dave)), ("revocations",), ("find", "--out", "binary", hexed(made.dave))):
+            ended = command(*words, "--unverified", "--at", str(NOW), given=octets)
+            verdict(f"{what} to {words}", ended[2].startswith(said) and ("skipped" in ended[2]) == bool(said), ended)
+            is_there = b"Dave" in ended[1] or hexed(made.dave).encode() in ended[1]
+            verdict(f"{what} to {words}: what is in blocks", is_there or words[0] in ("revocations", "emails"), ended)
+        folder = tempfile.mkdtemp(dir=ENV["ROOM"])
+        ended = command("wkd", "tree", "--unverified", "example.org", folder, given=octets)
+        verdict(f"{what} to wkd tree", (ended[0], ended[2]) == (0, said), ended)
+        theirs = run(PROGRAM, "list", input=octets) if os.path.exists(PROGRAM) else None
+        verdict(f"{what} to opgp", not theirs or theirs.stderr.decode() == said, theirs)
+    keyring.close()
+    verdict("a closed keyring", raised(ValueError, keyring.skipped))
+    ended = command("revoke", "--unverified", "--revocation", put(f"{ENV['ROOM']}/of-dave", signers.revocation(made.dave, START + 1)), given=dave + made.of_alice)
+    verdict("packets behind a block to revoke", (ended[0], ended[2]) == (0, count(len(made.of_alice))), ended)
+    # Files of both shapes: one behind the other loses the second, or is refused.
+    ended = command("emails", "--unverified", "--outside", "refuse", given=dave + made.of_alice)
+    verdict("packets behind a block, refused", ended[:2] == (1, b"") and ended[2].startswith("armor: Outside"), ended)
+    ended = command("emails", "--unverified", given=made.of_alice + dave)
+    verdict("a block behind packets", ended[:2] == (1, b"") and ended[2].startswith("framing: NotAPacket"), ended)
+
+
+def secrets(made):
+    """A secret key is named, whatever it is refused for, in the words of `opgp`; and nothing else is."""
+    with open(f"{HERE}/crates/opgp_tool/src/hint.rt", encoding="utf-8") as it:
+        words = re.search(r'SecretKey\s+"([^"]*)"', it.read())
+    verdict("the words are those of opgp", words and f"opgp: {words[1]}\n" == secret_keys.SAID, words)
+    named = 0
+    for what, octets in secret_keys.inputs():
+        ended = command("emails", "--unverified", given=octets)
+        fault, *more = ended[2].splitlines(keepends=True)
+        refused = ended[0] == 1 and re.match("(input|armor|framing|body|composition): ", fault)
+        kept = ended[0] == 0 and "skipped" in fault  # behind an armored key
+        verdict(f"a secret key, {what}", (refused or kept) and more == [secret_keys.SAID] and not secret_keys.shown(ended[1]), ended)
+        theirs = run(PROGRAM, "list", input=octets) if os.path.exists(PROGRAM) else None
+        verdict(f"{what}: the fault is that of opgp", not theirs or theirs.stderr.decode().splitlines(keepends=True)[0] == fault, (theirs, fault))
+        named += bool(theirs) and theirs.stderr.decode().endswith(secret_keys.SAID)
+    verdict("opgp names some of them", named > 5 or not os.path.exists(PROGRAM), named)
+    octets = model.armor(made.of_dave) + secret_keys.certificate(made.dave)
+    ended = command("emails", "--unverified", given=octets)
+    verdict("a secret key that is skipped", ended[0] == 0 and ended[2].endswith(f"were skipped; read a binary file by itself\n{secret_keys.SAID}"), ended)
+    path = put(f"{ENV['ROOM']}/secret", model.armor(secret_keys.certificate(made.dave), b"PRIVATE KEY BLOCK"))
+    ended = command("revoke", "--unverified", "--revocation", path, given=made.of_dave)
+    verdict("a secret key for a revocation", ended[:2] == (1, b"") and ended[2].endswith(secret_keys.SAID), ended)
+    has_secret_key = importlib.import_module("opgp.secret").has_secret_key
+    rng = random.Random(68)
+    public = [made.octets, model.armor(made.octets), b"", b"text", bytes(1000), rng.randbytes(100000), base64.b64encode(rng.randbytes(100000))]
+    public += [octets_of(f"{HERE}/tests/vectors/{it}") for it in ("sq/states_4.gpg", "sq/states_6.gpg", "real/debian-archive-bookworm-stable.gpg")]
+    for octets in public:
+        verdict("no secret key", not has_secret_key(octets), octets[:40])
+        for _ in range(40):
+            at = rng.randrange(len(octets) + 1)
+            tried = rng.choice([octets[:at], octets[at:], octets[:at] + b"!" + octets[at + 1 :], octets[:at] + rng.randbytes(3) + octets[at:]])
+            verdict("no secret key, of mutants", not has_secret_key(tried), (octets[:40], at, tried[:80]))
+    for name in ("a4.asc", "a5.asc"):  # of RFC 9580, A.4 and A.5
+        verdict(f"the secret key of {name}", has_secret_key(octets_of(f"{HERE}/tests/vectors/standard/{name}")))
+
+
 def limited(made):
     """The limits and policies of reading, by the options of `opgp`: the faults are its own."""
     armored = importlib.import_module("opgp").read(made.of_dave).write(True)
-    program = f"{HERE}/crates/opgp_tool/out/opgp_tool"
     cases = [
         (("--mode", "binary"), armored, "framing: NotAPacket block 0 at 0 inner 0"),
         (("--mode", "armor"), made.of_dave, "armor: NoBlock block 0 at"),
@@ -890,7 +1018,7 @@ def limited(made):
     for words, given, said in cases:
         ended = command("emails", "--unverified", *words, given=given)
         verdict(f"{words}", ended[:2] == (1, b"") and ended[2].startswith(said), ended)
-        theirs = run(program, "list", "--quiet", *words, input=given) if os.path.exists(program) else None
+        theirs = run(PROGRAM, "list", "--quiet", *words, input=given) if os.path.exists(PROGRAM) else None
         verdict(f"{words} beside opgp", not theirs or (theirs.returncode, theirs.stderr.decode()) == (1, ended[2]), theirs)
     for words in (("--line", "127"), ("--body", "511"), ("--cert", "0"), ("--input", "-1"), ("--pieces", "0"), ("--pieces", "16777217"),
                   ("--line", "1e3"), ("--mode", "text"), ("--outside", "keep"), ("--malformed", "skip")):  # fmt: skip
@@ -1121,14 +1249,17 @@ def main():
             if not verifier:
                 left_out("opgp-verify")
             made = Made()
-            good = put(f"{room}/verdicts", text_of(lines_of(opgp.read(made.octets), ["good"] * len(opgp.read(made.octets).signatures()))))
-            ways = [("verified", ("--verdicts", good)), ("unverified", ("--unverified",))]
-            ways += [("verified", ("--verifier", verifier))] if verifier else []
+            good = put(f"{room}/verdicts", verdicts_of(opgp.read(made.octets)))
+            ways = [("checked", ("--verdicts", good)), ("unchecked", ("--unverified",))]
+            ways += [("checked", ("--verifier", verifier))] if verifier else []
             for test in (sizes, names, stands, surveys_refused, verdicts, policies, beside_wks, beside_install):
                 test(opgp, everyday)
             for test in (audits, as_json, indexed, addresses, directory):
                 test(opgp, everyday, made, ways[::-1])
             verifiers(opgp, made, verifier)
+            verdicts_of_others(opgp, verifier)
+            skipped(opgp, made)
+            secrets(made)
             if verifier:
                 revoking(opgp, everyday, verifier)
             wrong_words(made)

@@ -1,6 +1,6 @@
 #!/usr/bin/env python3
 """Tries python/examples/page.py over the library for C, which OPGP_LIBRARY names or which is made: pages of keyrings and of refused
-inputs, as HTML and in a browser.
+inputs, as HTML and in a browser. Of inputs with a secret key no page has an octet of it.
 
 Of each page the tags, that nothing is loaded, and the policy; that its octets are the keyring's, and each field where the rows have it;
 that the octets of each signature are those that the library hashes, and have the digest; and what a stranger's user ID does to it. In
@@ -15,6 +15,8 @@ import base64
 import datetime
 import hashlib
 import html.parser
+import importlib
+import io
 import json
 import os
 import re
@@ -24,6 +26,7 @@ import sys
 import tempfile
 import time
 import unicodedata
+import unittest.mock
 
 sys.dont_write_bytecode = True
 sys.path.insert(0, f"{sys.path[0]}/../lib")
@@ -31,6 +34,7 @@ sys.path.insert(0, f"{sys.path[0]}/../lib")
 import browser  # noqa: E402
 import model  # noqa: E402
 import openpgp_signers as signers  # noqa: E402
+import secret_keys  # noqa: E402
 from openpgp_maker import Key, integer, number, packet, signature_3, subpacket  # noqa: E402
 from running import HERE  # noqa: E402
 
@@ -75,6 +79,19 @@ def run(*words):
     """The end of a run of the example."""
     env = {**os.environ, "PYTHONPATH": f"{HERE}/python", "PYTHONDONTWRITEBYTECODE": "1", "LC_ALL": "C"}
     return subprocess.run([sys.executable, PAGE, *words], capture_output=True, check=False, timeout=120, env=env)
+
+
+def called(path):
+    """The same by a call in this process, which takes less: its status, output and errors."""
+    sys.path.insert(0, os.path.dirname(PAGE))
+    page = importlib.import_module("page")
+    sys.path.remove(os.path.dirname(PAGE))
+    out, err = (io.TextIOWrapper(io.BytesIO(), "utf-8") for _ in range(2))
+    with unittest.mock.patch.multiple(sys, argv=[PAGE, path], stdout=out, stderr=err):
+        status = page.main()
+        out.flush()
+        err.flush()
+    return subprocess.CompletedProcess([PAGE, path], status, out.buffer.getvalue(), err.buffer.getvalue())
 
 
 def library_in(room):
@@ -389,7 +406,8 @@ def strangers(_):
 def fault_fits(opgp, what, path, fault):
     """The page of a refused input: its line, and its place."""
     ended = run(path)
-    verdict(f"{what}: refused", (ended.returncode, ended.stderr.decode().strip()) == (1, str(fault)), ended)
+    more = secret_keys.SAID if path.endswith(("standard/a4.asc", "standard/a5.asc")) else ""
+    verdict(f"{what}: refused", (ended.returncode, ended.stderr.decode()) == (1, f"{fault}\n{more}"), ended)
     shape, data = shaped(what, ended.stdout)
     verdict(f"{what}: the line is there", str(fault) in shape.text and fault.reason in shape.text)
     return shape, data
@@ -440,6 +458,40 @@ def faults(opgp):
         ended = run(kept("text", text))
         verdict(f"{text!r}", ended.returncode == (1 if text else 0))
         shaped(f"{text!r}", ended.stdout)
+
+
+def secrets(opgp):
+    """A page of an input with a secret key has no octet of it, whatever it is refused for; and standard error names it."""
+    is_shown = secret_keys.shown(packet(5, secret_keys.SECRET)) and secret_keys.shown(base64.b64encode(secret_keys.SECRET))
+    verdict("what is shown is found", is_shown and secret_keys.shown(secret_keys.SECRET.hex(" ", -2).upper().encode()))
+    for what, octets in secret_keys.inputs():
+        path = kept("secret", octets)
+        ended = run(path) if what.startswith("EdDSA: its own") else called(path)
+        try:
+            opgp.read(octets)
+            verdict(f"{what}: skipped", ended.returncode == 0 and ended.stderr.decode().endswith(f"were skipped; read a binary file by itself\n{secret_keys.SAID}"), ended.stderr)
+            shaped(what, ended.stdout)
+        except opgp.Fault as fault:
+            verdict(f"{what}: named", (ended.returncode, ended.stderr.decode()) == (1, f"{fault}\n{secret_keys.SAID}"), ended.stderr)
+            shape, data = shaped(what, ended.stdout)
+            verdict(f"{what}: the fault is there", str(fault) in shape.text and "No octet of it is shown" in shape.text, shape.text[:300])
+            verdict(f"{what}: no octets and no text", data["octets"] == "" and not data["nodes"] and "<mark>" not in ended.stdout.decode(), data)
+        verdict(f"{what}: no octet of the secret", not secret_keys.shown(ended.stdout))
+    # A key under the type of a public one isn't told from a public key with more behind it; so nothing behind its fields is shown.
+    for version in (4, 6):
+        octets = secret_keys.secret(signers.ed25519("hidden", MADE, version), 6)
+        for path in (kept("hidden.gpg", octets), kept("hidden.asc", model.armor(octets))):
+            ended = run(path)
+            reason = "Trailing" if version == 4 else "Count"
+            verdict(f"a secret key as a public one, version {version}", ended.returncode == 1 and reason.encode() in ended.stderr, ended.stderr)
+            verdict(f"no octet of it, version {version}", not secret_keys.shown(ended.stdout) and marked(shaped(path, ended.stdout)[1]) is not None)
+    text = octets_of(A1).replace(b"\n\n", b"\n\n> ")
+    ended = run(kept("text.asc", text))
+    verdict("another text is shown", b"<mark>" in ended.stdout and b"secret" not in ended.stderr, ended.stderr)
+    bare = opgp.read(octets_of(A1)).write()
+    ended = run(kept("skipped.asc", octets_of(A3) + bare))
+    said = f"opgp: {len(bare)} octets outside of armored blocks were skipped; read a binary file by itself\n"
+    verdict("octets outside of armored blocks", (ended.returncode, ended.stderr.decode()) == (0, said), ended.stderr)
 
 
 def words(opgp):
@@ -711,7 +763,7 @@ def tried(test, *given):
 
 def all_tried(opgp, folder):
     """All tests; and with a folder the pictures."""
-    for test in (keyrings, strangers, faults, words):
+    for test in (keyrings, strangers, faults, secrets, words):
         tried(test, opgp)
     tried(typed)
     if not browser.found():

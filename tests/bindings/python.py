@@ -742,6 +742,22 @@ def searches(opgp):
             verdict(f"{name!r} names no key", raised(kind, lambda name=name: keyring.find(name)))  # pylint: disable=cell-var-from-loop
 
 
+def passed_over(opgp):
+    """Octets outside of armored blocks are counted as by the program, which tells of them."""
+    armored, bare = octets_of(A3), opgp.read(octets_of(A1)).write()
+    for what, octets in (("packets behind", armored + bare), ("in front", b"x\0\n" + armored), ("between", armored + bare + b"\n" + armored), ("none", armored),
+                         ("text", b"text\n" + armored + b"text"), ("blank lines", b"\n" + armored + b" \n"), ("bare packets", bare), ("nothing", b"")):  # fmt: skip
+        keyring = opgp.read(octets)
+        told = subprocess.run([PROGRAM, "list"], input=octets, capture_output=True, check=False).stderr.decode()
+        count = re.fullmatch(r"opgp: (\d+) octets outside of armored blocks were skipped; read a binary file by itself\n", told)
+        verdict(f"{what}: what is skipped", keyring.skipped() == int(count[1] if count else 0), (told, keyring.skipped()))
+        verdict(f"{what}: of what was made", keyring.normalised().skipped() == keyring.joined(keyring).skipped() == 0)
+    with opgp.Reader() as reader:
+        reader.push(armored + bare)
+        reader.end()
+        verdict("of parts nothing", [it.skipped() for it in reader.taken()] == [0])
+
+
 def rows_refused(opgp):
     keyring = opgp.read(octets_of(A3))
     for row in (-1, 2, 1 << 63, (1 << 64) - 1, 1 << 64, 1 << 200):
@@ -1947,7 +1963,7 @@ def judged_by_arithmetic(opgp, env, room):
     told = ended.returncode, lines_of(ended), ended.stderr.decode().splitlines()
     verdict("judge.py without cryptography", told == (1, [f"signature 0 : undecided issuer {name}"], wanted), ended)
     for what, words, status in (("a time below 0", (*paths, "--at", "-1"), 1), ("no file", (*paths[:2], "/nothing/here", *at), 1),
-                                ("no words", (), 2), ("no time", (*paths, "--at", "now"), 2),
+                                ("no words", (), 2), ("no time", (*paths, "--at", "now"), 2), ("a date", (*paths, "--at", "20261101"), 2),
                                 ("a keyring that is refused", (paths[2], *paths[1:], *at), 1)):
         ended = run(sys.executable, example, *words, env=env)
         verdict(f"judge.py of {what}", (ended.returncode, ended.stdout) == (status, b"") and ended.stderr and b"Traceback" not in ended.stderr, ended)
@@ -2763,7 +2779,7 @@ def main():
             for test in (sent, little_memory, documented, verified, judged_by_arithmetic, expiry_beside_gpg, stated_beside_gpg, without_library):
                 test(opgp, env, room)
             for test in (names, faults, keyrings_made, keyrings_chosen, keyrings_picked, blocks_found, user_ids_say, pieces, short_reads, moments, limits, limits_in_pieces, policies, errors, large, inputs,
-                         modes, long_octets, searches, rows_refused, closed, copies, verifiers, flags, stated, named_signers, documents,
+                         modes, long_octets, searches, passed_over, rows_refused, closed, copies, verifiers, flags, stated, named_signers, documents,
                          document_pieces, document_refused, document_uses, document_files, document_signers, cleartexts, cleartext_refused,
                          standings, states, states_refused, judgements, judgement_refused, judgement_verifiers, judged_in_places,
                          judged_elsewhere, judged_at_once, work, each_octets, threads):

@@ -32,6 +32,8 @@ START = int(time.time()) - 1000 * DAY
 ADDRESS = "alice@example.org"
 DOCUMENT = b"Hello\n- World"
 CV25519 = bytes.fromhex("0A2B060104019755010501") + integer(b"\x40" + bytes(31) + b"\7") + bytes.fromhex("03010807")
+SEVERAL = "One keyring of several files, armored or not (`cat` of both kinds would lose some, or be refused):"
+ONE_ALONE = "Refuse what is too large, or isn't one certificate alone:"
 passed = failed = 0
 
 
@@ -72,7 +74,7 @@ class Made:
             "keyring.gpg": self.keyring,
             "old.gpg": self.of_alice + self.of_bob + self.of_dave,
             "certificate.asc": model.armor(self.of_alice, b"PUBLIC KEY BLOCK"),
-            "other.asc": model.armor(self.of_dave, b"PUBLIC KEY BLOCK"),
+            "other.gpg": self.of_dave,
             "revocation.asc": model.armor(signers.revocation(self.alice, START + 2), b"PUBLIC KEY BLOCK"),
             "update.asc": model.armor(self.update, b"PUBLIC KEY BLOCK"),
             "fingerprints": f"# two\n{hexed(self.sub)}\n\n{hexed(self.dave).lower()}\n".encode(),
@@ -115,10 +117,10 @@ def wanted(made, folder, program):
 
     sizes = [f"{a} ed25519", f"{sub} cv25519", f"{b} 1024", f"{c} ed25519", f"{d} ed25519"]
     return {
-        "Which keys expire within 90 days?": (0, lines(f"pub {a} verified usable", f"sub {sub} verified usable")),
-        "Whose newest self-signatures are by SHA-1?": (0, lines(f"pub {b} verified unbound")),
-        "Which RSA keys have fewer than 3072 bits?": (0, lines(f"pub {b} verified unbound rsa 1024")),
-        "Which certificates have no key to encrypt to?": (0, lines(f"pub {d} verified usable")),
+        "Which keys expire within 90 days?": (0, lines(f"pub {a} checked usable", f"sub {sub} checked usable")),
+        "Whose newest self-signatures are by SHA-1?": (0, lines(f"pub {b} checked unbound")),
+        "Which RSA keys have fewer than 3072 bits?": (0, lines(f"pub {b} checked unbound rsa 1024")),
+        "Which certificates have no key to encrypt to?": (0, lines(f"pub {d} checked usable")),
         "How large is each key, or on which curve?": (0, lambda out: out.splitlines() == sizes),
         "What has changed between two versions?": (0, lines(f"new {c} cert ")),
         "Which certificates are new?": (0, lines(f"new {c} cert ")),
@@ -135,11 +137,11 @@ def wanted(made, folder, program):
             0, lambda out: "verdict good\n" in out and octets_in(folder, "signed") == DOCUMENT),
         "Only the certificates that a list names:": (0, wrote("picked.gpg", a, d)),
         "All but those:": (0, wrote("others.gpg", b, c)),
-        "One keyring of several files:": (0, wrote("both.asc", a, d)),
-        "Refuse what is too large, or isn't a certificate alone:": (0, has(f" {a} ")),
+        SEVERAL: (0, wrote("both.asc", a, d)),
+        ONE_ALONE: (0, lambda out: out == ""),
         "Each certificate in a file of its own:": (
             0, lambda out: out == "" and [prints(octets_in(folder, f"certificate-{it}.asc")) for it in range(4)] == [[a], [b], [c], [d]]),
-        "An index of addresses:": (0, lines(f"{ADDRESS} {a} verified certified", f"bob@example.net {b}", f"carol@example.org {c}")),
+        "An index of addresses:": (0, lines(f"certified checked {ADDRESS} {a}", f"unbound checked bob@example.net {b}", f"certified checked carol@example.org {c}")),
         "The same as a key server answers:": (0, has("info:1:4\n", f"pub:{a}:22:", f"pub:{b}:1:1024:")),
         "The certificates of an address:": (0, lambda out: prints(out.encode()) == [a]),
         "A certificate with a newer copy of it:": (
@@ -147,19 +149,33 @@ def wanted(made, folder, program):
         "A revocation certificate put behind the key that it revokes:": (
             0, lambda out: out == "" and prints(octets_in(folder, "revoked.asc")) == [a] and b" revoked " in state(program, octets_in(folder, "revoked.asc"))),
         "Revocations alone, as packets:": (0, lambda out: out == "" and octets_in(folder, "revocations.gpg") == signers.revocation(made.carol, START + 1)),
-        "A Web Key Directory:": (0, has(f" verified {a} {ADDRESS}\n", f" verified {c} carol@example.org\n")),
+        "A Web Key Directory:": (0, has(f" checked {a} {ADDRESS}\n", f" checked {c} carol@example.org\n")),
         "As JSON:": (0, lambda out: out == "" and len(json.loads(octets_in(folder, "keyring.json"))["certificates"]) == 4),
         "Which signatures revoke something?": (0, lines("sig v6 type 20 ")),
         "The keys in the Autocrypt headers of a mail:": (0, has(f"{ADDRESS} {a} ")),
         "Which keys can I encrypt to, and sign with?": (0, lambda out: re.findall(r"uses (\S+) ", out) == ["certify,sign", "encrypt", "certify,sign"]),
-        "Is a key revoked, or expired?": (0, has(f"pub {a} verified usable\n")),
-        "The text of a signed mail, if a key signed it that may be believed:": (0, lambda out: out.endswith(DOCUMENT.decode()) and "verdict good\n" in out),
+        "Is a key revoked, or expired?": (0, has(f"pub usable checked {a}\n")),
+        "The text of a signed mail, if a key signed it that may be believed (whose it is, compare with `From`):": (
+            0, lambda out: out.endswith(DOCUMENT.decode()) and "verdict good\n" in out),
         "Its signature in PGP/MIME, over a part with the line ends of mail:": (0, has("verdict good\n")),
         "What does the signature of row 3 hash?": (0, lambda out: len(out.split()) > 100 and out.split()[0] == "99"),
         "The same with each field named, to look at in a browser:": (0, lambda out: out == "" and b"</html>" in octets_in(folder, "page.html")),
         "Where does each key fall short, and why?": (1, lambda out: out.count("\n") == 5 and " short unbound,size,sha1\n" in out),
         "Each packet and subpacket, and what it means:": (0, has("typed key-flags 03 certify sign\n", 'uid "Dave"\n')),
     }  # fmt: skip
+
+
+def others(made):
+    """Of some tasks other files, and how the line ends with them: the status, and the octets of what it writes, if it writes something."""
+    armored, second = (model.armor(it, b"PUBLIC KEY BLOCK") for it in (made.of_alice, made.of_dave))
+    both, empty = (model.armor(it, b"PUBLIC KEY BLOCK") for it in (made.of_alice + made.of_dave, b""))
+    for first, other in ((armored, second), (made.of_alice, made.of_dave), (made.of_alice, second)):
+        yield SEVERAL, {"certificate.asc": first, "other.gpg": other}, 0, both
+    for first, other in ((b"text", made.of_dave), (armored, made.of_dave[:-1]), (armored + b"\n", made.of_dave + b"\n")):
+        yield SEVERAL, {"certificate.asc": first, "other.gpg": other}, 1, None
+    for octets in (b"", empty, armored + second, both, armored + b"more\n", armored + made.of_dave, b"text", model.armor(made.of_alice, b"PRIVATE KEY BLOCK"),
+                   armored * 100, model.armor(made.of_alice + packet(13, b"u" * 66000), b"PUBLIC KEY BLOCK")):  # fmt: skip
+        yield ONE_ALONE, {"certificate.asc": octets}, 1, None
 
 
 def state(program, octets):
@@ -207,6 +223,17 @@ def main():
             is_known = status is not None
             verdict(task if is_known else f"no test for: {task}", is_known and ended.returncode == status and is_right(ended.stdout.decode()), ended)
         verdict("every test has its line", not checks, list(checks))
+        tasks = dict(found)
+        for number_, (task, files, status, wanted_octets) in enumerate(others(Made(folder))):
+            for name, octets in files.items():
+                with open(f"{folder}/{name}", "wb") as it:
+                    it.write(octets)
+            written = f"{folder}/both.asc"
+            if os.path.exists(written):
+                os.remove(written)
+            ended = subprocess.run(["bash", "-c", tasks.get(task, "false")], stdin=subprocess.DEVNULL, **how)
+            made_octets = octets_in(folder, "both.asc") if os.path.exists(written) else None
+            verdict(f"{task} with other files, {number_}", (ended.returncode, made_octets) == (status, wanted_octets), (ended, made_octets))
     print(f"{passed} passed, {failed} failed")
     return int(failed > 0)
 

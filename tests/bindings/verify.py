@@ -9,6 +9,7 @@ signature is then held against a document, a signature or a keyring that was cha
 with Python's hashlib, by tests/lib/model.py, which merges the keyrings too; and which good signature isn't to be believed, and why, by
 tests/lib/standing.py: also of the 346 cases of tests/vectors/validity, at several times, and of keyrings that are made of their packets.
 Signatures that nobody made, whose digest begins as they state, say what is undecided and why. Command lines, files that are refused or missing, full devices, memory that is refused and how much of it is taken are tried too.
+How often libcrypto is asked is counted, and how long a key in many places takes is measured.
 So are large keyrings, over which several threads go: what is written is the same with any number of them, also where some can't be
 started.
 What isn't here is said on standard error. The last line counts what was tried.
@@ -36,7 +37,7 @@ import openpgp_signers as signers  # noqa: E402
 import standing  # noqa: E402
 import standing_cases  # noqa: E402
 from document_cases import TEXT, of_messages  # noqa: E402
-from running import HERE  # noqa: E402
+from running import HERE, processor_seconds  # noqa: E402
 
 SECONDS = 300  # for one run
 USAGE = "\n\nUsage: opgp-verify [OPTIONS] --signature <SIG> --keyring <FILE>... [DOCUMENT]\n"
@@ -75,8 +76,8 @@ def kept(name, octets):
     return f"{ROOM}/{name}"
 
 
-def run(*words, given=b"", **how):
-    ended = subprocess.run([PROGRAM, *words], input=given, capture_output=True, check=False, timeout=SECONDS, **how)
+def run(*words, given=b"", started=None, **how):
+    ended = subprocess.run([started or PROGRAM, *words], input=given, capture_output=True, check=False, timeout=SECONDS, **how)
     return ended.returncode, ended.stdout.decode(), ended.stderr.decode()
 
 
@@ -534,12 +535,84 @@ def in_a_crowd():
         signer = next(key for key in own if name in [body[:1] + model.fingerprint(body) for kind, body in packets_in(key) if kind in (6, 14)])
         primary = packets_in(signer)[0][1]
         rows = sum(row[0] == primary and found != standing.UNDECIDED for row, found in known_of(stem).items())
-        for signatures in (1, 64):
+        for signatures in (1, 64):  # equal ones are asked once
             words = ["--signature", kept("signature", packet(it.documents[0][0]) * signatures), f"--at={READ}"]
             for them in ([path, keyring], [keyring, path], [path, keyring, path, keyring], [*debian, keyring]):
                 ended, count = counted(library, [*words, *(f"--keyring={it}" for it in them)])
-                fits = ended[1].count(f" verdict {said}\n") == signatures and count == signatures + rows
-                verdict(f"{stem}: {signatures} signatures, keyrings {them}", fits, (count, signatures + rows, ended[2]))
+                fits = ended[1].count(f" verdict {said}\n") == signatures and count == 1 + rows
+                verdict(f"{stem}: {signatures} signatures, keyrings {them}", fits, (count, 1 + rows, ended[2]))
+    once(library)
+
+
+def once(library):
+    """libcrypto is asked once about each signature: of equal ones, however often they are judged, and of those that differ about each."""
+    born = int(time.time()) - 10 * DAY
+    key = signers.ed25519("one", born)
+    ring, rows = kept("ring", signers.certificate(key, b"One")), 1
+    gpgv = f"{ROOM}/opgp-gpgv"
+    if not os.path.exists(gpgv):
+        os.symlink(PROGRAM, gpgv)
+    soon = [signers.over(key, DOCUMENT, int(time.time()) + 3600 + number) for number in range(64)]
+    past = [signers.over(key, DOCUMENT, born + DAY + number) for number in range(64)]
+    other = [with_unhashed(body, SUBPACKETS["usual"]) for body in bodies_in(past[0])]
+    weak = [with_unhashed(body, SUBPACKETS["kind"]) for body in bodies_in(past[0])]
+    for title, octets, said, asked in (
+        ("64 that differ", past, ["good"] * 64, 64), ("two of each", [it for it in past[:32] for _ in (0, 1)], ["good"] * 64, 32),
+        ("one and another, in turn", past[:2] * 32, ["good"] * 64, 2), ("64 of the future", soon, ["good unbelieved future"] * 64, 64),
+        # What differs isn't signed, and changes nothing, or all.
+        ("one with another subpacket", [past[0], packet(other[0]), past[0]], ["good"] * 3, 1),
+        ("one with a critical subpacket", [past[0], packet(weak[0]), past[0]], ["good", "undecided critical", "good"], 1),
+    ):
+        path = kept("signature", b"".join(octets))
+        ended, count = counted(library, ["--signature", path, "--keyring", ring])
+        found = re.findall(r" verdict (.*)\n", ended[1])
+        verdict(f"once: {title}", found == said and count == asked + rows, (count, asked + rows, found, ended[2]))
+        for words, good in (([], said.count("good")), (["--ignore-time-conflict"], len(said) - said.count("undecided critical"))):
+            ended, count = counted(library, [*words, "--status-fd=1", "--keyring", ring, path, "-"], started=gpgv)
+            verdict(f"once: {title}, by opgp-gpgv {words}", ended[1].count(" GOODSIG ") == good and count == asked + rows, (count, asked + rows, ended))
+    # Where nothing binds a key to a certificate, that isn't looked at, but for the first place, which says why.
+    keyring, octets = placed(50)
+    ended, count = counted(library, ["--signature", kept("signature", octets), "--keyring", kept("ring", keyring), f"--at={READ}"])
+    verdict("once: of 51 places the first and the last", ended[1].endswith(" verdict good\n") and count == 1 + 1 + 3, (ended, count))
+
+
+# ---- Many places
+
+
+def placed(places):
+    """A keyring of so many strangers' certificates, each with a copy of one subkey that signs, which it doesn't bind; behind them the one that does.
+    And a signature by that subkey."""
+    born = READ - 100 * DAY
+    primary, sub = signers.ed25519("primary", born), signers.ed25519("sub", born)
+    strangers = (signers.certificate(signers.ed25519(f"stranger {number}", born), b"Stranger %d" % number) for number in range(places))
+    ring = b"".join(it + packet(sub.body, 14) for it in strangers) + signers.certificate(primary, b"Signer", signers.subkey(primary, sub, born))
+    return ring, signers.over(sub, DOCUMENT, born + DAY)
+
+
+def spent(program, *words):
+    """The end of a run over the document, and the processor seconds that it took: the least of three."""
+    least = float("inf")
+    for _ in range(3):
+        before = processor_seconds()
+        ended = subprocess.run([program, *words], input=DOCUMENT, capture_output=True, check=False, timeout=SECONDS)
+        least = min(least, processor_seconds() - before)
+    return ended, least
+
+
+def in_many_places():
+    """A key that is in many places, and many signatures by it: the time grows with their sum, and is little."""
+    gpgv = f"{ROOM}/opgp-gpgv"
+    if not os.path.exists(gpgv):
+        os.symlink(PROGRAM, gpgv)
+    for places, signatures, most in ((40, 64, 1), (2000, 1, 1), (2000, 64, 1.5)):
+        ring, octets = placed(places)
+        keyring, path = kept("keyring", ring), kept("signature", octets * signatures)
+        ended, seconds = spent(PROGRAM, "--signature", path, "--keyring", keyring, f"--at={READ}")
+        said = ended.stdout.decode().count(" verdict good\n")
+        verdict(f"{places} places, {signatures} signatures", said == signatures and seconds < most, (ended.stderr, seconds))
+        ended, seconds = spent(gpgv, "--ignore-time-conflict", "--status-fd=1", "--keyring", keyring, path, "-")
+        named = ended.stdout.decode().count(" GOODSIG ") == ended.stdout.decode().count(" Signer\n") == signatures
+        verdict(f"{places} places, {signatures} signatures, by opgp-gpgv", ended.returncode == 0 and named and seconds < most, (ended.stderr[-300:], seconds))
 
 
 def issuer_in(body):
@@ -547,11 +620,11 @@ def issuer_in(body):
     return next(octets for octet, _, octets in model.Signature(body).hashed if octet & 127 == 33)
 
 
-def counted(library, words):
+def counted(library, words, started=None):
     """The end of a run over the document, and what a preloaded library counts."""
     with tempfile.TemporaryFile() as told:
         os.dup2(told.fileno(), 9)
-        ended = run(*words, given=DOCUMENT, env={**os.environ, "LD_PRELOAD": library}, pass_fds=(9,))
+        ended = run(*words, given=DOCUMENT, env={**os.environ, "LD_PRELOAD": library}, pass_fds=(9,), started=started)
         os.close(9)
         told.seek(0)
         return ended, int(told.read() or 0)
@@ -682,7 +755,7 @@ def command_lines():
     verdict("the help", (status, out) == (2, "") and "\nOf a keyring good is arithmetic: " in told and f"[FILE]\n{usage}\n" in told, told)
     verdict("the help of --signature", run("--signature", "x", "-h") == (2, "", told))
     shown = re.findall(r"^ +(?:-\w, )?--(\w+)(?: <\w+>)?  +\w", told, re.M)
-    verdict("the options in the help", shown == ["signature", "cleartext", "output", "keyring", "state", "at", "policy", "require", "malformed", "jobs", "version", "help"], shown)
+    verdict("the options in the help", shown == ["signature", "cleartext", "output", "keyring", "state", "verdicts", "at", "policy", "require", "malformed", "jobs", "version", "help"], shown)
 
 
 def refused():
@@ -922,6 +995,19 @@ def threaded(library, allowed, words, **how):
         return ended, int(told.read() or 0)
 
 
+def odd_keyrings():
+    """What is refused with a second line, or nearly: secret keys in each shape, and armor behind packets, whole and cut."""
+    public = octets_of(f"{HERE}/examples/rfc9580-a1.asc")
+    secret = packet(next(body for kind, body in packets_in(public) if kind == 6) + bytes(40), 5)
+    filled = b"\xca\x03PGP" + secret
+    for octets in (model.armor(secret, b"PRIVATE KEY BLOCK"), public + model.armor(secret, b"PRIVATE KEY BLOCK"), secret, model.armor(filled), secret[:6] + public,
+                   packet(b"a", 13) + public, packet(b"x", 60) + secret + public, model.armor(filled).replace(b"\n\n", b"\na: b\n\n"),
+                   model.armor(b"\xca\x03PGP\xc5\0"), model.armor(b"\xc5\0"), b"-----BEGIN PGP ", b"\xc5", b"\x80-----BEGIN PGP "):  # fmt: skip
+        yield octets
+        yield octets[: len(octets) // 2]
+        yield octets[:-1]
+
+
 def by_sanitizers(archive):
     """No thread uses memory that another one does at the same time, or that isn't its own; and none is left behind."""
     octets, _, _ = copies(14)
@@ -937,6 +1023,7 @@ def by_sanitizers(archive):
         ring = kept(f"ring.{len(those)}", b"".join(dict.fromkeys(found[it].ring for it in those)))
         for octets in (message, message[:-30], message.replace(b"- -", b"-")):
             judged.append(["--cleartext", "--keyring", ring, kept(f"message.{len(judged)}", octets)])
+    judged += [["--verdicts", kept(f"odd.{number}", it)] for number, it in enumerate(odd_keyrings())]
     for kind in ("thread", "address,undefined"):
         program = f"{ROOM}/opgp-verify.{kind}"
         sources = [f"{HERE}/c/opgp-verify.c", *glob.glob(f"{HERE}/c/verify-*.c")]
@@ -1175,7 +1262,7 @@ def main():
         ROOM = room
         PROGRAM, archive = (os.path.abspath(words.program), words.library) if words.program else built()
         if PROGRAM:
-            for part in (of_others, changed_signatures, several, critical, undecided, of_cases, in_other_places, moments, of_one_key, in_a_crowd,
+            for part in (of_others, changed_signatures, several, critical, undecided, of_cases, in_other_places, moments, of_one_key, in_a_crowd, in_many_places,
                          keyrings, streams, command_lines, refused, devices, memory, memory_wanting, threads, debian_keyring, threads_refused,
                          by_valgrind, with_gpg):
                 part()

@@ -4,8 +4,9 @@ in the manual, each command and option in each completion; each reason's example
 runs; the completions load in their shells, where these are installed.
 
 What README, PROOFS, ARCHITECTURE and AUDIT name of the sources is there (tests/gate/named.py), and each library that the crates are
-to use is used. Pages keep within their words, and words a sentence (tests/gate/prose.py). What is made from other files is what
-these make of it (build/pages --check). The last line counts the tests."""
+to use is used. Pages keep within their words, and words a sentence, and comments have their lists (tests/gate/prose.py). Each page and
+help shows the one way to a file of verdicts. What is made from other files is what these make of it (build/pages --check). The last line
+counts the tests."""
 
 import glob
 import os
@@ -204,6 +205,20 @@ for it in complaints:
     verdict(it, False)
 made = run(f"{ROOT}/build/pages", "--check")
 verdict("the generated parts of pages (build/pages writes them)", made.returncode == 0, made.stdout + made.stderr)
+
+# Comments in the crates are as they were written; and a file of verdicts is made in one way, wherever one is shown.
+complaints, measured = prose.comments()
+passed += measured - min(measured, len(complaints))
+for it in complaints:
+    verdict(it, False)
+pages = {it: " ".join(text_of(it).replace("\\-", "-").split()) for it in prose.pages() if it.startswith(("README", "docs/", "man/opgp.1"))}
+pages |= {f"opgp {it} --help": " ".join(run(PROGRAM, it, "--help").stderr.split()) for it in ("state", "write")}
+for it, text in pages.items():
+    verdict(f"{it}: no file of verdicts by a policy", "--policy none" not in text)
+    shows = "OUTPUT TASKS RECIPES EVERYDAY VALIDITY LIBRARY.md LIBRARY-C man/ opgp".split()
+    verdict(f"{it}: a file of verdicts", "opgp-verify --verdicts" in text or not any(it.removeprefix("docs/").startswith(at) for at in shows))
+first = re.search(r"verdicts by arithmetic of keyring sha256 \S+ rows \S+", pages["docs/OUTPUT.md"])
+verdict("the first line of a file of verdicts is on the page", first)
 
 # Without a program its logic isn't known, whatever kit is there.
 with tempfile.TemporaryDirectory() as room:

@@ -4,7 +4,8 @@
 A page's sentences are those of its paragraphs and list items; of a header those of its comments, and of a Python file those of its
 docstrings. Code, tables, headings and the tags of roff's lists don't count, and a piece of inline code is one word.
 `tests/gate/prose.py [PAGE..]` prints a line for each page: its words, its sentences, their average length, and the longest one.
-`tests/gate/manual.py` fails where a page is past what is allowed here.
+`tests/gate/manual.py` fails where a page is past what is allowed here. So it does where a formatter broke the lists of a comment in the
+crates: an item goes on without its indentation, or a word stands alone in a line.
 """
 
 import ast
@@ -99,6 +100,33 @@ def sentences(path, text):
             if words:
                 found.append(words)
     return found
+
+
+def broken_comments(text):
+    """The numbers of the lines of a source where its documentation's lists or paragraphs are broken."""
+    is_code, is_item, before = False, False, ""
+    lines = [re.match(r"\s*//[/!] ?(.*)", it) for it in text.split("\n")]
+    for number, (line, behind) in enumerate(zip(lines, [*lines[1:], None]), 1):
+        said = line[1].rstrip() if line else ""
+        is_code ^= said.lstrip().startswith("```")
+        if not said or is_code or "```" in said:
+            is_item, before = False, ""
+            continue
+        begins = re.match(r"(?:[-*]|\d+\.) ", said.lstrip())
+        is_alone = before and " " not in said.strip() and behind and behind[1].strip() and "```" not in behind[1]
+        if (is_item and not begins and not said.startswith(" ")) or (is_alone and not begins and not re.match(r"\s*(?:[-*]|\d+\.) ", behind[1])):
+            yield number
+        is_item, before = bool(begins) or (is_item and said.startswith(" ")), said
+
+
+def comments():
+    """A complaint for each broken comment of the crates; and how many sources were looked at."""
+    sources = sorted(glob.glob("crates/*/src/*.rt", root_dir=HERE))
+    found = []
+    for path in sources:
+        with open(f"{HERE}/{path}", encoding="utf-8") as it:
+            found += [f"{path}:{number}: a comment that a formatter broke" for number in broken_comments(it.read())]
+    return found, len(sources)
 
 
 def measured(path):

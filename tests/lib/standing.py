@@ -6,7 +6,6 @@ the numbers of its certificate and of its component, as in those rows; None is t
 
 import collections
 import functools
-import hashlib
 
 import model
 

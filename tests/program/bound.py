@@ -20,6 +20,7 @@ sys.path.insert(0, f"{sys.path[0]}/../lib")
 
 import model  # noqa: E402
 import standing_cases  # noqa: E402
+import verdict_files  # noqa: E402
 from openpgp_maker import Key, number, on_identity, packet, signature, subpacket  # noqa: E402
 from running import built  # noqa: E402
 
@@ -30,7 +31,10 @@ parser.add_argument("--program", help="the program that is run, in place of that
 told = parser.parse_args()
 PROGRAM = told.program or built("tests/program/bound.py")
 KEEP = ("--malformed", "keep")
-NOT_THOSE = "opgp: the verdicts aren't those of this keyring\n"
+NOT_THOSE = (
+    "opgp: the verdicts aren't those of this keyring\n"
+    "opgp: opgp-verify --verdicts writes the file of verdicts on a keyring, from the same octets\n"
+)
 SELF = (0x10, 0x11, 0x12, 0x13, 0x18, 0x1F)
 OPTIONS = ((), ("--own-signatures",), ("--no-attributes",), ("--own-signatures", "--no-attributes"))
 MADE = 1700000000
@@ -49,8 +53,8 @@ def run(*words, given=b""):
     return ended.returncode, ended.stdout, ended.stderr.decode()
 
 
-def file_of(lines, verdicts, rng):
-    """What a verifier prints that found these verdicts; and the verdicts that this says."""
+def file_of(octets, lines, verdicts, rng):
+    """The file of a verifier that found these verdicts; and the verdicts that this says."""
     written, said = [], []
     for line, found in zip(lines, verdicts, strict=True):
         front, own = line.rsplit(b" ", 1)
@@ -63,7 +67,7 @@ def file_of(lines, verdicts, rng):
         found = "bad" if own == b"bad" else found
         written.append(front + b" " + found.encode())
         said.append(found)
-    return b"".join(line + b"\n" for line in written), said
+    return verdict_files.file(octets, b"".join(line + b"\n" for line in written)), said
 
 
 def names(it, body):
@@ -147,7 +151,7 @@ def checked(octets):
 
 def compare(room, octets, verdicts, rng, title):
     """The file of verdicts, and what was written by it."""
-    file, said = file_of(checked(octets), verdicts, rng)
+    file, said = file_of(octets, checked(octets), verdicts, rng)
     for options in OPTIONS if rng.random() < 0.3 else ((),):
         ended = room.write(octets, file, *options)
         verdict(title, ended == (0, wanted(octets, said, options), ""), f"{options} {said} {octets.hex()}\n{ended}")
@@ -206,19 +210,19 @@ def by_hand(room):
     }  # fmt: skip
     for title, row in rows.items():
         octets = b"".join(it[0] for it in row)
-        file, _ = file_of(checked(octets), [it[2] for it in row if len(it) > 2], random.Random(1))
+        file, _ = file_of(octets, checked(octets), [it[2] for it in row if len(it) > 2], random.Random(1))
         ended = room.write(octets, file)
         verdict(title, ended == (0, b"".join(it[0] for it in row if it[1]), ""), f"{ended}")
     revocation, binding = made(first, 0x20, 5), made(first, 0x18, 1, subkeys[1].octets)
     octets = key + alice + revocation + bound_one + binding
-    file, _ = file_of(checked(octets), ["good", "good"], random.Random(1))
+    file, _ = file_of(octets, checked(octets), ["good", "good"], random.Random(1))
     ended = room.write(octets, file)
     verdict("a key revocation on a user ID that goes", ended == (0, key + revocation + bound_one + binding, ""), f"{ended}")
 
 
 def command_lines(room, octets):
     with open(room.file, "wb") as it:
-        it.write(file_of(checked(octets), ["good"] * len(checked(octets)), random.Random(1))[0])
+        it.write(file_of(octets, checked(octets), ["good"] * len(checked(octets)), random.Random(1))[0])
     for words, line in (
         (("--bound",), "error: the argument '--bound' wants '--verdicts <FILE>'"),
         (("--verdicts", room.file), "error: the argument '--verdicts <FILE>' wants '--bound'"),
@@ -232,9 +236,12 @@ def command_lines(room, octets):
         verdict(f"verdicts from {name}", run("write", "--bound", "--verdicts", name, given=octets)[:2] == (3, b""))
     verdict("a file that is too long", room.write(octets, b"x" * 2000, "--input", "1999")[:2] == (1, b""))
     verdict("an input that is no keyring", room.write(b"\x99", b"")[:2] == (1, b""))
-    verdict("an empty keyring", room.write(b"", b"", "--quiet") == (0, b"", ""))
-    verdict("an empty keyring, and some verdict", room.write(b"", b"\n", "--quiet") == (1, b"", NOT_THOSE))
+    verdict("an empty keyring", room.write(b"", verdict_files.head(b"", 0), "--quiet") == (0, b"", ""))
+    verdict("an empty keyring, and an empty file", room.write(b"", b"", "--quiet") == (1, b"", NOT_THOSE.splitlines(keepends=True)[0]))
     verdict("no verdicts", room.write(octets, b"") == (1, b"", NOT_THOSE))
+    file, _ = file_of(octets, checked(octets), ["good"] * len(checked(octets)), random.Random(1))
+    for title, wrong in verdict_files.with_other_heads(octets, file[file.index(b"\n") + 1 :]):
+        verdict(f"a file of verdicts with {title}", room.write(octets, wrong) == (1, b"", NOT_THOSE), f"{wrong}")
 
 
 def main():

@@ -653,7 +653,7 @@ def told_beside(program, rng, octets):
         raise Wrong(f"{words}: tells {err!r}")
     if not usual.fault:
         outside = 0 if is_binary(octets) else outside_of_blocks(octets)
-        wanted = b"opgp: the input is empty\n" if not octets else b"opgp: %d octets outside of armored blocks were skipped\n" % outside if outside else b""
+        wanted = b"opgp: the input is empty\n" if not octets else b"opgp: %d octets outside of armored blocks were skipped; read a binary file by itself\n" % outside if outside else b""
         same(f"{words}: what is told", told[0], wanted)
     elif not told[0]:
         raise Wrong(f"{words}: tells nothing of {usual.fault}")

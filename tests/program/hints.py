@@ -117,6 +117,8 @@ def rows():
     yield "text behind a key", "list --outside refuse", KEY + b"\nhello\n", f"line {KEY.count(10) + 2}: not blank, outside of armored blocks; read each file by itself, or remove the line"
     yield "text that begins above 127", "list", "Üben\n".encode() + KEY, "line 2: a begin line of armor, but this was read as packets; --mode armor reads armored blocks alone"
     yield "a key read as packets", "list --mode binary", KEY, "line 1: a begin line of armor, but this was read as packets; --mode armor reads armored blocks alone"
+    glued = "armor behind packets; write each file by itself with opgp write --out binary, and join these"
+    yield "a key in binary, and an armored one", "list", key + KEY, f"line {1 + key.count(10)}: {glued}"
     yield "a line end behind packets", "list", key + b"\n", "a line end where a packet should begin; remove it"
     yield "the other line end", "list", key + b"\r\n", "a line end where a packet should begin; remove it"
     yield "zeros behind packets", "list", key + bytes(100), "zeros where a packet should begin; remove them"
@@ -131,12 +133,16 @@ def rows():
     yield "a long body", "list --body 512", key + packet(13, bytes(600)), "a packet longer than --body allows, or no OpenPGP at all"
     yield "many pieces", "show --pieces 1", bytes([0xCB, 0xE9]) + b"b" + bytes(511) + bytes([0xE0, 0, 0]), "a packet in more pieces than --pieces allows"
     yield "a long certificate", "list --cert 512", key + packet(13, bytes(500)), "a certificate, or what precedes the first one, longer than --cert allows"
-    yield "a key of version 5", "list", packet(6, b"\5"), "a key of a version other than 4 and 6, which opgp doesn't read"
+    yield "a key of version 5", "list", packet(6, b"\5"), "a key of a version other than 4 and 6; nothing of the keyring is read, so export it without that key"
     yield "a malformed key", "list", packet(6, b"\4"), "a malformed packet; --malformed keep accepts malformed signatures"
     secret = "a secret key; don't pass it on (gpg --export writes the public key)"
     yield "a secret key", "list", armored(packet(5, key[2:] + b"\0"), b"PRIVATE KEY BLOCK"), secret
     yield "a secret key in binary", "list", packet(5, key[2:] + b"\0"), secret
     yield "a secret subkey in the legacy format", "list", key + bytes([0x9C, 1, 0]), secret
+    yield "a secret key behind a public one", "list", KEY + armored(packet(5, key[2:] + b"\0"), b"PRIVATE KEY BLOCK"), secret
+    yield "a secret key that says it is a public one", "list", armored(packet(5, key[2:] + b"\0")), secret
+    yield "a secret subkey behind a public key, in one block", "list", armored(key + packet(13, b"Alice") + packet(7, key[2:] + b"\0")), secret
+    yield "a secret key in a second block that says it is a public one", "list", KEY + armored(packet(5, key[2:] + b"\0")), secret
     yield "a signature", "list", armored(signature, b"SIGNATURE"), "a signature alone; opgp show lists its packets"
     yield "a message", "list", armored(literal, b"MESSAGE"), "a message, not a keyring; opgp show lists its packets"
     yield "a signature behind a key", "list", KEY + armored(signature, b"SIGNATURE"), "a block that this command doesn't read; opgp show lists its packets"
@@ -146,17 +152,19 @@ def rows():
     for kind in (1, 3, 4, 9, 11, 18):
         body = b"b\0\0\0\0\0text" if kind == 11 else b"\1"
         yield f"a packet of a message, {kind}", "list", packet(kind, body), "a packet of a message, not of a keyring; opgp show lists it"
-    yield "a message that says it is a key", "list", armored(literal), "a packet that no public keyring has; opgp show lists it"
+    yield "a message that says it is a key", "list", armored(literal), "a packet of a message, not of a keyring; opgp show lists it"
+    yield "a long message that says it is a key", "list", armored(packet(11, b"b" + bytes(100_000))), "a packet that no public keyring has; opgp show lists it"
+    yield "a key as detached signatures", "signatures", key, "not detached signatures alone; opgp show lists any packets"
     yield "a key as a signed literal", "octets --row 0 --of literal", key, "not one literal packet with its signatures"
     yield "no row", "octets --row 9", KEY, ""
     yield "no certificate", "split --nth 9", KEY, ""
     for what, octets in (("behind", KEY + key), ("in front of", b"\1" + key + b"\n" + KEY), ("around", b"a\0b\n" + KEY + b"text\n" + KEY + b"end")):
         outside = len(octets) - octets.count(KEY) * len(KEY)
-        yield f"packets {what} a key", "list", octets, f"{outside} octets outside of armored blocks were skipped"
+        yield f"packets {what} a key", "list", octets, f"{outside} octets outside of armored blocks were skipped; read a binary file by itself"
     for octet in range(128):
         if octet != 10:
             octets = KEY + bytes([octet])
-            yield f"octet {octet} behind a key", "list", octets, "1 octets outside of armored blocks were skipped" if octet in FOREIGN else ""
+            yield f"octet {octet} behind a key", "list", octets, "1 octets outside of armored blocks were skipped; read a binary file by itself" if octet in FOREIGN else ""
 
 
 def tried(runner, name, words, octets, told):
@@ -182,9 +190,12 @@ def main():
             print(f"tests/program/hints.py: {name}: {why}: FAILED", file=sys.stderr)
         else:
             passed += 1
+    # What isn't one of verdicts on a keyring.
+    met.add("opgp-verify --verdicts writes the file of verdicts on a keyring, from the same octets")
     # Each advice of the program is met.
     with open(f"{running.HERE}/crates/opgp_tool/src/hint.rt", encoding="utf-8") as it:
-        advice = re.findall(r'Advice::\w+ =>\s*(?:\{\s*)?"([^"]*)"', it.read())
+        advice = re.findall(r'\b[A-Z]\w+\s+"([^"]*)",', it.read().split("texts! { self;")[1].split("\n}\n")[0])
+    assert len(advice) > 50
     for text in advice:
         if text in met:
             passed += 1
@@ -196,7 +207,7 @@ def main():
         octets = b"a\0b\n" + KEY + b"text\n" + KEY + b"e\nnd"
         pieces = [octets[at : at + size] for at in range(0, len(octets), size)]
         ended = runner.run_in_pieces(["list"], pieces)
-        wanted = f"opgp: {len(octets) - 2 * len(KEY)} octets outside of armored blocks were skipped\n".encode()
+        wanted = f"opgp: {len(octets) - 2 * len(KEY)} octets outside of armored blocks were skipped; read a binary file by itself\n".encode()
         if (ended.status, ended.err) == (0, wanted):
             passed += 1
         else:

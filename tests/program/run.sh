@@ -149,10 +149,11 @@ by_keys all_but_the_keys_of_a_file "--except --keys $work/keys" 0 ""
 echo 12C83F1E706F6308 > "$work/one"
 by_keys key_of_a_file "--keys $work/one" 0 "" "$here/tests/cases/split/certificate_of_a_subkey/stdout"
 by_keys key_beside_a_file "--keys $work/one --key 8CFDE12197965A9A" 0 "" "$two/stdout"
-by_keys key_in_no_certificate_beside_a_file "--keys $work/one --key 8CFDE12197965A9B" 1 "opgp: no such certificate"
+by_keys key_in_no_certificate_beside_a_file "--keys $work/one --key 8CFDE12197965A9B" 1 $'opgp: no such certificate\nopgp: no certificate has the key 8CFDE12197965A9B'
 printf '\n# nothing\n' > "$work/none"
-by_keys no_key_in_a_file "--keys $work/none" 0 ""
-by_keys all_but_no_key "--except --keys $work/none" 0 "" "$two/stdout"
+for words in "--keys $work/none" "--except --keys $work/none" "--keys $work/none --key 12C83F1E706F6308"; do
+    by_keys "no_key_in_a_file $words" "$words" 2 "opgp: $work/none names no key"
+done
 for line in 12C83F1E706F630 "12C83F1E706F6308 # mine" Alice $'12C83F1E\t706F6308' $'\xff'; do
     printf '12C83F1E706F6308\n\n%s\n' "$line" > "$work/bad"
     by_keys "line_of_a_file_that_is_no_key $line" "--keys $work/bad" 2 "opgp: $work/bad, line 3: a fingerprint has 40 or 64 hexadecimal digits, a key ID 16"

@@ -22,6 +22,7 @@ sys.path.insert(0, f"{sys.path[0]}/../lib")
 import model  # noqa: E402
 import standing  # noqa: E402
 import standing_cases  # noqa: E402
+import verdict_files  # noqa: E402
 from openpgp_maker import Key, number, on_identity, packet, signature, subpacket  # noqa: E402
 from running import built, processor_seconds  # noqa: E402
 
@@ -34,7 +35,10 @@ PROGRAM = told.program or built("tests/program/states.py")
 READ = 1795132800  # when the vectors are read: 2026-11-20
 MANY, MANY_SECONDS = 20000, 10
 KEEP = ("--malformed", "keep")
-NOT_THOSE = "opgp: the verdicts aren't those of this keyring\n"
+NOT_THOSE = (
+    "opgp: the verdicts aren't those of this keyring\n"
+    "opgp: opgp-verify --verdicts writes the file of verdicts on a keyring, from the same octets\n"
+)
 IDENTITIES = {"fine": "certified", "revoked": "revoked", "unbound": "unbound"}
 WORDS = (b"absent", b"weak-hash", b"small-key", b"version", b"critical")
 USES = ("certify", "sign", "encrypt", "authenticate")
@@ -146,7 +150,8 @@ class Room:
 def compare(room, octets, verdicts, policy, times, rng, title):
     lines = checked(octets)
     counts = [*counting(octets, lines)]
-    file, said = file_of(lines, verdicts, rng, counts)
+    rows, said = file_of(lines, verdicts, rng, counts)
+    file = verdict_files.file(octets, rows)
     for at in times:
         words = "--at", str(at), "--policy", policy
         for given, found in ((file, said), (None, claimed(lines, counts))):
@@ -156,9 +161,25 @@ def compare(room, octets, verdicts, policy, times, rng, title):
     return lines, file
 
 
-def wrongs(file, checks, other):
-    """Files that aren't the one of a keyring, whose rows `check` has so: made of its own, which isn't empty, and of another one's."""
+def wrongs(file, checks, octets, other):
+    """Files that aren't the one of a keyring, whose rows `check` has so: made of its own, which has rows, and of another one's."""
+    head, rows = file[: file.index(b"\n") + 1], file[file.index(b"\n") + 1 :]
+    for title, wrong in wrong_rows(rows, checks):
+        yield title, head + wrong
+        if wrong.endswith(b"\n"):
+            yield f"{title}, and so many rows said", verdict_files.file(octets, wrong)
+    yield from verdict_files.with_other_heads(octets, rows)
+    if other != file:
+        yield "another keyring's", other
+
+
+def wrong_rows(file, checks):
+    """Rows that aren't those of a keyring."""
     lines = file.splitlines(keepends=True)
+    yield "something behind", file + b"row"
+    yield "an empty line behind", file + b"\n"
+    if not lines:
+        return
     first, last = lines[0], lines[-1]
     yield "empty", b""
     yield "first line left out", b"".join(lines[1:])
@@ -167,8 +188,6 @@ def wrongs(file, checks, other):
     yield "last line twice", file + last
     yield "no last line feed", file[:-1]
     yield "carriage returns", file.replace(b"\n", b"\r\n")
-    yield "an empty line behind", file + b"\n"
-    yield "something behind", file + b"row"
     yield "a blank behind", file[:-1] + b" \n"
     yield "a blank in front", b" " + file
     yield "two blanks", file.replace(b" cert ", b"  cert ", 1)
@@ -194,13 +213,11 @@ def wrongs(file, checks, other):
             for word in (b"good", b"undecided", b"undecided weak-hash"):
                 yield f"bad said to be {word}", b"".join(lines[:n]) + lines[n][:-4] + word + b"\n" + b"".join(lines[n + 1 :])
             break
-    if other != file:
-        yield "another keyring's", other
 
 
 def refused(room, octets, checks, file, other):
     """Each wrong file is refused, and nothing is written."""
-    for title, wrong in wrongs(file, checks, other):
+    for title, wrong in wrongs(file, checks, octets, other):
         if wrong == file:
             continue
         ended = room.state(octets, wrong, "--at", "0")
@@ -269,8 +286,9 @@ def files(room, octets):
     ended = room.state(b"\x99", None, "--at", "0")
     verdict("an input that is no keyring", ended[:2] == (1, b"") and ended[2].startswith("framing: "), f"{ended}")
     verdict("an empty keyring", room.state(b"", None, "--at", "0", "--quiet") == (0, b"", ""))
-    verdict("an empty keyring, and no verdicts", room.state(b"", b"", "--at", "0", "--quiet") == (0, b"", ""))
-    verdict("an empty keyring, and some verdict", room.state(b"", b"\n", "--at", "0", "--quiet")[:2] == (1, b""))
+    verdict("an empty keyring, and no verdicts", room.state(b"", verdict_files.head(b"", 0), "--at", "0", "--quiet") == (0, b"", ""))
+    for wrong in (b"", b"\n", verdict_files.head(b"", 0) + b"\n", verdict_files.head(b"", 1)):
+        verdict("an empty keyring, and other verdicts", room.state(b"", wrong, "--at", "0", "--quiet")[:2] == (1, b""), f"{wrong}")
 
 
 def large(room):
@@ -290,7 +308,8 @@ def large(room):
         spent = processor_seconds() - began
         verdict(f"many {title}", status == 0 and found.count(b"\n") == lines, f"{status} {found[:200]}")
         verdict(f"many {title} in little time", spent < MANY_SECONDS, f"{spent} s")
-        file, _ = file_of(checked(octets), [standing.GOOD] * MANY, random.Random(1))
+        rows, _ = file_of(checked(octets), [standing.GOOD] * MANY, random.Random(1))
+        file = verdict_files.file(octets, rows)
         began = processor_seconds()
         status = room.state(octets, file, "--at", str(made))[0]
         spent = processor_seconds() - began

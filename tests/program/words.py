@@ -24,6 +24,12 @@ KEY = f"{HERE}/examples/rfc9580-a1.asc"
 COMMANDS = ["show", "list", "check", "state", "octets", "write", "normalise", "split", "join", "signatures", "digest", "canonical", "cleartext"]
 ARMOR, BINARY = b"-----BEGIN PGP PUBLIC KEY BLOCK-----\n\nxjME", b"\xc6\x33\x04"
 NO_ROW, NO_CERTIFICATE = "opgp: no such row", "opgp: no such certificate"
+
+
+def no_key(key):
+    return f"{NO_CERTIFICATE}\nopgp: no certificate has the key {key}"
+
+
 KEYS = f"{ROOM.name}/keys"
 with open(KEYS, "w", encoding="utf-8") as file:
     file.write("# a key\n\n\tC959BDBAFA32A2F89A15 3B678CFDE12197965A9A \r\n  #\n0x8CFDE12197965A9A")
@@ -76,18 +82,18 @@ ACCEPTED = {
     "split --key=0xC959BDBAFA32a2f89a153b678cfde12197965A9A --spool " + ROOM.name: ARMOR,
     "split --key 8CFDE12197965A9A": ARMOR,
     "split --progress --key 0X8cfde12197965a9a": ARMOR,
-    "split --key 8CFDE12197965A9B": NO_CERTIFICATE,
-    "split --key C959BDBAFA32A2F89A153B678CFDE12197965A9B": NO_CERTIFICATE,
-    "split --key " + 64 * "0": NO_CERTIFICATE,
+    "split --key 8CFDE12197965A9B": no_key("8CFDE12197965A9B"),
+    "split --key C959BDBAFA32A2F89A153B678CFDE12197965A9B": no_key("C959BDBAFA32A2F89A153B678CFDE12197965A9B"),
+    "split --key " + 64 * "0": no_key(64 * "0"),
     "split --key 8CFDE12197965A9A --key=0x8cfde12197965a9a": ARMOR,
-    "split --key 8CFDE12197965A9A --key 8CFDE12197965A9B": NO_CERTIFICATE,
-    "split --key 8CFDE12197965A9B --out binary --key 8CFDE12197965A9A": NO_CERTIFICATE,
+    "split --key 8CFDE12197965A9A --key 8CFDE12197965A9B": no_key("8CFDE12197965A9B"),
+    "split --key 8CFDE12197965A9B --out binary --key 8CFDE12197965A9A": no_key("8CFDE12197965A9B"),
     "split --except --key C959BDBAFA32A2F89A153B678CFDE12197965A9A": b"",
-    "split --key 8CFDE12197965A9B --except": NO_CERTIFICATE,
+    "split --key 8CFDE12197965A9B --except": no_key("8CFDE12197965A9B"),
     f"split --keys {KEYS}": ARMOR,
     f"split --out binary --keys={KEYS} --key 8CFDE12197965A9A": BINARY,
     f"split --keys {KEYS} --except --spool {ROOM.name}": b"",
-    f"split --keys {KEYS} --key 8CFDE12197965A9B": NO_CERTIFICATE,
+    f"split --keys {KEYS} --key 8CFDE12197965A9B": no_key("8CFDE12197965A9B"),
     "show --values": USUAL["show"],
     "list --values": USUAL["list"],
     "list --values --progress": USUAL["list"],

@@ -11,6 +11,7 @@ pub use Rattle.opgp_valid.specs.Laws
 pub use Rattle.opgp_valid.specs.Listing
 pub use Rattle.opgp_valid.specs.Moment
 pub use Rattle.opgp_valid.specs.Policy
+pub use Rattle.opgp_valid.specs.Reached
 pub use Rattle.opgp_valid.specs.Revocation
 pub use Rattle.opgp_valid.specs.Saying
 pub use Rattle.opgp_valid.specs.Speaking

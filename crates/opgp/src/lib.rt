@@ -147,8 +147,8 @@ pub mod valid {
     pub use opgp_valid::{
         Author, Belief, Certified, Facts, Flaw, IdentityState, Judgement, Key, KeyPlace, KeyState,
         Known, KnownKeys, Life, PartState, Policy, Revoked, Statement, Uses, Why, believe,
-        identity_state, is_strong, judge, key_state, laws, least_digest, list_revocations,
-        part_states, revocation_at, standing, subpackets, verdicts_behind,
+        believe_at, identity_state, is_strong, judge, key_state, laws, least_digest,
+        list_revocations, part_states, revocation_at, standing, subpackets, verdicts_behind,
     };
 }
 

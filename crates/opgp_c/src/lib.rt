@@ -49,12 +49,13 @@ pub mod standings;
 pub mod states;
 pub mod texts;
 pub mod user_ids;
+pub mod verdict_files;
 
 use opgp_handles::{
     Making, Reader, Ring, Sizes, Window, keep_chosen, keep_made, keep_picked, put_fault_line,
     put_hashed, put_name, put_table, reader_clear, reader_close, reader_end, reader_open,
     reader_push, reader_take, ring_certificate, ring_clear, ring_close, ring_join, ring_octets,
-    ring_open, ring_open_mode, ring_write,
+    ring_open, ring_open_mode, ring_skipped, ring_write,
 };
 use opgp_merge::Choice;
 use opgp_tables::{FaultRow, GivenLimits, HashedRow, JobRow, KeyRow, PacketRow, SubpacketRow};
@@ -308,6 +309,22 @@ pub extern "C" fn opgp_ring_hashed(
 {
     let window = Window { first, count, most };
     put_hashed(alloc, ring, window, rows, bytes, sizes)
+}
+
+/// Puts how many octets of the input of a keyring lie outside of its armored blocks and were passed
+/// over, if some of them are in no text; else 0, as for binary packets, and for a keyring that
+/// another call made.
+///
+/// The status says whether it is done; else the count is unchanged: the handle holds nothing.
+#[unsafe(no_mangle)]
+pub extern "C" fn opgp_ring_skipped(alloc: Global, ring: &mut Ring, count: &mut u64) -> u32
+    ensures done { result ≡ 0 → count.new ≡ ring.old.slot.held.skipped }
+    ensures kept { result ≢ 0 → count.new ≡ count.old }
+    ensures closed { (result ≡ 5) ↔ (ring.old.is_open ≡ false) }
+    ensures ring { HoldsTheSame ring.old ring.new }
+    ensures status { (result ≡ 0) ⊎ (result ≡ 5) }
+{
+    ring_skipped(alloc, ring, count)
 }
 
 /// Puts the packets of a keyring, octet for octet as they were read: bare, or as one block of armor

@@ -1,7 +1,8 @@
 -- What the call says that judges a key.
 use Rattle.std.specs.Prelude.{ℕ, ◌==◌, Bool, not, ◌&&◌, if◌then◌else◌}
-use Rattle.std.specs.Prelude.{List, map, Option, Some, None}
+use Rattle.std.specs.Prelude.{List, [], ◌∷◌, map, Option, Some, None}
 use Rattle.std.specs.Prelude.{Result, Ok, Err, slice_get}
+use Rattle.std.specs.Option.{option_map}
 use Rattle.opgp_octets.specs.declared.fault.BodyFault.{BodyFault}
 use Rattle.opgp_packet.specs.SigView.{sig_view_value}
 use Rattle.opgp_packet.specs.SignatureBody.{SignatureValue, signature_at}
@@ -25,10 +26,17 @@ use Rattle.opgp_valid.specs.declared.policy.Policy.TheVariants.{Usual, Any}
 use Rattle.opgp_valid.specs.declared.why.Why.{Why}
 use Rattle.opgp_valid.specs.declared.why.Why.TheVariants.{Future, Revoked, Early, Unbound, Expired}
 use Rattle.opgp_valid.specs.declared.why.Why.TheVariants.{Flags, Back}
+use Rattle.opgp_handles.specs.declared.place_row.PlaceRow.{PlaceRow}
 
 -- ---- the numbers of what is given
 abbrev pub verdict_by : ℕ → Verdict
 verdict_by n = if n == 1 then verdict.Good else if n == 2 then verdict.Bad else verdict.Undecided
+
+-- and the number of a verdict
+abbrev pub verdict_number : Verdict → ℕ
+verdict_number verdict.Undecided = 0
+verdict_number verdict.Good = 1
+verdict_number verdict.Bad = 2
 
 abbrev pub policy_by : ℕ → Option Policy
 policy_by n = if n == 0 then Some Usual else if n == 1 then Some Any else None
@@ -91,6 +99,23 @@ module _ (is_message : Bool) (r : KeyringValue) (policy : Policy) (founds : List
   believed_in None = None
   believed_in (Some v) = number_over is_message v
       (belief_number (belief_of r policy (map verdict_by founds) at now v))
+
+-- ---- at several places
+-- the numbers of all, if each has one
+abbrev pub all_some : List (Option ℕ) → Option (List ℕ)
+all_some [] = Some []
+all_some (None ∷ os) = None
+all_some (Some n ∷ os) = option_map (λ ns. n ∷ ns) (all_some os)
+
+abbrev pub place_of : PlaceRow → KeyPlace
+place_of row = place_by row.certificate row.component
+
+-- of a signature, at each of these places; none where there is no such signature, or no key at one
+-- of them
+abbrev pub believed_at : Bool → KeyringValue → Policy → List ℕ → List PlaceRow → ℕ
+    → Option SignatureValue → Option (List ℕ)
+believed_at is_message r policy founds rows now v =
+    all_some (map (λ row. believed_in is_message r policy founds (place_of row) now v) rows)
 
 -- ---- the signatures that a handle holds
 abbrev pub value_of : Result SignatureValue BodyFault → Option SignatureValue

@@ -40,7 +40,7 @@ fn flaw_number(flaw: Flaw) -> u8
 }
 
 /// The number of a belief: 0 if the signature is believed; None if there is no key.
-fn belief_number(belief: Belief) -> Option<u8>
+pub(crate) fn belief_number(belief: Belief) -> Option<u8>
     ensures { result ≡ belief_number belief }
 {
     match belief {
@@ -52,7 +52,7 @@ fn belief_number(belief: Belief) -> Option<u8>
 }
 
 /// The signature of a row, if there is one, and it is well-formed.
-fn view_at<'a>(views: &[Result<SigView<'a>, BodyFault>], row: u64) -> Option<SigView<'a>>
+pub(crate) fn view_at<'a>(views: &[Result<SigView<'a>, BodyFault>], row: u64) -> Option<SigView<'a>>
     ensures { option_map (λ v. sig_view_value v) result
         ≡ value_if (slice_get (map value_read views.now) row) }
 {
@@ -63,7 +63,7 @@ fn view_at<'a>(views: &[Result<SigView<'a>, BodyFault>], row: u64) -> Option<Sig
 }
 
 /// Whether the document is that of a cleartext message.
-fn is_message(held: &Signed) -> bool
+pub(crate) fn is_message(held: &Signed) -> bool
     ensures { result ≡ is_message held.now }
 {
     matches!(held, Signed::Message(_, _))
@@ -71,7 +71,11 @@ fn is_message(held: &Signed) -> bool
 
 /// The number of a belief in a signature over the document of a cleartext message, if it is one:
 /// there only those over text are signatures over a document.
-fn number_over(is_message: bool, signature: SigView<'_>, number: Option<u8>) -> Option<u8>
+pub(crate) fn number_over(
+    is_message: bool,
+    signature: SigView<'_>,
+    number: Option<u8>,
+) -> Option<u8>
     ensures { result ≡ number_over is_message (sig_view_value signature.entry) number }
 {
     match number {
@@ -181,6 +185,8 @@ pub fn document_standing(
     ensures limits { (result ≡ 4) ↔ (policy_by policy ≡ None) }
     ensures kept { result ≢ 0 → why.new ≡ why.old }
     ensures closed { result ≡ 5 → (document.old.is_open ≡ false) ⊎ (ring.old.is_open ≡ false) }
+    ensures shut { (document.old.is_open ≡ false) ⊎ (ring.old.is_open ≡ false)
+        → (result ≡ 4) ⊎ (result ≡ 5) }
     ensures ring { HoldsTheSame ring.old ring.new }
     ensures document { KeepsItsOwn document.old document.new }
     ensures status { (result ≡ 0) ⊎ ((result ≡ 3) ⊎ ((result ≡ 4) ⊎ ((result ≡ 5)

@@ -7,7 +7,9 @@ ghost use Rattle.opgp_tables.specs.GivenLimits.{MayBeGiven};
 ghost use Rattle.opgp_handles.specs.Calls.{AnswersBy, AreSized, IsFilled, IsShort, RefusesBy};
 ghost use Rattle.opgp_handles.specs.Calls.{mode_by, out_of};
 
+use crate::counted::Counted;
 use crate::sizes::Sizes;
+use crate::slot::Held;
 use crate::status::{DONE, LIMITS, MEMORY, REFUSED, ROOM};
 use crate::text::keyring_text;
 use opgp_codec::{Answer, Mode, Out, Watched, read_keyring};
@@ -15,15 +17,16 @@ use opgp_ring::Keyring;
 use opgp_tables::{FaultRow, GivenLimits, fill};
 use std::alloc::Global;
 
-/// The keyring of an input that is read by a mode; or the status that says why there is none.
+/// What a handle of the keyring of an input holds, which is read by a mode; or the status that says
+/// why there is none.
 pub(crate) fn read_ring(
     alloc: Global,
     input: &[u8],
     mode: Mode,
     limits: &GivenLimits,
     fault: &mut FaultRow,
-) -> Result<Keyring, u32>
-    ensures ring { IfOk result (λ r. AnswersBy mode limits.now input.now (Ok r)) }
+) -> Result<Held, u32>
+    ensures ring { IfOk result (λ h. AnswersBy mode limits.now input.now (Ok h.keyring)) }
     ensures refused { result ≡ Err 1 → RefusesBy mode limits.now input.now fault.new }
     ensures fault { result ≢ Err 1 → fault.new ≡ fault.old }
     ensures limits { result ≡ Err 4 → MayBeGiven limits.now → ⊥ }
@@ -33,9 +36,12 @@ pub(crate) fn read_ring(
     let Some(limits) = limits.limits() else {
         return Err(LIMITS);
     };
-    let mut source = Watched::new(input);
+    let mut source = Counted::new(Watched::new(input));
     match read_keyring(alloc, &mut source, mode, &limits) {
-        Ok(Answer::Ring(keyring)) => Ok(keyring),
+        Ok(Answer::Ring(keyring)) => Ok(Held {
+            keyring,
+            skipped: source.skipped(),
+        }),
         Ok(Answer::Refused(found)) => {
             *fault = FaultRow::of(found);
             Err(REFUSED)

@@ -72,6 +72,8 @@ pub fn document_push(alloc: Global, document: &mut Document, piece: &[u8]) -> u3
     ensures ended { result ≡ 7 → IsEnded so_far document.old.slot.held }
     ensures going { document.old.is_open ≡ true → IsGoing so_far document.old.slot.held
         → result ≡ 0 }
+    ensures again { document.old.is_open ≡ true → IsEnded so_far document.old.slot.held
+        → result ≡ 7 }
     ensures kept { result ≢ 0 → KeepsItsOwn document.old document.new }
     ensures closed { (result ≡ 5) ↔ (document.old.is_open ≡ false) }
     ensures status { (result ≡ 0) ⊎ ((result ≡ 5) ⊎ (result ≡ 7)) }

@@ -14,14 +14,24 @@ use opgp_octets::OutOfMemory;
 use opgp_ring::{Keyring, join, normalise};
 use std::alloc::Global;
 
-/// Keeps a keyring in a handle; what that held before is let go.
+/// Keeps a keyring that was made in a handle; what that held before is let go.
 pub(crate) fn keep(alloc: Global, into: &mut Ring, keyring: Keyring) -> u32
     ensures done { result ≡ 0 → (into.new.is_open ≡ true)
         × (into.new.slot.held.keyring ≡ keyring) }
     ensures kept { result ≢ 0 → into.new ≡ into.old }
     ensures status { (result ≡ 0) ⊎ (result ≡ 3) }
 {
-    match Ring::of(alloc, Held { keyring }) {
+    let skipped = 0;
+    keep_held(alloc, into, Held { keyring, skipped })
+}
+
+/// Keeps this in a handle; what that held before is let go.
+pub(crate) fn keep_held(alloc: Global, into: &mut Ring, held: Held) -> u32
+    ensures done { result ≡ 0 → (into.new.is_open ≡ true) × (into.new.slot.held ≡ held) }
+    ensures kept { result ≢ 0 → into.new ≡ into.old }
+    ensures status { (result ≡ 0) ⊎ (result ≡ 3) }
+{
+    match Ring::of(alloc, held) {
         Ok(new) => {
             drop(std::mem::replace(into, new).into_box());
             DONE

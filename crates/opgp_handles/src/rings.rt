@@ -15,9 +15,9 @@ ghost use Rattle.opgp_handles.specs.Calls.{RefusesBy, mode_by, out_of};
 ghost use Rattle.opgp_codec.specs.declared.mode.Mode.{Mode};
 
 use crate::calls::{mode_by, put_text, read_ring};
-use crate::making::{joined, keep, keep_found};
+use crate::making::{joined, keep, keep_found, keep_held};
 use crate::ring::Ring;
-use crate::status::{CLOSED, LIMITS, MEMORY};
+use crate::status::{CLOSED, DONE, LIMITS, MEMORY};
 use crate::tables::put_row_octets;
 use opgp_codec::Mode;
 use opgp_ring::nth;
@@ -43,11 +43,11 @@ pub fn ring_open(
     ensures fault { result ≢ 1 → fault.new ≡ fault.old }
     ensures status { (result ≡ 0) ⊎ ((result ≡ 1) ⊎ ((result ≡ 3) ⊎ (result ≡ 4))) }
 {
-    let keyring = match read_ring(alloc, input, Mode::Auto, limits, fault) {
-        Ok(keyring) => keyring,
+    let held = match read_ring(alloc, input, Mode::Auto, limits, fault) {
+        Ok(held) => held,
         Err(status) => return status,
     };
-    keep(alloc, ring, keyring)
+    keep_held(alloc, ring, held)
 }
 
 /// Reads the keyring of an input by the mode of a number, and keeps it in the handle.
@@ -72,11 +72,11 @@ pub fn ring_open_mode(
     let Some(mode) = mode_by(mode) else {
         return LIMITS;
     };
-    let keyring = match read_ring(alloc, input, mode, limits, fault) {
-        Ok(keyring) => keyring,
+    let held = match read_ring(alloc, input, mode, limits, fault) {
+        Ok(held) => held,
         Err(status) => return status,
     };
-    keep(alloc, ring, keyring)
+    keep_held(alloc, ring, held)
 }
 
 /// Lets go what a handle holds.
@@ -89,6 +89,23 @@ pub fn ring_clear(alloc: Global, ring: &mut Ring)
     ensures { ring.new.is_open ≡ false }
 {
     drop(ring.take(alloc));
+}
+
+/// Puts how many octets of the input outside of armored blocks were passed over though they are no
+/// text.
+pub fn ring_skipped(alloc: Global, ring: &mut Ring, count: &mut u64) -> u32
+    ensures done { result ≡ 0 → count.new ≡ ring.old.slot.held.skipped }
+    ensures kept { result ≢ 0 → count.new ≡ count.old }
+    ensures closed { (result ≡ 5) ↔ (ring.old.is_open ≡ false) }
+    ensures ring { HoldsTheSame ring.old ring.new }
+    ensures status { (result ≡ 0) ⊎ (result ≡ 5) }
+{
+    let Some(held) = ring.take(alloc) else {
+        return CLOSED;
+    };
+    *count = held.skipped;
+    ring.give(held);
+    DONE
 }
 
 /// Puts the octets that the signature of a row hashes (RFC 9580, 5.2.4).

@@ -119,6 +119,7 @@ pub(crate) fn push_octets(held: &mut Signed, piece: &[u8]) -> u32
     ensures done { result ≡ 0 → IsGoing (so_far ++ piece.now) held.new }
     ensures ended { result ≡ 7 → IsEnded so_far held.old × (held.new ≡ held.old) }
     ensures going { IsGoing so_far held.old → result ≡ 0 }
+    ensures again { IsEnded so_far held.old → result ≡ 7 }
     ensures same { packets_in held.new ≡ packets_in held.old }
     ensures status { (result ≡ 0) ⊎ (result ≡ 7) }
 {

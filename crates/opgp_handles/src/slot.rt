@@ -21,6 +21,9 @@ use std::ptr;
 pub struct Held {
     /// The keyring.
     pub keyring: Keyring,
+    /// Of a keyring that was read: how many octets outside of armored blocks were passed over though
+    /// they are no text.
+    pub skipped: u64,
 }
 
 /// A keyring that is read in pieces.

@@ -63,6 +63,7 @@ text_of_held left failed old new limits has t (Err run.Memory) end all = absurd 
 text_of_held left failed old new limits has t (Err run.Spool) end all = absurd (end all.came.0 all.came.2.1)
 text_of_held left failed old new limits has t (Err run.NoSuchRow) end all = absurd (end all.came.0 all.came.2.1)
 text_of_held left failed old new limits has t (Err run.NoSuchCertificate) end all = absurd (end all.came.0 all.came.2.1)
+text_of_held left failed old new limits has t (Err (run.NoSuchKey n)) end all = absurd (end all.came.0 all.came.2.1)
 text_of_held left failed old new limits has t (Err run.TooManySignatures) end all = absurd (end all.came.0 all.came.2.1)
 text_of_held left failed old new limits has t (Err run.OtherVerdicts) end all = absurd (end all.came.0 all.came.2.1)
 

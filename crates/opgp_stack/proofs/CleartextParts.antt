@@ -40,5 +40,6 @@ part_read left failed old new limits p text (Err run.Memory) read has = read.sou
 part_read left failed old new limits p text (Err run.Spool) read has = absurd has
 part_read left failed old new limits p text (Err run.NoSuchRow) read has = absurd has
 part_read left failed old new limits p text (Err run.NoSuchCertificate) read has = absurd has
+part_read left failed old new limits p text (Err (run.NoSuchKey n)) read has = absurd has
 part_read left failed old new limits p text (Err run.TooManySignatures) read has = absurd has
 part_read left failed old new limits p text (Err run.OtherVerdicts) read has = absurd has

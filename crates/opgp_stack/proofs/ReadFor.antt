@@ -74,6 +74,7 @@ module _ {A B : Type 0} (from : Outcome A → Type 0) (to : Outcome B → Type 0
   ends_both run.Spool h = absurd h
   ends_both run.NoSuchRow h = absurd h
   ends_both run.NoSuchCertificate h = absurd h
+  ends_both (run.NoSuchKey n) h = absurd h
   ends_both run.TooManySignatures h = absurd h
   ends_both run.OtherVerdicts h = absurd h
 

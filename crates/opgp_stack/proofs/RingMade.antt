@@ -22,7 +22,7 @@ use Rattle.opgp_codec.specs.Writing.{certificates_text, octets_text, packets_tex
 use Rattle.opgp_stack.specs.AllOctets.{octets_rows}
 use Rattle.opgp_stack.specs.ByKey.{HasNamed}
 use Rattle.opgp_stack.specs.WantedKeys.{AreNotes, keys_of}
-use Rattle.opgp_stack.specs.KeyName.{are_there, name_octets, picked}
+use Rattle.opgp_stack.specs.KeyName.{missing_in, name_octets, picked}
 use Rattle.opgp_stack.specs.Making.{HasMade, HasNames, HasTexts, explains_of, is_of_parts, out_of, ring_made}
 use Rattle.opgp_stack.specs.OnePart.{asked_among, found_question}
 use Rattle.opgp_stack.specs.PartText.{text_of_part}
@@ -104,22 +104,22 @@ module _ {S : Type 0} (has : Draft S → List ℕ → Type 0) where
   text_made (action.Join out true) k r h = absurd h
 
   -- certificates with a key of a name
-  abbrev Finds : Action → Bool → Draft S → KeyringValue → Type 0
+  abbrev Finds : Action → Option ℕ → Draft S → KeyringValue → Type 0
   Finds a found draft r = (text : List ℕ) × has draft text × (found_made found text ≡ ring_made a r)
 
   -- what was found of them, as it is told once all certificates came
-  abbrev FoundOf : NamedCertificates S → Bool → Type 0
-  FoundOf k found = (cs : List CertificateValue) → AreNotes (map name_octets k.wanted.names.now) (keys_of cs) k.wanted.notes → found ≡ are_there (map name_octets k.wanted.names.now) cs
+  abbrev FoundOf : NamedCertificates S → Option ℕ → Type 0
+  FoundOf k found = (cs : List CertificateValue) → AreNotes (map name_octets k.wanted.names.now) (keys_of cs) k.wanted.notes → found ≡ missing_in (map name_octets k.wanted.names.now) cs
 
-  names_made : (out : Out) (keys : Bor (List KeyName)) (except : Bool) (k : NamedCertificates S) (found : Bool) (r : KeyringValue) → FoundOf k found → HasNames has out keys except k (parts_of r) → Finds (action.SplitKeys out keys except) found k.draft r
+  names_made : (out : Out) (keys : Bor (List KeyName)) (except : Bool) (k : NamedCertificates S) (found : Option ℕ) (r : KeyringValue) → FoundOf k found → HasNames has out keys except k (parts_of r) → Finds (action.SplitKeys out keys except) found k.draft r
   names_made out keys except k found r is h =
       let names = map name_octets keys.now in
       let named : HasNamed has out names except k.wanted.notes k.draft r.certificates = subst (HasNamed has out names except k.wanted.notes k.draft) (ring_certificates r) h.3 in
-      let there : found ≡ are_there names r.certificates =
-      subst (λ (ks : Bor (List KeyName)). AreNotes (map name_octets ks.now) (keys_of r.certificates) k.wanted.notes → found ≡ are_there (map name_octets ks.now) r.certificates) h.2 (is r.certificates) named.noted in
-      (certificates_text out (picked names except r.certificates), named.text, ap (λ (b : Bool). found_made b (certificates_text out (picked names except r.certificates))) there)
+      let there : found ≡ missing_in names r.certificates =
+      subst (λ (ks : Bor (List KeyName)). AreNotes (map name_octets ks.now) (keys_of r.certificates) k.wanted.notes → found ≡ missing_in (map name_octets ks.now) r.certificates) h.2 (is r.certificates) named.noted in
+      (certificates_text out (picked names except r.certificates), named.text, ap (λ (b : Option ℕ). found_made b (certificates_text out (picked names except r.certificates))) there)
 
-  pub named_made_by : (a : Action) (k : NamedCertificates S) (found : Bool) (r : KeyringValue) → FoundOf k found → HasMade has a (making.Named k) (parts_of r) → Finds a found k.draft r
+  pub named_made_by : (a : Action) (k : NamedCertificates S) (found : Option ℕ) (r : KeyringValue) → FoundOf k found → HasMade has a (making.Named k) (parts_of r) → Finds a found k.draft r
   unfolding HasMade
   named_made_by (action.SplitKeys out keys except) k found r is h = names_made out keys except k found r is h
   named_made_by (action.Octets row top.Ring explains) k found r is h = absurd h
@@ -228,8 +228,8 @@ module _ {S : Type 0} (has : Draft S → List ℕ → Type 0) where
   drafted Ends a draft given out r same is ends (text, h, made) = subst Ends made (subst (λ (o : Out). Ends (Text (octets_text o text))) is (ends text (subst (λ (d : Draft S). has d text) (sym same) h)))
 
   -- the same, if what its text is made of was found
-  pub found_so : (Ends : Made → Type 0) (a : Action) (found is : Bool) (draft given : Draft S) (r : KeyringValue) → is ≡ found → given ≡ draft → ((text : List ℕ) → has given text → Ends (found_made is text)) → Finds a found draft r → Ends (ring_made a r)
-  found_so Ends a found is draft given r same alike ends (text, h, made) = subst Ends made (subst (λ (b : Bool). Ends (found_made b text)) same (ends text (subst (λ (d : Draft S). has d text) (sym alike) h)))
+  pub found_so : (Ends : Made → Type 0) (a : Action) (found is : Option ℕ) (draft given : Draft S) (r : KeyringValue) → is ≡ found → given ≡ draft → ((text : List ℕ) → has given text → Ends (found_made is text)) → Finds a found draft r → Ends (ring_made a r)
+  found_so Ends a found is draft given r same alike ends (text, h, made) = subst Ends made (subst (λ (b : Option ℕ). Ends (found_made b text)) same (ends text (subst (λ (d : Draft S). has d text) (sym alike) h)))
 
 -- a run ends as its writing does, which is of what an action makes
 pub ends_so : {R : Type 0} (Ends : R → Made → Type 0) (result end : R) (given made : Made) → result ≡ end → given ≡ made → Ends end given → Ends result made

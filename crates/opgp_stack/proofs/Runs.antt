@@ -10,7 +10,7 @@ use Rattle.opgp_codec.specs.declared.draft_error.DraftError.TheVariants as draft
 use Rattle.opgp_codec.specs.declared.engine_error.EngineError.TheVariants as engine
 use Rattle.opgp_codec.specs.Pulled.{OfAll}
 use Rattle.opgp_codec.specs.Reading.{Outcome}
-use Rattle.opgp_stack.specs.Running.{IsMade, Made, MakesBy, ReadsFor, Refused, RunsAs, RunsBy, RunsOf, RunsSpooled, IsSpooled, Text, NoSuchRow, NoSuchCertificate, OtherVerdicts, makes, fails, lacks}
+use Rattle.opgp_stack.specs.Running.{IsMade, Made, MakesBy, ReadsFor, Refused, RunsAs, RunsBy, RunsOf, RunsSpooled, IsSpooled, Text, NoSuchRow, NoSuchCertificate, NoSuchKey, OtherVerdicts, makes, fails, lacks}
 use Rattle.opgp_codec.proofs.Pulling.{of_all}
 use Rattle.opgp_stack.proofs.ReadFor.{Returns, err_is}
 
@@ -33,6 +33,7 @@ module _ {R W A : Type 0} {left : R → Option (List ℕ)} {has_failed : R → B
   stops run.Spool by read = absurd read
   stops run.NoSuchRow by read = absurd read
   stops run.NoSuchCertificate by read = absurd read
+  stops (run.NoSuchKey n) by read = absurd read
   stops run.TooManySignatures by read = absurd read
   stops run.OtherVerdicts by read = absurd read
 
@@ -64,6 +65,7 @@ made_unspooled held failed old new r (Text text) (inr (Err draft.Spool, e, k)) =
 made_unspooled held failed old new r (Refused fault) (inr h) = absurd h
 made_unspooled held failed old new r NoSuchRow (inr h) = absurd h
 made_unspooled held failed old new r NoSuchCertificate (inr h) = absurd h
+made_unspooled held failed old new r (NoSuchKey n) (inr h) = absurd h
 made_unspooled held failed old new r OtherVerdicts (inr h) = absurd h
 
 pub unspooled : {R W : Type 0} {left : R → Option (List ℕ)} {has_failed : R → Bool} (held : W → Option (List ℕ)) (failed : W → Bool) (task : Task) {reader reader' : R} {writer writer' : W} {result : Result Unit RunFault}

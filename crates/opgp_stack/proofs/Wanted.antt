@@ -1,8 +1,8 @@
 -- Keys that are looked for by their names: what is noted of each.
 use denote.Ref.{Bor}
-use Rattle.std.proofs.Common.{◌≡◌, ◌∙◌, ℕ, Bool, true, false, cond, List, [], ◌∷◌, ◌++◌, ◌||◌, ◌&&◌, Option, Some, None, option_map, is_some, refl, sym, ap, subst, append_assoc, if◌then◌else◌}
+use Rattle.std.proofs.Common.{◌≡◌, ◌∙◌, ◌+◌, ℕ, Bool, true, false, cond, List, [], ◌∷◌, ◌++◌, ◌||◌, ◌&&◌, Option, Some, None, option_map, is_some, refl, sym, ap, subst, append_assoc, if◌then◌else◌}
 use Rattle.std.specs.BTreeMap.{BTreeMap}
-use Rattle.std.specs.List.{list_all, list_any}
+use Rattle.std.specs.List.{list_any}
 use Rattle.std.specs.Option.{unwrap_or}
 use Rattle.std.specs.Str.{bytes_eq}
 use Rattle.std.proofs.lemmas.List.Folds.{list_any-append}
@@ -13,7 +13,7 @@ use Rattle.opgp_hash.specs.declared.fingerprints.Fingerprint.{Fingerprint}
 use Rattle.opgp_report.specs.First.{print_of}
 use Rattle.opgp_report.specs.Report.{certificate_keys}
 use Rattle.opgp_ring.specs.Keyring.{CertificateValue}
-use Rattle.opgp_stack.specs.KeyName.{are_there, has_key, has_one_of, is_any_named, is_named}
+use Rattle.opgp_stack.specs.KeyName.{has_key, has_one_of, is_any_named, is_named, missing_from, missing_in}
 use Rattle.opgp_stack.specs.WantedKeys.{AreNotes, is_among, keys_of, note_of}
 
 abbrev pub Notes : Type 0
@@ -183,23 +183,24 @@ is_noted notes name = unwrap_or (note_of name notes) false
 among_first : (name : List ℕ) (names : List (List ℕ)) → is_among (name ∷ names) name ≡ true
 among_first name names = ap (λ (b : Bool). b || is_among names name) ((bytes_eq-Decides name name).1 refl)
 
-all_noted : (names all bodies : List (List ℕ)) (notes : Notes) → ((name : List ℕ) → is_among names name ≡ true → is_among all name ≡ true) → AreNotes all bodies notes
-    → list_all (is_noted notes) names ≡ list_all (λ name. is_any_named name bodies) names
-all_noted [] all bodies notes within h = refl
-all_noted (name ∷ names) all bodies notes within h =
+missing_noted : (names all bodies : List (List ℕ)) (notes : Notes) (n : ℕ) → ((name : List ℕ) → is_among names name ≡ true → is_among all name ≡ true) → AreNotes all bodies notes
+    → missing_from (is_noted notes) n names ≡ missing_from (λ name. is_any_named name bodies) n names
+missing_noted [] all bodies notes n within h = refl
+missing_noted (name ∷ names) all bodies notes n within h =
     let here : is_noted notes name ≡ is_any_named name bodies =
     ap (λ (o : Option Bool). unwrap_or o false) (h.each name) ∙ ap (λ (b : Bool). unwrap_or (if b then Some (is_any_named name bodies) else None) false) (within name (among_first name names)) in
-    ap (λ (b : Bool). b && list_all (is_noted notes) names) here
-    ∙ ap (λ (b : Bool). is_any_named name bodies && b) (all_noted names all bodies notes (λ other among. within other (ap (λ (b : Bool). bytes_eq name other || b) among ∙ or_true (bytes_eq name other))) h)
+    ap (λ (b : Bool). if b then missing_from (is_noted notes) (n + 1) names else Some n) here
+    ∙ ap (λ (o : Option ℕ). if is_any_named name bodies then o else Some n) (missing_noted names all bodies notes (n + 1) (λ other among. within other (ap (λ (b : Bool). bytes_eq name other || b) among ∙ or_true (bytes_eq name other))) h)
 
 any_of_all : (name : List ℕ) (cs : List CertificateValue) → is_any_named name (keys_of cs) ≡ list_any (has_key name) cs
 any_of_all name [] = refl
 any_of_all name (c ∷ cs) = list_any-append (λ body. is_named name (print_of body)) (certificate_keys c) (keys_of cs) ∙ ap (λ (b : Bool). has_key name c || b) (any_of_all name cs)
 
-all_same : (p q : List ℕ → Bool) → ((n : List ℕ) → p n ≡ q n) → (names : List (List ℕ)) → list_all p names ≡ list_all q names
-all_same p q same [] = refl
-all_same p q same (n ∷ names) = ap (λ (b : Bool). b && list_all p names) (same n) ∙ ap (λ (b : Bool). q n && b) (all_same p q same names)
+missing_same : (p q : List ℕ → Bool) → ((n : List ℕ) → p n ≡ q n) → (k : ℕ) (names : List (List ℕ)) → missing_from p k names ≡ missing_from q k names
+missing_same p q same k [] = refl
+missing_same p q same k (n ∷ names) =
+    ap (λ (b : Bool). if b then missing_from p (k + 1) names else Some k) (same n) ∙ ap (λ (o : Option ℕ). if q n then o else Some k) (missing_same p q same (k + 1) names)
 
-pub all_there : (names : List (List ℕ)) (notes : Notes) (cs : List CertificateValue) → AreNotes names (keys_of cs) notes → list_all (λ name. unwrap_or (note_of name notes) false) names ≡ are_there names cs
-all_there names notes cs h =
-    all_noted names names (keys_of cs) notes (λ name among. among) h ∙ all_same (λ name. is_any_named name (keys_of cs)) (λ name. list_any (has_key name) cs) (λ name. any_of_all name cs) names
+pub first_missing : (names : List (List ℕ)) (notes : Notes) (cs : List CertificateValue) → AreNotes names (keys_of cs) notes → missing_from (λ name. unwrap_or (note_of name notes) false) 0 names ≡ missing_in names cs
+first_missing names notes cs h =
+    missing_noted names names (keys_of cs) notes 0 (λ name among. among) h ∙ missing_same (λ name. is_any_named name (keys_of cs)) (λ name. list_any (has_key name) cs) (λ name. any_of_all name cs) 0 names

@@ -15,6 +15,7 @@ run_number run.Memory = 62
 run_number run.Spool = 63
 run_number run.NoSuchRow = 70
 run_number run.NoSuchCertificate = 71
+run_number (run.NoSuchKey n) = 71
 run_number run.TooManySignatures = 72
 run_number run.OtherVerdicts = 73
 
@@ -27,6 +28,7 @@ run_text run.Memory = codes "out of memory"
 run_text run.Spool = codes "spool failed"
 run_text run.NoSuchRow = codes "no such row"
 run_text run.NoSuchCertificate = codes "no such certificate"
+run_text (run.NoSuchKey n) = codes "no such certificate"
 run_text run.TooManySignatures = codes "too many signatures"
 run_text run.OtherVerdicts = codes "the verdicts aren't those of this keyring"
 

@@ -1,6 +1,7 @@
 -- Keys by their names (RFC 9580, 5.5.4), and the certificates that have them.
-use Rattle.std.specs.Prelude.{ℕ, Bool, ◌||◌, not, if◌then◌else◌, List, filter}
-use Rattle.std.specs.List.{list_all, list_any}
+use Rattle.std.specs.Prelude.{ℕ, ◌+◌, Bool, ◌||◌, not, if◌then◌else◌, List, [], ◌∷◌, filter}
+use Rattle.std.specs.Prelude.{Option, Some, None}
+use Rattle.std.specs.List.{list_any}
 use Rattle.std.specs.Str.{bytes_eq}
 use Rattle.opgp_hash.specs.declared.fingerprints.Fingerprint.{Fingerprint}
 use Rattle.opgp_hash.specs.Fingerprint.{print_octets}
@@ -47,6 +48,13 @@ is_picked names except c = if except then not (has_any names c) else has_any nam
 abbrev pub picked : List (List ℕ) → Bool → List CertificateValue → List CertificateValue
 picked names except cs = filter (is_picked names except) cs
 
--- each of these names is that of a key of one of the certificates
-abbrev pub are_there : List (List ℕ) → List CertificateValue → Bool
-are_there names cs = list_all (λ name. list_any (has_key name) cs) names
+-- the number, counted from here, of the first of these names that isn't that of some key, if one
+-- isn't
+abbrev pub missing_from : (List ℕ → Bool) → ℕ → List (List ℕ) → Option ℕ
+missing_from is_there n [] = None
+missing_from is_there n (name ∷ names) =
+    if is_there name then missing_from is_there (n + 1) names else Some n
+
+-- .. that of a key of one of the certificates
+abbrev pub missing_in : List (List ℕ) → List CertificateValue → Option ℕ
+missing_in names cs = missing_from (λ name. list_any (has_key name) cs) 0 names

@@ -31,7 +31,7 @@ use Rattle.opgp_stack.specs.AllOctets.{octets_rows}
 use Rattle.opgp_stack.specs.Hashing.{message_asked}
 use Rattle.opgp_codec.specs.Draft.{IsDrafted}
 use Rattle.opgp_codec.specs.Keyrings.{ComposesTo, key_label}
-use Rattle.opgp_stack.specs.KeyName.{are_there, name_octets, picked}
+use Rattle.opgp_stack.specs.KeyName.{missing_in, name_octets, picked}
 use Rattle.opgp_stack.specs.declared.key_name.KeyName.{KeyName}
 use Rattle.opgp_stack.specs.Listing.{listing}
 use Rattle.opgp_codec.specs.Packets.{ArePackets, BlockValue, any_label}
@@ -53,6 +53,7 @@ pub data Made : Type 0 where
   Refused : Fault → Made
   NoSuchRow : Made
   NoSuchCertificate : Made
+  NoSuchKey : ℕ → Made
   OtherVerdicts : Made
 
 -- the octets that a question hashes, or if they are explained a line for each field of them
@@ -67,15 +68,15 @@ abbrev pub one_text : Out → Option CertificateValue → Made
 one_text out (Some c) = Text (packets_text out (certificate_packets c))
 one_text out None = NoSuchCertificate
 
--- the text of what was looked for, if any was found
-abbrev pub found_made : Bool → List ℕ → Made
-found_made true text = Text text
-found_made false text = NoSuchCertificate
+-- the text of what was looked for, unless the name of this number is that of no key
+abbrev pub found_made : Option ℕ → List ℕ → Made
+found_made None text = Text text
+found_made (Some n) text = NoSuchKey n
 
 -- the certificates with a key of one of some names, or but for those, the others, each on its own;
 -- nothing, if one of the names is that of no key
 abbrev pub named_made : Out → List KeyName → Bool → List CertificateValue → Made
-named_made out keys except cs = found_made (are_there (map name_octets keys) cs)
+named_made out keys except cs = found_made (missing_in (map name_octets keys) cs)
     (certificates_text out (picked (map name_octets keys) except cs))
 
 -- what is made of an answer: a refusal stays one
@@ -147,6 +148,7 @@ IsMade held failed old new result (Refused fault) =
 IsMade held failed old new result NoSuchRow = (result ≡ Err run.NoSuchRow) × (new ≡ old)
 IsMade held failed old new result NoSuchCertificate =
     (result ≡ Err run.NoSuchCertificate) × (new ≡ old)
+IsMade held failed old new result (NoSuchKey n) = (result ≡ Err (run.NoSuchKey n)) × (new ≡ old)
 IsMade held failed old new result OtherVerdicts =
     (result ≡ Err run.OtherVerdicts) × (new ≡ old)
 

@@ -33,8 +33,8 @@ pub struct BoundTask<'a> {
 }
 
 /// Reads a keyring, and writes the chosen ones of the parts that are bound by the verdicts in a
-/// file, as [`keep_bound`] and [`choose`] have them. What was read is leaked: the end of the
-/// process frees it. The conditions are that neither the source nor the sink has failed.
+/// file, as [`keep_bound`] and [`choose`] have them. The conditions are that neither the
+/// source nor the sink has failed.
 ///
 /// The errors are `Refused`, `Read`, `Memory`, `OtherVerdicts`: the file isn't one of verdicts on
 /// this keyring, as [`read_verdicts`] has them; and `Write`, after which the sink holds a prefix of
@@ -79,7 +79,7 @@ fn write_bound<W: Sink>(
         Some(verdicts) => {
             let bound = bound(alloc, keyring, &verdicts, task.choice)?;
             let written = write_keyring(alloc, &bound, task.out, writer);
-            done(end(written), bound, After::Leaves)
+            done(end(written), bound, After::Frees)
         }
         None => Err(RunFault::OtherVerdicts),
     }

@@ -20,11 +20,10 @@ use std::alloc::Global;
 /// stays as it is. The text is held in memory, or in this spool, which is to be empty, until the
 /// document has ended. The conditions are that neither the source nor the sink has failed.
 ///
-/// The errors are `Refused`: the document is longer than the limit `input`, or has a carriage
-/// return that no line feed follows: the fault of the layer `text` says where the first one is.
-/// `Read`,
-/// `Memory`, and `Write` and `Spool`, after which the sink holds a prefix of the text. With any
-/// other nothing was written.
+/// The errors are `Refused`, `Read`, `Memory`; `Write` and `Spool`, after which the sink holds a
+/// prefix of the text. With any other nothing was written. A document is refused if it is longer
+/// than the limit `input`, or has a carriage return that no line feed follows: the fault of the
+/// layer `text` says where the first one is.
 pub fn run_canonical<R: Source, W: Sink, S: Spool + Drop>(
     alloc: Global,
     limits: &Limits,

@@ -173,8 +173,8 @@ impl Text for DifferenceText<'_, '_> {
 
 /// Reads a keyring, and writes what changed from an old one, a line for each packet that is gone or
 /// new, as [`compare`] tells them: the fingerprint of its certificate, its place, and its line as
-/// [`Action::ListValues`] has it. What was read is leaked: the end of the process frees it. The
-/// conditions are that neither the source nor the sink has failed.
+/// [`Action::ListValues`] has it. The conditions are that neither the source nor the sink has
+/// failed.
 ///
 /// The errors are `Refused`, `Read`, `Memory`, and `Write`, after which the sink holds a prefix of
 /// the lines. With any other nothing was written.
@@ -198,7 +198,7 @@ pub fn run_difference<R: Source, W: Sink>(
     match read_keyring(alloc, reader, mode, limits) {
         Ok(Answer::Ring(keyring)) => {
             let ended = write_difference(alloc, old, &keyring, writer);
-            done(ended, keyring, After::Leaves)
+            done(ended, keyring, After::Frees)
         }
         Ok(Answer::Refused(fault)) => Err(RunFault::Refused(fault)),
         Err(error) => end(Err(error)),

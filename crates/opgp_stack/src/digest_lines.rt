@@ -124,7 +124,7 @@ fn add_hashed<W: Sink>(
     )
 }
 
-/// Adds the line of a signature that is hashed, of which this is said.
+/// Adds a hashed signature's line with this digest and verdict.
 fn add_asked_line<W: Sink>(
     output: &mut Output<'_, W>,
     number: u64,

@@ -129,23 +129,24 @@ pub(crate) fn write_draft<W: Sink, S: Spool + Drop>(
     }
 }
 
-/// Writes a text that was held, if what it is made of was found.
+/// Writes a text that was held, unless the name of this number is that of no key.
 fn write_found<W: Sink, S: Spool + Drop>(
     draft: Draft<S>,
-    found: bool,
+    missing: Option<usize>,
     writer: &mut W,
 ) -> Result<(), RunFault>
     requires { W.has_failed writer.old ≡ false }
     ensures { (text : List ℕ) → DraftHas S.serves S.tells S.holds S.has_failed draft text
-        → IsMade W.held W.has_failed writer.old writer.new result (found_made found text)
+        → IsMade W.held W.has_failed writer.old writer.new result (found_made missing text)
         ⊎ IsSpooled S.serves S.tells W.held W.has_failed writer.old writer.new result
-        (found_made found text) }
+        (found_made missing text) }
 {
-    if found {
-        write_draft(draft, Out::Binary, writer)
-    } else {
-        drop(draft);
-        Err(RunFault::NoSuchCertificate)
+    match missing {
+        None => write_draft(draft, Out::Binary, writer),
+        Some(number) => {
+            drop(draft);
+            Err(RunFault::NoSuchKey(number))
+        }
     }
 }
 

@@ -6,7 +6,7 @@ ghost use Rattle.opgp_ring.specs.Composed.{PartValue};
 ghost use Rattle.opgp_ring.specs.Keyring.{CertificateValue};
 ghost use Rattle.opgp_ring.specs.State.{part_of};
 ghost use Rattle.opgp_stack.specs.ByKey.{HasNamed};
-ghost use Rattle.opgp_stack.specs.KeyName.{are_there, name_octets};
+ghost use Rattle.opgp_stack.specs.KeyName.{missing_in, name_octets};
 ghost use Rattle.opgp_stack.specs.OnePart.{certificates_in};
 ghost use Rattle.opgp_stack.specs.WantedKeys.{AreNotes, keys_of};
 
@@ -81,15 +81,16 @@ impl<'a, S: Spool + Drop> NamedCertificates<'a, S> {
         given_back(added, Ready::Certificate(certificate))
     }
 
-    /// What is written, and whether each of the names is that of a key that came.
-    pub(crate) fn found(self) -> (Draft<S>, bool)
+    /// What is written, and the number of the first of the names that isn't that of a key that came,
+    /// if one isn't.
+    pub(crate) fn found(self) -> (Draft<S>, Option<usize>)
         ensures draft { result.0 ≡ self.entry.draft }
         ensures found { (cs : List CertificateValue)
             → AreNotes (map name_octets self.entry.wanted.names.now) (keys_of cs)
             self.entry.wanted.notes
-            → result.1 ≡ are_there (map name_octets self.entry.wanted.names.now) cs }
+            → result.1 ≡ missing_in (map name_octets self.entry.wanted.names.now) cs }
     {
-        let found = self.wanted.are_found();
-        (self.draft, found)
+        let missing = self.wanted.missing();
+        (self.draft, missing)
     }
 }

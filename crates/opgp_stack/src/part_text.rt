@@ -1,6 +1,6 @@
 //! What is written of a part of a keyring.
 
-ghost use Rattle.std.specs.Prelude.{◌≡◌, ◌++◌, ℕ, List, Ok, IfOk, OnOk};
+ghost use Rattle.std.specs.Prelude.{◌≡◌, ◌++◌, ℕ, List, Ok, Err, Some, IfOk, MatchResult, OnOk};
 ghost use Rattle.opgp_codec.specs.Draft.{DraftHas};
 ghost use Rattle.opgp_codec.specs.Writing.{packets_text};
 ghost use Rattle.opgp_merge.specs.Chosen.{chosen_part};
@@ -83,7 +83,8 @@ pub(crate) fn given_back(
     added: Result<(), OutOfMemory>,
     part: Ready,
 ) -> Result<Option<Ready>, OutOfMemory>
-    ensures { OnOk result (added ≡ Ok tt) }
+    ensures added { OnOk result (added ≡ Ok tt) }
+    ensures part { MatchResult added (λ _. result ≡ Ok (Some part)) (λ e. result ≡ Err e) }
 {
     match added {
         Ok(()) => Ok(Some(part)),

@@ -25,8 +25,10 @@ pub enum RunFault {
     Spool,
     /// There is no row of that number, or it has no octets.
     NoSuchRow,
-    /// There is no certificate of that number, or none with a key of that name.
+    /// There is no certificate of that number.
     NoSuchCertificate,
+    /// No certificate has a key of the name of this number, from 0.
+    NoSuchKey(usize),
     /// There are more than 64 signatures over one document.
     TooManySignatures,
     /// A file of verdicts isn't one on the signatures of the keyring.
@@ -45,7 +47,7 @@ impl RunFault {
             RunFault::Memory => 62,
             RunFault::Spool => 63,
             RunFault::NoSuchRow => 70,
-            RunFault::NoSuchCertificate => 71,
+            RunFault::NoSuchCertificate | RunFault::NoSuchKey(_) => 71,
             RunFault::TooManySignatures => 72,
             RunFault::OtherVerdicts => 73,
         }
@@ -65,6 +67,7 @@ impl fmt::Display for RunFault {
             RunFault::Spool => f.write_str("spool failed"),
             RunFault::NoSuchRow => f.write_str("no such row"),
             RunFault::NoSuchCertificate => f.write_str("no such certificate"),
+            RunFault::NoSuchKey(_) => f.write_str("no such certificate"),
             RunFault::TooManySignatures => f.write_str("too many signatures"),
             RunFault::OtherVerdicts => { f.write_str("the verdicts aren't those of this keyring") }
         }

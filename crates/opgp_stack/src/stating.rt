@@ -50,8 +50,8 @@ impl Text for StatesText<'_> {
 }
 
 /// Reads a keyring, and writes how each key, user ID and user attribute of it stands at a time, a
-/// line for each, as [`add_states`] has them. What was read is leaked: the end of the process frees
-/// it. The conditions are that neither the source nor the sink has failed.
+/// line for each, as [`add_states`] has them. The conditions are that neither the source nor the
+/// sink has failed.
 ///
 /// Without a file of verdicts the lines say what the signatures claim, and that nothing is
 /// verified: each that is hashed counts as good, unless its digest is bad. A file has the verdicts
@@ -79,7 +79,7 @@ pub fn run_states<R: Source, W: Sink>(
     match read_keyring(alloc, reader, task.mode, &task.limits) {
         Ok(Answer::Ring(keyring)) => {
             let ended = write_states(alloc, &keyring, task, file, writer);
-            done(ended, keyring, After::Leaves)
+            done(ended, keyring, After::Frees)
         }
         Ok(Answer::Refused(fault)) => Err(RunFault::Refused(fault)),
         Err(error) => end(Err(error)),

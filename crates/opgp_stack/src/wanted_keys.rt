@@ -2,14 +2,14 @@
 
 ghost use Rattle.std.specs.Prelude.{◌≡◌, ◌++◌, ◌||◌, ◌∷◌, [], ℕ, List, Some, false, IfOk, OnOk};
 ghost use Rattle.std.specs.Prelude.{if◌then◌else◌, is_some, map, option_map};
-ghost use Rattle.std.specs.List.{flat_map, list_all, list_any};
+ghost use Rattle.std.specs.List.{flat_map, list_any};
 ghost use Rattle.std.specs.Option.{unwrap_or};
 ghost use Rattle.std.specs.Str.{bytes_eq};
 ghost use Rattle.opgp_report.specs.First.{print_of};
 ghost use Rattle.opgp_report.specs.Report.{certificate_keys, subkey_bodies};
 ghost use Rattle.opgp_ring.specs.Grouped.{component_of, components_left};
 ghost use Rattle.opgp_stack.specs.WantedKeys.{AreNotes, note_of};
-ghost use Rattle.opgp_stack.specs.KeyName.{has_any, has_one_of, name_octets};
+ghost use Rattle.opgp_stack.specs.KeyName.{has_any, has_one_of, missing_from, name_octets};
 
 use crate::key_name::{KeyName, print_of};
 use opgp_hash::Fingerprint;
@@ -55,19 +55,23 @@ impl<'a> WantedKeys<'a> {
         primary || subkeys
     }
 
-    /// Whether each of the names is that of a key that came.
-    pub(crate) fn are_found(&self) -> bool
-        ensures { result ≡ list_all (λ name. unwrap_or (note_of name self.now.notes) false)
+    /// The number of the first of the names that isn't that of a key that came, from 0; None: each
+    /// is.
+    pub(crate) fn missing(&self) -> Option<usize>
+        ensures { result ≡ missing_from
+            (λ name. unwrap_or (note_of name self.now.notes) false) 0
             (map name_octets self.now.names.now) }
     {
+        let mut number = 0usize;
         let mut rest = self.names;
         'names: while let [name, more @ ..] = rest {
             if !is_found(&self.notes, name.octets()) {
-                return false;
+                return Some(number);
             }
+            number += 1;
             rest = more;
         }
-        true
+        None
     }
 }
 

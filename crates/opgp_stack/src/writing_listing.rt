@@ -31,9 +31,9 @@ impl Text for ListingText<'_> {
 ///
 /// - A primary key: `pub v<version> alg <n> created <n> <fingerprint> <key ID>`; a subkey the same
 ///   with `sub`.
-/// - A user ID: `uid "<text>"`, where printable ASCII other than `"` and `\` is printed as it is,
-/// and each
-///   other octet as `\x` and two digits. A user attribute: `uat <number of subpackets>`.
+/// - A user ID: `uid "<text>"`. Printable ASCII other than `"` and `\` is printed as it is, each
+///   other octet as `\x` and two digits.
+/// - A user attribute: `uat <number of subpackets>`.
 /// - A signature: `sig v<version> type <T> alg <n> hash <n>`, the type in two digits, or
 ///   `sig opaque <length>`.
 /// - Any other packet: `pkt <type> <length>`.

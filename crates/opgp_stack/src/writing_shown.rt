@@ -29,16 +29,12 @@ impl Text for ShownText<'_> {
 /// Writes a line for each packet of blocks, and one for each subpacket of a version 4 or 6
 /// signature after its own. The condition is that the sink hasn't failed.
 ///
-/// - A packet: `block <b> at <pos> type <n> form <f> length <n>`, where the place is that of its
-/// first
-/// octet in the octets of its block, the length that of its body, and the form of its header
-/// `old1`,
-///   `old2`, `old4`, `new1`, `new2`, `new5`, or `part` for partial lengths (RFC 9580, 4.2).
-/// - A subpacket (5.2.3.7): two spaces, `hashed` or `unhashed`, and `kind <n> critical <0 or 1>
-/// length
-/// <n>`, where the length includes the type octet; then `typed`, or `unfit` if its data doesn't
-/// have
-///   the form of its kind, or `unknown` if its kind is unknown.
+/// - A packet: `block <b> at <pos> type <n> form <f> length <n>`. The place is that of its first
+///   octet in its block, the length that of its body. The form of its header is `old1`, `old2`,
+///   `old4`, `new1`, `new2`, `new5`, or `part` for partial lengths (RFC 9580, 4.2).
+/// - A subpacket (5.2.3.7): two spaces, `hashed` or `unhashed`, `kind <n> critical <0 or 1>`, and
+///   `length <n>`, which counts the type octet. Then comes `typed`; or `unfit`, if its data hasn't
+///   the form of its kind; or `unknown`, if its kind is unknown.
 ///
 /// Numbers are decimal.
 ///

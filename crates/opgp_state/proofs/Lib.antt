@@ -1,7 +1,9 @@
 mod AllClaims
 mod Blocks
+mod Fed
 mod Fronts
 mod Gathered
+mod Heads
 mod Heard
 mod Lines
 mod Placements

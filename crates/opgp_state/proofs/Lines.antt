@@ -142,6 +142,18 @@ line_missed n row file octets (Some s) e h = tt
 pub line_unfit : (n : ℕ) (row : RowValue) (file : List ℕ) → ((rest : List ℕ) → file ≡ row_front n row ++ rest → ⊥) → (verdict : Verdict) (rest : List ℕ) → IsLineOf n row verdict file rest → ⊥
 line_unfit n row file h v rest k = let (octets, e, s) = from_line n row.place row.finding v file rest k in h octets e
 
+-- the rows of a keyring have one list of verdicts in a file
+pub lines_once : (rows : List RowValue) (n : ℕ) (vs ws : List Verdict) (file : List ℕ) → AreVerdictLines n rows vs file → AreVerdictLines n rows ws file → vs ≡ ws
+lines_once [] n [] [] file h k = refl
+lines_once [] n [] (w ∷ ws) file h k = absurd k
+lines_once [] n (v ∷ vs) ws file h k = absurd h
+lines_once (row ∷ rows) n [] ws file h k = absurd h
+lines_once (row ∷ rows) n (v ∷ vs) [] file h k = absurd k
+lines_once (row ∷ rows) n (v ∷ vs) (w ∷ ws) file (text, rest, is, e, h) (text', rest', is', e', k) =
+    let (same, next) = line_once n row.place row.finding v w file rest rest' (text, is, e) (text', is', e') in
+    let others : vs ≡ ws = lines_once rows (n + 1) vs ws rest' (subst (λ l. AreVerdictLines (n + 1) rows vs l) next h) k in
+    ap (λ (x : Verdict). x ∷ vs) same ∙ ap (λ (l : List Verdict). w ∷ l) others
+
 -- ---- line after line
 -- what is read so far, and what is left to be read
 pub record ReadSoFar (rows : List RowValue) (file : List ℕ) (found : List Verdict) (n : ℕ) (to_come : List RowValue) (left : List ℕ) : Type 0 where

@@ -1,10 +1,12 @@
--- A file of verdicts on the signatures of a keyring: the lines of its report, with the verdicts of
--- a verifier.
+-- A file of verdicts on the signatures of a keyring: a line that says which keyring it is of, and
+-- the lines of the keyring's report, with the verdicts of a verifier.
 use Rattle.std.specs.Prelude.{◌≡◌, ℕ, ◌+◌, ◌<◌, ◌⊎◌, ◌||◌, ◌&&◌, ◌==◌, nat_le, Bool}
 use Rattle.std.specs.Prelude.{List, [], ◌∷◌, ◌++◌, codes, length, take}
 use Rattle.std.specs.Fmt.{decimal}
 use Rattle.std.specs.List.{AllPass}
 use Rattle.hex.specs.Hex.{encode_upper}
+use Rattle.sha2.specs.Sha256.{sha256}
+use Rattle.opgp_frame.specs.Packet.{packets_octets}
 use Rattle.opgp_hash.specs.Digest.{digest_octets}
 use Rattle.opgp_hash.specs.Why.{why_text}
 use Rattle.opgp_report.specs.Left.{says_left}
@@ -12,8 +14,11 @@ use Rattle.opgp_report.specs.Report.{report_of}
 use Rattle.opgp_report.specs.RowValue.{FindingValue, RowValue, not_asked, asked_with}
 use Rattle.opgp_report.specs.declared.verifier.Verdict.{Verdict}
 use Rattle.opgp_report.specs.declared.verifier.Verdict.TheVariants.{Good, Bad, Undecided}
-use Rattle.opgp_ring.specs.Keyring.{KeyringValue}
-use Rattle.opgp_state.specs.Report.{fields_at, id_or_none, row_fields, verdict_name}
+use Rattle.opgp_report.specs.Row.{row_value}
+use Rattle.opgp_ring.specs.Keyring.{KeyringValue, flat}
+use Rattle.opgp_state.specs.Report.{fields_at, id_or_none, joined, row_fields, verdict_name}
+use Rattle.opgp_state.specs.declared.row_front.Front.{Front}
+use Rattle.opgp_state.specs.declared.row_front.Front.TheVariants as front
 
 -- ---- a line
 -- what is found of a row, with this verdict in place of its own; and the row so
@@ -73,9 +78,22 @@ AreVerdictLines n (row ∷ rows) (v ∷ vs) file = (text : List ℕ) × (rest : 
     × IsVerdictLine n row v text × (file ≡ text ++ (codes "\n" ++ rest))
     × AreVerdictLines (n + 1) rows vs rest
 
--- the file has these verdicts on the rows of a keyring's report
+-- The first line: the digest of a keyring's packets, and how many lines of rows follow. The verdicts
+-- are those of arithmetic alone.
+abbrev pub head_line : List ℕ → ℕ → List ℕ
+head_line digest rows = joined (codes "verdicts by arithmetic of keyring sha256 "
+    ∷ encode_upper digest ∷ codes " rows " ∷ decimal rows ∷ codes "\n" ∷ [])
+
+-- the SHA2-256 of the octets of a keyring's packets, in order, as they were read
+abbrev pub keyring_digest : KeyringValue → List ℕ
+keyring_digest r = sha256 (packets_octets (flat r))
+
+-- The file has these verdicts on the rows of a keyring's report, and says that it is of that
+-- keyring.
 abbrev pub HasVerdicts : List ℕ → KeyringValue → List Verdict → Type 0
-HasVerdicts file r verdicts = AreVerdictLines 0 (report_of says_left r) verdicts file
+HasVerdicts file r verdicts = (lines : List ℕ)
+    × (file ≡ head_line (keyring_digest r) (length (report_of says_left r)) ++ lines)
+    × AreVerdictLines 0 (report_of says_left r) verdicts lines
 
 -- ---- reading it
 -- a word why nothing is decided, the line's end, and these octets
@@ -104,6 +122,11 @@ front_words (asked_with kind hash signer digest own) = codes " : asked type "
 
 abbrev pub row_front : ℕ → RowValue → List ℕ
 row_front n row = fields_at n row.place (front_words row.finding)
+
+-- what a line begins with
+abbrev pub front_text : Front → List ℕ
+front_text (front.Head digest rows) = head_line digest.now rows
+front_text (front.Row n row) = row_front n (row_value row.now)
 
 -- the line of a row is at the front of the octets, and these are behind it
 abbrev pub IsLineOf : ℕ → RowValue → Verdict → List ℕ → List ℕ → Type 0

@@ -1,7 +1,10 @@
-//! What the rule implies of the order of a certificate's parts, and the definitions of places.
+//! What the rule implies of the order of a certificate's parts, and the definitions of places and of
+//! files of verdicts.
 
 ghost use Rattle.std.specs.Prelude.{◌≡◌, ◌∷◌, ◌++◌, ℕ, List, length, map, slice_get};
 ghost use Rattle.std.specs.List.Sorted.{IsPermutation};
+ghost use Rattle.sha2.specs.Sha256.{sha256};
+ghost use Rattle.opgp_frame.specs.Packet.{packets_octets};
 ghost use Rattle.opgp_ring.specs.Keyring.{CertificateValue, KeyringValue, flat};
 ghost use Rattle.opgp_report.specs.Report.{Says, report_of};
 ghost use Rattle.opgp_report.specs.Standing.{hang_at};
@@ -12,6 +15,7 @@ ghost use Rattle.opgp_valid.specs.declared.known_keys.Known.{Known};
 ghost use Rattle.opgp_valid.specs.declared.policy.Policy.{Policy};
 ghost use Rattle.opgp_state.specs.Places.{places_of};
 ghost use Rattle.opgp_state.specs.Reordered.{AreJudged, Judged, facts_with};
+ghost use Rattle.opgp_state.specs.VerdictFile.{HasVerdicts};
 
 /// The user IDs, user attributes and subkeys of a certificate in another order, each with its own
 /// signatures and the verdicts on them, change nothing: the primary key stands as before, and so
@@ -42,4 +46,14 @@ pub fn packets_of_places_are_those_of_rows()
     ensures { (says : Says) (r : KeyringValue)
         → map (λ p. slice_get (flat r) p.packet) (places_of r)
         ≡ map (λ row. hang_at r row.place) (report_of says r) }
+{}
+
+/// A file of verdicts is of one keyring, unless the packets of two have the same SHA2-256, and it
+/// has one list of verdicts on that keyring.
+pub fn file_of_verdicts_is_of_one_keyring()
+    ensures digest { (file : List ℕ) (r s : KeyringValue) (v w : List Verdict)
+        → HasVerdicts file r v → HasVerdicts file s w
+        → sha256 (packets_octets (flat r)) ≡ sha256 (packets_octets (flat s)) }
+    ensures once { (file : List ℕ) (r : KeyringValue) (v w : List Verdict)
+        → HasVerdicts file r v → HasVerdicts file r w → v ≡ w }
 {}

@@ -4,6 +4,7 @@
 mod basis;
 mod claiming;
 mod claims;
+mod keyring_digest;
 mod keyring_states;
 pub mod laws;
 mod line_sink;

@@ -1,14 +1,13 @@
-//! The front of a row's line, in front of its verdict.
+//! What the lines of a file of verdicts begin with.
 
 ghost use Rattle.std.specs.Prelude.{◌≡◌, [], false, IfOk, OnOk};
 ghost use Rattle.std.specs.Option.{option_map};
 ghost use Rattle.std.specs.Io.KnownBytes.{Appends};
 ghost use Rattle.opgp_io.specs.Output.{Extends, sink_name, sink_of, waiting_in};
-ghost use Rattle.opgp_report.specs.Row.{row_value};
 ghost use Rattle.opgp_report.specs.RowValue.{asked_with};
 ghost use Rattle.opgp_report.specs.declared.verifier.Verdict.TheVariants.{Undecided};
 ghost use Rattle.opgp_state.specs.Report.{fields_at};
-ghost use Rattle.opgp_state.specs.VerdictFile.{front_words, row_front};
+ghost use Rattle.opgp_state.specs.VerdictFile.{front_text, front_words};
 
 use crate::line_sink::LineSink;
 use crate::reporting::{add_none, id_or_none, left_of, number_or_none};
@@ -57,49 +56,64 @@ fn add_asked_front<W: Sink>(
     ])
 }
 
-/// Adds the front of a row's line: all of it but its verdict, if it has one.
-fn add_front<W: Sink>(output: &mut Output<'_, W>, number: u64, row: &Row) -> io::Result<()>
+/// What a line of a file of verdicts begins with.
+#[derive(Clone, Copy)]
+pub(crate) enum Front<'a> {
+    /// The whole first line: the digest of the keyring's packets, and how many rows it has.
+    Head(&'a [u8; 32], u64),
+    /// All of the line of a row but its verdict, if it has one: the row's number, and the row.
+    Row(u64, &'a Row),
+}
+
+/// Adds the front of a line.
+fn add_front<W: Sink>(output: &mut Output<'_, W>, front: Front<'_>) -> io::Result<()>
     requires { W.has_failed (sink_of output.old) ≡ false }
-    ensures { Extends W.held W.has_failed output.old output.new result
-        (row_front number (row_value row.now)) }
+    ensures { Extends W.held W.has_failed output.old output.new result (front_text front.entry) }
 {
-    match &row.finding {
-        Finding::Asked {
-            kind,
-            hash,
-            signer,
-            digest,
-            ..
-        } => add_asked_front(output, number, row.place, *kind, *hash, *signer, digest),
-        Finding::NotAsked(why) => add_none(output, number, row.place, *why),
+    match front {
+        Front::Head(digest, rows) => output.add_words(&[
+            Word::Text(b"verdicts by arithmetic of keyring sha256 "),
+            Word::Hex(digest),
+            Word::Text(b" rows "),
+            Word::Decimal(rows),
+            Word::Text(b"\n"),
+        ]),
+        Front::Row(number, row) => match &row.finding {
+            Finding::Asked {
+                kind,
+                hash,
+                signer,
+                digest,
+                ..
+            } => add_asked_front(output, number, row.place, *kind, *hash, *signer, digest),
+            Finding::NotAsked(why) => add_none(output, number, row.place, *why),
+        },
     }
 }
 
-/// Writes the front of a row's line into an empty output, to its sink.
-fn put_front<W: Sink>(output: &mut Output<'_, W>, number: u64, row: &Row) -> io::Result<()>
+/// Writes the front of a line into an empty output, to its sink.
+fn put_front<W: Sink>(output: &mut Output<'_, W>, front: Front<'_>) -> io::Result<()>
     requires none { waiting_in output.old ≡ [] }
     requires sound { W.has_failed (sink_of output.old) ≡ false }
     ensures same { sink_name output.new ≡ sink_name output.old }
     ensures put { OnOk result (Appends (W.held (sink_of output.old)) (W.held (sink_of output.new))
-        (row_front number (row_value row.now))) }
+        (front_text front.entry)) }
 {
-    add_front(output, number, row)?;
+    add_front(output, front)?;
     output.finish()
 }
 
-/// The front of a row's line: all of it but its verdict, if it has one. Fails only when out of
-/// memory.
+/// The front of a line. Fails only when out of memory.
 pub(crate) fn front_of(
     alloc: Global,
     buffer: &mut Buffer,
-    number: u64,
-    row: &Row,
+    front: Front<'_>,
 ) -> Result<Vec<u8>, OutOfMemory>
-    ensures { IfOk result (λ v. v.items ≡ row_front number (row_value row.now)) }
+    ensures { IfOk result (λ v. v.items ≡ front_text front.entry) }
 {
     let mut sink = LineSink::new(alloc);
     let mut output = Output::new(&mut sink, buffer);
-    match put_front(&mut output, number, row) {
+    match put_front(&mut output, front) {
         Ok(()) => Ok(sink.octets),
         Err(_) => Err(AllocError),
     }

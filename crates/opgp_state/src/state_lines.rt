@@ -337,14 +337,12 @@ fn add_certificates<W: Sink>(
 /// Adds a line for each part of a keyring, which stand so: of each certificate the primary key, and
 /// then its components, in order. Allocates nothing.
 ///
-/// - Of a key: `cert <n> part <n or -> : <pub or sub> <fingerprint> <how> uses <uses or -> begin
-/// <n>
-/// end <n or -> reason <n or ->`. It is `usable`, `revoked`, `early`, `unbound` or `expired`, and
-/// its
-///   uses are `certify`, `sign`, `encrypt` and `authenticate`, with commas between them.
+/// - Of a key: `cert <n> part <n or -> : <pub or sub> <fingerprint> <how>`, and behind that
+///   `uses <uses or -> begin <n> end <n or -> reason <n or ->`. It is `usable`, `revoked`, `early`,
+///   `unbound` or `expired`, and its uses are `certify`, `sign`, `encrypt` and `authenticate`, with
+///   commas between them.
 /// - Of a user ID: `cert <n> part <n> : uid <certified, revoked or unbound> "<text>"`, with its
-/// text
-///   as listings have it.
+///   text as listings have it.
 /// - Of a user attribute: `cert <n> part <n> : uat <certified, revoked or unbound>`.
 ///
 /// Behind the colon stands `unverified`, if nothing is verified. The certificate's number and the

@@ -46,6 +46,8 @@ text_of advice.NotBlank =
     codes "not blank, outside of armored blocks; read each file by itself, or remove the line"
 text_of advice.ReadAsPackets =
     codes "a begin line of armor, but this was read as packets; --mode armor reads armored blocks alone"
+text_of advice.BehindPackets =
+    codes "armor behind packets; write each file by itself with opgp write --out binary, and join these"
 text_of advice.LineEndBehind = codes "a line end where a packet should begin; remove it"
 text_of advice.ZerosBehind = codes "zeros where a packet should begin; remove them"
 text_of advice.NoPacket = codes "these octets aren't an OpenPGP packet"
@@ -60,7 +62,7 @@ text_of advice.LongCertificate =
     codes "a certificate, or what precedes the first one, longer than --cert allows"
 text_of advice.Malformed = codes "a malformed packet; --malformed keep accepts malformed signatures"
 text_of advice.OtherKeyVersion =
-    codes "a key of a version other than 4 and 6, which opgp doesn't read"
+    codes "a key of a version other than 4 and 6; nothing of the keyring is read, so export it without that key"
 text_of advice.SecretKey =
     codes "a secret key; don't pass it on (gpg --export writes the public key)"
 text_of advice.SignatureBlock = codes "a signature alone; opgp show lists its packets"
@@ -86,3 +88,5 @@ text_of advice.Unescaped =
 text_of advice.NoText = codes "no line of text in front of the signatures"
 text_of advice.CutMessage =
     codes "the text ends within the signed message; its signatures are missing"
+text_of advice.OtherVerdicts =
+    codes "opgp-verify --verdicts writes the file of verdicts on a keyring, from the same octets"

@@ -24,7 +24,7 @@ pub fn end_of(alloc: Global, outcome: &Result<(), RunFault>) -> Result<(u8, Stri
             (1, line)
         }
         Err(RunFault::NoSuchRow) => (1, String::from_str(alloc, "opgp: no such row\n")?),
-        Err(RunFault::NoSuchCertificate) => {
+        Err(RunFault::NoSuchCertificate | RunFault::NoSuchKey(_)) => {
             (1, String::from_str(alloc, "opgp: no such certificate\n")?)
         }
         Err(RunFault::TooManySignatures) => {

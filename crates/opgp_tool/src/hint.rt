@@ -51,6 +51,7 @@ pub enum Advice {
     NotBlank,
     /// Octets that are no packets.
     ReadAsPackets,
+    BehindPackets,
     LineEndBehind,
     ZerosBehind,
     NoPacket,
@@ -84,6 +85,8 @@ pub enum Advice {
     Unescaped,
     NoText,
     CutMessage,
+    /// A file that isn't one of verdicts on the keyring.
+    OtherVerdicts,
 }
 
 /// The text of each of them.
@@ -138,6 +141,8 @@ impl Advice {
                 "not blank, outside of armored blocks; read each file by itself, or remove the line",
             ReadAsPackets
                 "a begin line of armor, but this was read as packets; --mode armor reads armored blocks alone",
+            BehindPackets
+                "armor behind packets; write each file by itself with opgp write --out binary, and join these",
             LineEndBehind "a line end where a packet should begin; remove it",
             ZerosBehind "zeros where a packet should begin; remove them",
             NoPacket "these octets aren't an OpenPGP packet",
@@ -151,7 +156,8 @@ impl Advice {
             LongCertificate
                 "a certificate, or what precedes the first one, longer than --cert allows",
             Malformed "a malformed packet; --malformed keep accepts malformed signatures",
-            OtherKeyVersion "a key of a version other than 4 and 6, which opgp doesn't read",
+            OtherKeyVersion
+                "a key of a version other than 4 and 6; nothing of the keyring is read, so export it without that key",
             SecretKey "a secret key; don't pass it on (gpg --export writes the public key)",
             SignatureBlock "a signature alone; opgp show lists its packets",
             MessageBlock "a message, not a keyring; opgp show lists its packets",
@@ -171,6 +177,8 @@ impl Advice {
             Unescaped "a hyphen begins the line, and no escape, a hyphen and a space, is in front of it",
             NoText "no line of text in front of the signatures",
             CutMessage "the text ends within the signed message; its signatures are missing",
+            OtherVerdicts
+                "opgp-verify --verdicts writes the file of verdicts on a keyring, from the same octets",
         }
     }
 }
@@ -203,7 +211,7 @@ impl fmt::Display for Hint {
             Hint::Skipped(count) => {
                 write!(
                     f,
-                    "opgp: {count} octets outside of armored blocks were skipped"
+                    "opgp: {count} octets outside of armored blocks were skipped; read a binary file by itself"
                 )
             }
         }

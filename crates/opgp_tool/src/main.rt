@@ -10,6 +10,7 @@ mod beginning;
 mod difference;
 mod document;
 mod ending;
+mod foreign;
 mod hint;
 pub mod laws;
 mod progress;
@@ -23,8 +24,9 @@ use advising::hint_of;
 use difference::DifferenceTask;
 use document::{DocumentAction, DocumentTask};
 use ending::end_of;
+use foreign::foreign_kind;
 use hint::Hint;
-use opgp_octets::Limits;
+use opgp_octets::{Limits, write_hexadecimal};
 use opgp_ring::Keyring;
 use opgp_stack::{
     Action, Answer, Around, BoundTask, CleartextPart, EngineError, KeyName, Mode, NoSpool, Out,
@@ -45,6 +47,12 @@ use write::WriteTask;
 
 /// The exit status of an invalid command line.
 const USAGE: u8 = 2;
+
+/// The most octets of a file of names of keys, which is kept in memory.
+const MOST_KEYS: u64 = 67_108_864;
+
+/// The most octets of a file of verdicts, which is kept in memory.
+const MOST_VERDICTS: u64 = 1_073_741_824;
 
 /// The exit status where reading, writing, memory or the spool failed.
 const FAILED: u8 = 3;
@@ -110,7 +118,29 @@ fn run_task(rt: &HostRuntime, request: &Request, task: &Task) -> u8 {
         },
     };
     reader.end();
-    finish(rt, request, task.mode, &outcome, &reader)
+    let status = finish(rt, request, task.mode, &outcome, &reader);
+    if status != FAILED {
+        if let (Action::SplitKeys { keys, .. }, Err(RunFault::NoSuchKey(number))) = (
+            task.action,
+            outcome,
+        ) {
+            name_missing(rt, request, keys.get(number));
+        }
+    }
+    status
+}
+
+/// Says which key no certificate has.
+fn name_missing(rt: &HostRuntime, request: &Request, key: Option<&KeyName>) {
+    let octets = match key {
+        Some(key) => key.octets(),
+        None => return,
+    };
+    if !request.quiet && octets.len() <= 32 {
+        let mut room = [0; 64];
+        let digits = write_hexadecimal(octets, &mut room[..2 * octets.len()]);
+        let _ = eprintln!(rt; "opgp: no certificate has the key {digits}");
+    }
 }
 
 /// Writes the keyring on standard input, or parts of it.
@@ -119,7 +149,7 @@ fn run_write(rt: &HostRuntime, request: &Request, write: &WriteTask) -> u8 {
         Some(file) => file,
         None => return run_task(rt, request, &write.task()),
     };
-    match octets_beside(rt, request, file, write.mode, &write.limits) {
+    match octets_beside(rt, request, file, &write.limits) {
         Ok(octets) => write_bound(rt, request, &write.bound_task(), &octets),
         Err(status) => status,
     }
@@ -196,21 +226,25 @@ fn split_by_file(
         Ok(source) => source,
         Err(_) => return unopened(rt, request, file),
     };
-    let octets = match read_octets(rt.alloc(), &mut source, &split.limits) {
+    let octets = match read_octets(rt.alloc(), &mut source, &within(split.limits, MOST_KEYS)) {
         Ok(octets) => octets,
         Err(error) => {
             let outcome = Err(RunFault::from(error));
-            return finish(rt, request, split.mode, &outcome, &source);
+            return finish_beside(rt, request, &outcome, file, MOST_KEYS);
         }
     };
     let mut all = match keys_in(rt.alloc(), &octets) {
         Ok(Ok(all)) => all,
         Ok(Err(line)) => {
-            let _ = eprintln!(rt; "opgp: {file}, line {line}: {NAME}");
+            say_of_line(rt, file, line);
             return USAGE;
         }
         Err(_) => return end(rt, &Err(RunFault::Memory)),
     };
+    if all.is_empty() {
+        say_of(rt, "", file, " names no key");
+        return USAGE;
+    }
     match all.extend_from_slice(keys) {
         Ok(()) => split_by_keys(rt, request, split, out, &all, except),
         Err(_) => end(rt, &Err(RunFault::Memory)),
@@ -344,7 +378,7 @@ fn list_states(rt: &HostRuntime, request: &Request, states: &StatesTask) -> u8 {
         None => return list_states_by(rt, request, &states.task, None),
     };
     let task = &states.task;
-    match octets_beside(rt, request, file, task.mode, &task.limits) {
+    match octets_beside(rt, request, file, &task.limits) {
         Ok(octets) => list_states_by(rt, request, task, Some(&octets)),
         Err(status) => status,
     }
@@ -356,7 +390,6 @@ fn octets_beside(
     rt: &HostRuntime,
     request: &Request,
     file: &str,
-    mode: Mode,
     limits: &Limits,
 ) -> Result<Vec<u8>, u8> {
     if is_input(file) {
@@ -367,11 +400,11 @@ fn octets_beside(
         Ok(source) => source,
         Err(_) => return Err(unopened(rt, request, file)),
     };
-    match read_octets(rt.alloc(), &mut source, limits) {
+    match read_octets(rt.alloc(), &mut source, &within(*limits, MOST_VERDICTS)) {
         Ok(octets) => Ok(octets),
         Err(error) => {
             let outcome = Err(RunFault::from(error));
-            Err(finish(rt, request, mode, &outcome, &source))
+            Err(finish_beside(rt, request, &outcome, file, MOST_VERDICTS))
         }
     }
 }
@@ -408,7 +441,7 @@ fn list_difference(rt: &HostRuntime, request: &Request, task: &DifferenceTask) -
     };
     let status = finish(rt, request, task.mode, &outcome, &source);
     if !request.quiet {
-        let _ = eprintln!(rt; "opgp: this is of the old keyring, {file}");
+        say_of(rt, "this is of the old keyring, ", file, "");
     }
     status
 }
@@ -462,7 +495,71 @@ fn open_beside(rt: &HostRuntime, file: &str) -> io::Result<Progress<Watched<File
 fn unopened(rt: &HostRuntime, request: &Request, file: &str) -> u8 {
     let status = end(rt, &Err(RunFault::Read));
     if !request.quiet {
-        let _ = eprintln!(rt; "opgp: {file} can't be opened");
+        say_of(rt, "", file, " can't be opened");
+    }
+    status
+}
+
+/// Whether a name is printable ASCII. Another one is shown with its controls escaped, so that it
+/// can't steer a terminal.
+fn is_plain(name: &str) -> bool {
+    name.bytes().all(|octet| 32 <= octet && octet <= 126)
+}
+
+/// Says this of a file.
+fn say_of(rt: &HostRuntime, front: &str, file: &str, behind: &str) {
+    let _ = if is_plain(file) {
+        eprintln!(rt; "opgp: {front}{file}{behind}")
+    } else {
+        eprintln!(rt; "opgp: {front}{file:?}{behind}")
+    };
+}
+
+/// Says that a line of a file is no name of a key.
+fn say_of_line(rt: &HostRuntime, file: &str, line: u64) {
+    let _ = if is_plain(file) {
+        eprintln!(rt; "opgp: {file}, line {line}: {NAME}")
+    } else {
+        eprintln!(rt; "opgp: {file:?}, line {line}: {NAME}")
+    };
+}
+
+/// Says how much of a file is read at most.
+fn say_of_most(rt: &HostRuntime, file: &str, most: u64) {
+    let _ = if is_plain(file) {
+        eprintln!(rt; "opgp: of {file} at most {most} octets are read")
+    } else {
+        eprintln!(rt; "opgp: of {file:?} at most {most} octets are read")
+    };
+}
+
+/// The limits of a file that is kept in memory: its octets are so many at most.
+fn within(limits: Limits, most: u64) -> Limits {
+    let input = limits.input().min(most);
+    match Limits::new(
+        limits.line(),
+        limits.body(),
+        limits.cert(),
+        input,
+        limits.pieces(),
+    ) {
+        Some(limits) => limits,
+        None => limits,
+    }
+}
+
+/// Prints the last lines of a run that read a file beside standard input, of which it reads so many
+/// octets at most.
+fn finish_beside(
+    rt: &HostRuntime,
+    request: &Request,
+    outcome: &Result<(), RunFault>,
+    file: &str,
+    most: u64,
+) -> u8 {
+    let status = end(rt, outcome);
+    if !request.quiet && status != FAILED {
+        say_of_most(rt, file, most);
     }
     status
 }
@@ -477,10 +574,12 @@ fn finish<R: Source, W: Write + Drop>(
 ) -> u8 {
     let status = end(rt, outcome);
     if !request.quiet && status != FAILED {
+        let beginning = reader.beginning();
         let hint = hint_of(
             mode,
             outcome,
-            reader.beginning(),
+            beginning,
+            foreign_kind(rt.alloc(), mode, outcome, beginning),
             reader.octets(),
             reader.skipped(),
         );

@@ -1,6 +1,7 @@
 pub mod Alike
 pub mod Among
 pub mod Asked
+pub mod BeliefThere
 pub mod Changing
 pub mod Finding
 pub mod FoundKeys
@@ -8,6 +9,7 @@ pub mod Members
 pub mod Newest
 pub mod Orders
 pub mod Parts
+pub mod WalkOn
 pub mod Revocations
 pub mod Rule
 pub mod Sayings

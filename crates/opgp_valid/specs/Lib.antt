@@ -9,6 +9,7 @@ pub mod Laws
 pub mod Listing
 pub mod Moment
 pub mod Policy
+pub mod Reached
 pub mod Revocation
 pub mod Saying
 pub mod Speaking

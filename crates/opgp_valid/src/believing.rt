@@ -1,17 +1,23 @@
 //! Whether a signature over a document is believed.
 
-ghost use Rattle.std.specs.Prelude.{◌≡◌, ◌||◌, IfOk, IfSome, None};
+ghost use Rattle.std.specs.Prelude.{◌≡◌, ◌≤◌, ◌⊎◌, ◌||◌, [], List, IfOk, IfSome, None, Some, map};
+ghost use Rattle.std.specs.Prelude.{slice_get};
+ghost use Rattle.opgp_ring.specs.Keyring.{CertificateValue, KeyringValue};
+ghost use Rattle.opgp_report.specs.declared.verifier.Verdict.{Verdict};
+ghost use Rattle.opgp_valid.specs.Judgement.{verdicts_from};
+ghost use Rattle.opgp_valid.specs.Reached.{IsReached};
 ghost use Rattle.opgp_packet.specs.SigView.{sig_view_value};
 ghost use Rattle.opgp_valid.specs.Believed.{belief_of, believed_as, flaw_of, has_lapsed, made_by};
-ghost use Rattle.opgp_valid.specs.Believed.{print_at, print_in, signs_document, subkey_print};
-ghost use Rattle.opgp_valid.specs.KnownKeys.{knowns};
+ghost use Rattle.opgp_valid.specs.Believed.{print_in, signs_document, subkey_print};
+ghost use Rattle.opgp_valid.specs.KnownKeys.{known_in, knowns};
 ghost use Rattle.opgp_valid.specs.FlawText.{flaw_text};
 ghost use Rattle.opgp_valid.specs.Told.{life_in};
 
 use crate::context::{is_print, is_understood, life_in, parts_of, relies_with};
-use crate::judgement::{Judgement, KeyPlace, certificate_at, component_at, judge_among};
+use crate::judgement::{Judgement, KeyPlace, component_at, judge_in};
 use crate::known_keys::KnownKeys;
 use crate::policy::Policy;
+use crate::reached::{Reached, first, go_on};
 use crate::statement::Life;
 use crate::subpackets::has_unfit;
 use crate::why::Why;
@@ -147,16 +153,6 @@ fn print_in(certificate: &Certificate, component: Option<usize>) -> Option<Finge
     }
 }
 
-/// The fingerprint of the key at a place.
-fn print_at(keyring: &Keyring, at: KeyPlace) -> Option<Fingerprint>
-    ensures { result ≡ print_at keyring.now at }
-{
-    match certificate_at(keyring.certificates(), at.certificate, &[]) {
-        Some((certificate, _)) => print_in(certificate, at.component),
-        None => None,
-    }
-}
-
 /// A signature is believed as its key is.
 fn believed_as(judgement: Judgement) -> Belief
     ensures { result ≡ believed_as judgement }
@@ -166,6 +162,66 @@ fn believed_as(judgement: Judgement) -> Belief
         Judgement::Fails(why) => Belief::Unbelieved(why),
         Judgement::NoKey => Belief::NoKey,
     }
+}
+
+/// Whether a signature is believed as one by the key at a place that is in this certificate, by the
+/// verdicts from its first row on. Fails only when out of memory.
+fn believe_in(
+    alloc: Global,
+    known: &KnownKeys,
+    certificate: &Certificate,
+    verdicts: &[Verdict],
+    policy: Policy,
+    at: KeyPlace,
+    signature: SigView<'_>,
+    now: u64,
+) -> Result<Belief, OutOfMemory>
+    ensures { IfOk result (λ b. (r : KeyringValue) (founds : List Verdict)
+        → knowns known.now ≡ known_in r
+        → slice_get r.certificates at.certificate ≡ Some certificate.now
+        → verdicts.now ≡ verdicts_from r.certificates at.certificate founds
+        → b ≡ belief_of r policy founds at now (sig_view_value signature.entry)) }
+{
+    let Some(print) = print_in(certificate, at.component) else {
+        return Ok(Belief::NoKey);
+    };
+    if let Some(flaw) = flaw_of(known, policy, print, signature, now) {
+        return Ok(Belief::Flawed(flaw));
+    }
+    let made = made_by(signature);
+    let judgement = judge_in(alloc, known, certificate, verdicts, policy, at, made, now)?;
+    Ok(believed_as(judgement))
+}
+
+/// The same of a place whose certificate was reached, if the keyring has it.
+fn believe_there(
+    alloc: Global,
+    known: &KnownKeys,
+    reached: Reached<'_>,
+    policy: Policy,
+    at: KeyPlace,
+    signature: SigView<'_>,
+    now: u64,
+) -> Result<Belief, OutOfMemory>
+    requires there { (reached.number ≡ at.certificate) ⊎ (reached.certificates.now ≡ []) }
+    requires before { reached.number ≤ at.certificate }
+    ensures { IfOk result (λ b. (r : KeyringValue) (founds : List Verdict)
+        → knowns known.now ≡ known_in r → IsReached r.certificates founds reached.entry
+        → b ≡ belief_of r policy founds at now (sig_view_value signature.entry)) }
+{
+    let Some((certificate, _behind)) = reached.certificates.split_first() else {
+        return Ok(Belief::NoKey);
+    };
+    believe_in(
+        alloc,
+        known,
+        certificate,
+        reached.verdicts,
+        policy,
+        at,
+        signature,
+        now,
+    )
 }
 
 /// Whether a signature over a document, which a verifier found good by arithmetic, is believed as
@@ -187,14 +243,54 @@ pub fn believe(
     ensures { IfOk result (λ b. b
         ≡ belief_of keyring.now policy verdicts.now at now (sig_view_value signature.entry)) }
 {
-    let Some(print) = print_at(keyring, at) else {
-        return Ok(Belief::NoKey);
-    };
     let known = KnownKeys::of(alloc, keyring)?;
-    if let Some(flaw) = flaw_of(&known, policy, print, signature, now) {
-        return Ok(Belief::Flawed(flaw));
+    let reached = go_on(first(keyring.certificates(), verdicts), at.certificate);
+    believe_there(alloc, &known, reached, policy, at, signature, now)
+}
+
+/// The same of each of several places, in order: [`believe`] says what of one.
+///
+/// Each key of the keyring is hashed once. Where the places come in the order of their
+/// certificates, the rest of the work is linear in the keyring's certificates up to the last one,
+/// and for each place in the octets of its own. Fails only when out of memory.
+pub fn believe_at(
+    alloc: Global,
+    keyring: &Keyring,
+    verdicts: &[Verdict],
+    policy: Policy,
+    places: &[KeyPlace],
+    signature: SigView<'_>,
+    now: u64,
+) -> Result<Vec<Belief>, OutOfMemory>
+    ensures { IfOk result (λ bs. bs.items ≡ map (λ at.
+        belief_of keyring.now policy verdicts.now at now (sig_view_value signature.entry))
+        places.now) }
+{
+    let known = KnownKeys::of(alloc, keyring)?;
+    let begin = first(keyring.certificates(), verdicts);
+    let mut reached = begin;
+    let mut beliefs = Vec::new(alloc);
+    let mut rest = places;
+    'places: while let Some((at, more)) = rest.split_first() {
+        reached = go_on(nearest(begin, reached, at.certificate), at.certificate);
+        let belief = believe_there(alloc, &known, reached, policy, *at, signature, now)?;
+        beliefs.push(belief)?;
+        rest = more;
     }
-    let made = made_by(signature);
-    let judgement = judge_among(alloc, &known, keyring, verdicts, policy, at, made, now)?;
-    Ok(believed_as(judgement))
+    Ok(beliefs)
+}
+
+/// From where a certificate can be reached: from here, or else from the first one.
+fn nearest<'a>(begin: Reached<'a>, reached: Reached<'a>, number: usize) -> Reached<'a>
+    requires { begin.number ≡ 0 }
+    ensures reached { (all : List CertificateValue) (founds : List Verdict)
+        → IsReached all founds begin.entry → IsReached all founds reached.entry
+        → IsReached all founds result }
+    ensures before { result.number ≤ number }
+{
+    if reached.number <= number {
+        reached
+    } else {
+        begin
+    }
 }

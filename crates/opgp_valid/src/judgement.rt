@@ -1,7 +1,10 @@
 //! Whether a key of a keyring is believed, by verdicts on the rows of the keyring's report.
 
-ghost use Rattle.std.specs.Prelude.{◌≡◌, drop, length, IfOk, MatchOption, None, Some, slice_get};
+ghost use Rattle.std.specs.Prelude.{◌≡◌, List, drop, length, IfOk, MatchOption, None, Some};
+ghost use Rattle.std.specs.Prelude.{slice_get};
 ghost use Rattle.opgp_ring.specs.Grouped.{component_of, components_left};
+ghost use Rattle.opgp_ring.specs.Keyring.{KeyringValue};
+ghost use Rattle.opgp_report.specs.declared.verifier.Verdict.{Verdict};
 ghost use Rattle.opgp_report.specs.Standing.{certificate_standing};
 ghost use Rattle.std.specs.Option.{option_map};
 ghost use Rattle.opgp_valid.specs.Judgement.{judged, judgement_of, key_at, subkey_at, verdicts_from};
@@ -151,7 +154,7 @@ pub fn judge(
 }
 
 /// The same, where these are the keyring's keys.
-pub(crate) fn judge_among(
+fn judge_among(
     alloc: Global,
     known: &KnownKeys,
     keyring: &Keyring,
@@ -169,9 +172,30 @@ pub(crate) fn judge_among(
     let Some((certificate, found)) = certificate_at(certificates, at.certificate, verdicts) else {
         return Ok(Judgement::NoKey);
     };
+    judge_in(alloc, known, certificate, found, policy, at, made, now)
+}
+
+/// The same of the key at a place that is in this certificate, by the verdicts from its first row
+/// on.
+pub(crate) fn judge_in(
+    alloc: Global,
+    known: &KnownKeys,
+    certificate: &Certificate,
+    verdicts: &[Verdict],
+    policy: Policy,
+    at: KeyPlace,
+    made: u64,
+    now: u64,
+) -> Result<Judgement, OutOfMemory>
+    ensures { IfOk result (λ j. (r : KeyringValue) (founds : List Verdict)
+        → knowns known.now ≡ known_in r
+        → slice_get r.certificates at.certificate ≡ Some certificate.now
+        → verdicts.now ≡ verdicts_from r.certificates at.certificate founds
+        → j ≡ judgement_of r policy founds at made now) }
+{
     let Some(key) = key_at(certificate, at.component) else {
         return Ok(Judgement::NoKey);
     };
-    let certified = Certified::of(alloc, known, policy, certificate, found)?;
+    let certified = Certified::of(alloc, known, policy, certificate, verdicts)?;
     Ok(judged(standing(certified.facts(), key, made, now)))
 }

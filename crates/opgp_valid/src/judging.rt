@@ -61,14 +61,12 @@ pub(crate) fn is_revoked(statements: &[Statement], key: Key) -> bool
 /// - The signature wasn't made before the key was created, nor before the primary key was.
 /// - When the signature was made, and now, there is a good direct key signature or, in version 4, a
 ///   good certification of a user ID by the primary key itself (10.1). The newest of each that
-///   counts is heard (5.2.3.10), and of equally new ones each. The newest of all direct key
-/// signatures is heard too, good or not; that of all certifications; and that of those of the
-/// primary
-///   user ID.
+///   counts is heard (5.2.3.10), and of equally new ones each. Heard too, good or not, are the
+///   newest of all direct key signatures, that of all certifications, and that of those of the
+///   primary user ID.
 /// - By none of those has the primary key expired (5.2.3.13).
 /// - For a subkey there is a good binding by the primary key, at both times (5.2.1.8). The newest
-/// of
-///   these and the newest of all are heard, and by neither has it expired.
+///   of these and the newest of all are heard, and by neither has it expired.
 /// - Something good that is heard for the key has key flags, and all that has lets it sign
 ///   (5.2.3.29).
 /// - Each heard binding has a good signature by the subkey embedded (5.2.1.9).

@@ -17,6 +17,7 @@ mod listing;
 mod moment;
 mod naming;
 mod policy;
+mod reached;
 mod revocation;
 mod saying;
 mod speaking;
@@ -29,7 +30,7 @@ mod uses;
 mod walk;
 mod why;
 
-pub use believing::{Belief, Flaw, believe};
+pub use believing::{Belief, Flaw, believe, believe_at};
 pub use certified::Certified;
 pub use facts::{Facts, Key};
 pub use judgement::{Judgement, KeyPlace, judge, verdicts_behind};

@@ -39,10 +39,11 @@ pub const STATE_HELP: &str =
 and of a key its uses,
 from when until when it is there, and the code of its revocation's reason. A key is usable
 if it is bound to its certificate, and neither revoked nor expired. The file of verdicts is
-what opgp-verify prints of the keyring. Without it the lines say what the signatures claim,
-and that they are unverified.
+what opgp-verify --verdicts writes of the same keyring; no other is taken. Without it the
+lines say what the signatures claim, and that they are unverified.
 
-Example: opgp state --at 2026-11-20 --verdicts VERDICTS < KEYRING";
+Example: opgp-verify --verdicts < KEYRING > VERDICTS
+         opgp state --at 2026-11-20 --verdicts VERDICTS < KEYRING";
 
 pub const OCTETS_HELP: &str = "A row is numbered as check does it; with --of literal it is the \
 number of a signature
@@ -61,7 +62,7 @@ all packets of the input. Three options leave out parts of each certificate:
 that are given, with their signatures. No signature is verified.
 
 --bound leaves out each user ID, attribute and subkey on which no self-signature is that is
-good by the verdicts in the file of --verdicts, which opgp-verify --policy none prints of the
+good by the verdicts in the file of --verdicts, which opgp-verify --verdicts writes of the
 same keyring; and self-signatures that aren't good, or that newer ones replace. Revocations
 stay. It doesn't go with --user-id.
 
@@ -77,8 +78,8 @@ binary its packets. Packets
 before the first certificate are left out. Certificates are numbered from 0. A key may be a
 primary key or a subkey. Spaces in it, and 0x at its start, are ignored. --key may be given
 again and again, and the file of --keys has one in each line; blank lines, and those that
-begin with #, are skipped. If the input lacks one of them, nothing is written. --except
-writes all certificates but those.
+begin with #, are skipped; a file without a key is refused. If the input lacks one of the
+keys, nothing is written. --except writes all certificates but those.
 
 Example: opgp split --key KEY --key OTHER-KEY < KEYRING > BOTH.asc";
 

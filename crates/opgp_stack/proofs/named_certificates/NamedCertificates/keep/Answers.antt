@@ -16,4 +16,4 @@ returns-then-has-self-clause-named g c =
 pub returns-clause-named : goal.returns-clause-named
 returns-clause-named g c =
     on_ok_weaker c.given_back.result (λ e. rw c.in-Some.ensures (λ parts h. named_here (DraftHas g.S.Spool.serves g.S.Spool.tells g.S.Spool.holds g.S.Spool.has_failed) c.args.self.now.out (map name_octets c.args.self.now.wanted.names.now) c.args.self.now.except c.args.self.now.wanted.notes c.note-has.new.self.notes c.note-has.result _ _ parts c.in-Some.certificate
-    c.note-has.ensures.noted (other_test c.note-has.result c.args.self.now.except c.if-has-self.false) (rw e at c.add_alone-added.ensures) h)) c.given_back.ensures
+    c.note-has.ensures.noted (other_test c.note-has.result c.args.self.now.except c.if-has-self.false) (rw e at c.add_alone-added.ensures) h)) c.given_back.ensures.added

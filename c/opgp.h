@@ -410,7 +410,7 @@ OPGP_API uint32_t opgp_abi(void);
 
 /* Gives the usual limits: 8,192 octets of a line, 2^24 of a body, 2^26 of a certificate, 2^40 of the input, 2^20 pieces.
  *
- * Proved: these are they. */
+ * Proved: it sets exactly these. */
 OPGP_API void opgp_usual_limits(opgp_limits *limits);
 
 /* Writes the name that a table (OPGP_PACKET_TYPES and so on) has for a number to text[0 .. room), in ASCII, without a NUL. *size
@@ -526,7 +526,7 @@ OPGP_API uint32_t opgp_ring_octets(opgp_ring *ring, uint64_t row, uint8_t *octet
 /* Fills the caller's tables, rows[0 .. row_room) and bytes[0 .. byte_room), with what signatures of the jobs hash (5.2.4), from
  * the row `first` on. Of at most `count` rows it takes as many as hash no more than `most` octets together. There is a row for
  * each signature among them that is hashed, in order, and those octets, one after the other. *sizes is the room that they need.
- * So what all signatures hash takes a few walks.
+ * So a few passes serve all rows.
  *
  * The statuses, and what is proved, are those of opgp_ring_packets. */
 OPGP_API uint32_t opgp_ring_hashed(opgp_ring *ring, uint64_t first, uint64_t count, uint64_t most, opgp_hashed *rows,
@@ -635,8 +635,8 @@ typedef struct opgp_revocation {
 } opgp_revocation;
 
 /* Fills the caller's table, rows[0 .. room), with all revocations of primary keys for which opgp_ring_revocation has a digest, in the
- * order of the jobs. *size is how many there are. It takes one walk, so who verifies those whose why is OPGP_WHY_MISPLACED needn't
- * call that for each, which takes a walk every time.
+ * order of the jobs. *size is how many there are. To verify rows of OPGP_WHY_MISPLACED, call this once:
+ * that walks the keyring for each.
  *
  * OPGP_DONE, OPGP_ROOM, OPGP_MEMORY, OPGP_CLOSED. With the last two *size means nothing.
  *
@@ -953,7 +953,7 @@ OPGP_API uint32_t opgp_open_mode(const uint8_t *in, size_t n, uint32_t mode, con
  * OPGP_DONE. */
 OPGP_API uint32_t opgp_skipped(const opgp_keyring *keyring, uint64_t *count);
 
-/* Which of these limits is out of its range: its number in opgp_limits, from 0; 5 if there is no such policy; 6 if none is. */
+/* Returns the index of the first bad field of opgp_limits, from 0; 5: the policies; 6: all are valid. */
 OPGP_API unsigned opgp_wrong_limit(const opgp_limits *limits);
 
 /* Begins to read a keyring in pieces, as opgp_reader_open does; limits may be NULL for the usual ones. */
@@ -1110,8 +1110,8 @@ typedef int opgp_judge_reporter(void *context, const opgp_question *question, op
  *
  * - for each signature over the document, whose job has OPGP_NONE as certificate;
  * - if one of them is good, for those in the certificates that have its signer as primary key, or at its first place, or where a
- *   signature may bind it; but not for what another key certified (types 10 to 13 and 30), which says nothing. What isn't found good
- *   counts for nothing, revocations too.
+ *   signature may bind it; but not for what another key certified (types 10 to 13 and 30), which says nothing. Only
+ *   signatures found good count, revocations too.
  *
  * Then the reporter is called for each signature over the document, in order. Where a key is in several places, one at which it is
  * believed is enough; else the reason is that of the first. Of equal signatures one is judged for all of them.
@@ -1134,7 +1134,7 @@ OPGP_API uint32_t opgp_revocations(const opgp_keyring *keyring, opgp_revocation 
  *
  * The verifier is called as opgp_check calls it, and for key revocations that stand behind another part: they are over the
  * primary key alone (5.2.1.11), so their job has the digest of that; but not for what another key certified (types 10 to 13 and
- * 30), which says nothing. What isn't found good counts for nothing, revocations too; with NULL as verify nothing is. It may
+ * 30), which says nothing. Only signatures found good count, revocations too; with verify NULL, none do. It may
  * make calls on the keyring, but not close it. Each certificate is judged alone: merge a keyring that may have one twice.
  *
  * OPGP_DONE; or *rows is NULL and *count 0: OPGP_LIMITS: there is no such policy; OPGP_MEMORY. */

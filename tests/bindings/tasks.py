@@ -32,7 +32,7 @@ START = int(time.time()) - 1000 * DAY
 ADDRESS = "alice@example.org"
 DOCUMENT = b"Hello\n- World"
 CV25519 = bytes.fromhex("0A2B060104019755010501") + integer(b"\x40" + bytes(31) + b"\7") + bytes.fromhex("03010807")
-SEVERAL = "One keyring of several files, armored or not (`cat` of both kinds would lose some, or be refused):"
+SEVERAL = "One keyring of several files, armored or not (`cat` of both kinds would lose some):"
 ONE_ALONE = "Refuse what is too large, or isn't one certificate alone:"
 passed = failed = 0
 
@@ -127,7 +127,7 @@ def wanted(made, folder, program):
         "Is there anything but certificates in a file?": (0, lambda out: out == "no\n"),
         "A smaller keyring, without what other keys signed:": (
             0, lambda out: out == "" and octets_in(folder, "small.gpg") == b"".join(it for it in small(made))),
-        "Only what its owner signed, and of that the newest:": (
+        "Only what its owner signed; a key stands as before:": (
             0, lambda out: out == "" and octets_in(folder, "bound.gpg") == made.keyring),
         "The same field by field, each with its place, value and section of RFC 9580:": (
             0, has("0 1 primary-key-prefix 99 5.2.4\n", ' user-id "bob@example.net" 5.11\n', " trailer-marker FF 5.2.4\n")),

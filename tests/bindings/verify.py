@@ -7,7 +7,7 @@ The program is built as `make verifier` builds it, unless one is named; so is li
 installed what that signs here: by keys of each algorithm that it makes, of types 00 and 01, over documents of many forms. Each
 signature is then held against a document, a signature or a keyring that was changed. The digests that the lines show are worked out
 with Python's hashlib, by tests/lib/model.py, which merges the keyrings too; and which good signature isn't to be believed, and why, by
-tests/lib/standing.py: also of the 346 cases of tests/vectors/validity, at several times, and of keyrings that are made of their packets.
+tests/lib/standing.py: also of the 383 cases of tests/vectors/validity, at several times, and of keyrings that are made of their packets.
 Signatures that nobody made, whose digest begins as they state, say what is undecided and why. Command lines, files that are refused or missing, full devices, memory that is refused and how much of it is taken are tried too.
 How often libcrypto is asked is counted, and how long a key in many places takes is measured.
 So are large keyrings, over which several threads go: what is written is the same with any number of them, also where some can't be

@@ -5,6 +5,7 @@ It does no arithmetic: a keyring comes with a verdict for each row of `opgp chec
 the numbers of its certificate and of its component, as in those rows; None is the primary key. Sections are those of RFC 9580."""
 
 import collections
+import copy
 import functools
 
 import model
@@ -118,8 +119,8 @@ class Said:
         for octet, _, octets in it.hashed:
             if octet & 127 in said and model.meaning(octet & 127, octets) == "typed":
                 said[octet & 127].append(octets)
-        times = said[2]
-        self.made = model.number(times[0]) if len(times) == 1 else None
+        self.times = list(map(model.number, said[2]))
+        self.made = self.times[0] if len(self.times) == 1 else None
         self.is_of_its_age = signer is not None and self.made is not None and self.made >= signer.created
         self.is_good = self.is_genuine and self.is_understood and self.is_relied_on and self.is_of_its_age and not is_unfit(it)
         self.lasts, self.key_lasts = (min(filter(None, map(model.number, said[kind])), default=0) for kind in (3, 9))
@@ -130,6 +131,15 @@ class Said:
         self.revokers = {octets[2:] for octets in said[12] if octets[0] & 0x80}
         self.reason = said[29][0][0] if said[29] else None
         self.back = None
+
+    def each(self):
+        """It at each time that it states, if these are several: none is good then, and a back signature is the last one's."""
+        if len(self.times) < 2:
+            return [self]
+        found = [copy.copy(self) for _ in self.times]
+        for it, it.made in zip(found, self.times):
+            it.back = self.back if it is found[-1] else None
+        return found
 
     def lives(self, t):
         return self.made is not None and self.made <= t and not self.has_lapsed(t)
@@ -177,30 +187,45 @@ class Certificate:
     def component(self, number):
         return self.primary if number is None else self.components[number]
 
+    def is_withdrawn(self, it, component):
+        """Whether the primary key has revoked this certification of a component: not before it was made (5.2.1.13)."""
+        own = [s for s in component.said if s.is_genuine and s.kind == IDENTITY_REVOCATION and s.by == self.fingerprint]
+        return any(None in (s.made, it.made) or s.made >= it.made for s in own)
+
+    def certifications(self, component, stand):
+        """Those of a user ID or attribute; with stand without those that are revoked."""
+        return [it for it in self.own(CERTIFICATIONS, component) if not (stand and self.is_withdrawn(it, component))]
+
+    def spoken(self, t, stand):
+        """Those that would speak for the primary key (10.1): the newest good direct key signatures, and in version 4 also the newest good
+        ones of all certifications of user IDs."""
+        found = newest(filter(is_good, self.own((DIRECT,), self.primary)), t)
+        if self.primary.key.version == 4:
+            user_ids = [it for it in self.components if it.kind == USER_ID]
+            found = found + newest([s for it in user_ids for s in self.certifications(it, stand) if s.is_good], t)
+        return found
+
     def own(self, kinds, *components):
         """The genuine signatures of these types by the primary key, without those in which something critical isn't understood."""
         found = [s for it in components for s in it.said if s.kind in kinds and s.by == self.fingerprint]
         return [s for s in found if s.is_genuine and s.is_understood]
 
     def speakers(self, component, t):
-        """Those that speak for a key at a time: for a subkey the newest good bindings; for the primary key (10.1) the newest good direct
-        key signatures, and in version 4 also the newest good ones of all certifications of user IDs."""
+        """Those that speak for a key at a time: for a subkey the newest good bindings; for the primary key what isn't revoked, or if that
+        is nothing, what is."""
         if component is not self.primary:
             return newest(filter(is_good, self.own((BINDING,), component)), t)
-        found = newest(filter(is_good, self.own((DIRECT,), component)), t)
-        if component.key.version == 4:
-            user_ids = (it for it in self.components if it.kind == USER_ID)
-            found = found + newest(filter(is_good, self.own(CERTIFICATIONS, *user_ids)), t)
-        return found
+        return self.spoken(t, True) or self.spoken(t, False)
 
     def limiters(self, component, t):
         """Those that must allow a use beside them, good or not: a weak one, too, was made by the key's owner."""
         if component is not self.primary:
             return newest(self.own((BINDING,), component), t)
-        direct = self.own((DIRECT,), component)
-        certifications = self.own(CERTIFICATIONS, *(it for it in self.components if it.kind in (USER_ID, ATTRIBUTE)))
-        main = [it for it in certifications if it.is_main]
-        return [it for group in (direct, certifications, main) for it in newest(group, t)]
+        stand = bool(self.spoken(t, True))
+        # Of each user ID and attribute its newest: what they replaced neither marks it as primary nor lets the key expire.
+        latest = [s for it in self.components if it.kind in (USER_ID, ATTRIBUTE) for s in newest(self.certifications(it, stand), t)]
+        groups = (self.own((DIRECT,), component), latest, [it for it in latest if it.is_main], [it for it in latest if it.key_lasts])
+        return [it for group in groups for it in newest(group, t)]
 
     def heard(self, component, t):
         return self.speakers(component, t) + self.limiters(component, t)
@@ -292,6 +317,8 @@ class Keyring:
                 outer, is_first = self.said(it, verdict, it.kind in PLACES[part.kind]), True
                 if it.version == certificate[0].key.version:
                     places[id(part)].said.append(outer)
+        for part in places.values():
+            part.said = [it for said in part.said for it in said.each()]
         self.certificates = [Certificate(it) for it in components]
 
     def signer(self, it):

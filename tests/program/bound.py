@@ -1,12 +1,13 @@
 #!/usr/bin/env python3
 """Runs `write --bound` over generated certificates with verdicts on their signatures, and compares what it writes with the rule, worked
-out here in another way.
+out here in another way. By tests/lib/standing.py each part that stays then stands as before, and no part goes that is of use.
 
 Usage: tests/program/bound.py [--cases N] [--seed N] [--program FILE]
 
 Files of verdicts are written as opgp-verify writes them. Those of another keyring are refused, and so are command lines on which
---bound and --verdicts aren't together. Some certificates are made by hand: a user ID that nobody certified, superseded certifications, a
-revoked user ID, a stranger's subkey. The last line counts the tests."""
+--bound and --verdicts aren't together. Some certificates are made by hand: a user ID that nobody certified, superseded certifications,
+self-signatures that the rule of standing doesn't hear, several designated revokers, a stranger's subkey that made a revocation. The last
+line counts the tests."""
 
 import argparse
 import os
@@ -19,9 +20,10 @@ sys.dont_write_bytecode = True
 sys.path.insert(0, f"{sys.path[0]}/../lib")
 
 import model  # noqa: E402
+import standing  # noqa: E402
 import standing_cases  # noqa: E402
 import verdict_files  # noqa: E402
-from openpgp_maker import Key, number, on_identity, packet, signature, subpacket  # noqa: E402
+from openpgp_maker import Key, number, on_identity, packet, signature, signature_3, subpacket  # noqa: E402
 from running import built  # noqa: E402
 
 parser = argparse.ArgumentParser(prog="tests/program/bound.py", description=__doc__.split("\n\n", maxsplit=1)[0])
@@ -36,8 +38,11 @@ NOT_THOSE = (
     "opgp: opgp-verify --verdicts writes the file of verdicts on a keyring, from the same octets\n"
 )
 SELF = (0x10, 0x11, 0x12, 0x13, 0x18, 0x1F)
+REVOCATIONS = (0x20, 0x28, 0x30)
 OPTIONS = ((), ("--own-signatures",), ("--no-attributes",), ("--own-signatures", "--no-attributes"))
 MADE = 1700000000
+# In the cases of tests/vectors/validity: early, when a document is signed, and when a case is read.
+TIMES = (1720000000, 1786492800, 1795132800)
 passed = failed = 0
 
 
@@ -83,52 +88,102 @@ def names(it, body):
     return False
 
 
-def counted(it, found, place, primary, head, keys):
-    """When a self-signature was made, if it counts."""
+def print_of(body):
+    return body[:1] + model.fingerprint(body)
+
+
+def is_genuine(it, found, place, primary, head, keys):
+    """Whether a self-signature is good over what it follows, and made by the primary key."""
     signer = model.signer_of(it, keys)
     if found != "good" or signer is None or model.asked_there(it.body, place, primary, head)[0] is None:
-        return None
-    return model.created_of(it) if (signer[0], model.fingerprint(signer)) == (primary[0], model.fingerprint(primary)) else None
+        return False
+    return print_of(signer) == print_of(primary)
 
 
-def judged(packets, parts, verdicts, keys):
-    """The parts of a certificate, with what each packet is: (it is a self-signature, when it was made if it counts, it revokes a key)."""
+def keys_in(packets):
+    return [body for *_, kind, _, body, _ in packets if kind in (6, 14)]
+
+
+def by_packet(packets, certificates, verdicts):
+    """The rows of each signature packet, by its index: the signatures, its own before those that it embeds, each with its verdict."""
+    verdicts, found = iter(verdicts), {}
+    for parts in certificates:
+        for n, (head, hangs) in enumerate(parts):
+            for index in (it for it in hangs if packets[it][2] == 2):
+                it = model.kept_signature(packets[index][4])
+                rows = found[index] = [(it, next(verdicts))]
+                if n and packets[head][2] == 14 and it.version in (4, 6) and it.kind == 0x18:
+                    held = [octets for octet, _, octets in (*it.hashed, *it.unhashed) if octet & 127 == 32]
+                    rows += [(model.kept_signature(octets), next(verdicts)) for octets in held]
+    return found
+
+
+def issuers_of(rows, keys):
+    """The fingerprints of the keys that made good revocations."""
+    signers = [model.signer_of(it, keys) for some in rows.values() for it, found in some if found == "good" and it.kind in REVOCATIONS]
+    return {print_of(it) for it in signers if it is not None}
+
+
+def judged(packets, parts, rows, keys):
+    """The parts of a certificate, with what each packet is: (its index, it is a self-signature, it is a genuine one, it revokes a key)."""
     primary = packets[parts[0][0]][4]
     for n, (head, hangs) in enumerate(parts):
         place, body, found = packets[head][2] if n else None, packets[head][4], []
         for index in hangs:
-            if packets[index][2] != 2:
-                found.append((index, False, None, False))
-                continue
-            it, said = model.kept_signature(packets[index][4]), next(verdicts)
-            if place == 14 and it.version in (4, 6) and it.kind == 0x18:
-                for _ in [1 for octet, *_ in (*it.hashed, *it.unhashed) if octet & 127 == 32]:
-                    next(verdicts)
-            is_self = it.version != 0 and it.kind in SELF and names(it, primary)
-            made = counted(it, said, place, primary, body, keys) if is_self else None
-            found.append((index, is_self, made, it.version != 0 and it.kind == 0x20))
+            it, said = rows[index][0] if index in rows else (None, None)
+            is_self = it is not None and it.version != 0 and it.kind in SELF and names(it, primary)
+            found.append((index, is_self, is_self and is_genuine(it, said, place, primary, body, keys), it is not None and it.kind == 0x20))
         yield head, found
 
 
-def bound(packets, certificates, verdicts):
-    keys = [body for *_, kind, _, body, _ in packets if kind in (6, 14)]
-    verdicts = iter(verdicts)
+def bound(packets, certificates, rows):
+    """What stays: certificates as they are given."""
+    keys = keys_in(packets)
+    issuers = issuers_of(rows, keys)
     for parts in certificates:
-        (primary, own), *components = judged(packets, parts, verdicts, keys)
-        newest = [max((made for _, _, made, _ in hangs if made is not None), default=None) for _, hangs in [(primary, own), *components]]
-        kept = [[it for it, is_self, made, _ in hangs if not is_self or (made is not None and made == last)]
-                for (_, hangs), last in zip([(primary, own), *components], newest)]  # fmt: skip
-        moved = [it for (_, hangs), last in zip(components, newest[1:]) if last is None for it, _, _, revokes in hangs if revokes]
-        yield [(primary, kept[0] + moved)] + [(head, k) for (head, _), k, last in zip(components, kept[1:], newest[1:]) if last is not None]
+        (primary, own), *components = judged(packets, parts, rows, keys)
+        found, moved = [], []
+        for head, hangs in components:
+            made_one = packets[head][2] == 14 and print_of(packets[head][4]) in issuers
+            if made_one or any(genuine for _, _, genuine, _ in hangs):
+                found.append((head, kept(hangs)))
+            else:
+                moved += [it for it, _, _, revokes in hangs if revokes]
+        yield [(primary, kept(own) + moved), *found]
+
+
+def kept(hangs):
+    return [it for it, is_self, genuine, _ in hangs if genuine or not is_self]
 
 
 def wanted(octets, verdicts, options):
     blocks = [(b"PUBLIC KEY BLOCK", octets)]
     packets = model.framed(blocks, model.USUAL)
     lead, certificates = model.compose(blocks, packets, model.USUAL)
-    certificates = [*bound(packets, certificates, verdicts)]
+    certificates = [*bound(packets, certificates, by_packet(packets, certificates, verdicts))]
     command = ("--own-signatures" in options, "--no-attributes" in options, [])
     return model.written(command, blocks, packets, lead, certificates, None, True)[1]
+
+
+def stands_as_before(octets, verdicts, policy, times):
+    """Where a part that stays stands otherwise than before, or one goes that is of use; or nothing. A revocation may state another reason,
+    since those that move come before others."""
+    block = (b"PUBLIC KEY BLOCK", octets)
+    packets = model.framed([block], model.USUAL)
+    certificates = model.compose([block], packets, model.USUAL)[1]
+    rows = by_packet(packets, certificates, verdicts)
+    left = [*bound(packets, certificates, rows)]
+    said = [found for parts in left for _, hangs in parts for index in hangs if index in rows for _, found in rows[index]]
+    before, after = standing.Keyring(octets, verdicts, policy), standing.Keyring(wanted(octets, verdicts, ()), said, policy)
+    stays = {head for parts in left for head, _ in parts}
+    for c, parts in enumerate(certificates):
+        for at in times:
+            old, new = ([state if isinstance(state, str) else state[:4] for state in of.state(c, at)] for of in (before, after))
+            if [state for (head, _), state in zip(parts, old) if head in stays] != new:
+                return f"certificate {c} at {at}: {old} {new}"
+            if any(state == "fine" or state[0] is None for (head, _), state in zip(parts, old) if head not in stays):
+                return f"certificate {c} at {at}: {old} {sorted(stays)}"
+    return ""
 
 
 class Room:
@@ -164,34 +219,53 @@ def generated(room):
     for n, case in enumerate(standing_cases.cases(told.seed, told.cases)):
         file = compare(room, case.octets, case.verdicts, rng, f"case {n}")
         compare(room, case.octets, ["good"] * len(case.verdicts), rng, f"case {n}, all good")
+        for found in (case.verdicts, ["good"] * len(case.verdicts)):
+            said = standing_cases.honest(case.octets, found)
+            why = stands_as_before(case.octets, said, case.policy, [at for _, at in case.states])
+            verdict(f"case {n} stands as before", not why, f"{why} {said} {case.octets.hex()}")
         if other is not None and other != file and n % 10 == 0:
             verdict(f"case {n} by another keyring's verdicts", room.write(case.octets, other) == (1, b"", NOT_THOSE))
         other = file
     for it in standing_cases.vectors():
         compare(room, it.octets, it.verdicts, rng, it.title)
+        why = stands_as_before(it.octets, it.verdicts, "usual", TIMES)
+        verdict(f"{it.title}: stands as before", not why, why)
 
 
 def by_hand(room):
     """Certificates of which is said what stays: packets with True or False, and with the verdicts on their rows."""
-    first, other = (Key(4, MADE, 27, number(32, n), lambda digest, hash: bytes(64)) for n in (1, 2))
-    subkeys = [Key(4, MADE, 27, number(32, n), None) for n in (3, 4)]
+    first, other, third = (Key(4, MADE, 27, number(32, n), lambda digest, hash: bytes(64)) for n in (1, 2, 5))
+    subkeys = [Key(4, MADE, 27, number(32, n), lambda digest, hash: bytes(64)) for n in (3, 4)]
 
-    def made(signer, kind, at, on=b"", more=b""):
+    def made(signer, kind, at, on=b"", more=b"", hash=8):
         area = subpacket(2, number(4, MADE + at)) + signer.issuer_fingerprint + more
-        return packet(2, signature(signer, kind, first.octets + on, area))
+        return packet(2, signature(signer, kind, first.octets + on, area, hash=hash))
 
-    def certified(signer, kind, at, more=b""):
-        return made(signer, kind, at, on_identity(13, b"Alice"), more)
+    def certified(signer, kind, at, more=b"", hash=8):
+        return made(signer, kind, at, on_identity(13, b"Alice"), more, hash)
+
+    def names_revoker(at, revoker):
+        return made(first, 0x1F, at, more=subpacket(12, b"\x80" + bytes([27]) + revoker.fingerprint))
+
+    def on_other(signer, kind, subkey=None):
+        """A signature on the other certificate's key, or on a subkey there."""
+        area = subpacket(2, number(4, MADE + 1)) + signer.issuer_fingerprint
+        return packet(2, signature(signer, kind, other.octets + (subkey.octets if subkey else b""), area))
+
+    def states(area):
+        """A certification with this area of subpackets."""
+        return packet(2, signature(first, 0x13, first.octets + on_identity(13, b"Alice"), area))
 
     key, alice, trust = packet(6, first.body), packet(13, b"Alice"), packet(12, b"\1")
     picture = standing_cases.PICTURES[0]
     strange, bound_one = (packet(14, it.body) for it in subkeys)
+    version_3 = packet(2, signature_3(first, 0x13, first.octets + on_identity(13, b"Alice"), MADE + 1))
     rows = {
         "a user ID that nobody certified": [(key, 1), (alice, 0), (trust, 0)],
         "a user ID that a stranger certified": [(key, 1), (alice, 0), (certified(other, 0x13, 1), 0, "good")],
         "a forged certification": [(key, 1), (alice, 0), (certified(first, 0x13, 1), 0, "bad")],
         "superseded certifications": [
-            (key, 1), (alice, 1), (certified(first, 0x13, 3), 1, "good"), (certified(first, 0x13, 2), 0, "good"),
+            (key, 1), (alice, 1), (certified(first, 0x13, 3), 1, "good"), (certified(first, 0x13, 2), 1, "good"),
             (certified(first, 0x10, 3), 1, "good"), (certified(first, 0x13, 4), 0, "undecided"), (trust, 1)],
         "a revoked user ID": [(key, 1), (alice, 1), (certified(first, 0x30, 5), 1, "good"), (certified(first, 0x13, 1), 1, "good")],
         "a forged revocation": [(key, 1), (alice, 1), (certified(first, 0x30, 5), 1, "bad"), (certified(first, 0x13, 1), 1, "good")],
@@ -199,14 +273,37 @@ def by_hand(room):
             (key, 1), (strange, 0), (made(other, 0x18, 1, subkeys[0].octets), 0, "good"),
             (bound_one, 1), (made(first, 0x18, 1, subkeys[1].octets), 1, "good")],
         "direct key signatures": [
-            (key, 1), (made(first, 0x1F, 1), 0, "good"), (made(first, 0x1F, 2), 1, "good"), (made(first, 0x20, 9), 1, "bad")],
+            (key, 1), (made(first, 0x1F, 1), 1, "good"), (made(first, 0x1F, 2), 1, "good"), (made(first, 0x1F, 3), 0, "bad"),
+            (made(first, 0x20, 9), 1, "bad")],
         "an attribute": [
             (key, 1), (packet(17, picture), 1), (made(first, 0x13, 1, on_identity(17, picture)), 1, "good"),
             (made(other, 0x13, 2, on_identity(17, picture)), 1, "undecided")],
         "a certification on a subkey, and a binding on a user ID": [
             (key, 1), (bound_one, 0), (certified(first, 0x13, 1), 0, "good"), (alice, 0), (made(first, 0x18, 1, subkeys[1].octets), 0, "good")],
-        "a later one that has expired": [
-            (key, 1), (alice, 1), (certified(first, 0x13, 2, subpacket(3, number(4, 1))), 1, "good"), (certified(first, 0x13, 1), 0, "good")],
+        "later ones that the rule of standing doesn't hear: expired, of the future, critical, by SHA-1": [
+            (key, 1), (alice, 1), (certified(first, 0x13, 1), 1, "good"), (certified(first, 0x13, 2, subpacket(3, number(4, 1))), 1, "good"),
+            (certified(first, 0x13, 2_000_000_000), 1, "good"), (certified(first, 0x13, 3, subpacket(100, b"", True)), 1, "good"),
+            (certified(first, 0x13, 4, hash=2), 1, "good")],
+        "one without a time, one with two, and a forged one": [
+            (key, 1), (alice, 1), (states(first.issuer_fingerprint), 1, "good"), (states(first.issuer_fingerprint), 0, "bad"),
+            (certified(first, 0x13, 1, subpacket(2, number(4, MADE + 2))), 1, "good")],
+        "one without a time alone": [(key, 1), (alice, 1), (states(first.issuer_fingerprint), 1, "good")],
+        "one that names its issuer by the key ID alone": [(key, 1), (alice, 1), (states(first.issuer_key_id), 1, "good")],
+        "one of version 3": [(key, 1), (alice, 0), (version_3, 0, "good")],
+        "two designated revokers, each named by a signature of its own": [
+            (key, 1), (names_revoker(1, other), 1, "good"), (names_revoker(2, third), 1, "good"), (made(other, 0x20, 5), 1, "good"),
+            (packet(6, other.body), 1), (packet(6, third.body), 1)],
+        "a designated revoker's subkey that nobody bound": [
+            (key, 1), (names_revoker(1, subkeys[0]), 1, "good"), (made(subkeys[0], 0x20, 5), 1, "good"),
+            (packet(6, other.body), 1), (strange, 1), (on_other(other, 0x18, subkeys[0]), 0, "bad"), (trust, 1),
+            (on_other(third, 0x18, subkeys[0]), 1, "good"), (on_other(other, 0x20), 1, "bad"), (bound_one, 0)],
+        "the same, of which the revocation is undecided": [
+            (key, 1), (names_revoker(1, subkeys[0]), 1, "good"), (made(subkeys[0], 0x20, 5), 1, "undecided"),
+            (packet(6, other.body), 1), (strange, 0), (on_other(other, 0x18, subkeys[0]), 0, "bad"), (trust, 0), (bound_one, 0)],
+        "subkeys that nobody bound, and that revoked a user ID and a subkey": [
+            (key, 1), (alice, 1), (certified(first, 0x13, 1), 1, "good"), (certified(subkeys[0], 0x30, 5), 1, "good"),
+            (bound_one, 1), (made(subkeys[1], 0x28, 5, subkeys[1].octets), 1, "good"), (strange, 1)],
+        "a subkey that nobody bound, and that certified": [(key, 1), (alice, 0), (certified(subkeys[0], 0x13, 1), 0, "good"), (strange, 0)],
     }  # fmt: skip
     for title, row in rows.items():
         octets = b"".join(it[0] for it in row)

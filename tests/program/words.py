@@ -171,7 +171,9 @@ REFUSED = [
     ("split --nth x", "x"),
     *((f"split --key {it}", f"invalid value '{it}' for '--key <KEY>'") for it in (
         "x", "0x", "97965A9A", "8CFDE12197965A9", "8CFDE12197965A9AA", "8CFDE12197965A9G", 39 * "0", 41 * "0", 42 * "0", 63 * "0", 65 * "0",
-        66 * "0", "0x" + 66 * "0", "0x0x8CFDE12197965A9A", 1000 * "0", "x8CFDE12197965A9A", "8CFDE121:97965A9A", "\t8CFDE12197965A9A")),
+        66 * "0", "0x" + 66 * "0", "0x0x8CFDE12197965A9A", 1000 * "0", "x8CFDE12197965A9A", "8CFDE121:97965A9A")),
+    # A tab is escaped where it is shown.
+    ("split --key \t8CFDE12197965A9A", r"invalid value '\t8CFDE12197965A9A' for '--key <KEY>'"),
     ("split --key", "--key"), ("split --key=", "--key"), ("list --key 8CFDE12197965A9A", "--key"),
     ("split --key 8CFDE12197965A9A --key x", "invalid value 'x' for '--key <KEY>'"), ("split --key x --nth y", "'y'"),
     ("split --except", "'--except' wants '--key <KEY>' or '--keys <FILE>'"), ("split --nth 0 --except", "'--except' wants '--key <KEY>' or '--keys <FILE>'"),
@@ -241,6 +243,8 @@ for line in ("list --help", "list -h", "help list"):
         "--outside <POLICY>", "[possible values: skip, refuse]", "[default: skip]",
         "--malformed <POLICY>", "[possible values: refuse, keep]", "[default: refuse]", "--values",
         "--line <N>", "--body <N>", "--cert <N>", "--input <N>", "--pieces <N>", "--progress", "--quiet", "--spool <DIR>")]
+# What steers a terminal is escaped: a color, the direction of letters, a bell, a control above ASCII.
+REFUSED += [("\x1b[31mlist", r"'\u{1b}[31mlist'"), ("list \u202emoc", r"'\u{202e}moc'"), ("state --at 1\a", r"'1\u{7}'"), ("split --key \x9b0m", r"'\u{9b}0m'")]
 REFUSED += [("octets --help", "--of <TOP>"), ("octets --help", "--row <N>"), ("octets --help", "--all"), ("octets --help", "--explain"), ("show --help", "--values"), ("check --help", "--fingerprints"), ("check --help", "--places"), ("split --help", "--nth <N>"), ("write --help", "--own-signatures"), ("write --help", "--no-attributes"), ("write --help", "--user-id <N>"), ("split --help", "--key <KEY>"), ("split --help", "--keys <FILE>"), ("split --help", "--except"), ("join --help", "--merge")]
 # A line that is refused, and the whole text.
 TEXTS = {

@@ -272,6 +272,8 @@ COMMANDS = (
     "canonical",
     "canonical --spool ROOM",
     "digest --signatures DETACHED",
+    # 64 signatures of one hash, as many as one document takes: what they hash of it is hashed once.
+    "digest --signatures EQUAL",
     "cleartext --of document",
     "cleartext --of hashed",
     "cleartext --of signatures",
@@ -341,7 +343,8 @@ def is_tried(kind, command):
     own |= {"malformed": ("list --malformed keep", "check --malformed keep"), "of a literal": ("octets --of literal --row 0",)}
     own |= {"of a text": ("show",), "refused": ("show", "check"), "cut off": ("show", "list"), "many cut off": (), "of fillers": (KEEP, "join --out binary"), "before a key": ()}
     own |= {"cleartext": ("cleartext --of document", "cleartext --of hashed", "cleartext --of signatures")}
-    own |= {"detached": ("signatures",), "a document": ("canonical", "canonical --spool ROOM", "digest --signatures DETACHED")}
+    own |= {"detached": ("signatures",)}
+    own |= {"a document": ("canonical", "canonical --spool ROOM", "digest --signatures DETACHED", "digest --signatures EQUAL")}
     if command in ALSO.get(name, ()):
         return True
     if command == "check --places":
@@ -363,7 +366,7 @@ class Case:
     """A command over inputs of a kind."""
 
     def __init__(self, runner, shim, room, words, octets, is_counted=True):
-        words = words.replace("ROOM", room).replace("DETACHED", f"{HERE}/examples/rfc9580-a2.asc")
+        words = words.replace("ROOM", room).replace("DETACHED", f"{HERE}/examples/rfc9580-a2.asc").replace("EQUAL", f"{room}/equal")
         self.runner, self.shim, self.words, self.octets = runner, shim, words.split(), octets
         self.instructions = self.counted(room) if is_counted else 0
         ended = runner.run(self.words, octets, {"LD_PRELOAD": shim})
@@ -512,6 +515,8 @@ def main():
             return 1
     with tempfile.TemporaryDirectory(prefix="work-") as room:
         shim = f"{room}/work.so"
+        with open(f"{room}/equal", "wb") as out:
+            out.write((b"\xc2\x0e" + SIGNATURE[:1] + b"\0" + SIGNATURE[2:]) * 64)
         subprocess.run([os.environ.get("CC") or "cc", "-O1", "-shared", "-fPIC", "-o", shim, f"{HERE}/tests/program/work.c"], check=True)
         with multiprocessing.Pool(words.jobs) as pool:
             below = ((LIBRARY, READERS), (CALLS, CALLED), (made_in_c(room), IN_C))

@@ -1,6 +1,7 @@
 -- The definitions of `opgp_valid`, and its types as they are declared.
 pub use Rattle.opgp_valid.specs.declared
 pub use Rattle.opgp_valid.specs.Believed
+pub use Rattle.opgp_valid.specs.Current
 pub use Rattle.opgp_valid.specs.Facts
 pub use Rattle.opgp_valid.specs.FlawText
 pub use Rattle.opgp_valid.specs.Gathering
@@ -13,6 +14,7 @@ pub use Rattle.opgp_valid.specs.Moment
 pub use Rattle.opgp_valid.specs.Policy
 pub use Rattle.opgp_valid.specs.Reached
 pub use Rattle.opgp_valid.specs.Revocation
+pub use Rattle.opgp_valid.specs.Revoking
 pub use Rattle.opgp_valid.specs.Saying
 pub use Rattle.opgp_valid.specs.Speaking
 pub use Rattle.opgp_valid.specs.Standing
@@ -20,6 +22,7 @@ pub use Rattle.opgp_valid.specs.Stands
 pub use Rattle.opgp_valid.specs.State
 pub use Rattle.opgp_valid.specs.Statement
 pub use Rattle.opgp_valid.specs.States
+pub use Rattle.opgp_valid.specs.Steps
 pub use Rattle.opgp_valid.specs.Subpackets
 pub use Rattle.opgp_valid.specs.Told
 pub use Rattle.opgp_valid.specs.Uses

@@ -1,15 +1,12 @@
 -- What stays of the packets of a certificate, one packet or component after the other.
-use Rattle.std.proofs.Common.{◌≡◌, ◌∙◌, ℕ, ◌-◌, ◌≤◌, Bool, true, false, not, List, [], ◌∷◌, ◌++◌, length, take, drop, get_or, map, refl, sym, ap, subst, if◌then◌else◌, append_assoc, All, Option, Some, None, arith}
+use Rattle.std.proofs.Common.{◌≡◌, ◌∙◌, ◌-◌, ◌≤◌, Bool, true, false, List, [], ◌∷◌, ◌++◌, length, take, drop, get_or, map, refl, sym, ap, subst, if◌then◌else◌, append_assoc, All, arith}
 use Rattle.std.proofs.lemmas.List.{take_rest}
-use Rattle.std.specs.List.{filter, flat_map, list_any}
+use Rattle.std.specs.List.{filter, flat_map}
 use Rattle.std.proofs.lemmas.List.Elements.{All-append, All-filter, All-head, All-map, All-nil, All-tail, All-weaker}
 use Rattle.opgp_frame.specs.Packet.{PacketValue}
-use Rattle.opgp_ring.specs.Keyring.{CertificateValue, ComponentValue, IsCertificate, IsComponent, IsHung, IsPrimary, certificate_packets, component_packets}
-use Rattle.opgp_bound.specs.Bound.{is_bound, is_later, kept, kept_certificate, kept_component, kept_components, left_behind, made_by, packets_of, revokes, role_stays}
+use Rattle.opgp_ring.specs.Keyring.{IsCertificate, IsComponent, IsHung, IsPrimary, certificate_packets, component_packets}
+use Rattle.opgp_bound.specs.Bound.{component_stays, kept, kept_certificate, kept_component, kept_components, left_behind, packets_of, revokes, role_stays}
 use Rattle.opgp_bound.specs.Judged.{IsJudgedComponent, JudgedComponentValue, JudgedValue}
-use Rattle.opgp_bound.specs.Newest.{stays_beside}
-use Rattle.opgp_bound.specs.declared.role.Role.{Role}
-use Rattle.opgp_bound.specs.declared.role.Role.TheVariants.{SelfSignature, KeyRevocation, Other}
 
 abbrev pub Hung : JudgedValue → Type 0
 Hung j = IsHung j.packet
@@ -43,22 +40,6 @@ packets_more P all js j b done new first is added =
     ∙ append_assoc done (if P j then j.packet ∷ [] else []) (packets_of (filter P js))
     ∙ ap (λ l. done ++ l) (sym (split P j js) ∙ ap (λ l. packets_of (filter P l)) (sym first))
 
--- ---- beside the newest
-stays_same : (newest : Option ℕ) (all : List JudgedValue) → ((time : ℕ) → is_later time newest ≡ list_any (λ j. is_later time (made_by j.role)) all)
-    → (role : Role) → stays_beside newest role ≡ role_stays all role
-stays_same newest all h (SelfSignature None) = refl
-stays_same newest all h (SelfSignature (Some made)) = ap not (h made)
-stays_same newest all h KeyRevocation = refl
-stays_same newest all h Other = refl
-
-filter_same : (P Q : JudgedValue → Bool) → ((j : JudgedValue) → P j ≡ Q j) → (js : List JudgedValue) → filter P js ≡ filter Q js
-filter_same P Q h [] = refl
-filter_same P Q h (j ∷ js) = ap (λ (b : Bool). if b then j ∷ filter P js else filter P js) (h j) ∙ ap (λ l. if Q j then j ∷ l else l) (filter_same P Q h js)
-
-pub kept_beside : (newest : Option ℕ) (all : List JudgedValue) → ((time : ℕ) → is_later time newest ≡ list_any (λ j. is_later time (made_by j.role)) all)
-    → packets_of (filter (λ j. stays_beside newest j.role) all) ≡ kept all
-kept_beside newest all h = ap packets_of (filter_same (λ j. stays_beside newest j.role) (λ j. role_stays all j.role) (λ j. stays_same newest all h j.role) all)
-
 -- ---- one component more
 pub left_more : (all cs : List JudgedComponentValue) (c : JudgedComponentValue) (done new : List PacketValue) → all ≡ c ∷ cs
     → new ≡ done ++ left_behind c → new ++ flat_map left_behind cs ≡ done ++ flat_map left_behind all
@@ -67,11 +48,11 @@ left_more all cs c done new first added =
     ∙ ap (λ l. done ++ flat_map left_behind l) (sym first)
 
 abbrev pub component_kept : JudgedComponentValue → List PacketValue
-component_kept c = if is_bound c.hangs then component_packets (kept_component c) else []
+component_kept c = if component_stays c then component_packets (kept_component c) else []
 
 components_split : (c : JudgedComponentValue) (cs : List JudgedComponentValue) → flat_map component_packets (kept_components (c ∷ cs)) ≡ component_kept c ++ flat_map component_packets (kept_components cs)
-components_split c cs = go (is_bound c.hangs) where
-  go : (b : Bool) → flat_map component_packets (map kept_component (if b then c ∷ filter (λ d. is_bound d.hangs) cs else filter (λ d. is_bound d.hangs) cs)) ≡ (if b then component_packets (kept_component c) else []) ++ flat_map component_packets (kept_components cs)
+components_split c cs = go (component_stays c) where
+  go : (b : Bool) → flat_map component_packets (map kept_component (if b then c ∷ filter component_stays cs else filter component_stays cs)) ≡ (if b then component_packets (kept_component c) else []) ++ flat_map component_packets (kept_components cs)
   go true = refl
   go false = refl
 
@@ -87,7 +68,7 @@ pub packets_hung : (P : JudgedValue → Bool) (js : List JudgedValue) → All Hu
 packets_hung P js h = All-map IsHung (λ (j : JudgedValue). j.packet) (filter P js) (All-filter P Hung js h)
 
 left_hung : (c : JudgedComponentValue) → IsJudgedComponent c → All IsHung (left_behind c)
-left_hung c h = go (is_bound c.hangs) where
+left_hung c h = go (component_stays c) where
   go : (b : Bool) → All IsHung (if b then [] else packets_of (filter (λ j. revokes j.role) c.hangs))
   go true = All-nil IsHung
   go false = packets_hung (λ j. revokes j.role) c.hangs h.hangs
@@ -97,16 +78,16 @@ all_left_hung [] h = All-nil IsHung
 all_left_hung (c ∷ cs) h = All-append IsHung (left_behind c) (flat_map left_behind cs) (left_hung c (All-head IsJudgedComponent c cs h)) (all_left_hung cs (All-tail IsJudgedComponent c cs h))
 
 component_is : (c : JudgedComponentValue) → IsJudgedComponent c → IsComponent (kept_component c)
-component_is c h = record { head = h.head; hangs = packets_hung (λ j. role_stays c.hangs j.role) c.hangs h.hangs }
+component_is c h = record { head = h.head; hangs = packets_hung (λ j. role_stays j.role) c.hangs h.hangs }
 
 components_are : (cs : List JudgedComponentValue) → All IsJudgedComponent cs → All IsComponent (kept_components cs)
-components_are cs h = All-map IsComponent kept_component (filter (λ c. is_bound c.hangs) cs)
-    (All-weaker IsJudgedComponent (λ c. IsComponent (kept_component c)) component_is (filter (λ c. is_bound c.hangs) cs) (All-filter (λ c. is_bound c.hangs) IsJudgedComponent cs h))
+components_are cs h = All-map IsComponent kept_component (filter component_stays cs)
+    (All-weaker IsJudgedComponent (λ c. IsComponent (kept_component c)) component_is (filter component_stays cs) (All-filter component_stays IsJudgedComponent cs h))
 
 pub certificate_is : (p : PacketValue) (hangs : List JudgedValue) (cs : List JudgedComponentValue) → IsPrimary p → All Hung hangs → All IsJudgedComponent cs → IsCertificate (kept_certificate p hangs cs)
 certificate_is p hangs cs hp hh hc = record {
   primary = hp;
-  hangs = All-append IsHung (kept hangs) (flat_map left_behind cs) (packets_hung (λ j. role_stays hangs j.role) hangs hh) (all_left_hung cs hc);
+  hangs = All-append IsHung (kept hangs) (flat_map left_behind cs) (packets_hung (λ j. role_stays j.role) hangs hh) (all_left_hung cs hc);
   components = components_are cs hc;
 }
 

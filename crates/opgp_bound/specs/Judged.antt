@@ -1,5 +1,5 @@
 -- The packets of a certificate, each by the verdict in its row of the report.
-use Rattle.std.specs.Prelude.{ℕ, ◌+◌, if◌then◌else◌, List, [], ◌∷◌, length, drop, All}
+use Rattle.std.specs.Prelude.{ℕ, ◌+◌, Bool, if◌then◌else◌, List, [], ◌∷◌, length, drop, All}
 use Rattle.opgp_frame.specs.Packet.{PacketValue}
 use Rattle.opgp_packet.specs.SignatureBody.{signature_at}
 use Rattle.opgp_hash.specs.SubjectValue.{SubjectValue, one}
@@ -9,6 +9,7 @@ use Rattle.opgp_report.specs.Standing.{bodies_within, is_signature, on_head}
 use Rattle.opgp_report.specs.declared.verifier.Verdict.{Verdict}
 use Rattle.opgp_valid.specs.Told.{first_verdict}
 use Rattle.opgp_valid.specs.declared.known_keys.Known.{Known}
+use Rattle.opgp_bound.specs.Issuers.{is_issuer}
 use Rattle.opgp_bound.specs.Role.{role_of}
 use Rattle.opgp_bound.specs.declared.role.Role.{Role}
 
@@ -41,9 +42,10 @@ pub record JudgedValue : Type 0 where
   pub packet : PacketValue
   pub role : Role
 
--- a user ID, an attribute or a subkey, and the packets on it
+-- a user ID, an attribute or a subkey, whether that made a good revocation, and the packets on it
 pub record JudgedComponentValue : Type 0 where
   pub head : PacketValue
+  pub is_issuer : Bool
   pub hangs : List JudgedValue
 
 -- its parts may stand there
@@ -62,15 +64,18 @@ module _ (known : List Known) (primary : Fingerprint) where
   judged_hangs subject (p ∷ ps) founds = judged subject (first_verdict founds) p
       ∷ judged_hangs subject ps (drop (rows_of subject p) founds)
 
-  abbrev pub judged_component : List ℕ → ComponentValue → List Verdict → JudgedComponentValue
-  judged_component body c founds = record {
-    head = c.head;
-    hangs = judged_hangs (on_head body c.head) c.hangs founds;
-  }
+  -- with the fingerprints of the keys that made the good revocations of the keyring
+  module _ (issuers : List Fingerprint) where
+    abbrev pub judged_component : List ℕ → ComponentValue → List Verdict → JudgedComponentValue
+    judged_component body c founds = record {
+      head = c.head;
+      is_issuer = is_issuer issuers c;
+      hangs = judged_hangs (on_head body c.head) c.hangs founds;
+    }
 
-  -- those of the key of this body
-  abbrev pub judged_components : List ℕ → List ComponentValue → List Verdict
-      → List JudgedComponentValue
-  judged_components body [] founds = []
-  judged_components body (c ∷ cs) founds = judged_component body c founds
-      ∷ judged_components body cs (drop (component_rows body c) founds)
+    -- those of the key of this body
+    abbrev pub judged_components : List ℕ → List ComponentValue → List Verdict
+        → List JudgedComponentValue
+    judged_components body [] founds = []
+    judged_components body (c ∷ cs) founds = judged_component body c founds
+        ∷ judged_components body cs (drop (component_rows body c) founds)

@@ -1,4 +1,6 @@
 pub mod Bound
+pub mod Gathering
+pub mod Issuers
 pub mod Judged
-pub mod Newest
 pub mod Role
+pub mod Staying

@@ -5,7 +5,6 @@ use Rattle.opgp_octets.specs.SignatureType.{signature_type_of}
 use Rattle.opgp_octets.specs.declared.fault.BodyFault.{BodyFault}
 use Rattle.opgp_octets.specs.declared.signature_type.SignatureType.{SignatureType}
 use Rattle.opgp_frame.specs.Packet.{PacketValue}
-use Rattle.opgp_packet.specs.Areas.{hashed_subs}
 use Rattle.opgp_packet.specs.Fields.{amount}
 use Rattle.opgp_packet.specs.SignatureBody.{SignatureValue, of_three, of_four, of_six, of_other}
 use Rattle.opgp_packet.specs.SignatureBody.{signature_at}
@@ -19,7 +18,6 @@ use Rattle.opgp_report.specs.Standing.{is_signature}
 use Rattle.opgp_report.specs.declared.verifier.Verdict.{Verdict}
 use Rattle.opgp_valid.specs.Group.{binds, certifies, is_direct}
 use Rattle.opgp_valid.specs.KnownKeys.{issuer_among}
-use Rattle.opgp_valid.specs.Subpackets.{made_in}
 use Rattle.opgp_valid.specs.Told.{is_good_verdict, is_print, revokes_key}
 use Rattle.opgp_valid.specs.declared.known_keys.Known.{Known}
 use Rattle.opgp_merge.specs.Chosen.{is_name_of}
@@ -46,17 +44,11 @@ module _ (known : List Known) (primary : Fingerprint) where
   is_own_and_good subject found v = is_good_verdict found
       && (is_ok (ask_at_of Hung v subject) && is_print primary (issuer_among known v))
 
-  -- when a self-signature was made, if it counts: it is the primary key's own and good, and states
-  -- one creation time in its hashed area (5.2.3.11)
-  abbrev pub counted : SubjectValue → Verdict → SignatureValue → Option ℕ
-  counted subject found v =
-      if is_own_and_good subject found v then made_in (hashed_subs v) else None
-
-  -- a self-signature names the primary key as its issuer; a key revocation (5.2.1.11) may be
-  -- anybody's
+  -- a self-signature names the primary key as its issuer, and is genuine if it is the primary key's
+  -- own and good; a key revocation (5.2.1.11) may be anybody's
   abbrev pub role_by : SubjectValue → Verdict → SignatureValue → SignatureType → Role
   role_by subject found v t = if is_self_type t && is_name_of (named_of v) primary
-      then SelfSignature (counted subject found v)
+      then SelfSignature (is_own_and_good subject found v)
       else (if revokes_key t then KeyRevocation else Other)
 
   abbrev pub role_typed : SubjectValue → Verdict → SignatureValue → Option ℕ → Role

@@ -20,10 +20,11 @@ impl<'a> Model for Judged<'a> {
     ghost view = { λ j. record { packet = member_packet j.member; role = j.role } };
 }
 
-/// A user ID, an attribute or a subkey, and the packets on it.
+/// A user ID, an attribute or a subkey, whether that made a good revocation, and the packets on it.
 #[derive(Drop)]
 pub(crate) struct JudgedComponent<'a> {
     pub(crate) head: Member<'a>,
+    pub(crate) is_issuer: bool,
     pub(crate) hangs: Vec<Judged<'a>>,
 }
 
@@ -33,5 +34,9 @@ impl<'a> Model for JudgedComponent<'a> {
 
     ghost Value = { JudgedComponentValue };
 
-    ghost view = { λ c. record { head = member_packet c.head; hangs = c.hangs.items } };
+    ghost view = { λ c. record {
+      head = member_packet c.head;
+      is_issuer = c.is_issuer;
+      hangs = c.hangs.items;
+    } };
 }

@@ -7,6 +7,7 @@ ghost use Rattle.opgp_hash.specs.Subject.{subject_value};
 ghost use Rattle.opgp_hash.specs.SubjectValue.{is_within};
 ghost use Rattle.opgp_ring.specs.Grouped.{component_of, components_left, hangs_left};
 ghost use Rattle.opgp_ring.specs.Member.{member_packet};
+ghost use Rattle.opgp_report.specs.KeyIndex.{prints_shown};
 ghost use Rattle.opgp_report.specs.Standing.{on_head};
 ghost use Rattle.opgp_valid.specs.KnownKeys.{knowns};
 ghost use Rattle.opgp_valid.specs.Told.{first_verdict};
@@ -15,6 +16,7 @@ ghost use Rattle.opgp_bound.specs.Judged.{judged_component, judged_components, j
 ghost use Rattle.opgp_bound.specs.Judged.{rows_of, rows_on};
 
 use crate::embedded::embedded;
+use crate::issuers::is_issuer;
 use crate::judged::{Judged, JudgedComponent};
 use crate::role::{Context, Role};
 use opgp_hash::Subject;
@@ -121,15 +123,19 @@ impl Context<'_> {
         verdicts: &'v [Verdict],
     ) -> Result<(JudgedComponent<'a>, &'v [Verdict]), OutOfMemory>
         ensures judged { IfOk result (λ x. x.0 ≡ judged_component (knowns self.now.known.now)
-            self.now.primary (body_octets primary.entry) (component_of component.entry)
-            verdicts.now) }
+            self.now.primary (prints_shown self.now.issuers.now) (body_octets primary.entry)
+            (component_of component.entry) verdicts.now) }
         ensures rest { IfOk result (λ x. x.1.now ≡ drop (component_rows
             (body_octets primary.entry) (component_of component.entry)) verdicts.now) }
     {
         let subject = subject_on(primary, component);
         let (hangs, rest) = self.judge_hangs(alloc, subject, component.hangs(), verdicts)?;
-        let head = component.head();
-        Ok((JudgedComponent { head, hangs }, rest))
+        let judged = JudgedComponent {
+            head: component.head(),
+            is_issuer: is_issuer(self.issuers, component),
+            hangs,
+        };
+        Ok((judged, rest))
     }
 
     /// The same of the components of a certificate.
@@ -141,8 +147,8 @@ impl Context<'_> {
         verdicts: &'v [Verdict],
     ) -> Result<(Vec<JudgedComponent<'a>>, &'v [Verdict]), OutOfMemory>
         ensures judged { IfOk result (λ x. x.0.items ≡ judged_components
-            (knowns self.now.known.now) self.now.primary (body_octets primary.entry)
-            (components_left components.entry) verdicts.now) }
+            (knowns self.now.known.now) self.now.primary (prints_shown self.now.issuers.now)
+            (body_octets primary.entry) (components_left components.entry) verdicts.now) }
         ensures rest { IfOk result (λ x. x.1.now ≡ drop (components_rows
             (body_octets primary.entry) (components_left components.entry)) verdicts.now) }
     {

@@ -1,16 +1,15 @@
 //! What stays of the packets of a certificate.
 
-ghost use Rattle.std.specs.Prelude.{◌≡◌, ◌++◌, ◌∷◌, ◌||◌, [], All, IfOk, OnOk, ℕ, is_some};
+ghost use Rattle.std.specs.Prelude.{◌≡◌, ◌++◌, ◌∷◌, [], All, IfOk, OnOk};
 ghost use Rattle.std.specs.Prelude.{if◌then◌else◌};
-ghost use Rattle.std.specs.List.{filter, flat_map, list_any};
+ghost use Rattle.std.specs.List.{filter, flat_map};
 ghost use Rattle.opgp_ring.specs.Keyring.{IsCertificate, IsHead, IsHung, IsPrimary};
 ghost use Rattle.opgp_ring.specs.Keyring.{certificate_packets, component_packets};
 ghost use Rattle.opgp_ring.specs.Member.{member_packet};
-ghost use Rattle.opgp_bound.specs.Bound.{is_bound, is_later, kept, kept_certificate};
-ghost use Rattle.opgp_bound.specs.Bound.{kept_component, kept_components, left_behind, made_by};
-ghost use Rattle.opgp_bound.specs.Bound.{packets_of, revokes};
+ghost use Rattle.opgp_bound.specs.Bound.{component_stays, is_bound, is_genuine, kept};
+ghost use Rattle.opgp_bound.specs.Bound.{kept_certificate, kept_component, kept_components};
+ghost use Rattle.opgp_bound.specs.Bound.{left_behind, packets_of, revokes, role_stays};
 ghost use Rattle.opgp_bound.specs.Judged.{IsJudgedComponent};
-ghost use Rattle.opgp_bound.specs.Newest.{stays_beside};
 
 use crate::judged::{Judged, JudgedComponent};
 use crate::role::Role;
@@ -18,55 +17,38 @@ use opgp_octets::OutOfMemory;
 use opgp_ring::{Certificate, Member};
 use std::alloc::Global;
 
-/// When it was made, if it is a self-signature that counts.
-fn made_by(role: Role) -> Option<u32>
-    ensures { result ≡ made_by role }
+/// Whether it is a genuine self-signature.
+fn is_genuine(role: Role) -> bool
+    ensures { result ≡ is_genuine role }
 {
     match role {
-        Role::SelfSignature(made) => made,
-        Role::KeyRevocation | Role::Other => None,
+        Role::SelfSignature { is_genuine } => is_genuine,
+        Role::KeyRevocation | Role::Other => false,
     }
 }
 
-/// The later of two times, if there are any.
-fn later(a: Option<u32>, b: Option<u32>) -> Option<u32>
-    ensures some { is_some result ≡ (is_some a || is_some b) }
-    ensures later { (time : ℕ) → is_later time result ≡ (is_later time a || is_later time b) }
+/// Whether a genuine self-signature is among packets.
+fn is_bound(hangs: &[Judged<'_>]) -> bool
+    ensures { result ≡ is_bound hangs.now }
 {
-    match (a, b) {
-        (Some(a), Some(b)) => Some(a.max(b)),
-        (Some(a), None) => Some(a),
-        (None, b) => b,
-    }
+    hangs.iter().any(|judged| is_genuine(judged.role))
 }
 
-/// When the newest self-signature that counts was made, if there is one.
-fn newest(hangs: &[Judged<'_>]) -> Option<u32>
-    ensures some { is_some result ≡ is_bound hangs.now }
-    ensures later { (time : ℕ) → is_later time result
-        ≡ list_any (λ j. is_later time (made_by j.role)) hangs.now }
-{
-    let mut newest = None;
-    let mut rest = hangs;
-    'hangs: while let [judged, more @ ..] = rest {
-        newest = later(newest, made_by(judged.role));
-        rest = more;
-    }
-    newest
-}
-
-/// Whether a packet stays, where the newest self-signature that counts was made at this time.
-fn stays_beside(newest: Option<u32>, role: Role) -> bool
-    ensures { result ≡ stays_beside newest role }
+/// Whether a packet stays.
+fn role_stays(role: Role) -> bool
+    ensures { result ≡ role_stays role }
 {
     match role {
-        Role::SelfSignature(Some(made)) => match newest {
-            Some(time) => made >= time,
-            None => true,
-        },
-        Role::SelfSignature(None) => false,
+        Role::SelfSignature { is_genuine } => is_genuine,
         Role::KeyRevocation | Role::Other => true,
     }
+}
+
+/// Whether a component stays: a genuine self-signature is on it, or its key made a good revocation.
+fn component_stays(component: &JudgedComponent<'_>) -> bool
+    ensures { result ≡ component_stays component.now }
+{
+    is_bound(&component.hangs) || component.is_issuer
 }
 
 /// Adds a copy of a packet, if it stays.
@@ -87,10 +69,9 @@ fn add_kept(chosen: &mut Certificate, hangs: &[Judged<'_>]) -> Result<(), OutOfM
     ensures { OnOk result (certificate_packets chosen.new
         ≡ certificate_packets chosen.old ++ kept hangs.now) }
 {
-    let newest = newest(hangs);
     let mut rest = hangs;
     'hangs: while let [judged, more @ ..] = rest {
-        add_if(chosen, judged.member, stays_beside(newest, judged.role))?;
+        add_if(chosen, judged.member, role_stays(judged.role))?;
         rest = more;
     }
     Ok(())
@@ -123,7 +104,7 @@ fn add_if_left(chosen: &mut Certificate, component: &JudgedComponent<'_>) -> Res
     ensures { OnOk result (certificate_packets chosen.new
         ≡ certificate_packets chosen.old ++ left_behind component.now) }
 {
-    if newest(&component.hangs).is_none() {
+    if !component_stays(component) {
         add_revocations(chosen, &component.hangs)?;
     }
     Ok(())
@@ -144,16 +125,16 @@ fn add_left(chosen: &mut Certificate, components: &[JudgedComponent<'_>]) -> Res
 }
 
 /// Adds a copy of a component, with the packets that stay, if it stays itself.
-fn add_if_bound(
+fn add_if_staying(
     chosen: &mut Certificate,
     component: &JudgedComponent<'_>,
 ) -> Result<(), OutOfMemory>
     requires { IsJudgedComponent component.now }
     ensures { OnOk result (certificate_packets chosen.new ≡ certificate_packets chosen.old
-        ++ (if is_bound component.now.hangs
+        ++ (if component_stays component.now
         then component_packets (kept_component component.now) else [])) }
 {
-    if newest(&component.hangs).is_some() {
+    if component_stays(component) {
         chosen.add(component.head)?;
         add_kept(chosen, &component.hangs)?;
     }
@@ -171,7 +152,7 @@ fn add_components(
 {
     let mut rest = components;
     'components: while let [component, more @ ..] = rest {
-        add_if_bound(chosen, component)?;
+        add_if_staying(chosen, component)?;
         rest = more;
     }
     Ok(())

@@ -1,17 +1,79 @@
 //! What the definitions imply.
 
-ghost use Rattle.std.specs.Prelude.{◌≡◌, ℕ, List, [], length};
+ghost use Rattle.std.specs.Prelude.{◌≡◌, ◌⊎◌, ℕ, List, [], length, All, true};
+ghost use Rattle.std.specs.List.{Contains};
+ghost use Rattle.opgp_octets.specs.declared.signature_type.SignatureType.{SignatureType};
+ghost use Rattle.opgp_packet.specs.SignatureBody.{SignatureValue};
+ghost use Rattle.opgp_hash.specs.SubjectValue.{SubjectValue};
+ghost use Rattle.opgp_hash.specs.declared.fingerprints.Fingerprint.{Fingerprint};
 ghost use Rattle.opgp_ring.specs.Keyring.{CertificateValue, IsKeyring, KeyringValue};
 ghost use Rattle.opgp_report.specs.Standing.{certificate_standing};
 ghost use Rattle.opgp_report.specs.declared.verifier.Verdict.{Verdict};
+ghost use Rattle.opgp_valid.specs.KnownKeys.{known_in};
 ghost use Rattle.opgp_valid.specs.declared.known_keys.Known.{Known};
-ghost use Rattle.opgp_bound.specs.Bound.{bound_certificate, bound_keyring};
-ghost use Rattle.opgp_bound.specs.Judged.{certificate_rows};
+ghost use Rattle.opgp_bound.specs.Bound.{bound_certificate, bound_keyring, component_stays};
+ghost use Rattle.opgp_bound.specs.Bound.{components_in, is_genuine, own_in, revokes, role_stays};
+ghost use Rattle.opgp_bound.specs.Issuers.{revocation_issuers};
+ghost use Rattle.opgp_bound.specs.Judged.{JudgedComponentValue, JudgedValue, certificate_rows};
+ghost use Rattle.opgp_bound.specs.Role.{is_own_and_good, is_self_type, role_by};
+ghost use Rattle.opgp_bound.specs.Staying.{HasOn};
 
 /// What is bound of a keyring is a keyring.
 pub fn bound_keyrings_are_keyrings()
     ensures { (r : KeyringValue) (verdicts : List Verdict) → IsKeyring r
         → IsKeyring (bound_keyring r verdicts) }
+{}
+
+/// A signature of a type that certifies or binds is a genuine self-signature exactly if the verdict
+/// on it is good over what it follows, and the first key that it names is the primary key.
+pub fn genuine_ones_are_own_and_good()
+    ensures { (known : List Known) (primary : Fingerprint) (subject : SubjectValue)
+        (found : Verdict) (v : SignatureValue) (t : SignatureType) → is_self_type t ≡ true
+        → is_genuine (role_by known primary subject found v t)
+        ≡ is_own_and_good known primary subject found v }
+{}
+
+/// No genuine self-signature goes: one on the primary key stays on it; one on a component stays on
+/// that, which stays, too.
+pub fn no_genuine_self_signature_goes()
+    ensures primary { (known : List Known) (issuers : List Fingerprint) (c : CertificateValue)
+        (verdicts : List Verdict) (j : JudgedValue) → Contains (own_in known c verdicts) j
+        → is_genuine j.role ≡ true
+        → Contains (bound_certificate known issuers c verdicts).hangs j.packet }
+    ensures component { (known : List Known) (issuers : List Fingerprint) (c : CertificateValue)
+        (verdicts : List Verdict) (d : JudgedComponentValue) (j : JudgedValue)
+        → Contains (components_in known issuers c verdicts) d → Contains d.hangs j
+        → is_genuine j.role ≡ true
+        → HasOn (bound_certificate known issuers c verdicts) d.head j.packet }
+{}
+
+/// No revocation of a primary key goes, wherever it is: it stays on its component, or else on the
+/// primary key. Nor does any other from a part that stays: all stays on it but self-signatures that
+/// aren't genuine.
+pub fn no_revocation_goes()
+    ensures primary { (known : List Known) (issuers : List Fingerprint) (c : CertificateValue)
+        (verdicts : List Verdict) (j : JudgedValue) → Contains (own_in known c verdicts) j
+        → role_stays j.role ≡ true
+        → Contains (bound_certificate known issuers c verdicts).hangs j.packet }
+    ensures anywhere { (known : List Known) (issuers : List Fingerprint) (c : CertificateValue)
+        (verdicts : List Verdict) (d : JudgedComponentValue) (j : JudgedValue)
+        → Contains (components_in known issuers c verdicts) d → Contains d.hangs j
+        → revokes j.role ≡ true
+        → HasOn (bound_certificate known issuers c verdicts) d.head j.packet
+        ⊎ Contains (bound_certificate known issuers c verdicts).hangs j.packet }
+    ensures component { (known : List Known) (issuers : List Fingerprint) (c : CertificateValue)
+        (verdicts : List Verdict) (d : JudgedComponentValue) (j : JudgedValue)
+        → Contains (components_in known issuers c verdicts) d → component_stays d ≡ true
+        → Contains d.hangs j → role_stays j.role ≡ true
+        → HasOn (bound_certificate known issuers c verdicts) d.head j.packet }
+{}
+
+/// Every key that made a good revocation is still in the keyring, so that it can be verified as
+/// before.
+pub fn issuers_of_revocations_stay()
+    ensures { (r : KeyringValue) (verdicts : List Verdict) (print : Fingerprint)
+        → Contains (revocation_issuers r verdicts) print
+        → (k : Known) × Contains (known_in (bound_keyring r verdicts)) k × (k.print ≡ print) }
 {}
 
 /// As many verdicts are taken of a certificate as it has rows in a report.
@@ -22,8 +84,6 @@ pub fn verdicts_are_those_of_the_rows()
 {}
 
 /// Without verdicts no user ID, attribute or subkey stays.
-#[tactic(auto, using(crate::proofs::Rows::none_bound))]
 pub fn nothing_is_bound_without_verdicts()
-    ensures { (known : List Known) (c : CertificateValue)
-        → (bound_certificate known c []).components ≡ [] }
+    ensures { (r : KeyringValue) → All (λ c. c.components ≡ []) (bound_keyring r []).certificates }
 {}

@@ -1,9 +1,10 @@
 //! Certificates of which only bound components stay, by verdicts on their signatures, and of
-//! self-signatures only the newest.
+//! self-signatures only genuine ones.
 #![tactic(auto)]
 
 mod bounding;
 mod embedded;
+mod issuers;
 mod judged;
 mod judging;
 mod keeping;

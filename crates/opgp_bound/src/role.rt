@@ -2,42 +2,42 @@
 
 ghost use Rattle.std.specs.Prelude.{◌≡◌, Ok, is_ok, true};
 ghost use Rattle.opgp_octets.specs.SignatureType.{signature_type_of};
-ghost use Rattle.opgp_packet.specs.Areas.{hashed_subs};
 ghost use Rattle.opgp_packet.specs.SigView.{sig_view_value};
 ghost use Rattle.opgp_hash.specs.Asking.{ask_at_of};
 ghost use Rattle.opgp_hash.specs.declared.site.Site.TheVariants.{Hung};
 ghost use Rattle.opgp_hash.specs.Subject.{subject_value};
 ghost use Rattle.opgp_hash.specs.SubjectValue.{is_within};
 ghost use Rattle.opgp_valid.specs.KnownKeys.{knowns};
-ghost use Rattle.opgp_valid.specs.Subpackets.{made_in};
 ghost use Rattle.opgp_valid.specs.Told.{is_print};
-ghost use Rattle.opgp_bound.specs.Role.{counted, is_own_and_good, is_self_type, kind_in, role_by};
-ghost use Rattle.opgp_bound.specs.Role.{role_read};
+ghost use Rattle.opgp_bound.specs.Role.{is_own_and_good, is_self_type, kind_in, role_by, role_read};
 
 use crate::own::is_named_by;
 use opgp_hash::{Fingerprint, Site, Subject, ask_at};
 use opgp_octets::SignatureType;
 use opgp_packet::SigView;
-use opgp_report::Verdict;
-use opgp_valid::subpackets::made_in;
+use opgp_report::{KeyIndex, Verdict};
 use opgp_valid::{Known, KnownKeys};
 
 /// What a packet on a key or a component is there for.
 #[derive(Clone, Copy, Debug, PartialEq, Eq)]
 pub enum Role {
-    /// It certifies or binds what it is on, and names the primary key as its issuer. If it counts,
-    /// it was made then, in seconds since 1970.
-    SelfSignature(Option<u32>),
+    /// It certifies or binds what it is on, and names the primary key as its issuer.
+    SelfSignature {
+        /// Whether the verdict on it is good over what it follows, and the primary key made it.
+        is_genuine: bool,
+    },
     /// It revokes the primary key (RFC 9580, 5.2.1.11).
     KeyRevocation,
     /// It is something else: another signature, or a filler.
     Other,
 }
 
-/// The keys of a keyring, and the fingerprint of a certificate's primary key.
+/// The keys of a keyring, those of them that made its good revocations, and the fingerprint of a
+/// certificate's primary key.
 #[derive(Clone, Copy)]
 pub(crate) struct Context<'k> {
     pub(crate) known: &'k KnownKeys,
+    pub(crate) issuers: &'k KeyIndex,
     pub(crate) primary: Fingerprint,
 }
 
@@ -58,7 +58,7 @@ fn is_self_type(kind: SignatureType) -> bool
 }
 
 /// The type of a signature (RFC 9580, 5.2.1).
-fn kind_in(signature: SigView<'_>) -> Option<u8>
+pub(crate) fn kind_in(signature: SigView<'_>) -> Option<u8>
     ensures { result ≡ kind_in (sig_view_value signature.entry) }
 {
     match signature {
@@ -66,18 +66,6 @@ fn kind_in(signature: SigView<'_>) -> Option<u8>
         SigView::Four(view) => Some(view.kind()),
         SigView::Six(view) => Some(view.kind()),
         SigView::Other(_) => None,
-    }
-}
-
-/// When a signature was made, in seconds since 1970: the one creation time in its hashed area (RFC
-/// 9580, 5.2.3.11).
-fn made(signature: SigView<'_>) -> Option<u32>
-    ensures { result ≡ made_in (hashed_subs (sig_view_value signature.entry)) }
-{
-    match signature {
-        SigView::Four(view) => made_in(view.hashed()),
-        SigView::Six(view) => made_in(view.hashed()),
-        SigView::Three(_) | SigView::Other(_) => None,
     }
 }
 
@@ -114,19 +102,6 @@ impl Context<'_> {
             && is_print(self.primary, self.known.issuer(signature))
     }
 
-    /// When a self-signature was made, if it counts.
-    fn counted(&self, subject: Subject<'_>, found: Verdict, signature: SigView<'_>) -> Option<u32>
-        requires { is_within (subject_value subject) ≡ true }
-        ensures { result ≡ counted (knowns self.now.known.now) self.now.primary
-            (subject_value subject.entry) found (sig_view_value signature.entry) }
-    {
-        if self.is_own_and_good(subject, found, signature) {
-            made(signature)
-        } else {
-            None
-        }
-    }
-
     /// What a signature of this type is there for.
     fn role_by(
         &self,
@@ -140,7 +115,9 @@ impl Context<'_> {
             (subject_value subject.entry) found (sig_view_value signature.entry) kind }
     {
         if is_self_type(kind) && is_named_by(self.primary, signature) {
-            Role::SelfSignature(self.counted(subject, found, signature))
+            Role::SelfSignature {
+                is_genuine: self.is_own_and_good(subject, found, signature),
+            }
         } else if matches!(kind, SignatureType::KeyRevocation) {
             Role::KeyRevocation
         } else {

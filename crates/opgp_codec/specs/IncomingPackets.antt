@@ -1,5 +1,5 @@
 -- The packets that come from a source, each checked.
-use Rattle.std.specs.Prelude.{◌≡◌, ℕ, Bool, true, false, List, [], Option, Ok, Err, Result}
+use Rattle.std.specs.Prelude.{◌≡◌, ◌≢◌, ℕ, Bool, true, false, List, [], Option, Ok, Err, Result}
 use Rattle.std.specs.List.{flat_map}
 use Rattle.opgp_octets.specs.Limits.{malformed_of}
 use Rattle.opgp_octets.specs.declared.limits.Limits.{Limits}
@@ -24,9 +24,9 @@ packets_of blocks = flat_map (λ b. b.packets) blocks
 abbrev pub IsLent : IncomingPackets → List Placed → Type 0
 IsLent p packets = IsHere p.incoming packets
 
--- so it is where one was found, else none was
+-- so it is where one was found, which there is then, else none was
 abbrev pub LentIf : Bool → IncomingPackets → List Placed → Type 0
-LentIf true p packets = IsLent p packets
+LentIf true p packets = IsLent p packets × (packets ≢ [])
 LentIf false p packets = packets ≡ []
 
 -- Of what the source had before, octets have come up to where it is now, and the packets that they

@@ -13,6 +13,7 @@ use Rattle.opgp_codec.specs.declared.mode.Mode.TheVariants.{Auto}
 use Rattle.opgp_codec.specs.Found.{opened}
 use Rattle.opgp_codec.specs.Blocks.{Framed, has_begun}
 use Rattle.opgp_codec.specs.Reading.{Outcome, is_binary}
+use Rattle.opgp_codec.specs.Skipped.{foreign_of}
 use Rattle.opgp_codec.specs.Text.{IsDrained, Through, lent_octets, work_of}
 
 -- whatever follows these octets, the input is binary, or it is not
@@ -36,6 +37,15 @@ Passed accepts mode limits Binary f seen input items =
 Passed accepts mode limits (Armored t) f seen input items =
     Decides mode seen false × (0 < work_of t → Decides mode input false)
     × Through accepts limits t f input items
+
+-- how many octets outside of armored blocks were passed over, if they are no text; else 0
+abbrev pub skipped_by : Front → ℕ
+skipped_by Undecided = 0
+skipped_by Binary = 0
+skipped_by (Armored t) = foreign_of t.skipped
+
+abbrev pub skipped_in : Items → ℕ
+skipped_in p = skipped_by p.front
 
 -- the octets given
 abbrev pub count_of : Items → ℕ

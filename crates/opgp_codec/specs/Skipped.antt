@@ -1,5 +1,5 @@
 -- What lies outside of armored blocks and is passed over.
-use Rattle.std.specs.Prelude.{◌≡◌, ℕ, ◌+◌, ◌-◌, ◌^◌, ◌&&◌, Bool, true, false, not, List, length, min, Option, Some, None}
+use Rattle.std.specs.Prelude.{◌≡◌, ℕ, ◌+◌, ◌-◌, ◌^◌, ◌&&◌, Bool, true, false, not, if◌then◌else◌, List, length, min, Option, Some, None}
 use Rattle.std.specs.List.{list_any}
 use Rattle.opgp_armor.specs.declared.event.ArmorEvent.{ArmorEvent}
 use Rattle.opgp_armor.specs.declared.event.ArmorEvent.TheVariants as armor
@@ -13,6 +13,10 @@ count_of s = s.octets
 -- none of them is a control character that is no white space
 abbrev pub is_text : Skipped → Bool
 is_text s = s.is_text
+
+-- how many they are, if some of them are in no text; else 0
+abbrev pub foreign_of : Skipped → ℕ
+foreign_of s = if s.is_text then 0 else s.octets
 
 -- a block is open
 abbrev pub is_in_block : Skipped → Bool

@@ -1,6 +1,6 @@
 //! The packets that come from a source, one after the other, each checked.
 
-ghost use Rattle.std.specs.Prelude.{◌≡◌, ◌<◌, ◌++◌, [], ℕ, List, Option, false, true, map};
+ghost use Rattle.std.specs.Prelude.{◌≡◌, ◌≢◌, ◌<◌, ◌++◌, [], ℕ, List, Option, false, true, map};
 ghost use Rattle.std.specs.Prelude.{Err, IfOk, Ok, OnOk};
 ghost use Rattle.opgp_octets.specs.declared.fault.Fault.{Fault};
 ghost use Rattle.opgp_octets.specs.declared.limits.Limits.{Limits};
@@ -135,7 +135,8 @@ pub(crate) fn passes(
     malformed: Malformed,
     fault: &mut Option<Fault>,
 ) -> bool
-    ensures { (packets : List Placed) (list : List Item)
+    ensures some { result ≡ true → viewed_in packet.entry ≢ [] }
+    ensures so_far { (packets : List Placed) (list : List Item)
         → AreSoFar malformed (λ ps. ps ≡ packets) fault.old (placed_in list)
         → AreSoFar malformed (λ ps. ps ≡ packets ++ passed_if result (viewed_in packet.entry))
         fault.new (placed_in (list ++ map of_packet (viewed_in packet.entry))) }

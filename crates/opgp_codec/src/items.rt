@@ -10,7 +10,7 @@ ghost use Rattle.opgp_codec.specs.Found.{IsFound, handed};
 ghost use Rattle.opgp_codec.specs.Blocks.{Ends, FindsIn, Framed, has_begun, number_of, open_count};
 ghost use Rattle.opgp_codec.specs.Blocks.{part_of, viewed_in};
 ghost use Rattle.opgp_codec.specs.Items.{Fed, IsDone, IsLast, IsRest, Moves, Passed, count_of};
-ghost use Rattle.opgp_codec.specs.Items.{left_of, octets_of, work_in};
+ghost use Rattle.opgp_codec.specs.Items.{left_of, octets_of, skipped_in, work_in};
 ghost use Rattle.opgp_codec.specs.Reading.{AnswerOf, TextBlock, is_binary};
 ghost use Rattle.opgp_armor.specs.declared.label.Label.{Label};
 ghost use Rattle.opgp_codec.specs.Text.{IsEnd};
@@ -214,7 +214,9 @@ impl Items {
     }
 
     /// How many octets outside of armored blocks were passed over, if they are no text; else 0.
-    pub(crate) fn skipped(&self) -> u64 {
+    pub(crate) fn skipped(&self) -> u64
+        ensures { result ≡ skipped_in self.now }
+    {
         match &self.front {
             Front::Armored(text) => text.skipped(),
             Front::Binary => 0,

@@ -8,6 +8,7 @@ ghost use Rattle.opgp_ring.specs.Composition.{Item, of_packet, placed_in};
 ghost use Rattle.opgp_ring.specs.Fed.{KeepsFed, is_ready, limits_of};
 ghost use Rattle.opgp_codec.specs.Found.{opened};
 ghost use Rattle.opgp_codec.specs.Blocks.{viewed_in};
+ghost use Rattle.opgp_codec.specs.Items.{skipped_in};
 ghost use Rattle.opgp_codec.specs.Reading.{Outcome};
 
 use crate::accepts::Accepts;
@@ -110,7 +111,9 @@ impl Parts {
     }
 
     /// How many octets outside of armored blocks were passed over, if they are no text; else 0.
-    pub fn skipped(&self) -> u64 {
+    pub fn skipped(&self) -> u64
+        ensures { result ≡ skipped_in self.now.items }
+    {
         self.items.skipped()
     }
 

@@ -32,7 +32,7 @@ fn has_foreign(part: &[u8]) -> bool
 }
 
 impl Skipped {
-    ghost use Rattle.opgp_codec.specs.Skipped.{begins_block, count_of, is_in_block, is_text};
+    ghost use Rattle.opgp_codec.specs.Skipped.{begins_block, count_of, foreign_of, is_in_block};
     ghost use Rattle.opgp_codec.specs.Skipped.{Passes};
 
     /// Of a text of which nothing has come.
@@ -49,8 +49,7 @@ impl Skipped {
 
     /// The number of the octets, if some of them are in no text; else 0.
     pub(crate) fn foreign(&self) -> u64
-        ensures text { is_text self.now ≡ true → result ≡ 0 }
-        ensures foreign { is_text self.now ≡ false → result ≡ count_of self.now }
+        ensures { result ≡ foreign_of self.now }
     {
         if self.is_text { 0 } else { self.octets }
     }

@@ -48,6 +48,7 @@ pub(crate) struct Text {
 
 impl Text {
     ghost use Rattle.opgp_codec.specs.Blocks.{FindsIf, FindsIn, Framed, has_begun, part_of};
+    ghost use Rattle.opgp_codec.specs.Skipped.{foreign_of};
     ghost use Rattle.opgp_codec.specs.Text.{IsEnd, Keeps, Through};
     ghost use Rattle.opgp_codec.specs.Text.{IsDrained, count_of, lent_octets, work_of};
     ghost use Rattle.opgp_codec.specs.declared.accepts.Accepts.{Accepts};
@@ -73,7 +74,9 @@ impl Text {
     }
 
     /// How many octets outside of armored blocks were passed over, if they are no text; else 0.
-    pub(crate) fn skipped(&self) -> u64 {
+    pub(crate) fn skipped(&self) -> u64
+        ensures { result ≡ foreign_of self.now.skipped }
+    {
         self.skipped.foreign()
     }
 

@@ -35,14 +35,14 @@ impl CanonicalText {
     }
 
     /// Goes on where another one was, of which these are [`CanonicalText::given`] and
-    /// [`CanonicalText::last_return`]: for who keeps the two numbers.
+    /// [`CanonicalText::last_return`]: for callers that store the two numbers.
     pub fn resumed(given: u64, last_return: Option<u64>) -> CanonicalText
         ensures { (result.given ≡ given) × (result.last_return ≡ last_return) }
     {
         CanonicalText { given, last_return }
     }
 
-    /// How many octets of the document were given. More than 2^64 - 1 are told as that.
+    /// How many octets of the document were given; it saturates at 2^64 - 1.
     pub fn given(&self) -> u64
         ensures { result ≡ self.now.given }
     {

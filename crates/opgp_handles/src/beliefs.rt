@@ -113,7 +113,7 @@ fn believed(
     Ok(number_over(is_message, signature, belief_number(belief)))
 }
 
-/// Puts whether the signature of a row is believed; the status.
+/// Stores the belief in a row's signature; returns the status.
 fn put_belief(
     alloc: Global,
     held: &Signed,
@@ -159,7 +159,7 @@ fn put_belief(
     }
 }
 
-/// Puts whether the signature of a row over a document may be believed.
+/// Stores the belief in a row's signature over a document.
 pub fn document_standing(
     alloc: Global,
     document: &mut Document,

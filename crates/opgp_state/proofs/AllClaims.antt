@@ -1,5 +1,5 @@
 -- The claims of a keyring are those of its certificates, one after the other.
-use Rattle.std.proofs.Common.{◌≡◌, ◌∙◌, ℕ, ◌+◌, Bool, true, false, cond, List, [], ◌∷◌, ◌++◌, map, drop, Option, Some, None, Ok, Err, refl, sym, ap}
+use Rattle.std.proofs.Common.{◌≡◌, ◌∙◌, ℕ, ◌+◌, Bool, true, false, cond, List, [], ◌∷◌, ◌++◌, map, drop, Option, Some, None, Ok, Err, refl, sym, ap, append_assoc}
 use Rattle.std.specs.List.{flat_map}
 use Rattle.std.proofs.lemmas.List.{length-map, map-append}
 use Rattle.std.proofs.Math.Seq.{drop-append_seam}
@@ -18,6 +18,7 @@ use Rattle.opgp_valid.specs.Judgement.{facts_by}
 use Rattle.opgp_valid.specs.States.{states_of}
 use Rattle.opgp_valid.specs.declared.known_keys.Known.{Known}
 use Rattle.opgp_valid.specs.declared.policy.Policy.{Policy}
+use Rattle.opgp_valid.specs.declared.states.PartState.{PartState}
 use Rattle.opgp_state.specs.Claimed.{claimed, claims_of}
 use Rattle.opgp_state.specs.Claiming.{claim, claim_heard}
 use Rattle.opgp_state.specs.Claims.{certificate_claims}
@@ -86,6 +87,19 @@ first_states known policy at c cs =
     ap (λ (l : List Verdict). states_of (facts_by known policy c (certificate_claims c ++ flat_map certificate_claims cs)) c at ∷ states_among known policy at cs l)
     (ap (λ (n : ℕ). drop n (certificate_claims c ++ flat_map certificate_claims cs)) (sym (length-map (certificate_standing 0 c) claim))
     ∙ drop-append_seam (certificate_claims c) (flat_map certificate_claims cs))
+
+-- the states of the next certificate, added to those so far
+pub added_states : (known : List Known) (policy : Policy) (at : ℕ) (before after : List (List PartState)) (x : List PartState) (c : CertificateValue) (left more : List CertificateValue) (all : List (List PartState))
+    → left ≡ c ∷ more → ((behind : List Verdict) → x ≡ states_of (facts_by known policy c (certificate_claims c ++ behind)) c at) → after ≡ before ++ x ∷ []
+    → before ++ states_among known policy at left (flat_map certificate_claims left) ≡ all → after ++ states_among known policy at more (flat_map certificate_claims more) ≡ all
+added_states known policy at before after x c left more all here is pushed e =
+    let rest : List (List PartState) = states_among known policy at more (flat_map certificate_claims more) in
+    ap (λ (l : List (List PartState)). l ++ rest) pushed
+    ∙ append_assoc before (x ∷ []) rest
+    ∙ ap (λ (y : List PartState). before ++ y ∷ rest) (is (flat_map certificate_claims more))
+    ∙ ap (λ (l : List (List PartState)). before ++ l) (sym (first_states known policy at c more))
+    ∙ ap (λ (l : List CertificateValue). before ++ states_among known policy at l (flat_map certificate_claims l)) (sym here)
+    ∙ e
 
 pub claimed_states : (r : KeyringValue) (known : List Known) (policy : Policy) (at : ℕ) → states_among known policy at r.certificates (flat_map certificate_claims r.certificates) ≡ states_among known policy at r.certificates (claims_of r)
 claimed_states r known policy at = ap (λ (l : List Verdict). states_among known policy at r.certificates l) (sym (claims_by r))

@@ -14,15 +14,14 @@ use Rattle.opgp_report.specs.declared.verifier.Verdict.{Verdict}
 use Rattle.opgp_report.specs.Standing.{Standing, by_number, stands}
 use Rattle.opgp_valid.specs.Group.{is_the}
 use Rattle.opgp_valid.specs.KnownKeys.{issuer_among}
-use Rattle.opgp_valid.specs.Subpackets.{at_most_one}
-use Rattle.opgp_valid.specs.Told.{author_of, back_in, change_last, is_genuine, is_same_number, second_key, stated, statement_of, told, told_by, told_with, with_back, with_embedded}
+use Rattle.opgp_valid.specs.Told.{author_of, back_in, change_last, is_genuine, is_same_number, lives_in, second_key, stated, stated_by, statement_of, told, told_by, told_with, with_back, with_embedded}
 use Rattle.opgp_valid.specs.declared.known_keys.Known.{Known}
 use Rattle.opgp_valid.specs.declared.policy.Policy.{Policy}
 use Rattle.opgp_valid.specs.declared.statement.Author.{Author}
 use Rattle.opgp_valid.specs.declared.statement.Life.{Life}
 use Rattle.opgp_valid.specs.declared.statement.Statement.{Statement}
+use Rattle.opgp_valid.proofs.Renumbered.{to}
 use Rattle.opgp_state.proofs.Heard.{or_false}
-use Rattle.opgp_state.proofs.Renumbered.{to}
 
 -- ---- rows on a component
 -- a place on this component in place of its own
@@ -50,6 +49,7 @@ with_life life st = record {
   has_flags = st.has_flags;
   uses = st.uses;
   is_main = st.is_main;
+  is_revoked = st.is_revoked;
   back = life;
   reason = st.reason;
 }
@@ -85,9 +85,13 @@ module _ (known : List Known) (policy : Policy) (primary : Fingerprint) (revoker
 
   stated_to : (o : Option ℕ) (s : Standing) (v : SignatureValue) → state o s v ≡ map (to o) (state None s v)
   stated_to o s v = step (is_some (signed_of v)) (author_of known policy primary revokers (issuer_among known v)) where
-    step : (t : Bool) (a : Option Author) → cond t (at_most_one (option_map (statement_of known policy primary revokers (place_to o s.place) s.subject v) a)) [] ≡ map (to o) (cond t (at_most_one (option_map (statement_of known policy primary revokers (place_to None s.place) s.subject v) a)) [])
+    at_each : (a : Author) (lives : List (Option Life)) → map (statement_of known policy primary revokers (place_to o s.place) s.subject v a) lives ≡ map (to o) (map (statement_of known policy primary revokers (place_to None s.place) s.subject v a) lives)
+    at_each a [] = refl
+    at_each a (l ∷ ls) = ap (λ (ss : List Statement). statement_of known policy primary revokers (place_to o s.place) s.subject v a l ∷ ss) (at_each a ls)
+
+    step : (t : Bool) (a : Option Author) → cond t (stated_by known policy primary revokers (place_to o s.place) s.subject v a) [] ≡ map (to o) (cond t (stated_by known policy primary revokers (place_to None s.place) s.subject v a) [])
     step true None = refl
-    step true (Some a) = refl
+    step true (Some a) = at_each a (lives_in v)
     step false a = refl
 
   to_to : (o : Option ℕ) (ss : List Statement) → map (to o) ss ≡ map (to o) (map (to None) ss)

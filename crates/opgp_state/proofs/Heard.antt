@@ -26,7 +26,7 @@ use Rattle.opgp_valid.specs.Facts.{FactsValue}
 use Rattle.opgp_valid.specs.KnownKeys.{issuer_among}
 use Rattle.opgp_valid.specs.Policy.{created_of, version_of}
 use Rattle.opgp_valid.specs.Subpackets.{at_most_one, revoker_stated, revokers_in}
-use Rattle.opgp_valid.specs.Told.{author_of, is_genuine, is_print, named_by, names_revokers, revokers_at, revokers_by, stated, statement_of, told, told_by, told_with, type_in, with_verdicts}
+use Rattle.opgp_valid.specs.Told.{author_of, is_genuine, is_print, named_by, names_revokers, revokers_at, revokers_by, stated, stated_by, told, told_by, told_with, type_in, with_revocations, with_verdicts}
 use Rattle.opgp_valid.specs.declared.known_keys.Known.{Known}
 use Rattle.opgp_valid.specs.declared.policy.Policy.{Policy}
 use Rattle.opgp_valid.specs.declared.statement.Author.{Author}
@@ -118,7 +118,7 @@ module _ (known : List Known) (policy : Policy) (primary : Fingerprint) where
   no_author (Some k) e = rw e refl
 
   nothing_stated : (s : Standing) (v : SignatureValue) → is_print primary (issuer_among known v) ≡ false → stated known policy primary [] s.place s.subject v ≡ []
-  nothing_stated s v e = either_way (is_some (signed_of v)) (at_most_one (option_map (statement_of known policy primary [] s.place s.subject v) (author_of known policy primary [] (issuer_among known v)))) [] (ap (λ (a : Option Author). at_most_one (option_map (statement_of known policy primary [] s.place s.subject v) a)) (no_author (issuer_among known v) e))
+  nothing_stated s v e = either_way (is_some (signed_of v)) (stated_by known policy primary [] s.place s.subject v (author_of known policy primary [] (issuer_among known v))) [] (ap (stated_by known policy primary [] s.place s.subject v) (no_author (issuer_among known v) e))
 
   -- a signature that isn't looked at says nothing
   unheard_by : (s : Standing) (v : SignatureValue) (before : List Statement) → is_some s.place.nested ≡ false → is_print primary (issuer_among known v) ≡ false → told_by known policy primary [] s v before ≡ before
@@ -155,7 +155,7 @@ module _ (c : CertificateValue) where
   facts_from known policy rows = record {
     version = version_of c.primary.body;
     created = created_of c.primary.body;
-    statements = fold (told known policy (print_of c.primary.body) (flat_map (revokers_at known (print_of c.primary.body)) rows)) [] rows;
+    statements = with_revocations (fold (told known policy (print_of c.primary.body) (flat_map (revokers_at known (print_of c.primary.body)) rows)) [] rows);
   }
 
   pub all_serve : (founds : List Verdict) → founds ≡ map (claim_heard None) (certificate_standing 0 c) → SayTheSame c founds
@@ -166,7 +166,7 @@ module _ (c : CertificateValue) where
       → facts_from known policy (map (λ s. (s, f s)) (certificate_standing 0 c)) ≡ record {
         version = version_of c.primary.body;
         created = created_of c.primary.body;
-        statements = fold (told known policy (print_of c.primary.body) []) [] (map (λ s. (s, f s)) (certificate_standing 0 c));
+        statements = with_revocations (fold (told known policy (print_of c.primary.body) []) [] (map (λ s. (s, f s)) (certificate_standing 0 c)));
       }
   bare known policy f none = rw (no_revokers known (print_of c.primary.body) f (certificate_standing 0 c) none) refl
 
@@ -176,7 +176,7 @@ module _ (c : CertificateValue) where
       let rows : List Standing = certificate_standing 0 c in
       ap (facts_from known policy) (ap (λ (l : List Verdict). with_verdicts l rows) e ∙ just_verdicts (claim_heard (Some print)) rows)
       ∙ bare known policy (claim_heard (Some print)) none
-      ∙ ap (λ (l : List Statement). record { version = version_of c.primary.body; created = created_of c.primary.body; statements = l }) (all_as_claimed known policy print [] rows)
+      ∙ ap (λ (l : List Statement). record { version = version_of c.primary.body; created = created_of c.primary.body; statements = with_revocations l }) (all_as_claimed known policy print [] rows)
       ∙ sym (bare known policy claim none)
       ∙ ap (facts_from known policy) (sym (each_verdict claim more rows))
 

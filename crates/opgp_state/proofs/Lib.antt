@@ -6,9 +6,9 @@ mod Gathered
 mod Heads
 mod Heard
 mod Lines
+mod Moved
 mod Placements
 mod PlacesStand
-mod Renumbered
 mod Reordered
 mod StateTexts
 mod Verdicts

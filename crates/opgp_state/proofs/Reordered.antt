@@ -1,5 +1,5 @@
 -- Components in another order say the same, but for their numbers.
-use Rattle.std.proofs.Common.{rules, ◌≡◌, ◌∙◌, ◌++◌, ℕ, suc, ◌+◌, ◌≤◌, ◌<◌, ◌==◌, List, [], ◌∷◌, map, length, Bool, true, false, ◌||◌, cond, Option, Some, None, is_some, Result, Ok, Err, refl, sym, ap, arith, append_assoc}
+use Rattle.std.proofs.Common.{◌≡◌, ◌∙◌, ◌++◌, ℕ, suc, ◌+◌, List, [], ◌∷◌, map, length, Bool, true, false, ◌&&◌, ◌||◌, cond, Option, Some, None, is_some, Result, Ok, Err, refl, sym, ap, arith, append_assoc}
 use Rattle.std.specs.List.{Contains, flat_map, fold, list_any, position, position_or_len}
 use Rattle.std.specs.Prelude.{nat_lt, not}
 use Rattle.std.specs.List.Sorted.{IsPermutation}
@@ -22,20 +22,22 @@ use Rattle.opgp_report.specs.declared.place.Place.{Place}
 use Rattle.opgp_report.specs.declared.verifier.Verdict.{Verdict}
 use Rattle.opgp_report.specs.Standing.{Standing, bodies_within, by_number, certificate_standing, component_standing, hang_standing, hangs_standing, hung_at, is_signature, nested_standing, on_head, signature_standing, stands}
 use Rattle.opgp_valid.specs.Facts.{FactsValue}
+use Rattle.opgp_valid.specs.Group.{is_certification_on}
 use Rattle.opgp_valid.specs.Policy.{created_of, version_of}
 use Rattle.opgp_valid.specs.Standing.{standing_of}
 use Rattle.opgp_valid.specs.KnownKeys.{issuer_among}
-use Rattle.opgp_valid.specs.Told.{author_of, is_print_among, revokers_at, revokers_by, stated, told, told_with, with_verdicts}
+use Rattle.opgp_valid.specs.Told.{author_of, is_print_among, is_revoked_among, is_revoked_by, revokers_at, revokers_by, stated, told, told_with, with_revocations, with_revoked, with_verdicts}
 use Rattle.opgp_valid.specs.declared.facts.Key.{Key}
 use Rattle.opgp_valid.specs.declared.facts.Key.TheVariants as key
 use Rattle.opgp_valid.specs.declared.known_keys.Known.{Known}
 use Rattle.opgp_valid.specs.declared.policy.Policy.{Policy}
 use Rattle.opgp_valid.specs.declared.statement.Statement.{Statement}
-use Rattle.opgp_valid.proofs.Alike.{Alike, stands_same}
+use Rattle.opgp_valid.proofs.Alike.{Alike, or_same, stands_same}
 use Rattle.opgp_valid.proofs.Members.{member_here, member_there}
+use Rattle.opgp_valid.proofs.Renumbered.{any_map, rekey, renumber, renumber_facts, revocations_same, stands_alike, to}
 use Rattle.opgp_state.specs.Reordered.{AreJudged, HasEach, Judged, facts_with, with_components}
 use Rattle.opgp_state.proofs.Blocks.{all_blocks, map_twice, move, place_to, row_to, says}
-use Rattle.opgp_state.proofs.Renumbered.{IsKey, any_map, or_same, primary_alike, renumber, renumber_facts, stands_alike, subkey_alike, to}
+use Rattle.opgp_state.proofs.Moved.{AreMoved, moved_around, moved_by, moved_made, moved_once}
 
 -- ---- rows by component
 mapped_each : {A B C : Type 0} (f : B → C) (make : ℕ → A → List B) (made : ℕ → A → List C) → ((n : ℕ) (x : A) → map f (make n x) ≡ made n x) → (n : ℕ) (xs : List A) → map f (by_number make n xs) ≡ by_number made n xs
@@ -151,71 +153,34 @@ module _ {A : Type 0} (says_on : A → List Statement) where
   abbrev numbered : ℕ → List A → List Statement
   numbered n parts = by_number (λ k x. map (to (Some k)) (says_on x)) n parts
 
-  -- a statement of a component passes the test, if it is on this one
-  abbrev passes_on : (Statement → Bool) → ℕ → A → Bool
-  passes_on q n x = list_any (λ s. q (to (Some n) s)) (says_on x)
+  -- with other numbers
+  numbered_to : (p : ℕ → ℕ) (n : ℕ) (parts : List A) → map (renumber p) (numbered n parts) ≡ by_number (λ k x. map (to (Some (p k))) (says_on x)) n parts
+  numbered_to p n parts = mapped_each (renumber p) (λ (k : ℕ) (x : A). map (to (Some k)) (says_on x)) (λ (k : ℕ) (x : A). map (to (Some (p k))) (says_on x)) (λ k x. map_twice (renumber p) (to (Some k)) (says_on x)) n parts
 
-  some_on : (q : Statement → Bool) (p : ℕ → Bool) (n : ℕ) (x : A) → list_any q (map (renumber p) (map (to (Some n)) (says_on x))) ≡ passes_on q (cond (p n) 0 1) x
-  some_on q p n x = ap (list_any q) (map_twice (renumber p) (to (Some n)) (says_on x)) ∙ any_map (λ s. renumber p (to (Some n) s)) q (λ s. q (to (Some (cond (p n) 0 1)) s)) (λ s. refl) (says_on x)
+  unnumbered : (p : ℕ → ℕ) (own : List Statement) → map (renumber p) (map (to None) own) ≡ map (to None) own
+  unnumbered p own = map_twice (renumber p) (to None) own
 
-  joined : (q : Statement → Bool) (p : ℕ → Bool) (a b : List Statement) → list_any q (map (renumber p) (a ++ b)) ≡ (list_any q (map (renumber p) a) || list_any q (map (renumber p) b))
-  joined q p a b = ap (list_any q) (map-append (renumber p) a b) ∙ list_any-append q (map (renumber p) a) (map (renumber p) b)
+  -- with the numbers of the other order, all is said that is said there
+  pub said_there : (own : List Statement) (a b : List A) (h : AreMoved a b) → Alike (map (renumber h.goes) (map (to None) own ++ numbered 0 a)) (map (to None) own ++ numbered 0 b)
+  said_there own a b h q =
+      let first : List Statement = map (to None) own in
+      ap (list_any q) (map-append (renumber h.goes) first (numbered 0 a))
+      ∙ list_any-append q (map (renumber h.goes) first) (map (renumber h.goes) (numbered 0 a))
+      ∙ or_same _ _ _ _ (ap (list_any q) (unnumbered h.goes own))
+      (ap (list_any q) (numbered_to h.goes 0 a) ∙ moved_made (λ (k : ℕ) (x : A). map (to (Some k)) (says_on x)) a b h q)
+      ∙ sym (list_any-append q first (numbered 0 b))
 
-  -- none of these is the one
-  others : (q : Statement → Bool) (p : ℕ → Bool) (n : ℕ) (parts : List A) → ((k : ℕ) → n ≤ k → k < n + length parts → p k ≡ false) → list_any q (map (renumber p) (numbered n parts)) ≡ list_any (passes_on q 1) parts
-  others q p n [] none = refl
-  others q p n (x ∷ parts) none =
-      joined q p (map (to (Some n)) (says_on x)) (numbered (n + 1) parts)
-      ∙ or_same _ _ _ _ (some_on q p n x ∙ ap (λ (t : Bool). passes_on q (cond t 0 1) x) (none n (omega arith) (omega arith)))
-      (others q p (n + 1) parts (λ k le lt. none k (omega (arith, le)) (omega (arith, lt))))
+-- ---- what is revoked
+any_agree : (p q : Statement → Bool) → ((s : Statement) → p s ≡ q s) → (ss : List Statement) → list_any p ss ≡ list_any q ss
+any_agree p q h [] = refl
+any_agree p q h (s ∷ ss) = rw (h s, any_agree p q h ss) refl
 
-  -- one of them is
-  pub one_of : (q : Statement → Bool) (before : List A) (x : A) (behind : List A)
-      → list_any q (map (renumber (λ m. m == length before)) (numbered 0 (before ++ x ∷ behind))) ≡ (passes_on q 0 x || list_any (passes_on q 1) (before ++ behind))
-  one_of q before x behind =
-      let p : ℕ → Bool = λ m. m == length before in
-      let rest : List Statement = numbered (length before) (x ∷ behind) in
-      ap (λ (l : List Statement). list_any q (map (renumber p) l)) (numbered_append (λ (k : ℕ) (y : A). map (to (Some k)) (says_on y)) 0 before (x ∷ behind) ∙ ap (λ (n : ℕ). numbered 0 before ++ numbered n (x ∷ behind)) (omega arith))
-      ∙ joined q p (numbered 0 before) rest
-      ∙ or_same _ _ _ _ (others q p 0 before (λ k le lt. lesser k (length before) (omega (arith, lt))))
-      (joined q p (map (to (Some (length before))) (says_on x)) (numbered (length before + 1) behind)
-      ∙ or_same _ _ _ _ (some_on q p (length before) x ∙ ap (λ (t : Bool). passes_on q (cond t 0 1) x) (itself (length before)))
-      (others q p (length before + 1) behind (λ k le lt. greater k (length before) le)))
-      ∙ turn (list_any (passes_on q 1) before) (passes_on q 0 x) (list_any (passes_on q 1) behind)
-      ∙ ap (λ (t : Bool). passes_on q 0 x || t) (sym (list_any-append (passes_on q 1) before behind)) where
-        lesser : (k n : ℕ) → k < n → (k == n) ≡ false
-        lesser k n lt = grind (arith, lt)
-
-        greater : (k n : ℕ) → n + 1 ≤ k → (k == n) ≡ false
-        greater k n le = grind (arith, le)
-
-        itself : (n : ℕ) → (n == n) ≡ true
-        itself n = search rules
-
-        turn : (a b c : Bool) → (a || (b || c)) ≡ (b || (a || c))
-        turn true true c = refl
-        turn true false c = refl
-        turn false true c = refl
-        turn false false c = refl
-
-  pub none_of : (q : Statement → Bool) (parts : List A) → list_any q (map (renumber (λ m. false)) (numbered 0 parts)) ≡ list_any (passes_on q 1) parts
-  none_of q parts = others q (λ m. false) 0 parts (λ k le lt. refl)
-
-  unnumbered_own : (q : Statement → Bool) (p : ℕ → Bool) (own : List Statement) → list_any q (map (renumber p) (map (to None) own)) ≡ list_any (λ s. q (to None s)) own
-  unnumbered_own q p own = ap (list_any q) (map_twice (renumber p) (to None) own) ∙ any_map (λ s. renumber p (to None s)) q (λ s. q (to None s)) (λ s. refl) own
-
-  -- of all that is said
-  pub said_one : (q : Statement → Bool) (own : List Statement) (before : List A) (x : A) (behind : List A)
-      → list_any q (map (renumber (λ m. m == length before)) (map (to None) own ++ numbered 0 (before ++ x ∷ behind))) ≡ (list_any (λ s. q (to None s)) own || (passes_on q 0 x || list_any (passes_on q 1) (before ++ behind)))
-  said_one q own before x behind =
-      joined q (λ m. m == length before) (map (to None) own) (numbered 0 (before ++ x ∷ behind))
-      ∙ or_same _ _ _ _ (unnumbered_own q (λ m. m == length before) own) (one_of q before x behind)
-
-  pub said_none : (q : Statement → Bool) (own : List Statement) (parts : List A)
-      → list_any q (map (renumber (λ m. false)) (map (to None) own ++ numbered 0 parts)) ≡ (list_any (λ s. q (to None s)) own || list_any (passes_on q 1) parts)
-  said_none q own parts =
-      joined q (λ m. false) (map (to None) own) (numbered 0 parts)
-      ∙ or_same _ _ _ _ (unnumbered_own q (λ m. false) own) (none_of q parts)
+alike_revocations : (a b : List Statement) → Alike a b → Alike (with_revocations a) (with_revocations b)
+alike_revocations a b h q =
+    any_map (λ s. with_revoked (is_revoked_among a s) s) q (λ s. q (with_revoked (is_revoked_among a s) s)) (λ s. refl) a
+    ∙ any_agree (λ s. q (with_revoked (is_revoked_among a s) s)) (λ s. q (with_revoked (is_revoked_among b s) s)) (λ s. ap (λ (t : Bool). q (with_revoked (is_certification_on s && t) s)) (h (is_revoked_by s))) a
+    ∙ h (λ s. q (with_revoked (is_revoked_among b s) s))
+    ∙ sym (any_map (λ s. with_revoked (is_revoked_among b s) s) q (λ s. q (with_revoked (is_revoked_among b s) s)) (λ s. refl) b)
 
 -- ---- a certificate
 module _ (c : CertificateValue) where
@@ -263,7 +228,7 @@ module _ (known : List Known) (policy : Policy) (c : CertificateValue) (founds :
   facts_from ss = record {
     version = version_of c.primary.body;
     created = created_of c.primary.body;
-    statements = ss;
+    statements = with_revocations ss;
   }
 
   abbrev revokers_from : List Judged → List Fingerprint
@@ -298,47 +263,44 @@ module _ (known : List Known) (policy : Policy) (c : CertificateValue) (founds :
   abbrev own_by : List Fingerprint → List Statement
   own_by revokers = says known policy (print_of c.primary.body) revokers (own_rows c founds)
 
-  -- judged by other numbers, the keys stand as they do
-  judged_alike : (p o : ℕ → Bool) (f g : FactsValue) (k old new : Key) → IsKey p f k old → IsKey o g k new → f.version ≡ g.version → f.created ≡ g.created → Alike (map (renumber p) f.statements) (map (renumber o) g.statements) → (made now : ℕ)
-      → standing_of f old made now ≡ standing_of g new made now
-  judged_alike p o f g k old new a b v w alike made now =
-      sym (stands_alike p f k old a made now) ∙ stands_same (renumber_facts p f) (renumber_facts o g) v w alike k made now ∙ stands_alike o g k new b made now
+  -- judged by other numbers, a key stands as it does
+  judged_alike : (a b : List Statement) (p : ℕ → ℕ) (k : Key) → ((m n : ℕ) → p m ≡ p n → m ≡ n) → Alike (map (renumber p) a) b → (made now : ℕ)
+      → standing_of (facts_from a) k made now ≡ standing_of (facts_from b) (rekey p k) made now
+  judged_alike a b p k once alike made now =
+      sym (stands_alike p once (facts_from a) k made now)
+      ∙ stands_same (renumber_facts p (facts_from a)) (facts_from b) refl refl
+      (λ q. ap (list_any q) (revocations_same p once a) ∙ alike_revocations (map (renumber p) a) b alike q) (rekey p k) made now
 
   each_permuted : (a b : List Judged) → IsPermutation a b → Each c a → Each c b
   each_permuted a b same each x h = each x (Contains-permutation b a x (IsPermutation-sym a b same) h)
 
+  -- where the parts are moved, a key stands as the one of its number there
+  moved_as : (parts others : List Judged) (h : AreMoved parts others) (k : Key) (made now : ℕ) → AreJudged c founds parts → IsPermutation parts others
+      → standing_of (facts_with known policy c founds parts) k made now ≡ standing_of (facts_with known policy c founds others) (rekey h.goes k) made now
+  moved_as parts others h k made now judged same =
+      let each : Each c parts = λ x m. All-contains (HasEach c) parts x judged.each m in
+      let revokers : List Fingerprint = revokers_from parts in
+      ap (λ (x : FactsValue). standing_of x k made now) (facts_are revokers parts judged.own each (λ q. refl))
+      ∙ judged_alike (said_from revokers parts) (said_from revokers others) h.goes k (moved_once parts others h) (said_there (says_by revokers) (own_by revokers) parts others h) made now
+      ∙ ap (λ (x : FactsValue). standing_of x (rekey h.goes k) made now) (sym (facts_are revokers others judged.own (each_permuted parts others same each) (λ q. sym (same_revokers parts others same q))))
+
   pub primary_as : (parts others : List Judged) (made now : ℕ) → AreJudged c founds parts → IsPermutation parts others
       → standing_of (facts_with known policy c founds parts) key.Primary made now ≡ standing_of (facts_with known policy c founds others) key.Primary made now
-  primary_as parts others made now judged same =
-      let each : Each c parts = λ x h. All-contains (HasEach c) parts x judged.each h in
-      let revokers : List Fingerprint = revokers_from parts in
-      let f : FactsValue = facts_from (said_from revokers parts) in
-      let g : FactsValue = facts_from (said_from revokers others) in
-      ap (λ (x : FactsValue). standing_of x key.Primary made now) (facts_are revokers parts judged.own each (λ q. refl))
-      ∙ judged_alike (λ m. false) (λ m. false) f g key.Primary key.Primary key.Primary (primary_alike (λ m. false) f) (primary_alike (λ m. false) g) refl refl
-      (λ q. said_none (says_by revokers) q (own_by revokers) parts
-      ∙ ap (λ (t : Bool). list_any (λ s. q (to None s)) (own_by revokers) || t) (list_any-IsPermutation (λ (x : Judged). list_any (λ s. q (to (Some 1) s)) (says_by revokers x)) parts others same)
-      ∙ sym (said_none (says_by revokers) q (own_by revokers) others)) made now
-      ∙ ap (λ (x : FactsValue). standing_of x key.Primary made now) (sym (facts_are revokers others judged.own (each_permuted parts others same each) (λ q. sym (same_revokers parts others same q))))
+  primary_as parts others made now judged same = moved_as parts others (moved_by parts others same) key.Primary made now judged same
 
   pub subkey_as : (x : Judged) (before behind before_it behind_it : List Judged) (created made now : ℕ) → AreJudged c founds (before ++ x ∷ behind) → IsPermutation (before ++ behind) (before_it ++ behind_it)
       → standing_of (facts_with known policy c founds (before ++ x ∷ behind)) (key.Subkey (length before) created) made now
       ≡ standing_of (facts_with known policy c founds (before_it ++ x ∷ behind_it)) (key.Subkey (length before_it) created) made now
   subkey_as x before behind before_it behind_it created made now judged others_same =
       let parts : List Judged = before ++ x ∷ behind in
+      let front : List Judged = x ∷ (before ++ behind) in
+      let front_it : List Judged = x ∷ (before_it ++ behind_it) in
       let others : List Judged = before_it ++ x ∷ behind_it in
-      let same : IsPermutation parts others = IsPermutation-trans parts (x ∷ (before ++ behind)) others (IsPermutation-middle before x behind)
-      (IsPermutation-trans (x ∷ (before ++ behind)) (x ∷ (before_it ++ behind_it)) others (IsPermutation-cons x (before ++ behind) (before_it ++ behind_it) others_same) (IsPermutation-sym others (x ∷ (before_it ++ behind_it)) (IsPermutation-middle before_it x behind_it))) in
-      let each : Each c parts = λ y h. All-contains (HasEach c) parts y judged.each h in
-      let revokers : List Fingerprint = revokers_from parts in
-      let f : FactsValue = facts_from (said_from revokers parts) in
-      let g : FactsValue = facts_from (said_from revokers others) in
-      ap (λ (y : FactsValue). standing_of y (key.Subkey (length before) created) made now) (facts_are revokers parts judged.own each (λ q. refl))
-      ∙ judged_alike (λ m. m == length before) (λ m. m == length before_it) f g (key.Subkey 0 created) (key.Subkey (length before) created) (key.Subkey (length before_it) created) (subkey_alike f (length before) created) (subkey_alike g (length before_it) created) refl refl
-      (λ q. said_one (says_by revokers) q (own_by revokers) before x behind
-      ∙ ap (λ (t : Bool). list_any (λ s. q (to None s)) (own_by revokers) || (list_any (λ s. q (to (Some 0) s)) (says_by revokers x) || t)) (list_any-IsPermutation (λ (y : Judged). list_any (λ s. q (to (Some 1) s)) (says_by revokers y)) (before ++ behind) (before_it ++ behind_it) others_same)
-      ∙ sym (said_one (says_by revokers) q (own_by revokers) before_it x behind_it)) made now
-      ∙ ap (λ (y : FactsValue). standing_of y (key.Subkey (length before_it) created) made now) (sym (facts_are revokers others judged.own (each_permuted parts others same each) (λ q. sym (same_revokers parts others same q))))
+      let same : IsPermutation parts others = IsPermutation-trans parts front others (IsPermutation-middle before x behind)
+      (IsPermutation-trans front front_it others (IsPermutation-cons x (before ++ behind) (before_it ++ behind_it) others_same) (IsPermutation-sym others front_it (IsPermutation-middle before_it x behind_it))) in
+      let moved = moved_around x before behind before_it behind_it (moved_by (before ++ behind) (before_it ++ behind_it) others_same) in
+      moved_as parts others moved.0 (key.Subkey (length before) created) made now judged same
+      ∙ ap (λ (n : ℕ). standing_of (facts_with known policy c founds others) (key.Subkey n created) made now) moved.1
 
 pub same_primary : (known : List Known) (policy : Policy) (c : CertificateValue) (founds : List Verdict) (parts others : List Judged) (made now : ℕ) → AreJudged c founds parts → IsPermutation parts others
     → standing_of (facts_with known policy c founds parts) key.Primary made now ≡ standing_of (facts_with known policy c founds others) key.Primary made now

@@ -334,7 +334,7 @@ fn add_certificates<W: Sink>(
     Ok(())
 }
 
-/// Adds a line for each part of a keyring, which stand so: of each certificate the primary key, and
+/// Adds one line per part of a keyring with its state: of each certificate the primary key, and
 /// then its components, in order. Allocates nothing.
 ///
 /// - Of a key: `cert <n> part <n or -> : <pub or sub> <fingerprint> <how>`, and behind that

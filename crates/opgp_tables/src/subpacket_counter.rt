@@ -19,7 +19,7 @@ pub(crate) struct SubpacketCounter {
 }
 
 impl SubpacketCounter {
-    /// Counts those of an area.
+    /// Counts an area's subpackets.
     pub(crate) fn add_area(&mut self, mut subpackets: Subs<'_>)
         ensures rows { self.new.sizes.rows
             ≡ capped (self.old.sizes.rows + length (subs_to_come subpackets.entry)) }

@@ -7,6 +7,10 @@ use Rattle.opgp_tool.specs.declared.spool_file.SpoolFile.{SpoolFile}
 abbrev pub spool_failed : {F : Type 0} → SpoolFile F → Bool
 spool_failed s = s.has_failed
 
+-- how many octets were put and aren't taken yet; as many as 2^64 - 1 are told as that
+abbrev pub left_in : {F : Type 0} → SpoolFile F → ℕ
+left_in s = s.left
+
 -- what was put into it, where it is known what such a file holds: the file's octets, and then those
 -- that wait to be written
 abbrev pub put_so_far : {F : Type 0} → (F → Option (List ℕ)) → SpoolFile F → Option (List ℕ)

@@ -1,10 +1,12 @@
 //! A file without a name, in which a text is held.
 
-ghost use Rattle.std.specs.Prelude.{◌≡◌, ◌≤◌, ◌||◌, [], ◌∷◌, length, take, true, false};
+ghost use Rattle.std.specs.Prelude.{◌≡◌, ◌≤◌, ◌<◌, ◌+◌, ◌-◌, ◌^◌, ◌||◌, [], ◌∷◌, length, min, take};
+ghost use Rattle.std.specs.Prelude.{true, false};
 ghost use Rattle.std.specs.Prelude.{IfOk, OnOk, Some};
-ghost use Rattle.std.specs.Io.KnownBytes.{Appends, Keeps, WriteAppends};
-ghost use Rattle.opgp_io.specs.Stream.{put_fails};
-ghost use Rattle.opgp_tool.specs.SpoolFile.{IsBesideStreams, file_in, put_so_far, spool_failed};
+ghost use Rattle.std.specs.Io.KnownBytes.{Appends, Keeps, ReadConsumes, WriteAppends};
+ghost use Rattle.opgp_io.specs.Stream.{pull_fails, put_fails};
+ghost use Rattle.opgp_tool.specs.SpoolFile.{IsBesideStreams, file_in, left_in, put_so_far};
+ghost use Rattle.opgp_tool.specs.SpoolFile.{spool_failed};
 
 use opgp_stack::{RunFault, Spool};
 use std::alloc::Global;
@@ -111,6 +113,7 @@ impl<F: Read + Write + Seek> SpoolFile<F> {
     /// Writes what waits.
     fn flush(&mut self) -> io::Result<()>
         ensures same { spool_failed self.new ≡ spool_failed self.old }
+        ensures left { left_in self.new ≡ left_in self.old }
         ensures put { OnOk result
             (Keeps (put_so_far F.contents self.old) (put_so_far F.contents self.new)) }
         ensures none { OnOk result (self.new.waiting.items ≡ []) }
@@ -124,6 +127,7 @@ impl<F: Read + Write + Seek> SpoolFile<F> {
     fn write(&mut self, octets: &[u8]) -> io::Result<usize>
         ensures bound { IfOk result (λ n. n ≤ length octets.now) }
         ensures same { spool_failed self.new ≡ spool_failed self.old }
+        ensures left { left_in self.new ≡ left_in self.old }
         ensures put { IfOk result (λ n. Appends (put_so_far F.contents self.old)
             (put_so_far F.contents self.new) (take n octets.now)) }
     {
@@ -144,6 +148,8 @@ impl<F: Read + Write + Seek> SpoolFile<F> {
     fn read(&mut self, buf: &mut [u8]) -> io::Result<usize>
         ensures bound { IfOk result (λ n. n ≤ length buf.new) }
         ensures same { spool_failed self.new ≡ spool_failed self.old }
+        ensures left { IfOk result (λ n. left_in self.new ≡ left_in self.old - n) }
+        ensures over { IfOk result (λ n. n ≡ 0 → 0 < length buf.new → left_in self.old ≡ 0) }
     {
         if !self.is_read {
             self.flush()?;
@@ -176,6 +182,8 @@ impl<F: Read + Write + Seek> Spool for SpoolFile<F> {
         // Where it is known what a file holds: the octets go into the file, once and in order.
         ensures put { IfOk result (λ n. Appends (put_so_far F.contents self.old)
             (put_so_far F.contents self.new) (take n octets.now)) }
+        ensures left { IfOk result (λ n. left_in self.new
+            ≡ min (left_in self.old + n) (2 ^ 64 - 1)) }
     {
         match self.write(octets) {
             Ok(n) => {
@@ -192,7 +200,14 @@ impl<F: Read + Write + Seek> Spool for SpoolFile<F> {
         }
     }
 
-    fn get(&mut self, buf: &mut [u8]) -> io::Result<usize> {
+    fn get(&mut self, buf: &mut [u8]) -> io::Result<usize>
+        ensures bound { IfOk result (λ n. n ≤ length buf.new) }
+        ensures octets { false ≡ true → ReadConsumes (Some []) (Some []) result buf.new }
+        ensures failed { spool_failed self.new ≡ (spool_failed self.old || pull_fails result) }
+        // What is taken is counted, and none is only where all that was put was taken.
+        ensures left { IfOk result (λ n. left_in self.new ≡ left_in self.old - n) }
+        ensures over { IfOk result (λ n. n ≡ 0 → 0 < length buf.new → left_in self.old ≡ 0) }
+    {
         let result = self.read(buf);
         if result.is_err() {
             self.has_failed = true;

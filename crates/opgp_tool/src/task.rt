@@ -359,12 +359,37 @@ fn usage_of(alloc: Global, error: &Error) -> Usage
         Err(_) => return Usage::Memory,
     };
     if !is_about_a_file(&text) {
-        return Usage::Text(text);
+        return escaped(alloc, text);
     }
     match text.push_str("\nopgp reads standard input: opgp COMMAND < FILE\n") {
-        Ok(()) => Usage::Text(text),
+        Ok(()) => escaped(alloc, text),
         Err(_) => Usage::Memory,
     }
+}
+
+/// Whether a terminal shows a character as it is: printable ASCII, and line feeds.
+fn is_shown(letter: char) -> bool {
+    letter == '\n' || matches!(letter, ' '..='~')
+}
+
+/// A text, in which words of the command line may be, with other characters than printable ASCII
+/// escaped, so that none of them steers a terminal.
+fn escaped(alloc: Global, text: String) -> Usage {
+    if text.chars().all(is_shown) {
+        return Usage::Text(text);
+    }
+    let mut shown = String::new(alloc);
+    for letter in text.chars() {
+        let added = if is_shown(letter) {
+            shown.push(letter)
+        } else {
+            shown.extend(letter.escape_debug())
+        };
+        if added.is_err() {
+            return Usage::Memory;
+        }
+    }
+    Usage::Text(shown)
 }
 
 /// Whether a text of `clap` refuses an argument that isn't an option, such as the name of a file.
@@ -383,7 +408,7 @@ fn no_task(alloc: Global, matches: &ArgMatches) -> Usage {
         Some(("diff", _)) => no_difference(alloc),
         Some(("write", options)) => no_write(alloc, options),
         Some(("split", options)) => no_split(alloc, options),
-        _ => with_advice(String::from_str(alloc, "error: no task is named")),
+        _ => with_advice(alloc, String::from_str(alloc, "error: no task is named")),
     }
 }
 
@@ -391,7 +416,7 @@ fn no_task(alloc: Global, matches: &ArgMatches) -> Usage {
 /// exclude each other.
 fn no_check(alloc: Global) -> Usage {
     let text = "error: the argument '--places' cannot be used with '--fingerprints'";
-    with_advice(String::from_str(alloc, text))
+    with_advice(alloc, String::from_str(alloc, text))
 }
 
 /// What to print where the options of `octets` name no task: `clap` doesn't judge options that
@@ -406,7 +431,7 @@ fn no_octets(alloc: Global, options: &ArgMatches) -> Usage {
     } else {
         "error: the argument '--of literal' cannot be used with '--all'"
     };
-    with_advice(String::from_str(alloc, text))
+    with_advice(alloc, String::from_str(alloc, text))
 }
 
 /// What to print where the options of `digest` name no task: `clap` doesn't judge that an option is
@@ -417,14 +442,14 @@ fn no_digest(alloc: Global, options: &ArgMatches) -> Usage {
     } else {
         "error: the argument '--salt' wants '--octets <N>'"
     };
-    with_advice(String::from_str(alloc, text))
+    with_advice(alloc, String::from_str(alloc, text))
 }
 
 /// What to print where the options of `diff` name no task: `clap` doesn't judge that an option is
 /// wanted.
 fn no_difference(alloc: Global) -> Usage {
     let text = "error: the following required arguments were not provided:\n  --old <FILE>";
-    with_advice(String::from_str(alloc, text))
+    with_advice(alloc, String::from_str(alloc, text))
 }
 
 /// What to print where the options of `state` name no task: `clap` judges neither that `--at` is
@@ -433,10 +458,13 @@ fn no_states(alloc: Global, options: &ArgMatches) -> Usage {
     match word_of(options, "at") {
         None => {
             let text = "error: the following required arguments were not provided:\n  --at <TIME>";
-            with_advice(String::from_str(alloc, text))
+            with_advice(alloc, String::from_str(alloc, text))
         }
         Some(at) => {
-            with_advice(format!(in alloc; "error: invalid value '{at}' for '--at <TIME>': {TIME}"))
+            with_advice(
+                alloc,
+                format!(in alloc; "error: invalid value '{at}' for '--at <TIME>': {TIME}"),
+            )
         }
     }
 }
@@ -451,7 +479,7 @@ fn no_write(alloc: Global, options: &ArgMatches) -> Usage {
     } else {
         "error: the argument '--user-id <N>' cannot be used with '--bound'"
     };
-    with_advice(String::from_str(alloc, text))
+    with_advice(alloc, String::from_str(alloc, text))
 }
 
 /// What to print where the options of `split` name no task: `clap` judges neither the texts of
@@ -467,7 +495,7 @@ fn no_split(alloc: Global, options: &ArgMatches) -> Usage {
     } else {
         "error: the argument '--nth <N>' cannot be used with '--key <KEY>'"
     };
-    with_advice(String::from_str(alloc, text))
+    with_advice(alloc, String::from_str(alloc, text))
 }
 
 /// What to print where a text of `--key` names no key.
@@ -478,21 +506,21 @@ fn no_key(alloc: Global, options: &ArgMatches) -> Usage {
                 let line = format!(in alloc;
                     "error: invalid value '{text}' for '--key <KEY>': {NAME}"
                 );
-                return with_advice(line);
+                return with_advice(alloc, line);
             }
         }
     }
-    with_advice(String::from_str(alloc, "error: no task is named"))
+    with_advice(alloc, String::from_str(alloc, "error: no task is named"))
 }
 
 /// The text, if there was memory for it, and where to read on.
-fn with_advice(text: Result<String, OutOfMemory>) -> Usage {
+fn with_advice(alloc: Global, text: Result<String, OutOfMemory>) -> Usage {
     let mut text = match text {
         Ok(text) => text,
         Err(_) => return Usage::Memory,
     };
     match text.push_str("\n\nFor more information, try '--help'.\n") {
-        Ok(()) => Usage::Text(text),
+        Ok(()) => escaped(alloc, text),
         Err(_) => Usage::Memory,
     }
 }

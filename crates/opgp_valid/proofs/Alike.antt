@@ -3,19 +3,20 @@ use Rattle.std.proofs.Common.{◌≡◌, ◌∙◌, ◌++◌, ℕ, ◌≤◌, �
 use Rattle.std.specs.List.{filter, find, list_all, list_any}
 use Rattle.std.proofs.lemmas.Bool.{leb-true, le-leb, true≢false, false≢true}
 use Rattle.std.proofs.lemmas.Bool.Decides.{nat_tests}
+use Rattle.std.proofs.lemmas.List.Elements.{filter_agree}
 use Rattle.std.proofs.lemmas.List.Folds.{list_any-append}
-use Rattle.opgp_valid.specs.Group.{any, good, speaks}
+use Rattle.opgp_valid.specs.Group.{any, good, kept, on_component, speaks}
 use Rattle.opgp_valid.specs.Laws.{IsAmong}
 use Rattle.opgp_valid.specs.Saying.{is_nonempty}
-use Rattle.opgp_valid.specs.Speaking.{end_in, is_same, later, latest, made_at, newest, sooner, uses_in}
-use Rattle.opgp_valid.specs.Speaking as spoken
-use Rattle.opgp_valid.specs.Standing.{applies, created_of, has_ended, heard, is_expired_at, is_unbacked_at, is_unbound_at, limiters, may_not_sign_at, revokes, speakers, standing_of}
+use Rattle.opgp_valid.specs.Speaking.{current, end_in, is_current, is_same, later, latest, latest_on, made_at, made_then, newest, newest_current, sooner, uses_in}
+use Rattle.opgp_valid.specs.Speaking as speaking
+use Rattle.opgp_valid.specs.Standing.{applies, created_of, has_ended, heard, is_expired_at, is_unbacked_at, is_unbound_at, limiters, limiting, may_not_sign_at, must_stand, revokes, speakers, spoken, standing_of}
 use Rattle.opgp_valid.specs.Statement.{end_of, has_back}
 use Rattle.opgp_valid.specs.Facts.{FactsValue}
 use Rattle.opgp_valid.specs.declared.facts.Key.{Key}
 use Rattle.opgp_valid.specs.declared.facts.Key.TheVariants as key
 use Rattle.opgp_valid.specs.declared.group.Group.{Group}
-use Rattle.opgp_valid.specs.declared.group.Sort.TheVariants.{Direct, UserIds, Certifications, Main, Bindings}
+use Rattle.opgp_valid.specs.declared.group.Sort.TheVariants.{Direct, UserIds, Certifications, Main, Expiring, Bindings}
 use Rattle.opgp_valid.specs.declared.statement.Statement.{Statement}
 use Rattle.opgp_valid.specs.declared.why.Why.{Why}
 use Rattle.opgp_valid.specs.declared.why.Why.TheVariants.{Future, Revoked, Early, Unbound, Expired, Flags, Back}
@@ -29,10 +30,10 @@ any_filter {A} p q (x ∷ xs) = step (p x) (any_filter p q xs) where
   step true e = ap (λ b. q x || b) e
   step false e = e
 
-or_same : (a b c d : Bool) → a ≡ b → c ≡ d → (a || c) ≡ (b || d)
+pub or_same : (a b c d : Bool) → a ≡ b → c ≡ d → (a || c) ≡ (b || d)
 or_same a b c d e f = rw (e, f) refl
 
-find_agree : {A : Type 0} (p q : A → Bool) → ((x : A) → p x ≡ q x) → (xs : List A) → find p xs ≡ find q xs
+pub find_agree : {A : Type 0} (p q : A → Bool) → ((x : A) → p x ≡ q x) → (xs : List A) → find p xs ≡ find q xs
 find_agree p q h [] = refl
 find_agree p q h (x ∷ xs) = rw (h x, find_agree p q h xs) refl
 
@@ -41,7 +42,7 @@ abbrev pub reaches : ℕ → Option ℕ → Bool
 reaches n None = false
 reaches n (Some m) = nat_le n m
 
-later_reaches : (n : ℕ) (a b : Option ℕ) → reaches n (later a b) ≡ (reaches n a || reaches n b)
+pub later_reaches : (n : ℕ) (a b : Option ℕ) → reaches n (later a b) ≡ (reaches n a || reaches n b)
 later_reaches n None b = refl
 later_reaches n (Some a) None = grind (arith, nat_tests)
 later_reaches n (Some a) (Some b) = grind (arith, nat_tests)
@@ -105,29 +106,59 @@ alike_append a b c d h k p = list_any-append p a c ∙ or_same (list_any p a) (l
 same_latest : (a b : List Statement) → Alike a b → latest a ≡ latest b
 same_latest a b h = same_time (latest a) (latest b) (λ n. latest_reaches n a ∙ h (λ s. reaches n (made_at s)) ∙ sym (latest_reaches n b))
 
+alike_made : (a b : List Statement) → Alike a b → Alike (made_then (latest a) a) (made_then (latest b) b)
+alike_made a b k p =
+    ap (λ (t : Option ℕ). list_any p (made_then t a)) (same_latest a b k)
+    ∙ alike_filter (λ s. is_same (made_at s) (latest b)) a b k p
+
 alike_newest : (group : Group) (at : ℕ) (a b : List Statement) → Alike a b → Alike (newest group at a) (newest group at b)
-alike_newest group at a b h =
-    let k : Alike (spoken.speakers group at a) (spoken.speakers group at b) = alike_filter (speaks group at) a b h in
-    rw (same_latest (spoken.speakers group at a) (spoken.speakers group at b) k)
-    (alike_filter (λ s. is_same (made_at s) (latest (spoken.speakers group at b))) (spoken.speakers group at a) (spoken.speakers group at b) k)
+alike_newest group at a b h = alike_made (speaking.speakers group at a) (speaking.speakers group at b) (alike_filter (speaks group at) a b h)
+
+-- the newest certification of each component is made at the same time
+same_latest_on : (group : Group) (at : ℕ) (a b : List Statement) → Alike a b → (o : Option ℕ) → latest_on group at a o ≡ latest_on group at b o
+same_latest_on group at a b h None = refl
+same_latest_on group at a b h (Some n) = same_latest (speaking.speakers (on_component n group) at a) (speaking.speakers (on_component n group) at b) (alike_filter (speaks (on_component n group) at) a b h)
+
+alike_current : (group : Group) (at : ℕ) (a b : List Statement) → Alike a b → Alike (current group at a) (current group at b)
+alike_current group at a b h p =
+    ap (list_any p) (filter_agree (is_current group at a) (is_current group at b) (λ s. ap (is_same (made_at s)) (same_latest_on group at a b h s.component)) (speaking.speakers group at a))
+    ∙ alike_filter (is_current group at b) (speaking.speakers group at a) (speaking.speakers group at b) (alike_filter (speaks group at) a b h) p
+
+alike_newest_current : (group : Group) (at : ℕ) (a b : List Statement) → Alike a b → Alike (newest_current group at a) (newest_current group at b)
+alike_newest_current group at a b h = alike_made (current group at a) (current group at b) (alike_current group at a b h)
 
 -- ---- what is judged of them
 module _ (f g : FactsValue) (v : f.version ≡ g.version) (c : f.created ≡ g.created) (h : Alike f.statements g.statements) where
   alike_group : (group : Group) (at : ℕ) → Alike (newest group at f.statements) (newest group at g.statements)
   alike_group group at = alike_newest group at f.statements g.statements h
 
+  alike_certified : (stand : Bool) (at : ℕ) (t : Bool) → Alike (cond t (newest (kept stand (good UserIds)) at f.statements) []) (cond t (newest (kept stand (good UserIds)) at g.statements) [])
+  alike_certified stand at true = alike_group (kept stand (good UserIds)) at
+  alike_certified stand at false = λ p. refl
+
+  alike_spoken : (stand : Bool) (at : ℕ) → Alike (spoken f stand at) (spoken g stand at)
+  alike_spoken stand at = rw v (alike_append (newest (good Direct) at f.statements) (newest (good Direct) at g.statements) _ _ (alike_group (good Direct) at) (alike_certified stand at (g.version == 4)))
+
+  nonempty_same : (a b : List Statement) → Alike a b → is_nonempty a ≡ is_nonempty b
+  nonempty_same a b e = nonempty_some a ∙ e (λ s. true) ∙ sym (nonempty_some b)
+
+  must_same : (at : ℕ) → must_stand f at ≡ must_stand g at
+  must_same at = nonempty_same (spoken f true at) (spoken g true at) (alike_spoken true at)
+
   alike_speakers : (k : Key) (at : ℕ) → Alike (speakers f k at) (speakers g k at)
-  alike_speakers key.Primary at = rw v (alike_append (newest (good Direct) at f.statements) (newest (good Direct) at g.statements) _ _ (alike_group (good Direct) at) (certified (g.version == 4))) where
-    certified : (t : Bool) → Alike (cond t (newest (good UserIds) at f.statements) []) (cond t (newest (good UserIds) at g.statements) [])
-    certified true = alike_group (good UserIds) at
-    certified false = λ p. refl
-  alike_speakers (key.Subkey n created) at = alike_group (good (Bindings n)) at
+  alike_speakers key.Primary at p = ap (λ (t : Bool). list_any p (spoken f t at)) (must_same at) ∙ alike_spoken (must_stand g at) at p
+  alike_speakers (key.Subkey n created) at p = alike_group (good (Bindings n)) at p
+
+  alike_limiting : (stand : Bool) (at : ℕ) → Alike (limiting f stand at) (limiting g stand at)
+  alike_limiting stand at =
+      alike_append (newest (any Direct) at f.statements) (newest (any Direct) at g.statements) _ _ (alike_group (any Direct) at)
+      (alike_append (newest (kept stand (any Certifications)) at f.statements) (newest (kept stand (any Certifications)) at g.statements) _ _ (alike_group (kept stand (any Certifications)) at)
+      (alike_append (newest_current (kept stand (any Main)) at f.statements) (newest_current (kept stand (any Main)) at g.statements) _ _ (alike_newest_current (kept stand (any Main)) at f.statements g.statements h)
+      (alike_newest_current (kept stand (any Expiring)) at f.statements g.statements h)))
 
   alike_limiters : (k : Key) (at : ℕ) → Alike (limiters f k at) (limiters g k at)
-  alike_limiters key.Primary at =
-      alike_append (newest (any Direct) at f.statements) (newest (any Direct) at g.statements) _ _ (alike_group (any Direct) at)
-      (alike_append (newest (any Certifications) at f.statements) (newest (any Certifications) at g.statements) _ _ (alike_group (any Certifications) at) (alike_group (any Main) at))
-  alike_limiters (key.Subkey n created) at = alike_group (any (Bindings n)) at
+  alike_limiters key.Primary at p = ap (λ (t : Bool). list_any p (limiting f t at)) (must_same at) ∙ alike_limiting (must_stand g at) at p
+  alike_limiters (key.Subkey n created) at p = alike_group (any (Bindings n)) at p
 
   alike_heard : (k : Key) (at : ℕ) → Alike (heard f k at) (heard g k at)
   alike_heard k at = alike_append (speakers f k at) (speakers g k at) (limiters f k at) (limiters g k at) (alike_speakers k at) (alike_limiters k at)
@@ -135,9 +166,6 @@ module _ (f g : FactsValue) (v : f.version ≡ g.version) (c : f.created ≡ g.c
   same_created : (k : Key) → created_of f k ≡ created_of g k
   same_created key.Primary = c
   same_created (key.Subkey n created) = refl
-
-  nonempty_same : (a b : List Statement) → Alike a b → is_nonempty a ≡ is_nonempty b
-  nonempty_same a b e = nonempty_some a ∙ e (λ s. true) ∙ sym (nonempty_some b)
 
   unbound_same : (k : Key) (at : ℕ) → is_unbound_at f k at ≡ is_unbound_at g k at
   unbound_same k at = or_same _ _ _ _ (ap not (nonempty_same (speakers f key.Primary at) (speakers g key.Primary at) (alike_speakers key.Primary at))) (ap not (nonempty_same (speakers f k at) (speakers g k at) (alike_speakers k at)))

@@ -7,11 +7,17 @@ pub mod Finding
 pub mod FoundKeys
 pub mod Members
 pub mod Newest
+pub mod NewestOf
 pub mod Orders
 pub mod Parts
 pub mod WalkOn
+pub mod Renumbered
 pub mod Revocations
+pub mod RevokedBy
 pub mod Rule
 pub mod Sayings
+pub mod Stepping
+pub mod Unmarked
+pub mod Times
 pub mod Verdicts
 pub mod Walks

@@ -3,11 +3,11 @@ use Rattle.std.proofs.Common.{◌≡◌, ◌∙◌, ℕ, ◌+◌, ◌≤◌, len
 use Rattle.std.specs.List.{filter, flat_map, list_any}
 use Rattle.opgp_ring.specs.Keyring.{ComponentValue, component_packets}
 use Rattle.opgp_valid.specs.Facts.{FactsValue}
-use Rattle.opgp_valid.specs.Group.{any, good, is_the, speaks}
+use Rattle.opgp_valid.specs.Group.{any, good, is_the, on_component, speaks}
 use Rattle.opgp_valid.specs.Judgement.{subkey_at}
 use Rattle.opgp_valid.specs.Moment.{subkey_saying_of}
 use Rattle.opgp_valid.specs.Saying.{heard_of}
-use Rattle.opgp_valid.specs.Speaking.{latest, made_then, newest}
+use Rattle.opgp_valid.specs.Speaking.{latest, latest_on, made_then, newest}
 use Rattle.opgp_valid.specs.State.{identity_of, revokes_identity, vouches}
 use Rattle.opgp_valid.specs.States.{part_state, states_from}
 use Rattle.opgp_valid.specs.Walk.{all_on, is_on}
@@ -34,7 +34,7 @@ module _ (p q : Statement → Bool) (h : (s : Statement) → q s ≡ false → p
     step true e r = ap (λ b. p s || b) r
     step false e r = r ∙ sym (ap (λ b. b || list_any p ss) (h s e))
 
-  same_kept : (a b : List Statement) → filter q a ≡ filter q b → filter p a ≡ filter p b
+  pub same_kept : (a b : List Statement) → filter q a ≡ filter q b → filter p a ≡ filter p b
   same_kept a b e = sym (kept a) ∙ ap (filter p) e ∙ kept b
 
   same_found : (a b : List Statement) → filter q a ≡ filter q b → list_any p a ≡ list_any p b
@@ -45,7 +45,7 @@ first_fails : (b c r : Bool) → c ≡ false → ((b && c) && r) ≡ false
 first_fails true c r e = ap (λ x. x && r) e
 first_fails false c r e = refl
 
-then_fails : (b c r : Bool) → c ≡ false → (b && (c && r)) ≡ false
+pub then_fails : (b c r : Bool) → c ≡ false → (b && (c && r)) ≡ false
 then_fails true c r e = ap (λ x. x && r) e
 then_fails false c r e = refl
 
@@ -62,6 +62,12 @@ module _ (n at : ℕ) (a b : List Statement) (e : all_on n a ≡ all_on n b) whe
       ∙ ap (λ l. heard_of created at (newest (good (Bindings n)) at b) l) (same_newest (any (Bindings n)) refl)
 
 -- ---- of the user ID or user attribute
+-- when the newest certifications of it were made
+pub same_latest_on : (group : Group) (n at : ℕ) (a b : List Statement) → all_on n a ≡ all_on n b → latest_on group at a (Some n) ≡ latest_on group at b (Some n)
+same_latest_on group n at a b e = ap latest (same_kept (speaks (on_component n group) at) (is_on n) out a b e) where
+  out : (x : Statement) → is_on n x ≡ false → speaks (on_component n group) at x ≡ false
+  out x f = first_fails _ (is_the n x.component) _ f
+
 pub same_identity : (n at : ℕ) (f g : FactsValue) → all_on n f.statements ≡ all_on n g.statements → identity_of f n at ≡ identity_of g n at
 same_identity n at f g e =
     ap (λ t. state t (list_any (vouches n at) f.statements)) (same_found (revokes_identity n) (is_on n) (λ s h. then_fails _ (is_the n s.component) _ h) f.statements g.statements e)

@@ -1,26 +1,25 @@
 -- The rule, by the facts that it says.
-use Rattle.std.proofs.Common.{◌≡◌, ◌∙◌, ◌↔◌, ◌⊎◌, inl, inr, ℕ, ◌+◌, ◌==◌, nat_lt, List, [], ◌∷◌, ◌++◌, Bool, true, false, not, cond, Option, Some, None, refl, sym, ap}
+use Rattle.std.proofs.Common.{◌≡◌, ◌∙◌, ◌↔◌, ◌⊎◌, inl, inr, ℕ, ◌+◌, ◌==◌, nat_lt, List, [], ◌∷◌, ◌++◌, Bool, true, false, not, cond, Option, Some, None, refl, sym, ap, subst}
 use Rattle.std.specs.List.{Contains, list_any}
-use Rattle.std.proofs.lemmas.Bool.{eq-eqb, eqb-true, false≢true, le-ltb, leb-false, lt-leb, ltb-false, or_from, or_parts, true≢false}
+use Rattle.std.proofs.lemmas.Bool.{and_parts, eq-eqb, eqb-true, false≢true, le-ltb, leb-false, lt-leb, ltb-false, or_from, or_parts, true≢false}
 use Rattle.std.proofs.lemmas.List.Elements.{Contains-append_cases, Contains-append_left, Contains-append_right}
 use Rattle.opgp_octets.specs.declared.signature_type.SignatureType.{SignatureType}
 use Rattle.opgp_octets.specs.declared.signature_type.SignatureType.TheVariants as types
 use Rattle.opgp_valid.specs.Saying.{is_nonempty}
-use Rattle.opgp_valid.specs.Speaking.{end_in, newest, uses_in}
-use Rattle.opgp_valid.specs.Standing.{applies, created_of, has_ended, heard, is_expired_at, is_revocation_of, is_revoked, is_unbacked_at, is_unbound_at, limiters, may_not_sign_at, revokes, speakers, standing_of}
+use Rattle.opgp_valid.specs.Speaking.{end_in, newest, newest_current, uses_in}
+use Rattle.opgp_valid.specs.Standing.{applies, created_of, has_ended, heard, is_expired_at, is_revocation_of, is_revoked, is_unbacked_at, is_unbound_at, limiters, limiting, may_not_sign_at, must_stand, revokes, speakers, spoken, standing_of}
 use Rattle.opgp_valid.specs.Statement.{end_of, has_back}
-use Rattle.opgp_valid.specs.Group.{any, good}
-use Rattle.opgp_valid.specs.Stands.{IsBacked, IsHeard, IsLimiter, IsNewest, IsSpeaker, Lasts, Revokes, Stands, StandsAt}
+use Rattle.opgp_valid.specs.Group.{any, good, is_certification_on, is_in, kept}
+use Rattle.opgp_valid.specs.Stands.{HasUnrevoked, IsBacked, IsHeard, IsLimiter, IsLimiting, IsNewest, IsNewestCurrent, IsSpeaker, IsSpoken, Lasts, OfThose, Revokes, Stands, StandsAt}
 use Rattle.opgp_valid.specs.Facts.{FactsValue}
 use Rattle.opgp_valid.specs.declared.facts.Key.{Key}
 use Rattle.opgp_valid.specs.declared.facts.Key.TheVariants as key
-use Rattle.opgp_valid.specs.declared.group.Sort.{Sort}
-use Rattle.opgp_valid.specs.declared.group.Sort.TheVariants.{Direct, UserIds, Certifications, Main, Bindings}
+use Rattle.opgp_valid.specs.declared.group.Sort.TheVariants.{Direct, UserIds, Certifications, Main, Expiring, Bindings}
 use Rattle.opgp_valid.specs.declared.statement.Statement.{Statement}
 use Rattle.opgp_valid.specs.declared.why.Why.TheVariants.{Future, Revoked, Early, Unbound, Expired, Flags, Back}
 use Rattle.opgp_valid.proofs.Alike.{ended_some, not_all, not_signing}
 use Rattle.opgp_valid.proofs.Members.{member_here, none_in, none_passes, passes_none, passes_some, some_passes}
-use Rattle.opgp_valid.proofs.Newest.{from_force, in_force, is_the_one, newest_is_newest, the_is}
+use Rattle.opgp_valid.proofs.Newest.{from_force, in_force, is_newest_current, is_the_one, newest_current_is, newest_is_newest, the_is}
 
 -- ---- what revokes a key
 revokes_is : (k : Key) (t : SignatureType) (component : Option ℕ) (s : Statement) → s.kind ≡ t → s.component ≡ component → is_revocation_of k t component ≡ true → Revokes k s
@@ -44,38 +43,100 @@ is_unrevoked f k h = passes_none (revokes k) f.statements (λ s c. other s c (re
   other s c true e = absurd (h s c (revokes_is k s.kind s.component s refl refl e))
   other s c false e = refl
 
+-- ---- something is said
+some_said : (ss : List Statement) → not (is_nonempty ss) ≡ false → (s : Statement) × Contains ss s
+some_said [] e = absurd (true≢false e)
+some_said (s ∷ ss) e = (s, member_here s ss)
+
+said_some : (ss : List Statement) (s : Statement) → Contains ss s → not (is_nonempty ss) ≡ false
+said_some [] s h = absurd (none_in s h)
+said_some (r ∷ ss) s h = refl
+
+signs_is : (b : Bool) → not b ≡ false → b ≡ true
+signs_is true e = refl
+signs_is false e = absurd (true≢false e)
+
 -- ---- who is heard
+-- with what is revoked, or without
+module _ (f : FactsValue) (at : ℕ) (stand : Bool) (s : Statement) where
+  -- of a group of certifications
+  main_ones : (r : Statement) → is_in Main r ≡ true → is_certification_on r ≡ true
+  main_ones r e = (and_parts (is_certification_on r) r.is_main e).0
+
+  expiring_ones : (r : Statement) → is_in Expiring r ≡ true → is_certification_on r ≡ true
+  expiring_ones r e = (and_parts (is_certification_on r) (not (r.key_lasts == 0)) e).0
+
+  spoken_is : Contains (spoken f stand at) s → IsSpoken f stand at s
+  spoken_is h = elim (Contains-append_cases (newest (good Direct) at f.statements) _ s h) [ inl a ↦ inl ((newest_is_newest (good Direct) at f.statements s).0 a) | inr b ↦ inr (certified (f.version == 4) refl b) ] where
+    certified : (t : Bool) → (f.version == 4) ≡ t → Contains (cond t (newest (kept stand (good UserIds)) at f.statements) []) s → (f.version ≡ 4) × IsNewest (kept stand (good UserIds)) at f.statements s
+    certified true e c = (eqb-true f.version 4 e, (newest_is_newest (kept stand (good UserIds)) at f.statements s).0 c)
+    certified false e c = absurd (none_in s c)
+
+  is_spoken : IsSpoken f stand at s → Contains (spoken f stand at) s
+  is_spoken (inl h) = Contains-append_left (newest (good Direct) at f.statements) _ s ((newest_is_newest (good Direct) at f.statements s).1 h)
+  is_spoken (inr h) = Contains-append_right (newest (good Direct) at f.statements) _ s (rw (eq-eqb f.version 4 h.0) ((newest_is_newest (kept stand (good UserIds)) at f.statements s).1 h.1))
+
+  -- the parts of those that limit
+  abbrev certified_ones : List Statement
+  certified_ones = newest (kept stand (any Certifications)) at f.statements
+
+  abbrev main_list : List Statement
+  main_list = newest_current (kept stand (any Main)) at f.statements
+
+  abbrev expiring_list : List Statement
+  expiring_list = newest_current (kept stand (any Expiring)) at f.statements
+
+  limiting_is : Contains (limiting f stand at) s → IsLimiting f stand at s
+  limiting_is h = elim (Contains-append_cases (newest (any Direct) at f.statements) _ s h) [ inl a ↦ inl ((newest_is_newest (any Direct) at f.statements s).0 a) | inr b ↦ inr (second b) ] where
+    third : Contains (main_list ++ expiring_list) s → IsNewestCurrent (kept stand (any Main)) at f.statements s ⊎ IsNewestCurrent (kept stand (any Expiring)) at f.statements s
+    third h = elim (Contains-append_cases main_list expiring_list s h) [ inl a ↦ inl (newest_current_is (kept stand (any Main)) main_ones at f.statements s a) | inr b ↦ inr (newest_current_is (kept stand (any Expiring)) expiring_ones at f.statements s b) ]
+
+    second : Contains (certified_ones ++ (main_list ++ expiring_list)) s → IsNewest (kept stand (any Certifications)) at f.statements s ⊎ (IsNewestCurrent (kept stand (any Main)) at f.statements s ⊎ IsNewestCurrent (kept stand (any Expiring)) at f.statements s)
+    second h = elim (Contains-append_cases certified_ones _ s h) [ inl a ↦ inl ((newest_is_newest (kept stand (any Certifications)) at f.statements s).0 a) | inr b ↦ inr (third b) ]
+
+  is_limiting : IsLimiting f stand at s → Contains (limiting f stand at) s
+  is_limiting (inl h) = Contains-append_left (newest (any Direct) at f.statements) _ s ((newest_is_newest (any Direct) at f.statements s).1 h)
+  is_limiting (inr (inl h)) = Contains-append_right (newest (any Direct) at f.statements) _ s (Contains-append_left certified_ones _ s ((newest_is_newest (kept stand (any Certifications)) at f.statements s).1 h))
+  is_limiting (inr (inr (inl h))) = Contains-append_right (newest (any Direct) at f.statements) _ s (Contains-append_right certified_ones _ s (Contains-append_left main_list expiring_list s (is_newest_current (kept stand (any Main)) main_ones at f.statements s h)))
+  is_limiting (inr (inr (inr h))) = Contains-append_right (newest (any Direct) at f.statements) _ s (Contains-append_right certified_ones _ s (Contains-append_right main_list expiring_list s (is_newest_current (kept stand (any Expiring)) expiring_ones at f.statements s h)))
+
+module _ (f : FactsValue) (at : ℕ) where
+  -- something that isn't revoked speaks
+  has_unrevoked : must_stand f at ≡ true → HasUnrevoked f at
+  has_unrevoked e = let x = some_said (spoken f true at) (ap not e) in (x.0, spoken_is f at true x.0 x.1)
+
+  unrevoked_has : HasUnrevoked f at → must_stand f at ≡ true
+  unrevoked_has h = signs_is (must_stand f at) (said_some (spoken f true at) h.0 (is_spoken f at true h.0 h.1))
+
+  of_those : (holds : Bool → Type 0) → holds (must_stand f at) → OfThose f at holds
+  of_those holds h = step (must_stand f at) refl h where
+    step : (t : Bool) → must_stand f at ≡ t → holds t → OfThose f at holds
+    step true e x = inl (has_unrevoked e, x)
+    step false e x = inr ((λ u. true≢false (sym (unrevoked_has u) ∙ e)), x)
+
+  those_of : (holds : Bool → Type 0) → OfThose f at holds → holds (must_stand f at)
+  those_of holds (inl h) = subst (λ (t : Bool). holds t) (sym (unrevoked_has h.0)) h.1
+  those_of holds (inr h) = step (must_stand f at) refl where
+    step : (t : Bool) → must_stand f at ≡ t → holds t
+    step true e = absurd (h.0 (has_unrevoked e))
+    step false e = h.1
+
 module _ (f : FactsValue) (at : ℕ) (s : Statement) where
   speaker : (k : Key) → Contains (speakers f k at) s → IsSpeaker f k at s
-  speaker key.Primary h = elim (Contains-append_cases (newest (good Direct) at f.statements) _ s h) [ inl a ↦ inl ((newest_is_newest (good Direct) at f.statements s).0 a) | inr b ↦ inr (certified (f.version == 4) refl b) ] where
-    certified : (t : Bool) → (f.version == 4) ≡ t → Contains (cond t (newest (good UserIds) at f.statements) []) s → (f.version ≡ 4) × IsNewest (good UserIds) at f.statements s
-    certified true e c = (eqb-true f.version 4 e, (newest_is_newest (good UserIds) at f.statements s).0 c)
-    certified false e c = absurd (none_in s c)
+  speaker key.Primary h = of_those f at (λ stand. IsSpoken f stand at s) (spoken_is f at (must_stand f at) s h)
   speaker (key.Subkey n created) h = (newest_is_newest (good (Bindings n)) at f.statements s).0 h
 
   is_speaker : (k : Key) → IsSpeaker f k at s → Contains (speakers f k at) s
-  is_speaker key.Primary (inl h) = Contains-append_left (newest (good Direct) at f.statements) _ s ((newest_is_newest (good Direct) at f.statements s).1 h)
-  is_speaker key.Primary (inr h) = Contains-append_right (newest (good Direct) at f.statements) _ s (rw (eq-eqb f.version 4 h.0) ((newest_is_newest (good UserIds) at f.statements s).1 h.1))
+  is_speaker key.Primary h = is_spoken f at (must_stand f at) s (those_of f at (λ stand. IsSpoken f stand at s) h)
   is_speaker (key.Subkey n created) h = (newest_is_newest (good (Bindings n)) at f.statements s).1 h
 
-  -- of the sorts that limit
-  limits : (sort : Sort) → Contains (newest (any sort) at f.statements) s → IsNewest (any sort) at f.statements s
-  limits sort h = (newest_is_newest (any sort) at f.statements s).0 h
-
-  is_limit : (sort : Sort) → IsNewest (any sort) at f.statements s → Contains (newest (any sort) at f.statements) s
-  is_limit sort h = (newest_is_newest (any sort) at f.statements s).1 h
-
   limiter : (k : Key) → Contains (limiters f k at) s → IsLimiter f k at s
-  limiter key.Primary h = elim (Contains-append_cases (newest (any Direct) at f.statements) _ s h) [ inl a ↦ inl (limits Direct a) | inr b ↦ inr (second b) ] where
-    second : Contains (newest (any Certifications) at f.statements ++ newest (any Main) at f.statements) s → IsNewest (any Certifications) at f.statements s ⊎ IsNewest (any Main) at f.statements s
-    second h = elim (Contains-append_cases (newest (any Certifications) at f.statements) _ s h) [ inl a ↦ inl (limits Certifications a) | inr b ↦ inr (limits Main b) ]
-  limiter (key.Subkey n created) h = limits (Bindings n) h
+  limiter key.Primary h = of_those f at (λ stand. IsLimiting f stand at s) (limiting_is f at (must_stand f at) s h)
+  limiter (key.Subkey n created) h = (newest_is_newest (any (Bindings n)) at f.statements s).0 h
 
   is_limiter : (k : Key) → IsLimiter f k at s → Contains (limiters f k at) s
-  is_limiter key.Primary (inl h) = Contains-append_left (newest (any Direct) at f.statements) _ s (is_limit Direct h)
-  is_limiter key.Primary (inr (inl h)) = Contains-append_right (newest (any Direct) at f.statements) _ s (Contains-append_left (newest (any Certifications) at f.statements) _ s (is_limit Certifications h))
-  is_limiter key.Primary (inr (inr h)) = Contains-append_right (newest (any Direct) at f.statements) _ s (Contains-append_right (newest (any Certifications) at f.statements) _ s (is_limit Main h))
-  is_limiter (key.Subkey n created) h = is_limit (Bindings n) h
+  is_limiter key.Primary h = is_limiting f at (must_stand f at) s (those_of f at (λ stand. IsLimiting f stand at s) h)
+  is_limiter (key.Subkey n created) h = (newest_is_newest (any (Bindings n)) at f.statements s).1 h
 
   one_heard : (k : Key) → Contains (heard f k at) s → IsHeard f k at s
   one_heard k h = elim (Contains-append_cases (speakers f k at) (limiters f k at) s h) [ inl a ↦ inl (speaker k a) | inr b ↦ inr (limiter k b) ]
@@ -85,14 +146,6 @@ module _ (f : FactsValue) (at : ℕ) (s : Statement) where
   is_heard k (inr h) = Contains-append_right (speakers f k at) (limiters f k at) s (is_limiter k h)
 
 -- ---- what they say
-some_said : (ss : List Statement) → not (is_nonempty ss) ≡ false → (s : Statement) × Contains ss s
-some_said [] e = absurd (true≢false e)
-some_said (s ∷ ss) e = (s, member_here s ss)
-
-said_some : (ss : List Statement) (s : Statement) → Contains ss s → not (is_nonempty ss) ≡ false
-said_some [] s h = absurd (none_in s h)
-said_some (r ∷ ss) s h = refl
-
 lasts_is : (at created : ℕ) (s : Statement) → has_ended at (end_of created s) ≡ false → Lasts created at s
 lasts_is at created s = step (s.key_lasts == 0) refl where
   step : (t : Bool) → (s.key_lasts == 0) ≡ t → has_ended at (cond t None (Some (created + s.key_lasts))) ≡ false → Lasts created at s
@@ -105,10 +158,6 @@ is_lasts at created s (inr l) = step (s.key_lasts == 0) where
   step : (t : Bool) → has_ended at (cond t None (Some (created + s.key_lasts))) ≡ false
   step true = refl
   step false = lt-leb (created + s.key_lasts) at l
-
-signs_is : (b : Bool) → not b ≡ false → b ≡ true
-signs_is true e = refl
-signs_is false e = absurd (true≢false e)
 
 each_lasts : (at created : ℕ) (ss : List Statement) → has_ended at (end_in created ss) ≡ false → (s : Statement) → Contains ss s → Lasts created at s
 each_lasts at created ss e s h = lasts_is at created s (none_passes (λ r. has_ended at (end_of created r)) ss (sym (ended_some at created ss) ∙ e) s h)

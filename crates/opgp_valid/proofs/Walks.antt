@@ -91,7 +91,7 @@ none_before n m (s ∷ ss) l e = step s.component e (λ k h o. none_before n k s
       let u : (k == n) ≡ false = grind (arith, nat_tests) in
       rw (u, r) refl
 
-relaxed : (o : Option ℕ) (xs : List Statement) → in_order o xs ≡ true → in_order None xs ≡ true
+pub relaxed : (o : Option ℕ) (xs : List Statement) → in_order o xs ≡ true → in_order None xs ≡ true
 relaxed o [] e = refl
 relaxed o (s ∷ ss) e = (and_parts (is_at_or_behind o s.component) (in_order s.component ss) e).1
 

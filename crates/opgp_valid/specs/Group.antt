@@ -6,7 +6,7 @@ use Rattle.opgp_octets.specs.declared.signature_type.SignatureType.TheVariants a
 use Rattle.opgp_valid.specs.declared.group.Group.{Group}
 use Rattle.opgp_valid.specs.declared.group.Sort.{Sort}
 use Rattle.opgp_valid.specs.declared.group.Sort.TheVariants.{Direct, UserIds, Certifications}
-use Rattle.opgp_valid.specs.declared.group.Sort.TheVariants.{Main, Bindings}
+use Rattle.opgp_valid.specs.declared.group.Sort.TheVariants.{Main, Expiring, Identity, Bindings}
 use Rattle.opgp_valid.specs.declared.statement.Author.{Author}
 use Rattle.opgp_valid.specs.declared.statement.Author.TheVariants.{Primary, Revoker}
 use Rattle.opgp_valid.specs.declared.statement.Statement.{Statement}
@@ -39,21 +39,37 @@ is_direct_on s = is_direct s.kind && is_none s.component
 abbrev pub is_certification_on : Statement → Bool
 is_certification_on s = certifies s.kind && is_some s.component
 
--- direct key signatures; certifications of user IDs; certifications of any component; those of the
--- user ID that is said to be the primary one (5.2.3.27); bindings of this component (5.2.1.8)
+-- direct key signatures; certifications of user IDs; certifications of any component; those that
+-- say that their user ID is the primary one (5.2.3.27); those that let the key expire (5.2.3.13);
+-- those of this component; bindings of this component (5.2.1.8)
 abbrev pub is_in : Sort → Statement → Bool
 is_in Direct s = is_direct_on s
 is_in UserIds s = is_certification_on s && s.is_on_user_id
 is_in Certifications s = is_certification_on s
 is_in Main s = is_certification_on s && s.is_main
+is_in Expiring s = is_certification_on s && not (s.key_lasts == 0)
+is_in (Identity n) s = is_certification_on s && is_the n s.component
 is_in (Bindings n) s = binds s.kind && is_the n s.component
 
 -- those of a sort that are good, and all of them
 abbrev pub good : Sort → Group
-good sort = record { sort = sort; must_be_good = true }
+good sort = record { sort = sort; must_be_good = true; must_stand = false }
 
 abbrev pub any : Sort → Group
-any sort = record { sort = sort; must_be_good = false }
+any sort = record { sort = sort; must_be_good = false; must_stand = false }
+
+-- of these, where that is asked for, those that the primary key hasn't revoked (5.2.1.13)
+abbrev pub kept : Bool → Group → Group
+kept stand group =
+    record { sort = group.sort; must_be_good = group.must_be_good; must_stand = stand }
+
+-- of these, the certifications of this component
+abbrev pub on_component : ℕ → Group → Group
+on_component n group = record {
+  sort = Identity n;
+  must_be_good = group.must_be_good;
+  must_stand = group.must_stand;
+}
 
 abbrev pub is_primary : Author → Bool
 is_primary Primary = true
@@ -63,4 +79,5 @@ is_primary Revoker = false
 -- time
 abbrev pub speaks : Group → ℕ → Statement → Bool
 speaks group at s = is_in group.sort s && ((not group.must_be_good || s.is_good)
-    && (s.is_understood && (is_primary s.author && is_alive at s)))
+    && ((not group.must_stand || not s.is_revoked)
+    && (s.is_understood && (is_primary s.author && is_alive at s))))

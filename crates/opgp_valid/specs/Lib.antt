@@ -1,4 +1,5 @@
 pub mod Believed
+pub mod Current
 pub mod Facts
 pub mod FlawText
 pub mod Gathering
@@ -11,6 +12,7 @@ pub mod Moment
 pub mod Policy
 pub mod Reached
 pub mod Revocation
+pub mod Revoking
 pub mod Saying
 pub mod Speaking
 pub mod Standing
@@ -18,6 +20,7 @@ pub mod Stands
 pub mod State
 pub mod States
 pub mod Statement
+pub mod Steps
 pub mod Subpackets
 pub mod Told
 pub mod Uses

@@ -6,7 +6,7 @@ use Rattle.std.specs.Option.{option_map}
 use Rattle.opgp_valid.specs.declared.group.Group.{Group}
 use Rattle.opgp_valid.specs.declared.statement.Statement.{Statement}
 use Rattle.opgp_valid.specs.declared.uses.Uses.{Uses}
-use Rattle.opgp_valid.specs.Group.{speaks}
+use Rattle.opgp_valid.specs.Group.{on_component, speaks}
 use Rattle.opgp_valid.specs.Statement.{end_of}
 use Rattle.opgp_valid.specs.Uses.{all_of}
 
@@ -39,6 +39,23 @@ made_then time ss = filter (λ s. is_same (made_at s) time) ss
 -- the newest of a group at a time
 abbrev pub newest : Group → ℕ → List Statement → List Statement
 newest group at ss = made_then (latest (speakers group at ss)) (speakers group at ss)
+
+-- when the newest of a group's certifications of a component was made
+abbrev pub latest_on : Group → ℕ → List Statement → Option ℕ → Option ℕ
+latest_on group at ss None = None
+latest_on group at ss (Some n) = latest (speakers (on_component n group) at ss)
+
+-- it is a newest certification of its user ID or user attribute
+abbrev pub is_current : Group → ℕ → List Statement → Statement → Bool
+is_current group at ss s = is_same (made_at s) (latest_on group at ss s.component)
+
+-- of the newest certifications of each user ID and user attribute, those of a group; and of these
+-- the newest
+abbrev pub current : Group → ℕ → List Statement → List Statement
+current group at ss = filter (is_current group at ss) (speakers group at ss)
+
+abbrev pub newest_current : Group → ℕ → List Statement → List Statement
+newest_current group at ss = made_then (latest (current group at ss)) (current group at ss)
 
 -- the earlier of two times, where None is never
 abbrev pub sooner : Option ℕ → Option ℕ → Option ℕ

@@ -7,15 +7,15 @@ use Rattle.opgp_octets.specs.declared.signature_type.SignatureType.TheVariants a
 use Rattle.opgp_valid.specs.declared.facts.Key.{Key}
 use Rattle.opgp_valid.specs.declared.facts.Key.TheVariants as key
 use Rattle.opgp_valid.specs.declared.group.Sort.TheVariants.{Direct, UserIds, Certifications}
-use Rattle.opgp_valid.specs.declared.group.Sort.TheVariants.{Main, Bindings}
+use Rattle.opgp_valid.specs.declared.group.Sort.TheVariants.{Main, Expiring, Bindings}
 use Rattle.opgp_valid.specs.declared.statement.Statement.{Statement}
 use Rattle.opgp_valid.specs.declared.why.Why.{Why}
 use Rattle.opgp_valid.specs.declared.why.Why.TheVariants.{Future, Revoked, Early, Unbound, Expired}
 use Rattle.opgp_valid.specs.declared.why.Why.TheVariants.{Flags, Back}
 use Rattle.opgp_valid.specs.Facts.{FactsValue}
-use Rattle.opgp_valid.specs.Group.{any, good, is_the}
+use Rattle.opgp_valid.specs.Group.{any, good, is_the, kept}
 use Rattle.opgp_valid.specs.Saying.{is_nonempty}
-use Rattle.opgp_valid.specs.Speaking.{end_in, newest, uses_in}
+use Rattle.opgp_valid.specs.Speaking.{end_in, newest, newest_current, uses_in}
 use Rattle.opgp_valid.specs.Statement.{has_back}
 
 -- ---- revocations
@@ -38,18 +38,35 @@ abbrev pub is_revoked : FactsValue → Key → Bool
 is_revoked f k = list_any (revokes k) f.statements
 
 -- ---- who speaks
--- for the primary key: the newest good direct key signatures, and in version 4 also the newest good
--- certifications of user IDs (5.2.3.10, 10.1); for a subkey: the newest good bindings (5.2.1.8)
+-- for the primary key, with or without the certifications that it has revoked: the newest good
+-- direct key signatures, and in version 4 also the newest good certifications of user IDs
+-- (5.2.3.10, 10.1)
+abbrev pub spoken : FactsValue → Bool → ℕ → List Statement
+spoken f stand at = newest (good Direct) at f.statements
+    ++ (if f.version == 4 then newest (kept stand (good UserIds)) at f.statements else [])
+
+-- revoked certifications play no part while something else speaks (5.2.1.13)
+abbrev pub must_stand : FactsValue → ℕ → Bool
+must_stand f at = is_nonempty (spoken f true at)
+
+-- for a subkey: the newest good bindings (5.2.1.8)
 abbrev pub speakers : FactsValue → Key → ℕ → List Statement
-speakers f key.Primary at = newest (good Direct) at f.statements
-    ++ (if f.version == 4 then newest (good UserIds) at f.statements else [])
+speakers f key.Primary at = spoken f (must_stand f at) at
 speakers f (key.Subkey n created) at = newest (good (Bindings n)) at f.statements
 
--- who limits what they say, good or not: the newest direct key signatures, certifications, and
--- certifications of the primary user ID; the newest bindings
+-- who limits what is said of the primary key, good or not, with or without revoked certifications:
+-- the newest direct key signatures and certifications; and of the newest certifications of each
+-- user ID and attribute the newest that say that it is the primary one, and the newest that let
+-- the key expire
+abbrev pub limiting : FactsValue → Bool → ℕ → List Statement
+limiting f stand at = newest (any Direct) at f.statements
+    ++ (newest (kept stand (any Certifications)) at f.statements
+    ++ (newest_current (kept stand (any Main)) at f.statements
+    ++ newest_current (kept stand (any Expiring)) at f.statements))
+
+-- of a subkey: the newest bindings
 abbrev pub limiters : FactsValue → Key → ℕ → List Statement
-limiters f key.Primary at = newest (any Direct) at f.statements
-    ++ (newest (any Certifications) at f.statements ++ newest (any Main) at f.statements)
+limiters f key.Primary at = limiting f (must_stand f at) at
 limiters f (key.Subkey n created) at = newest (any (Bindings n)) at f.statements
 
 -- who is heard

@@ -1,6 +1,6 @@
 -- The rule in plain facts: when a key of a certificate is believed for a signature over a document
 -- that was made at one time and is read at another. Each fact has its section of RFC 9580.
-use Rattle.std.specs.Prelude.{◌≡◌, ℕ, ◌+◌, ◌<◌, ◌≤◌, ◌⊎◌, ⊤, true, List, Option, Some, None}
+use Rattle.std.specs.Prelude.{◌≡◌, ◌≢◌, ℕ, ◌+◌, ◌<◌, ◌≤◌, ◌⊎◌, ⊤, Bool, true, false, List, Option, Some, None}
 use Rattle.std.specs.List.{Contains}
 use Rattle.std.specs.Option.{IsSome}
 use Rattle.opgp_octets.specs.declared.signature_type.SignatureType.{SignatureType}
@@ -11,8 +11,8 @@ use Rattle.opgp_valid.specs.declared.facts.Key.TheVariants as key
 use Rattle.opgp_valid.specs.declared.group.Group.{Group}
 use Rattle.opgp_valid.specs.declared.group.Sort.{Sort}
 use Rattle.opgp_valid.specs.declared.group.Sort.TheVariants.{Direct, UserIds, Certifications}
-use Rattle.opgp_valid.specs.declared.group.Sort.TheVariants.{Main, Bindings}
-use Rattle.opgp_valid.specs.Group.{any, good}
+use Rattle.opgp_valid.specs.declared.group.Sort.TheVariants.{Main, Expiring, Identity, Bindings}
+use Rattle.opgp_valid.specs.Group.{any, good, kept, on_component}
 use Rattle.opgp_valid.specs.declared.statement.Author.TheVariants.{Primary}
 use Rattle.opgp_valid.specs.declared.statement.Life.{Life}
 use Rattle.opgp_valid.specs.declared.statement.Statement.{Statement}
@@ -40,20 +40,23 @@ abbrev pub IsCertification : Statement → Type 0
 IsCertification s = Certifies s.kind × IsSome s.component
 
 -- It is a direct key signature, a certification of some user ID, one of some user ID or attribute,
--- one that says that this is the primary one (5.2.3.27), or a binding of the subkey that is this
--- component (5.2.1.8).
+-- one that says that this is the primary one (5.2.3.27), one that lets the key expire (5.2.3.13),
+-- one of this user ID or attribute, or a binding of the subkey that is this component (5.2.1.8).
 abbrev pub IsOf : Sort → Statement → Type 0
 IsOf Direct s = IsDirect s
 IsOf UserIds s = IsCertification s × (s.is_on_user_id ≡ true)
 IsOf Certifications s = IsCertification s
 IsOf Main s = IsCertification s × (s.is_main ≡ true)
+IsOf Expiring s = IsCertification s × (s.key_lasts ≢ 0)
+IsOf (Identity n) s = Certifies s.kind × (s.component ≡ Some n)
 IsOf (Bindings n) s = (s.kind ≡ types.SubkeyBinding) × (s.component ≡ Some n)
 
--- It is one of these, good if the group asks for that, nothing critical in it is unknown (5.2.3.7),
--- the primary key itself made it (5.2.3.10), and it is in force.
+-- It is one of these, good and not revoked (5.2.1.13) if the group asks for that, nothing critical in
+-- it is unknown (5.2.3.7), the primary key itself made it (5.2.3.10), and it is in force.
 pub record Speaks (group : Group) (at : ℕ) (s : Statement) : Type 0 where
   pub of : IsOf group.sort s
   pub good : group.must_be_good ≡ true → s.is_good ≡ true
+  pub standing : group.must_stand ≡ true → s.is_revoked ≡ false
   pub understood : s.is_understood ≡ true
   pub own : s.author ≡ Primary
   pub in_force : IsInForce at s.life
@@ -68,6 +71,19 @@ pub record IsNewest (group : Group) (at : ℕ) (ss : List Statement) (s : Statem
   pub speaks : Speaks group at s
   pub newest : (r : Statement) → Contains ss r → Speaks group at r → IsNoLater r s
 
+-- It is a newest certification of its user ID or user attribute.
+abbrev pub IsCurrent : Group → ℕ → List Statement → Statement → Type 0
+IsCurrent group at ss s = (n : ℕ) × IsNewest (on_component n group) at ss s
+
+-- It speaks, is current, and none that does and is was made later.
+pub record IsNewestCurrent (group : Group) (at : ℕ) (ss : List Statement) (s : Statement)
+    : Type 0 where
+  pub among : Contains ss s
+  pub speaks : Speaks group at s
+  pub current : IsCurrent group at ss s
+  pub newest : (r : Statement) → Contains ss r → Speaks group at r → IsCurrent group at ss r
+      → IsNoLater r s
+
 -- it lets a key of this creation time go on beyond this time (5.2.3.13)
 abbrev pub Lasts : ℕ → ℕ → Statement → Type 0
 Lasts created at s = (s.key_lasts ≡ 0) ⊎ (at < created + s.key_lasts)
@@ -79,17 +95,37 @@ Revokes key.Primary s = s.kind ≡ types.KeyRevocation
 Revokes (key.Subkey n created) s = (s.kind ≡ types.KeyRevocation)
     ⊎ ((s.kind ≡ types.SubkeyRevocation) × (s.component ≡ Some n))
 
--- It speaks for a key: for the primary key each newest good direct key signature, and in version 4
--- also each newest good certification of a user ID (10.1); for a subkey each newest good binding.
+-- It would speak for the primary key: each newest good direct key signature, and in version 4 also
+-- each newest good certification of a user ID (10.1); revoked ones too, or only those that aren't.
+abbrev pub IsSpoken : FactsValue → Bool → ℕ → Statement → Type 0
+IsSpoken f stand at s = IsNewest (good Direct) at f.statements s
+    ⊎ ((f.version ≡ 4) × IsNewest (kept stand (good UserIds)) at f.statements s)
+
+-- Something that isn't revoked speaks, so that what is revoked plays no part (5.2.1.13).
+abbrev pub HasUnrevoked : FactsValue → ℕ → Type 0
+HasUnrevoked f at = (s : Statement) × IsSpoken f true at s
+
+-- This holds of those that aren't revoked where one of them speaks, and else of all.
+abbrev pub OfThose : FactsValue → ℕ → (Bool → Type 0) → Type 0
+OfThose f at holds = (HasUnrevoked f at × holds true) ⊎ ((HasUnrevoked f at → ⊥) × holds false)
+
+-- It speaks for a key; for a subkey each newest good binding does.
 abbrev pub IsSpeaker : FactsValue → Key → ℕ → Statement → Type 0
-IsSpeaker f key.Primary at s = IsNewest (good Direct) at f.statements s
-    ⊎ ((f.version ≡ 4) × IsNewest (good UserIds) at f.statements s)
+IsSpeaker f key.Primary at s = OfThose f at (λ stand. IsSpoken f stand at s)
 IsSpeaker f (key.Subkey n created) at s = IsNewest (good (Bindings n)) at f.statements s
 
--- It limits what is said: it is a newest one of these, good or not.
+-- It would limit what is said of the primary key, good or not: a newest direct key signature, a
+-- newest certification, and of the current ones a newest that says that its user ID is the primary
+-- one (5.2.3.27), and a newest that lets the key expire (5.2.3.13).
+abbrev pub IsLimiting : FactsValue → Bool → ℕ → Statement → Type 0
+IsLimiting f stand at s = IsNewest (any Direct) at f.statements s
+    ⊎ (IsNewest (kept stand (any Certifications)) at f.statements s
+    ⊎ (IsNewestCurrent (kept stand (any Main)) at f.statements s
+    ⊎ IsNewestCurrent (kept stand (any Expiring)) at f.statements s))
+
+-- It limits what is said of a key; of a subkey each newest binding does, good or not.
 abbrev pub IsLimiter : FactsValue → Key → ℕ → Statement → Type 0
-IsLimiter f key.Primary at s = IsNewest (any Direct) at f.statements s
-    ⊎ (IsNewest (any Certifications) at f.statements s ⊎ IsNewest (any Main) at f.statements s)
+IsLimiter f key.Primary at s = OfThose f at (λ stand. IsLimiting f stand at s)
 IsLimiter f (key.Subkey n created) at s = IsNewest (any (Bindings n)) at f.statements s
 
 abbrev pub IsHeard : FactsValue → Key → ℕ → Statement → Type 0

@@ -33,6 +33,10 @@ the_one list = None
 abbrev pub made_in : List Sub → Option ℕ
 made_in subs = the_one (numbers_in kind.Created subs)
 
+-- they state some
+abbrev pub states_time : List Sub → Bool
+states_time subs = list_any (λ s. is_some (fields_of kind.Created form.number s)) subs
+
 -- ---- how long it lasts
 -- the shorter of two lengths of time, where 0 is for ever
 abbrev pub shorter : ℕ → ℕ → ℕ

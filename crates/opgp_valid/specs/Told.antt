@@ -1,9 +1,9 @@
 -- What the signatures of a certificate say, by the verdicts on them.
-use Rattle.std.specs.Prelude.{ℕ, nat_le, Bool, true, false, ◌&&◌, ◌||◌, ◌==◌, if◌then◌else◌}
+use Rattle.std.specs.Prelude.{ℕ, nat_le, nat_lt, Bool, true, false, ◌&&◌, ◌||◌, ◌==◌, if◌then◌else◌}
 use Rattle.std.specs.Prelude.{List, [], ◌∷◌}
 use Rattle.std.specs.Prelude.{◌++◌, map, Option, Some, None, is_some, is_none, is_ok, not}
 use Rattle.std.specs.Prelude.{Result, Ok, Err}
-use Rattle.std.specs.List.{flat_map, fold}
+use Rattle.std.specs.List.{flat_map, fold, list_any}
 use Rattle.std.specs.Option.{option_map}
 use Rattle.opgp_octets.specs.SignatureType.{signature_type_of}
 use Rattle.opgp_octets.specs.declared.fault.BodyFault.{BodyFault}
@@ -27,11 +27,12 @@ use Rattle.opgp_report.specs.Standing.{Standing, certificate_standing}
 use Rattle.opgp_report.specs.declared.place.Place.{Place}
 use Rattle.opgp_report.specs.declared.verifier.Verdict.{Verdict}
 use Rattle.opgp_report.specs.declared.verifier.Verdict.TheVariants as verdict
-use Rattle.opgp_valid.specs.Group.{certifies, is_direct, is_the}
+use Rattle.opgp_valid.specs.Group.{certifies, is_certification_on, is_direct, is_primary, is_the}
 use Rattle.opgp_valid.specs.KnownKeys.{issuer_among}
 use Rattle.opgp_valid.specs.Policy.{relies_on}
-use Rattle.opgp_valid.specs.Subpackets.{at_most_one, has_flags, has_unfit, has_unknown_critical}
-use Rattle.opgp_valid.specs.Subpackets.{is_main_in, lasts_in, made_in, reason_in, revokers_in}
+use Rattle.opgp_valid.specs.State.{revokes_certification}
+use Rattle.opgp_valid.specs.Subpackets.{has_flags, has_unfit, has_unknown_critical, revokers_in}
+use Rattle.opgp_valid.specs.Subpackets.{is_main_in, lasts_in, made_in, numbers_in, reason_in}
 use Rattle.opgp_valid.specs.Subpackets.{uses_in_area}
 use Rattle.opgp_valid.specs.declared.known_keys.Known.{Known}
 use Rattle.opgp_valid.specs.declared.policy.Policy.{Policy}
@@ -65,6 +66,17 @@ life_of subs = option_map (life_by (lasts_in kind.Expires subs)) (made_in subs)
 
 abbrev pub life_in : SignatureValue → Option Life
 life_in v = life_of (hashed_subs v)
+
+-- the same for each creation time that it states; without any it never counts
+abbrev pub lives_by : ℕ → List ℕ → List (Option Life)
+lives_by lasts [] = None ∷ []
+lives_by lasts (t ∷ ts) = map (λ made. Some (life_by lasts made)) (t ∷ ts)
+
+abbrev pub lives_of : List Sub → List (Option Life)
+lives_of subs = lives_by (lasts_in kind.Expires subs) (numbers_in kind.Created subs)
+
+abbrev pub lives_in : SignatureValue → List (Option Life)
+lives_in v = lives_of (hashed_subs v)
 
 -- ---- what it is made over
 abbrev pub revokes_key : SignatureType → Bool
@@ -176,9 +188,47 @@ with_back place life st = if holds place st then record {
   has_flags = st.has_flags;
   uses = st.uses;
   is_main = st.is_main;
+  is_revoked = st.is_revoked;
   back = life;
   reason = st.reason;
 } else st
+
+-- ---- certifications that the primary key has revoked
+abbrev pub is_older : Option Life → Option Life → Bool
+is_older (Some a) (Some b) = nat_lt a.made b.made
+is_older a b = false
+
+-- the second is a revocation of the certification of this user ID or attribute by the primary key,
+-- and isn't older than the first (5.2.1.13)
+abbrev pub is_revoked_by : Statement → Statement → Bool
+is_revoked_by s r = revokes_certification r.kind && (is_primary r.author
+    && (is_same_number r.component s.component && not (is_older r.life s.life)))
+
+abbrev pub is_revoked_among : List Statement → Statement → Bool
+is_revoked_among ss s = is_certification_on s && list_any (is_revoked_by s) ss
+
+abbrev pub with_revoked : Bool → Statement → Statement
+with_revoked revoked st = record {
+  kind = st.kind;
+  component = st.component;
+  is_on_user_id = st.is_on_user_id;
+  hang = st.hang;
+  author = st.author;
+  is_understood = st.is_understood;
+  is_good = st.is_good;
+  life = st.life;
+  key_lasts = st.key_lasts;
+  has_flags = st.has_flags;
+  uses = st.uses;
+  is_main = st.is_main;
+  is_revoked = revoked;
+  back = st.back;
+  reason = st.reason;
+}
+
+-- each with whether it is revoked
+abbrev pub with_revocations : List Statement → List Statement
+with_revocations ss = map (λ s. with_revoked (is_revoked_among ss s) s) ss
 
 -- ---- keys that may revoke
 module _ (known : List Known) (primary : Fingerprint) where
@@ -217,8 +267,9 @@ module _ (known : List Known) (policy : Policy) (primary : Fingerprint) where
     author_of k = if is_print primary k then Some author.Primary
         else (if is_print_among revokers k then Some author.Revoker else None)
 
-    abbrev pub statement_of : Place → SubjectValue → SignatureValue → Author → Statement
-    statement_of place subject v by = record {
+    abbrev pub statement_of : Place → SubjectValue → SignatureValue → Author → Option Life
+        → Statement
+    statement_of place subject v by life = record {
       kind = type_in v;
       component = place.component;
       is_on_user_id = is_user_id subject;
@@ -226,19 +277,25 @@ module _ (known : List Known) (policy : Policy) (primary : Fingerprint) where
       author = by;
       is_understood = is_understood v;
       is_good = is_good v;
-      life = life_in v;
+      life = life;
       key_lasts = lasts_in kind.KeyExpires (hashed_subs v);
       has_flags = has_flags (hashed_subs v);
       uses = uses_in_area (hashed_subs v);
       is_main = is_main_in (hashed_subs v);
+      is_revoked = false;
       back = None;
       reason = reason_in (hashed_subs v);
     }
 
+    -- it is said at each time that it states; where these are several it isn't good, and only limits
+    abbrev pub stated_by : Place → SubjectValue → SignatureValue → Option Author → List Statement
+    stated_by place subject v None = []
+    stated_by place subject v (Some by) = map (statement_of place subject v by) (lives_in v)
+
     -- a signature packet adds what it says
     abbrev pub stated : Place → SubjectValue → SignatureValue → List Statement
-    stated place subject v = if is_some (signed_of v)
-        then at_most_one (option_map (statement_of place subject v) (author_of (issuer v))) else []
+    stated place subject v =
+        if is_some (signed_of v) then stated_by place subject v (author_of (issuer v)) else []
 
     -- the first that is embedded adds its life to the one that it is embedded in, if it is good and
     -- by the subkey (5.2.1.9)
@@ -265,6 +322,6 @@ revokers_of known c founds = flat_map (revokers_at known (print_of c.primary.bod
     (with_verdicts founds (certificate_standing 0 c))
 
 abbrev pub statements_of : List Known → Policy → CertificateValue → List Verdict → List Statement
-statements_of known policy c founds =
-    fold (told known policy (print_of c.primary.body) (revokers_of known c founds)) []
-    (with_verdicts founds (certificate_standing 0 c))
+statements_of known policy c founds = with_revocations
+    (fold (told known policy (print_of c.primary.body) (revokers_of known c founds)) []
+    (with_verdicts founds (certificate_standing 0 c)))

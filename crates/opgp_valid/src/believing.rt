@@ -68,9 +68,9 @@ impl Flaw {
 pub enum Belief {
     /// It is.
     Believed,
-    /// It isn't, and this is the first that is wrong with it.
+    /// Not believed; the first flaw.
     Flawed(Flaw),
-    /// It isn't, since its key isn't, and this is the first reason.
+    /// Not believed, since its key isn't; the first reason.
     Unbelieved(Why),
     /// There is no such key.
     NoKey,

@@ -1,6 +1,6 @@
 //! What the signatures of a certificate say, gathered.
 
-ghost use Rattle.std.specs.Prelude.{◌≡◌, ◌++◌, IfOk, OnOk};
+ghost use Rattle.std.specs.Prelude.{◌≡◌, ◌∷◌, [], Some, map, ◌++◌, IfOk, OnOk};
 ghost use Rattle.std.specs.Option.{option_map};
 ghost use Rattle.opgp_packet.specs.SigView.{sig_view_value};
 ghost use Rattle.opgp_hash.specs.Subject.{subject_value};
@@ -8,20 +8,27 @@ ghost use Rattle.opgp_hash.specs.SubjectValue.{is_within};
 ghost use Rattle.opgp_report.specs.First.{print_of};
 ghost use Rattle.opgp_report.specs.KeyIndex.{prints_shown};
 ghost use Rattle.opgp_valid.specs.KnownKeys.{knowns};
-ghost use Rattle.opgp_valid.specs.Gathering.{Gathers};
+ghost use Rattle.opgp_packet.specs.Subs.{subs_to_come};
+ghost use Rattle.opgp_valid.specs.Gathering.{Gathers, with_life};
 ghost use Rattle.opgp_valid.specs.Told.{back_in, change_last, holds, is_by_subkey, is_user_id};
-ghost use Rattle.opgp_valid.specs.Told.{second_key};
+ghost use Rattle.opgp_octets.specs.declared.subpacket_kind.SubpacketKind.TheVariants as kinds;
+ghost use Rattle.opgp_valid.specs.Subpackets.{numbers_in};
+ghost use Rattle.opgp_valid.specs.Told.{life_by, lives_of, second_key};
 ghost use Rattle.opgp_valid.specs.Told.{stated, statements_of, with_back, with_embedded};
 
 use crate::asking::{is_genuine, next_verdict};
 use crate::context::{Context, is_print, is_understood, life_in, parts_of};
 use crate::known_keys::Known;
 use crate::naming::revokers_of;
+use crate::revoking::with_revocations;
 use crate::statement::{Life, Statement};
-use crate::subpackets::{has_flags, is_main_in, key_lasts, reason_in, uses_in_area};
+use crate::subpackets::{
+    has_flags, is_main_in, key_lasts, reason_in, signature_lasts, states_time, time_stated,
+    uses_in_area,
+};
 use opgp_hash::{CertificateHasher, Subject};
 use opgp_octets::OutOfMemory;
-use opgp_packet::SigView;
+use opgp_packet::{SigView, Subs};
 use opgp_report::{KeyIndex, Met, Place, Verdict, Visitor, print_of, visit_certificate};
 use opgp_ring::Certificate;
 use std::alloc::Global;
@@ -95,6 +102,7 @@ fn back_in(context: Context<'_>, subject: Subject<'_>, signature: SigView<'_>) -
 
 impl<'v> Gatherer<'v> {
     /// Adds what a signature at this place says, if it counts. Fails only when out of memory.
+    #[tactic(auto, using(crate::proofs::Times::stated_at))]
     fn add(
         &mut self,
         place: Place,
@@ -117,7 +125,7 @@ impl<'v> Gatherer<'v> {
         let Some(parts) = parts_of(signature) else {
             return Ok(());
         };
-        self.statements.push(Statement {
+        let told = Statement {
             kind: parts.kind,
             component: place.component,
             is_on_user_id: is_user_id(subject),
@@ -125,16 +133,67 @@ impl<'v> Gatherer<'v> {
             author,
             is_understood: is_understood(&parts),
             is_good: context.is_good(&parts, issuer),
-            life: life_in(parts.hashed),
+            life: None,
             key_lasts: key_lasts(parts.hashed),
             has_flags: has_flags(parts.hashed),
             uses: uses_in_area(parts.hashed),
             is_main: is_main_in(parts.hashed),
+            is_revoked: false,
             back: None,
             reason: reason_in(parts.hashed),
-        })?;
-        Ok(())
+        };
+        add_times(&mut self.statements, told, parts.hashed)
     }
+}
+
+/// Adds what a signature says at each creation time in its hashed area; one that states none never
+/// counts. Fails only when out of memory.
+fn add_times(
+    statements: &mut Vec<Statement>,
+    told: Statement,
+    hashed: Subs<'_>,
+) -> Result<(), OutOfMemory>
+    ensures { OnOk result (statements.new.items ≡ statements.old.items
+        ++ map (with_life told) (lives_of (subs_to_come hashed.entry))) }
+{
+    if states_time(hashed) {
+        add_each_time(statements, told, hashed, signature_lasts(hashed))
+    } else {
+        add_at(statements, told, None)
+    }
+}
+
+/// Adds what a signature says at each creation time in its hashed area, and for so long from then
+/// on. Fails only when out of memory.
+fn add_each_time(
+    statements: &mut Vec<Statement>,
+    told: Statement,
+    hashed: Subs<'_>,
+    lasts: u32,
+) -> Result<(), OutOfMemory>
+    ensures { OnOk result (statements.new.items ≡ statements.old.items
+        ++ map (λ made. with_life told (Some (life_by lasts made)))
+        (numbers_in kinds.Created (subs_to_come hashed.entry))) }
+{
+    for subpacket in hashed {
+        if let Some(made) = time_stated(subpacket) {
+            add_at(statements, told, Some(Life { made, lasts }))?;
+        }
+    }
+    Ok(())
+}
+
+/// Adds what a signature says with this life. Fails only when out of memory.
+fn add_at(
+    statements: &mut Vec<Statement>,
+    told: Statement,
+    life: Option<Life>,
+) -> Result<(), OutOfMemory>
+    ensures { OnOk result (statements.new.items
+        ≡ statements.old.items ++ with_life told life ∷ []) }
+{
+    statements.push(Statement { life, ..told })?;
+    Ok(())
 }
 
 impl Gatherer<'_> {
@@ -227,5 +286,5 @@ pub(crate) fn statements_of(
     };
     visit_certificate(&mut gatherer, 0, certificate)?;
     let Gatherer { statements, .. } = gatherer;
-    Ok(statements)
+    with_revocations(alloc, statements)
 }

@@ -17,15 +17,22 @@ pub(crate) enum Sort {
     Certifications,
     /// Certifications that say that their user ID is the primary one (5.2.3.27).
     Main,
+    /// Certifications that let the primary key expire (5.2.3.13).
+    Expiring,
+    /// Certifications of the user ID or user attribute that is the component of this number.
+    Identity(usize),
     /// Bindings of the subkey that is the component of this number (5.2.1.8).
     Bindings(usize),
 }
 
-/// The signatures of a sort: only those that are good, or all of them.
+/// The signatures of a sort.
 #[derive(Clone, Copy)]
 pub(crate) struct Group {
     pub(crate) sort: Sort,
+    /// Only those that are good.
     pub(crate) must_be_good: bool,
+    /// Only those that the primary key hasn't revoked (RFC 9580, 5.2.1.13).
+    pub(crate) must_stand: bool,
 }
 
 /// Whether a signature is a direct key signature on the primary key.
@@ -36,7 +43,7 @@ fn is_direct(statement: &Statement) -> bool
 }
 
 /// Whether a signature is a certification of a user ID or a user attribute.
-fn is_certification(statement: &Statement) -> bool
+pub(crate) fn is_certification(statement: &Statement) -> bool
     ensures { result ≡ is_certification_on statement.now }
 {
     certifies(statement.kind) && statement.component.is_some()
@@ -52,6 +59,10 @@ impl Sort {
             Sort::UserIds => is_certification(statement) && statement.is_on_user_id,
             Sort::Certifications => is_certification(statement),
             Sort::Main => is_certification(statement) && statement.is_main,
+            Sort::Expiring => is_certification(statement) && statement.key_lasts != 0,
+            Sort::Identity(number) => {
+                is_certification(statement) && statement.component == Some(number)
+            }
             Sort::Bindings(number) => {
                 matches!(statement.kind, SignatureType::SubkeyBinding)
                     && statement.component == Some(number)
@@ -61,7 +72,7 @@ impl Sort {
 }
 
 impl Group {
-    ghost use Rattle.opgp_valid.specs.Group.{any, good, speaks};
+    ghost use Rattle.opgp_valid.specs.Group.{any, good, kept, on_component, speaks};
 
     /// Those of a sort that are good.
     pub(crate) fn good(sort: Sort) -> Group
@@ -70,6 +81,7 @@ impl Group {
         Group {
             sort,
             must_be_good: true,
+            must_stand: false,
         }
     }
 
@@ -80,6 +92,24 @@ impl Group {
         Group {
             sort,
             must_be_good: false,
+            must_stand: false,
+        }
+    }
+
+    /// Of these, where that is asked for, only those that the primary key hasn't revoked.
+    pub(crate) fn kept(self, must_stand: bool) -> Group
+        ensures { result ≡ kept must_stand self }
+    {
+        Group { must_stand, ..self }
+    }
+
+    /// Of these, the certifications of the component of this number.
+    pub(crate) fn on_component(self, number: usize) -> Group
+        ensures { result ≡ on_component number self }
+    {
+        Group {
+            sort: Sort::Identity(number),
+            ..self
         }
     }
 
@@ -90,6 +120,7 @@ impl Group {
     {
         self.sort.has(statement)
             && (!self.must_be_good || statement.is_good)
+            && (!self.must_stand || !statement.is_revoked)
             && statement.is_understood
             && matches!(statement.author, Author::Primary)
             && statement.is_alive(at)

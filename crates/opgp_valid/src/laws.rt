@@ -1,4 +1,4 @@
-//! What the rule implies.
+//! Theorems about when a key is believed.
 
 ghost use Rattle.std.specs.Prelude.{◌≡◌, ◌⊎◌, ◌↔◌, ℕ, List, [], Some, None, true, false};
 ghost use Rattle.std.specs.List.{Contains, filter, flat_map, fold};

@@ -2,14 +2,14 @@
 
 ghost use Rattle.std.specs.Prelude.{◌≡◌};
 ghost use Rattle.opgp_valid.specs.Facts.{facts_value};
-ghost use Rattle.opgp_valid.specs.Group.{any};
 ghost use Rattle.opgp_valid.specs.Moment.{saying_at, subkey_saying_of};
 ghost use Rattle.opgp_valid.specs.Saying.{saying_of};
-ghost use Rattle.opgp_valid.specs.Speaking.{newest};
+ghost use Rattle.opgp_valid.specs.Speaking.{newest, newest_current};
 ghost use Rattle.opgp_valid.specs.Standing.{has_ended, is_expired_at, is_unbacked_at};
-ghost use Rattle.opgp_valid.specs.Standing.{is_unbound_at, limiters, may_not_sign_at, speakers};
+ghost use Rattle.opgp_valid.specs.Standing.{is_unbound_at, limiting, may_not_sign_at, spoken};
 ghost use Rattle.opgp_valid.specs.declared.facts.Key.TheVariants as keys;
 
+use crate::current::current_saying;
 use crate::facts::{Facts, Key};
 use crate::group::{Group, Sort};
 use crate::saying::{Saying, newest_saying};
@@ -38,52 +38,63 @@ pub(crate) fn has_ended(end: Option<u64>, at: u64) -> bool
     }
 }
 
-/// What the newest of a sort say of the primary key at this time, good or not.
-fn newest_of(facts: Facts<'_>, sort: Sort, at: u64) -> Saying
+/// What the newest of a group say of the primary key at this time.
+fn newest_of(facts: Facts<'_>, group: Group, at: u64) -> Saying
     ensures { result ≡ saying_of facts.entry.created at
-        (newest (any sort) at (facts_value facts.entry).statements) }
+        (newest group at (facts_value facts.entry).statements) }
 {
-    newest_saying(facts.statements, Group::any(sort), facts.created, at)
+    newest_saying(facts.statements, group, facts.created, at)
 }
 
-/// What limits what speaks for the primary key at this time.
-#[tactic(auto, using(crate::proofs::Sayings::said_both))]
-fn primary_limits(facts: Facts<'_>, at: u64) -> Saying
-    ensures { result
-        ≡ saying_of facts.entry.created at (limiters (facts_value facts.entry) keys.Primary at) }
+/// What the newest of a group say of the primary key at this time, of the newest certifications of
+/// each user ID and attribute.
+fn current_of(facts: Facts<'_>, group: Group, at: u64) -> Saying
+    ensures { result ≡ saying_of facts.entry.created at
+        (newest_current group at (facts_value facts.entry).statements) }
 {
-    let direct = newest_of(facts, Sort::Direct, at);
-    let certified = newest_of(facts, Sort::Certifications, at);
-    let main = newest_of(facts, Sort::Main, at);
-    direct.and(certified.and(main))
+    current_saying(facts.statements, group, facts.created, at)
 }
 
-/// What speaks for the primary key at this time.
+/// What limits what speaks for the primary key at this time: with what it has revoked, or without.
 #[tactic(auto, using(crate::proofs::Sayings::said_both))]
-fn primary_spoken(facts: Facts<'_>, at: u64) -> Saying
+fn primary_limits(facts: Facts<'_>, must_stand: bool, at: u64) -> Saying
     ensures { result
-        ≡ saying_of facts.entry.created at (speakers (facts_value facts.entry) keys.Primary at) }
+        ≡ saying_of facts.entry.created at (limiting (facts_value facts.entry) must_stand at) }
 {
-    let direct = newest_saying(
-        facts.statements,
-        Group::good(Sort::Direct),
-        facts.created,
-        at,
-    );
+    let direct = newest_of(facts, Group::any(Sort::Direct), at);
+    let certified = newest_of(facts, Group::any(Sort::Certifications).kept(must_stand), at);
+    let main = current_of(facts, Group::any(Sort::Main).kept(must_stand), at);
+    let expiring = current_of(facts, Group::any(Sort::Expiring).kept(must_stand), at);
+    direct.and(certified.and(main.and(expiring)))
+}
+
+/// What would speak for the primary key at this time: with what it has revoked, or without.
+#[tactic(auto, using(crate::proofs::Sayings::said_both))]
+fn primary_spoken(facts: Facts<'_>, must_stand: bool, at: u64) -> Saying
+    ensures { result
+        ≡ saying_of facts.entry.created at (spoken (facts_value facts.entry) must_stand at) }
+{
+    let direct = newest_of(facts, Group::good(Sort::Direct), at);
     if facts.version == 4 {
-        let user_ids = Group::good(Sort::UserIds);
-        direct.and(newest_saying(facts.statements, user_ids, facts.created, at))
+        let user_ids = Group::good(Sort::UserIds).kept(must_stand);
+        direct.and(newest_of(facts, user_ids, at))
     } else {
         direct
     }
 }
 
-/// What is said of the primary key at this time.
+/// What is said of the primary key at this time. What it has revoked plays no part while something
+/// else speaks.
 #[tactic(auto, using(crate::proofs::Sayings::said_within))]
 pub(crate) fn primary_saying(facts: Facts<'_>, at: u64) -> Saying
     ensures { result ≡ saying_at (facts_value facts.entry) keys.Primary at }
 {
-    primary_spoken(facts, at).within(primary_limits(facts, at))
+    let unrevoked = primary_spoken(facts, true, at);
+    if unrevoked.is_said {
+        unrevoked.within(primary_limits(facts, true, at))
+    } else {
+        primary_spoken(facts, false, at).within(primary_limits(facts, false, at))
+    }
 }
 
 /// What is said of a key at this time, where this is said of its primary key.

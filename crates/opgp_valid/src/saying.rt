@@ -37,7 +37,7 @@ impl Saying {
     };
 
     /// What one signature says of a key that was created then, at this time.
-    fn of(statement: &Statement, created: u32, at: u64) -> Saying
+    pub(crate) fn of(statement: &Statement, created: u32, at: u64) -> Saying
         ensures { result ≡ saying_of created at (statement.now ∷ []) }
     {
         Saying {
@@ -96,7 +96,7 @@ fn said_with(
 }
 
 /// Whether a signature of a group speaks at this time, and was made at that one.
-fn is_newest(statement: &Statement, group: Group, at: u64, last: Option<u32>) -> bool
+pub(crate) fn is_newest(statement: &Statement, group: Group, at: u64, last: Option<u32>) -> bool
     ensures { result
         ≡ speaks group at statement.now && is_same (made_at statement.now) last }
 {

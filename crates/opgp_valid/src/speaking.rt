@@ -7,7 +7,7 @@ use crate::group::Group;
 use crate::statement::Statement;
 
 /// The later of two times.
-fn later(a: Option<u32>, b: Option<u32>) -> Option<u32>
+pub(crate) fn later(a: Option<u32>, b: Option<u32>) -> Option<u32>
     ensures { result ≡ later a b }
 {
     match (a, b) {
@@ -29,7 +29,7 @@ pub(crate) fn sooner(a: Option<u64>, b: Option<u64>) -> Option<u64>
 }
 
 /// When a signature was made.
-fn made_at(statement: &Statement) -> Option<u32>
+pub(crate) fn made_at(statement: &Statement) -> Option<u32>
     ensures { result ≡ made_at statement.now }
 {
     match statement.life {

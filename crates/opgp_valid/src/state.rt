@@ -83,7 +83,7 @@ fn reason_of(revocation: Option<Revocation>) -> Option<u8>
     }
 }
 
-/// What is said lets a key be used for.
+/// The uses that these signatures allow a key.
 fn uses_of(own: Saying, key: Key) -> Uses
     ensures { result ≡ uses_by own key }
 {
@@ -165,7 +165,7 @@ pub fn key_state(facts: Facts<'_>, key: Key, at: u64) -> KeyState
 }
 
 /// Whether a signature revokes the certification of this component.
-fn revokes_identity(number: usize, statement: &Statement) -> bool
+pub(crate) fn revokes_identity(number: usize, statement: &Statement) -> bool
     ensures { result ≡ revokes_identity number statement.now }
 {
     matches!(statement.kind, SignatureType::CertificationRevocation)

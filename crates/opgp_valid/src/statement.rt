@@ -64,6 +64,9 @@ pub struct Statement {
     pub uses: Uses,
     /// Whether it says that its user ID is the primary one (5.2.3.27).
     pub is_main: bool,
+    /// Whether it is a certification that the primary key has revoked: the revocation is on the same
+    /// user ID or attribute, and isn't older (5.2.1.13).
+    pub is_revoked: bool,
     /// The life of the signature that is embedded in it, of several in the first, if that is good
     /// and by the subkey (5.2.1.9, 5.2.3.34).
     pub back: Option<Life>,

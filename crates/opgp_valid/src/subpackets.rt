@@ -10,7 +10,7 @@ ghost use Rattle.opgp_packet.specs.SubView.{fields_of, kind_shown, sub_shown};
 ghost use Rattle.opgp_packet.specs.Subs.{subs_to_come};
 ghost use Rattle.opgp_valid.specs.Subpackets.{has_flags, has_unfit, has_unknown_critical};
 ghost use Rattle.opgp_valid.specs.Subpackets.{is_main_in, is_nonzero, is_unfit, is_unknown_critical};
-ghost use Rattle.opgp_valid.specs.Subpackets.{lasts_in};
+ghost use Rattle.opgp_valid.specs.Subpackets.{lasts_in, states_time};
 ghost use Rattle.opgp_valid.specs.Subpackets.{made_in, reason_in, reason_stated, revoker_stated};
 ghost use Rattle.opgp_valid.specs.Subpackets.{shorter, uses_in_area, uses_stated};
 
@@ -46,6 +46,25 @@ pub fn made_in(subpackets: Subs<'_>) -> Option<u32>
         }
     }
     found
+}
+
+/// When a subpacket says that its signature was made, if it is a creation time.
+pub(crate) fn time_stated(subpacket: SubView<'_>) -> Option<u32>
+    ensures { result ≡ fields_of kinds.Created form.number (sub_shown subpacket.entry) }
+{
+    number_stated(SubpacketKind::Created, subpacket)
+}
+
+/// Whether a creation time is in this hashed area (RFC 9580, 5.2.3.11).
+pub(crate) fn states_time(subpackets: Subs<'_>) -> bool
+    ensures { result ≡ states_time (subs_to_come subpackets.entry) }
+{
+    for subpacket in subpackets {
+        if time_stated(subpacket).is_some() {
+            return true;
+        }
+    }
+    false
 }
 
 /// The shorter of two lengths of time; 0 is for ever.

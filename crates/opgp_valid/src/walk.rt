@@ -53,7 +53,7 @@ fn is_at_or_behind(before: Option<usize>, component: Option<usize>) -> bool
 }
 
 /// Whether statements are in the order of their components, those on the primary key first.
-fn is_in_order(statements: &[Statement]) -> bool
+pub(crate) fn is_in_order(statements: &[Statement]) -> bool
     ensures { result ≡ in_order None statements.now }
 {
     let mut before = None;
@@ -85,7 +85,7 @@ fn behind(statements: &[Statement], number: usize) -> &[Statement]
 /// Statements up to the first that is on a component behind the one of this number, and those from
 /// there on.
 #[tactic(auto, using(crate::proofs::Walks::front, crate::proofs::Walks::fits))]
-fn split(statements: &[Statement], number: usize) -> (&[Statement], &[Statement])
+pub(crate) fn split(statements: &[Statement], number: usize) -> (&[Statement], &[Statement])
     ensures before { result.0.now ≡ up_to number statements.now }
     ensures behind { result.1.now ≡ behind number statements.now }
 {

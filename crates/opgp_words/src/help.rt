@@ -63,8 +63,8 @@ that are given, with their signatures. No signature is verified.
 
 --bound leaves out each user ID, attribute and subkey on which no self-signature is that is
 good by the verdicts in the file of --verdicts, which opgp-verify --verdicts writes of the
-same keyring; and self-signatures that aren't good, or that newer ones replace. Revocations
-stay. It doesn't go with --user-id.
+same keyring; and self-signatures that aren't good. Revocations stay, and subkeys that made
+good ones. It doesn't go with --user-id.
 
 Example: opgp write --own-signatures --user-id 0 < KEYRING > MINIMAL.asc";
 

@@ -518,6 +518,86 @@ def identities():
     ring = one.key + one.user_id + self + picture + one.pictured(both, BORN + DAY, key_lasts=800)
     yield "attribute_expired", "expired", "expired by a newer attribute, not by the user ID", ring, BY_PRIMARY
     yield from two_identities()
+    yield from replaced_marks()
+    yield from revoked_identities()
+
+
+def replaced_marks():
+    """Self-signatures that a newer one on the same user ID replaces: neither their mark as primary nor their expiry counts any longer."""
+    one, both, main = ONE, CERTIFY | SIGN, subpacket(25, b"\1")
+    newer, newest = BORN + DAY, BORN + 2 * DAY
+    passed = one.certified(both, key_lasts=800, extra=main)
+    lasting = {"flags": both, "made": newer, "key_lasts": 2000}
+
+    def named(stem, expected, title, on_name, more=b""):
+        return stem, expected, title, one.key + one.user_id + on_name + more, BY_PRIMARY
+
+    title = "marked as primary and expired, then without the mark"
+    yield named("mark_replaced", "-", f"{title} and lasting", passed + one.certified(**lasting))
+    yield named("mark_replaced_first", "-", f"{title} and lasting, which stands first", one.certified(**lasting) + passed)
+    yield named("mark_replaced_no_expiry", "-", f"{title} and without an expiry", passed + one.certified(both, newer))
+    title = f"{title} and lasting; another user ID, newer"
+    yield named("mark_replaced_second", "-", f"{title}, lasting", passed + one.certified(**lasting), second(both, newest, key_lasts=2000))
+    yield named("mark_replaced_moved", "-", f"{title}, lasting, with the mark", passed + one.certified(**lasting), second(both, newest, key_lasts=2000, extra=main))
+    yield named("mark_replaced_expired", "expired", f"{title}, expired", passed + one.certified(**lasting), second(both, newest, key_lasts=800))
+    title = "marked as primary and expired; the newer one without the mark"
+    yield named("mark_replaced_lapsed", "expired", f"{title} has expired itself", passed + one.certified(**lasting, lasts=10))
+    yield named("mark_replaced_critical", "expired", f"{title} has a critical notation", passed + one.certified(**lasting, extra=NOTATION))
+    yield named("mark_replaced_sha1", "expired", f"{title} is by SHA-1, and lasting", passed + one.certified(**lasting, hash=2))
+    yield named("mark_replaced_wrong", "expired", f"{title} is wrong", passed + broken(one.certified(**lasting)))
+    title = "marked as primary without a use to sign, then without the mark and with it"
+    yield named("mark_replaced_signs", "-", title, one.certified(extra=main) + one.certified(both, newer))
+    title = "expired, then without an expiry"
+    yield named("expiry_replaced", "-", title, one.certified(both, key_lasts=800) + one.certified(both, newer))
+    title = f"{title}; another user ID, newer, without one"
+    yield named("expiry_replaced_second", "-", title, one.certified(both, key_lasts=800) + one.certified(both, newer), second(both, newest))
+
+
+def revoked_identities():
+    """User IDs that are revoked beside others that aren't: they say nothing any longer, unless nothing else speaks."""
+    one, both, main = ONE, CERTIFY | SIGN, subpacket(25, b"\1")
+    newer, gone = BORN + DAY, SIGNED - 50 * DAY
+    reasons = {"0": b"\0", "32": b"\x20"}
+
+    def ring(first, made, other, reason="32", more=b"", on_key=b""):
+        """A user ID with this self-signature, which is revoked then, and another one."""
+        area = subpacket(29, reasons[reason])
+        revoked = one.signed(0x30, on_identity(USER_ID, one.name), made, extra=area)
+        return one.key + on_key + one.user_id + first + revoked + more + other
+
+    for when, made in (("before", gone), ("after", LATER)):
+        for reason in reasons:
+            stem, title = f"revoked_{when}_{reason}", f"a user ID revoked {when} the signature by reason {reason}"
+            it = ring(one.certified(both, newer), made, second(both, BORN, key_lasts=800), reason)
+            yield f"{stem}_lasting", "expired", f"{title}, newer and without an expiry; the other one has expired", it, BY_PRIMARY
+            it = ring(one.certified(both, newer), made, second(CERTIFY), reason)
+            yield f"{stem}_signs", "flags", f"{title}, newer, flags sign; the other one certify", it, BY_PRIMARY
+            it = ring(one.certified(both, newer, key_lasts=800), made, second(both), reason)
+            yield f"{stem}_expired", "-", f"{title}, newer and expired; the other one lasting", it, BY_PRIMARY
+            it = ring(one.certified(both, key_lasts=800, extra=main), made, second(both, newer, key_lasts=2000), reason)
+            yield f"{stem}_main", "-", f"{title}, marked as primary and expired; the other one lasting", it, BY_PRIMARY
+    title = "a user ID revoked and certified again, expired; the other one lasting"
+    again = one.certified(both, gone + DAY, key_lasts=800)
+    yield "revoked_again_expired", "expired", title, ring(one.certified(both), gone, second(both), more=again), BY_PRIMARY
+    title = "a user ID revoked and certified again, lasting; the other one older and expired"
+    again = one.certified(both, gone + DAY)
+    yield "revoked_again_lasting", "expired", title, ring(one.certified(both), gone, second(both, key_lasts=800), more=again), BY_PRIMARY
+    title = "a user ID certified, and a revocation that is older; it has expired, the other one is lasting"
+    yield "revoked_older", "expired", title, ring(one.certified(both, gone + DAY, key_lasts=800), gone, second(both)), BY_PRIMARY
+    both_revoked = second(both, newer) + one.name_revoked(gone, name=SECOND)
+    title = "two user IDs, both revoked"
+    yield "revoked_all", "-", title, ring(one.certified(both), gone, both_revoked), BY_PRIMARY
+    yield "revoked_all_expired", "expired", f"{title}, one expired", ring(one.certified(both, newer, key_lasts=800), gone, both_revoked), BY_PRIMARY
+    title = "a user ID revoked and expired, with a direct key signature"
+    yield "revoked_direct", "-", title, ring(one.certified(both, newer, key_lasts=800), gone, b"", on_key=one.direct(both)), BY_PRIMARY
+    title = "a user ID revoked by another key, and expired; the other one lasting"
+    revoked = one.signed(0x30, on_identity(USER_ID, one.name), gone, by=OTHER.primary)
+    it = one.key + one.user_id + one.certified(both, newer, key_lasts=800) + revoked + second(both) + OTHER.key
+    yield "revoked_by_other", "expired", title, it, BY_PRIMARY
+    picture = packet(ATTRIBUTE, PICTURE)
+    revoked = one.signed(0x30, on_identity(ATTRIBUTE, PICTURE), gone)
+    it = one.key + one.user_id + one.certified(both) + picture + one.pictured(both, newer, key_lasts=800) + revoked
+    yield "revoked_attribute", "-", "an attribute revoked, newer and expired; the user ID lasting", it, BY_PRIMARY
 
 
 def second(flags=CERTIFY, made=BORN, **fields):
@@ -546,7 +626,8 @@ def two_identities():
             for age, (one, other, more) in ages.items():
                 them = ({**good, **one}, {**bad, **other})
                 ring = of_two(*them) if order == "first" else of_two(*reversed(them))
-                expected = "-" if age == "newer" else why
+                # An expiry limits though the newer user ID states none.
+                expected = "-" if age == "newer" and what != "no_expiry" else why
                 title = f"two user IDs: the {order} says {words}; {more}"
                 yield f"two_{what}_{order}_{age}", expected, title, ring, BY_PRIMARY
     lapsed = {"flags": CERTIFY, "lasts": 10, "made": newer}
@@ -582,7 +663,7 @@ def ages():
     yield named("newest_lapsed_signs", "flags", title, one.certified(), other(flags=both, lasts=10))
     yield named("newest_wrong", "-", "newest self-signature is wrong, flags certify", self, broken(other()))
     title = "newest self-signature has two creation times, flags certify"
-    yield named("newest_two_times", "-", title, self, other(extra=time(2, BORN + DAY)))
+    yield named("newest_two_times", "flags", title, self, other(extra=time(2, BORN + DAY)))
     yield named("newest_no_time", "-", "another self-signature has no creation time, flags certify", self, other(None))
     yield named("newest_left", "-", "newest self-signature with its left octets changed, flags certify", self, broken_left(other()))
     yield named("newest_sha1", "flags", "newest self-signature by SHA-1, flags certify", self, other(hash=2))
@@ -671,7 +752,7 @@ def places():
     ring = signing() + one.user_id + it
     yield "name_twice", "flags", "the user ID twice, newer and without sign at the second", ring, BY_PRIMARY
     ring = one.key + one.user_id + one.certified(key_lasts=800) + one.user_id + one.certified(made=BORN + DAY) + one.sub + one.bound()
-    yield "name_twice_expired", "-", "the user ID twice, expired by the older self-signature at the first", ring, BY_SUBKEY
+    yield "name_twice_expired", "expired", "the user ID twice, expired by the older self-signature at the first", ring, BY_SUBKEY
     yield "twice_first_bare", "-", "the certificate twice, the first without a signature", one.key + WHOLE, BY_SUBKEY
     ring = one.certificate(on_sub=b"") + SHARED.certificate()
     yield "sub_of_other", "-", "the subkey unbound in a first certificate, bound in another key's", ring, BY_SUBKEY

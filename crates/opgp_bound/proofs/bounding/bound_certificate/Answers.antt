@@ -16,4 +16,4 @@ pub keep-requires-clause-components : goal.keep-requires-clause-components
 keep-requires-clause-components c =
     let P : List JudgedComponentValue → Type 0 = λ l. All IsJudgedComponent l in
     let Q : List ComponentValue → Type 0 = λ l. All IsComponent l in
-    subst P (sym (c.deref-2.ensures.value ∙ c.in_ok-components.ensures.judged)) (components_stand _ _ _ _ _ (subst Q (sym c.components.ensures.value) c.components.ensures.certificate.components))
+    subst P (sym (c.deref-2.ensures.value ∙ c.in_ok-components.ensures.judged)) (components_stand _ _ _ _ _ _ (subst Q (sym c.components.ensures.value) c.components.ensures.certificate.components))

@@ -12,5 +12,5 @@ components-preserved c =
     let e = first_rest rest d c.in-len1-up.len_at_least c.component-item.is in
     record {
       sound = rest_are IsJudgedComponent rest more d e c.components.invariant.sound;
-      value = components_more rest more d (certificate_packets c.components.chosen) (certificate_packets c.add_if_bound.new.chosen) e c.in_ok-add_if_bound.ensures ∙ c.components.invariant.value;
+      value = components_more rest more d (certificate_packets c.components.chosen) (certificate_packets c.add_if_staying.new.chosen) e c.in_ok-add_if_staying.ensures ∙ c.components.invariant.value;
     }

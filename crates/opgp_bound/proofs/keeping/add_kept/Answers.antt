@@ -1,10 +1,9 @@
-use Rattle.std.proofs.Common.{◌∙◌, ◌-◌, ◌++◌, List, length, take, drop, ap, sym}
+use Rattle.std.proofs.Common.{◌∙◌, ◌-◌, ◌++◌, List, length, take, drop, ap}
 use Rattle.std.specs.Prelude.{if◌then◌else◌, [], ◌∷◌}
 use Rattle.opgp_ring.specs.Keyring.{certificate_packets}
+use Rattle.opgp_bound.specs.Bound.{role_stays}
 use Rattle.opgp_bound.specs.Judged.{JudgedValue}
-use Rattle.opgp_bound.specs.Newest.{stays_beside}
-use Rattle.opgp_bound.specs.declared.role.Role.{Role}
-use Rattle.opgp_bound.proofs.Kept.{Hung, first_is, first_rest, packets_more, rest_are}
+use Rattle.opgp_bound.proofs.Kept.{Hung, first_rest, packets_more, rest_are}
 use Rattle.opgp_bound.proofs.keeping.add_kept.Goals as goal
 
 pub hangs-preserved : goal.hangs-preserved
@@ -15,8 +14,8 @@ hangs-preserved c =
     let e = first_rest rest j c.in-len1-up.len_at_least c.judged-item.is in
     record {
       hung = rest_are Hung rest more j e c.hangs.invariant.hung;
-      value = packets_more (λ k. stays_beside c.newest-newest.result k.role) rest more j c.stays_beside.result (certificate_packets c.hangs.chosen) (certificate_packets c.add_if.new.chosen) e
-          (c.stays_beside.ensures ∙ ap (λ (k : JudgedValue). stays_beside c.newest-newest.result k.role) c.judged.view_is)
-          (c.in_ok-add_if.ensures ∙ ap (λ (k : JudgedValue). certificate_packets c.hangs.chosen ++ (if c.stays_beside.result then k.packet ∷ [] else [])) c.judged.view_is)
+      value = packets_more (λ k. role_stays k.role) rest more j c.role_stays.result (certificate_packets c.hangs.chosen) (certificate_packets c.add_if.new.chosen) e
+          (c.role_stays.ensures ∙ ap (λ (k : JudgedValue). role_stays k.role) c.judged.view_is)
+          (c.in_ok-add_if.ensures ∙ ap (λ (k : JudgedValue). certificate_packets c.hangs.chosen ++ (if c.role_stays.result then k.packet ∷ [] else [])) c.judged.view_is)
           ∙ c.hangs.invariant.value;
     }

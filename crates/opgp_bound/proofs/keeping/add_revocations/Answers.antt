@@ -1,9 +1,9 @@
-use Rattle.std.proofs.Common.{◌∙◌, ◌-◌, ◌++◌, List, length, take, drop, ap, sym}
+use Rattle.std.proofs.Common.{◌∙◌, ◌-◌, ◌++◌, List, length, take, drop, ap}
 use Rattle.std.specs.Prelude.{if◌then◌else◌, [], ◌∷◌}
 use Rattle.opgp_ring.specs.Keyring.{certificate_packets}
 use Rattle.opgp_bound.specs.Bound.{revokes}
 use Rattle.opgp_bound.specs.Judged.{JudgedValue}
-use Rattle.opgp_bound.proofs.Kept.{Hung, first_is, first_rest, packets_more, rest_are}
+use Rattle.opgp_bound.proofs.Kept.{Hung, first_rest, packets_more, rest_are}
 use Rattle.opgp_bound.proofs.keeping.add_revocations.Goals as goal
 
 pub hangs-preserved : goal.hangs-preserved

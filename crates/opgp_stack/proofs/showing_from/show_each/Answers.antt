@@ -29,7 +29,7 @@ pub packets-preserved-in-Continue-branch-2 : goal.packets-preserved-in-Continue-
 packets-preserved-in-Continue-branch-2 g c =
     let list = c.packets.invariant.1 in
     let s = c.in_ok-next.ensures.came in
-    let lent = rw c.if-branch.true at s.1 in
+    let lent = (rw c.if-branch.true at s.1).0 in
     let same : viewed c.in-Some.packet ∷ [] ≡ s.0 = rw c.in-Some.is at (c.packet.ensures s.0 lent) in
     let has : List ℕ → Type 0 = DraftHas g.S.Spool.serves g.S.Spool.tells g.S.Spool.holds g.S.Spool.has_failed c.add.new.draft in (
       c.in_ok-next.ensures.sound,
@@ -42,7 +42,7 @@ pub packets-preserved : goal.packets-preserved
 packets-preserved g c =
     let list = c.packets.invariant.1 in
     let s = c.in_ok-next.ensures.came in
-    let lent = rw c.if-branch.true at s.1 in
+    let lent = (rw c.if-branch.true at s.1).0 in
     let none : [] ≡ s.0 = rw c.in_default.is at (c.packet.ensures s.0 lent) in
     let has : List ℕ → Type 0 = DraftHas g.S.Spool.serves g.S.Spool.tells g.S.Spool.holds g.S.Spool.has_failed c.packets.draft in (
       c.in_ok-next.ensures.sound,

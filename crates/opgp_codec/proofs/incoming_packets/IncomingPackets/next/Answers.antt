@@ -18,14 +18,14 @@ returns-then-passes-clause-came g c =
     let s = c.in_ok-step.ensures.came in
     let f = rw c.if-branch.true at s.1 in (
       f.0,
-      f.1,
+      (f.1, λ none. c.passes.ensures.some c.if-passes.true (c.packet.ensures f.0 f.1 ∙ none)),
       λ mode limits before packets p0.
           let p = c.steps.invariant.came mode limits before packets p0 in
           record {
             items = p.items ++ s.0;
             came = s.2 Any mode limits before p.items p.came;
             policy = p.policy;
-            so_far = rw c.if-passes.true at (passed_more c.steps.self.malformed packets c.steps.self.fault c.passes.new.fault c.passes.result p.items s.0 _ _ f.0 (c.packet.ensures f.0 f.1) f.2 c.passes.ensures p.so_far);
+            so_far = rw c.if-passes.true at (passed_more c.steps.self.malformed packets c.steps.self.fault c.passes.new.fault c.passes.result p.items s.0 _ _ f.0 (c.packet.ensures f.0 f.1) f.2 c.passes.ensures.so_far p.so_far);
           },
     )
 
@@ -43,7 +43,7 @@ steps-preserved g c =
           let p = c.steps.invariant.came mode limits before packets p0 in
           elim c.else-is_none.branch [
             | else-is_none-via-then-is_none+else-passes w ↦
-                let more = rw w.if-passes.false at (passed_more c.steps.self.malformed packets c.steps.self.fault w.passes.new.fault w.passes.result p.items s.0 _ _ f.0 (w.packet.ensures f.0 f.1) f.2 w.passes.ensures p.so_far) in
+                let more = rw w.if-passes.false at (passed_more c.steps.self.malformed packets c.steps.self.fault w.passes.new.fault w.passes.result p.items s.0 _ _ f.0 (w.packet.ensures f.0 f.1) f.2 w.passes.ensures.so_far p.so_far) in
                 rw w.self-is (record {
                   items = p.items ++ s.0;
                   came = s.2 Any mode limits before p.items p.came;

@@ -51,8 +51,8 @@ IsOf Expiring s = IsCertification s × (s.key_lasts ≢ 0)
 IsOf (Identity n) s = Certifies s.kind × (s.component ≡ Some n)
 IsOf (Bindings n) s = (s.kind ≡ types.SubkeyBinding) × (s.component ≡ Some n)
 
--- It is one of these, good and not revoked (5.2.1.13) if the group asks for that, nothing critical in
--- it is unknown (5.2.3.7), the primary key itself made it (5.2.3.10), and it is in force.
+-- It is one of these, good and not revoked (5.2.1.13) if the group asks for that, nothing critical
+-- in it is unknown (5.2.3.7), the primary key itself made it (5.2.3.10), and it is in force.
 pub record Speaks (group : Group) (at : ℕ) (s : Statement) : Type 0 where
   pub of : IsOf group.sort s
   pub good : group.must_be_good ≡ true → s.is_good ≡ true

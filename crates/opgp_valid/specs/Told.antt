@@ -287,7 +287,8 @@ module _ (known : List Known) (policy : Policy) (primary : Fingerprint) where
       reason = reason_in (hashed_subs v);
     }
 
-    -- it is said at each time that it states; where these are several it isn't good, and only limits
+    -- it is said at each time that it states (5.2.3.11); where these are several it isn't good, and
+    -- only limits
     abbrev pub stated_by : Place → SubjectValue → SignatureValue → Option Author → List Statement
     stated_by place subject v None = []
     stated_by place subject v (Some by) = map (statement_of place subject v by) (lives_in v)

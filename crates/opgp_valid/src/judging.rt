@@ -62,8 +62,11 @@ pub(crate) fn is_revoked(statements: &[Statement], key: Key) -> bool
 /// - When the signature was made, and now, there is a good direct key signature or, in version 4, a
 ///   good certification of a user ID by the primary key itself (10.1). The newest of each that
 ///   counts is heard (5.2.3.10), and of equally new ones each. Heard too, good or not, are the
-///   newest of all direct key signatures, that of all certifications, and that of those of the
-///   primary user ID.
+///   newest of all direct key signatures and that of all certifications; and, of the newest
+///   certifications of each user ID and attribute, the newest that says that it is the primary one
+///   (5.2.3.27), and the newest that lets the key expire.
+/// - A certification that the primary key has revoked (5.2.1.13) is heard only if nothing else
+///   speaks for the primary key.
 /// - By none of those has the primary key expired (5.2.3.13).
 /// - For a subkey there is a good binding by the primary key, at both times (5.2.1.8). The newest
 ///   of these and the newest of all are heard, and by neither has it expired.

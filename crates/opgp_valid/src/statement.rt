@@ -17,7 +17,7 @@ pub enum Author {
 /// From when a signature counts, and how long.
 #[derive(Clone, Copy, Debug, PartialEq, Eq)]
 pub struct Life {
-    /// When it was made, in seconds since 1970: its one creation time (RFC 9580, 5.2.3.11).
+    /// When it was made, in seconds since 1970 (RFC 9580, 5.2.3.11).
     pub made: u32,
     /// After how many seconds it expires; 0 for never (5.2.3.18).
     pub lasts: u32,
@@ -54,7 +54,8 @@ pub struct Statement {
     /// The policy relies on its hash algorithm and on its key, which is no younger than it is, and
     /// its hashed subpackets have the form of their kinds.
     pub is_good: bool,
-    /// From when it counts, and how long; None if it doesn't state one time when it was made.
+    /// From when it counts, and how long; None if it states no time when it was made. One that
+    /// states several is a statement for each of them, and none of these is good.
     pub life: Option<Life>,
     /// After how many seconds from its creation the key expires; 0 for never (5.2.3.13).
     pub key_lasts: u32,
@@ -64,8 +65,8 @@ pub struct Statement {
     pub uses: Uses,
     /// Whether it says that its user ID is the primary one (5.2.3.27).
     pub is_main: bool,
-    /// Whether it is a certification that the primary key has revoked: the revocation is on the same
-    /// user ID or attribute, and isn't older (5.2.1.13).
+    /// Whether it is a certification that the primary key has revoked: the revocation is on the
+    /// same user ID or attribute, and isn't older (5.2.1.13).
     pub is_revoked: bool,
     /// The life of the signature that is embedded in it, of several in the first, if that is good
     /// and by the subkey (5.2.1.9, 5.2.3.34).

@@ -13,6 +13,7 @@
 #include <opgp.h>
 
 #include "verify-arithmetic.h"
+#include "verify-causes.h"
 #include "verify-hints.h"
 #include "verify-judging.h"
 #include "verify-names.h"
@@ -387,8 +388,8 @@ static int told_states(struct run *run, const struct task *task)
     if (fflush(stdout) || ferror(stdout)) {
         return said(3, "write failed");
     }
-    fprintf(stderr, "opgp-verify: %zu usable, %zu revoked, %zu early, %zu unbound, %zu expired\n", counts.of[0], counts.of[1],
-            counts.of[2], counts.of[3], counts.of[4]);
+    fprintf(stderr, "opgp-verify: %zu usable, %zu revoked, %zu early, %zu unbound, %zu expired, %zu no-use\n", counts.of[0],
+            counts.of[1], counts.of[2], counts.of[3], counts.of[4], counts.of[5]);
     return 0;
 }
 
@@ -446,6 +447,7 @@ static int verified_keyring(const char *name, const struct task *task)
 {
     size_t size;
     opgp_keyring *keyring = NULL;
+    const opgp_keyring *judged = NULL;
     FILE *file = open_named(name);
     if (!file) {
         return cannot_read(name);
@@ -454,11 +456,15 @@ static int verified_keyring(const char *name, const struct task *task)
     int status = octets && ferror(file) ? said(3, "read failed") : opened(octets, size, task, &keyring);
     free(octets);
     close_named(file);
-    if (keyring) {
-        struct run run = {.keyring = keyring};
-        status = verified(&run, task);
-        opgp_close(keyring);
+    if (status == 0 && (task->wants_states || task->wants_verdicts)) { /* one copy of a certificate may lack a revocation */
+        uint32_t merging = opgp_merged(keyring, &judged);
+        status = merging == OPGP_DONE ? 0 : said(3, opgp_status_text(merging));
     }
+    if (status == 0) {
+        struct run run = {.keyring = judged ? judged : keyring};
+        status = verified(&run, task);
+    }
+    opgp_close(keyring);
     return status;
 }
 
@@ -499,6 +505,9 @@ static int told_of_document(const struct judging *judging)
         if (is_unbelieved) {
             char word[OPGP_NAME_ROOM];
             printf(" unbelieved %s", opgp_name_text(OPGP_UNBELIEVED, row->standing, word));
+            if (row->cause.why != OPGP_BELIEVED) {
+                print_cause(stdout, &row->cause);
+            }
         }
         putchar('\n');
         unhashed += !row->is_hashed;
@@ -510,6 +519,11 @@ static int told_of_document(const struct judging *judging)
     }
     fprintf(stderr, "opgp-verify: %zu good, %zu unbelieved, %zu bad, %zu undecided, %zu not hashed\n", counts[OPGP_GOOD], unbelieved,
             counts[OPGP_BAD], counts[OPGP_UNDECIDED], unhashed);
+    for (const struct judged *row = rows; row < rows + count; row++) {
+        if (row->verdict == OPGP_GOOD && row->cause.why != OPGP_BELIEVED) {
+            explain_cause("opgp-verify", &row->cause);
+        }
+    }
     return status_of_document(judging);
 }
 

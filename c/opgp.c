@@ -168,7 +168,8 @@ struct opgp_keyring {
     uint64_t size;     /* octets that it was read from, or more than its packets have; 0: not known yet */
     uint64_t next_row; /* the row behind the one whose octets were asked for last; at first that of no job */
     struct batch batch;
-    opgp_keyring *merged; /* the same with its certificates merged; NULL: not made yet */
+    opgp_keyring *merged; /* the same with its certificates merged; NULL: not made yet, or it is once */
+    bool is_once;         /* merging it changes nothing */
 };
 
 /* Room for so many things, at least one; NULL if there is none. */
@@ -327,15 +328,36 @@ uint32_t opgp_merge(const opgp_keyring *keyring, opgp_keyring **made)
     return give_keyring(leave(from, it ? opgp_ring_merge(&from->ring, &it->ring) : OPGP_MEMORY), it, made);
 }
 
+/* Says in *is_same whether a merged keyring has as many packets and octets in them as the one that it was made of. Merging only leaves
+ * out repetitions, so then it changed nothing. */
+static uint32_t compare_packets(opgp_keyring *keyring, opgp_keyring *merged, bool *is_same)
+{
+    opgp_sizes own, others;
+    uint32_t status = opgp_ring_packets(&keyring->ring, NULL, 0, NULL, 0, &own);
+    status = status == OPGP_DONE || status == OPGP_ROOM ? opgp_ring_packets(&merged->ring, NULL, 0, NULL, 0, &others) : status;
+    if (status == OPGP_DONE || status == OPGP_ROOM) {
+        *is_same = own.rows == others.rows && own.bytes == others.bytes;
+        return OPGP_DONE;
+    }
+    return status;
+}
+
 uint32_t opgp_merged(const opgp_keyring *keyring, const opgp_keyring **merged)
 {
-    opgp_keyring *it = enter(keyring);
+    opgp_keyring *it = enter(keyring), *made;
     uint32_t status = OPGP_DONE;
-    if (!it->merged) {
-        opgp_keyring *made = new_keyring();
-        status = give_keyring(made ? opgp_ring_merge(&it->ring, &made->ring) : OPGP_MEMORY, made, &it->merged);
+    if (!it->merged && !it->is_once) {
+        made = new_keyring();
+        status = give_keyring(made ? opgp_ring_merge(&it->ring, &made->ring) : OPGP_MEMORY, made, &made);
+        status = status == OPGP_DONE ? compare_packets(it, made, &it->is_once) : status;
+        if (status == OPGP_DONE && !it->is_once) {
+            made->is_once = true;
+            it->merged = made;
+        } else {
+            opgp_close(made);
+        }
     }
-    *merged = it->merged;
+    *merged = status != OPGP_DONE ? NULL : it->is_once ? it : it->merged;
     return leave(it, status);
 }
 
@@ -855,6 +877,7 @@ struct judging {
     size_t count, good;
     opgp_verdict found[OPGP_MOST_SIGNATURES];
     uint8_t whys[OPGP_MOST_SIGNATURES];      /* why each isn't believed */
+    opgp_cause causes[OPGP_MOST_SIGNATURES]; /* the same, if it is since its key isn't */
     size_t signers[OPGP_MOST_SIGNATURES];    /* the row of its signer's key, where that is so */
     size_t firsts[OPGP_MOST_SIGNATURES + 1]; /* the number of its first subpacket, and behind the last one how many there are */
     bool *has_signer;                        /* of each certificate, whether it says of a good one's key if that is believed */
@@ -1076,6 +1099,12 @@ static size_t find_places(struct judging *it, size_t row)
     return count;
 }
 
+/* Whether a signature isn't believed since its key isn't. */
+static bool is_of_key(uint8_t why)
+{
+    return why >= OPGP_IN_FUTURE && why <= OPGP_UNBACKED;
+}
+
 /* Finds why a good signature isn't believed: at no place of its key, and then what is so at the first one. An equal one in front of it has
  * the same answer. */
 static uint32_t find_why(struct judging *it, opgp_document *document, size_t row, uint32_t policy, uint64_t now)
@@ -1084,6 +1113,7 @@ static uint32_t find_why(struct judging *it, opgp_document *document, size_t row
         if (it->found[other] == OPGP_GOOD && is_equal(it, row, other)) {
             it->whys[row] = it->whys[other];
             it->signers[row] = it->signers[other];
+            it->causes[row] = it->causes[other];
             return OPGP_DONE;
         }
     }
@@ -1098,6 +1128,11 @@ static uint32_t find_why(struct judging *it, opgp_document *document, size_t row
     if (status == OPGP_DONE) {
         it->whys[row] = it->of_places[best];
         it->signers[row] = it->rows[best];
+        if (is_of_key(it->whys[row])) {
+            const opgp_place *at = &it->places[best];
+            status = opgp_ring_cause(&keyring->ring, it->verdicts, (size_t)keyring->job_sizes.rows, policy, at->certificate,
+                                     at->component, it->jobs[row].created, now, &it->causes[row]);
+        }
     }
     return leave(keyring, status);
 }
@@ -1137,6 +1172,7 @@ static opgp_question reported(const struct judging *it, size_t row)
 {
     opgp_question question = question_of(it->keyring, row, &it->jobs[row], it->made);
     question.signer = question.signer ? &it->keys[it->signers[row]] : NULL;
+    question.cause = is_of_key(it->whys[row]) ? &it->causes[row] : NULL;
     for (unsigned k = 0; question.signer && k < 4; k++) {
         question.key[k] = opgp_key_field(it->keyring, question.signer, k);
     }
@@ -1195,12 +1231,14 @@ uint32_t opgp_revocations(const opgp_keyring *keyring, opgp_revocation **rows, s
 uint32_t opgp_states(const opgp_keyring *keyring, uint32_t policy, uint64_t at, opgp_verifier *verify, void *context,
                      opgp_state **rows, size_t *count)
 {
+    const opgp_keyring *merged = NULL;
     uint8_t *verdicts = NULL;
     uint64_t found = 0;
-    uint32_t status = policy > OPGP_POLICY_ANY ? OPGP_LIMITS : find_verdicts(keyring, NULL, verify, context, &verdicts);
+    uint32_t status = policy > OPGP_POLICY_ANY ? OPGP_LIMITS : opgp_merged(keyring, &merged);
+    status = status == OPGP_DONE ? find_verdicts(merged, NULL, verify, context, &verdicts) : status;
     *rows = NULL;
     if (status == OPGP_DONE) {
-        opgp_keyring *it = enter(keyring);
+        opgp_keyring *it = enter(merged);
         status = leave(it, make_states(it, verdicts, policy, at, rows, &found));
     }
     free(verdicts);
@@ -1217,10 +1255,15 @@ uint32_t opgp_read_verdicts(const opgp_keyring *keyring, const uint8_t *file, si
 {
     enum { ROW = 32 };
     const uint8_t nothing = 0;
+    const opgp_keyring *merged = NULL;
     uint8_t *room = NULL;
     uint64_t wanted = n / ROW;
-    opgp_keyring *it = enter(keyring);
-    uint32_t status = OPGP_ROOM;
+    uint32_t status = opgp_merged(keyring, &merged);
+    if (status != OPGP_DONE) {
+        return give(status, room, wanted, verdicts, count);
+    }
+    opgp_keyring *it = enter(merged);
+    status = OPGP_ROOM;
     while (status == OPGP_ROOM) {
         size_t size = (size_t)wanted;
         free(room);

@@ -43,7 +43,7 @@ extern "C" {
  * one is added. New in 3: opgp_document and its calls, opgp_signatures, opgp_canonical, opgp_state and opgp_ring_states,
  * opgp_revocation and opgp_ring_revocations, opgp_ring_standing, opgp_document_standing, opgp_judge, opgp_states and
  * opgp_revocations, and opgp_cleartext_open; opgp_ring_choose, opgp_choose, opgp_ring_pick, opgp_pick, opgp_merged,
- * opgp_find_blocks and opgp_user_id; opgp_place, opgp_document_standings, opgp_ring_verdicts, opgp_ring_skipped, opgp_read_verdicts
+ * opgp_find_blocks and opgp_user_id; opgp_place, opgp_document_standings, opgp_cause, opgp_ring_cause, opgp_ring_verdicts, opgp_ring_skipped, opgp_read_verdicts
  * and opgp_skipped; the statuses 8 and 9; and the why 6. */
 #define OPGP_ABI 3
 
@@ -349,9 +349,9 @@ typedef struct opgp_state {
     uint64_t component; /* the number of the component that it is; OPGP_NONE for a primary key */
     uint64_t end;       /* of a key: when it expires, or its primary key does, in seconds since 1970; else OPGP_NONE: never */
     uint32_t begin;     /* of a key: since when both it and its primary key are there, in seconds since 1970; else 0 */
-    uint8_t why;        /* of a key: OPGP_BELIEVED if it is of use; else OPGP_REVOKED, OPGP_EARLY, OPGP_UNBOUND or OPGP_EXPIRED, the first
-                           that applies. Of a user ID or attribute: OPGP_BELIEVED if it is certified; OPGP_REVOKED if the primary key
-                           revoked a certification of it, whenever; OPGP_UNBOUND if neither */
+    uint8_t why;        /* of a key: OPGP_BELIEVED if it is of use; else OPGP_REVOKED, OPGP_EARLY, OPGP_UNBOUND, OPGP_EXPIRED or
+                           OPGP_NO_USE, the first that applies. Of a user ID or attribute: OPGP_BELIEVED if a certification counts
+                           that the primary key hasn't revoked; else OPGP_REVOKED if it revoked one, whenever; else OPGP_UNBOUND */
     uint8_t is_key;     /* 1: a key; 0: a user ID or attribute */
     uint8_t uses;       /* of a key: what all that is heard for it lets it be used for, as flags (5.2.3.29): 1 to certify, 2 to sign, 4
                            to encrypt, 32 to authenticate; else 0 */
@@ -556,7 +556,10 @@ enum {
     OPGP_WEAK = 10,       /* the policy doesn't rely on its hash algorithm, or on its key */
     OPGP_UNDATED = 11,    /* it states no creation time in its hashed area, or several */
     OPGP_LAPSED = 12,     /* it has expired */
-    OPGP_NOT_BY_KEY = 13  /* it names another key first */
+    OPGP_NOT_BY_KEY = 13, /* it names another key first */
+
+    /* Of opgp_state alone. */
+    OPGP_NO_USE = 14      /* the key may be used for nothing */
 };
 
 /* Says in *why whether a key may be believed for a signature that was made at one time and is read at another, in seconds since 1970.
@@ -574,6 +577,47 @@ enum {
  * - The handle holds what it held. */
 OPGP_API uint32_t opgp_ring_standing(opgp_ring *ring, const uint8_t *verdicts, size_t count, uint32_t policy, uint64_t certificate,
                                      uint64_t component, uint64_t made, uint64_t now, uint8_t *why);
+
+/* What is lacking for a key which is OPGP_UNBOUND: of all that signatures lack which could speak for it, the first in this order. The
+ * numbers never change. */
+enum {
+    OPGP_LACK_NOTHING = 0,   /* there is no such signature; or another reason */
+    OPGP_LACK_NEWER = 1,     /* it was made later */
+    OPGP_LACK_LAPSED = 2,    /* it has expired (5.2.3.18) */
+    OPGP_LACK_WEAK = 3,      /* the policy doesn't rely on its hash algorithm, or on its key */
+    OPGP_LACK_MALFORMED = 4, /* a hashed subpacket hasn't the form of its kind (5.2.3.7) */
+    OPGP_LACK_UNDATED = 5,   /* it states no creation time in its hashed area, or several (5.2.3.11) */
+    OPGP_LACK_YOUNG = 6,     /* it is older than its issuer's key */
+    OPGP_LACK_CRITICAL = 7   /* something critical in it is unknown (5.2.3.7) */
+};
+
+/* Why a key isn't believed. */
+typedef struct opgp_cause {
+    uint64_t date;      /* in seconds since 1970: of OPGP_IN_FUTURE when the signature was made; of OPGP_REVOKED when the revocation was;
+                           of OPGP_EARLY when the key was created; of OPGP_EXPIRED when it expired; of OPGP_UNBOUND until when the
+                           signature counted that has lapsed, else when it was made. OPGP_NONE: there is none */
+    uint64_t component; /* the signature that says so: the component that it is on; OPGP_NONE: the primary key, or there is no such one */
+    uint64_t hang;      /* its number among the packets that follow that, from 0; OPGP_NONE: there is no such signature */
+    uint8_t why;        /* the first reason, OPGP_IN_FUTURE to OPGP_UNBACKED; OPGP_BELIEVED: the key is believed */
+    uint8_t is_primary; /* 1: it is so of the primary key; 0: of a subkey */
+    uint8_t is_now;     /* 1: it is so now, and wasn't when the signature was made */
+    uint8_t lack;       /* what that signature lacks, the first one that lacks it: OPGP_LACK_NOTHING .. */
+    uint8_t reserved[4];
+} opgp_cause;
+
+/* Says in *cause why a key may not be believed, by what opgp_ring_standing takes: the first reason, of which key and at which of the two
+ * times it is so, a date, and the first signature that says so.
+ *
+ * OPGP_DONE; OPGP_NO_ROW: there is no such key; OPGP_LIMITS: there is no such policy; OPGP_MEMORY; OPGP_CLOSED.
+ *
+ * Proved:
+ *
+ * - OPGP_DONE: *cause is the row that crates/opgp_handles/specs/Causes.antt defines. Its reason is that of opgp_ring_standing.
+ * - OPGP_NO_ROW is returned only if there is no such key.
+ * - With any status but OPGP_DONE *cause is unchanged.
+ * - The handle holds what it held. */
+OPGP_API uint32_t opgp_ring_cause(opgp_ring *ring, const uint8_t *verdicts, size_t count, uint32_t policy, uint64_t certificate,
+                                  uint64_t component, uint64_t made, uint64_t now, opgp_cause *cause);
 
 /* Fills rows[0 .. row_room) with how each key, user ID and user attribute of the keyring stands at a time, in seconds since 1970: the
  * primary key of each certificate, and then its components in order. *size is how many these are. The verdicts and the policy are
@@ -1052,8 +1096,9 @@ OPGP_API uint32_t opgp_pick(const opgp_keyring *keyring, const uint8_t *picked, 
 OPGP_API uint32_t opgp_certificate(const opgp_keyring *keyring, uint64_t number, opgp_keyring **made);
 OPGP_API uint32_t opgp_join(const opgp_keyring *keyring, const opgp_keyring *other, opgp_keyring **made);
 
-/* The keyring that opgp_merge makes, which this one keeps: it is made by the first call, or the first one of opgp_judge. opgp_close of
- * keyring closes it; don't close it yourself.
+/* The keyring that opgp_merge makes, which this one keeps: it is made by the first call, or the first one of opgp_judge, opgp_states or
+ * opgp_read_verdicts. Where merging changes nothing it is this keyring itself. opgp_close of keyring closes it; don't close it
+ * yourself.
  *
  * OPGP_DONE; OPGP_MEMORY: *merged is NULL. */
 OPGP_API uint32_t opgp_merged(const opgp_keyring *keyring, const opgp_keyring **merged);
@@ -1068,6 +1113,7 @@ typedef struct opgp_question {
     opgp_span made[2];      /* what the signature's algorithm made */
     const opgp_key *signer; /* the issuer's key, whose version is the signature's */
     opgp_span key[4];       /* its material */
+    const opgp_cause *cause; /* to a reporter of opgp_judge: why its signer isn't believed, if that is what is reported; else NULL */
 } opgp_question;
 
 /* Returns OPGP_GOOD or OPGP_BAD: by arithmetic alone, whether the key made the signature. Any other number is OPGP_UNDECIDED:
@@ -1098,8 +1144,8 @@ OPGP_API uint32_t opgp_check(const opgp_keyring *keyring, opgp_verifier *verify,
 /* Gets the question about a signature over a document, the verdict on it, and why it isn't to be believed: OPGP_BELIEVED if it is,
  * else the first reason, as opgp_document_standing gives it; OPGP_NOT_GOOD if the verdict isn't OPGP_GOOD. The signer of the
  * question is the issuer's key at the first place at which the signature is believed, else at its first place, which is the row that the
- * job names: so its certificate is that by whose signatures it is believed. NULL: that key isn't in the keyring. A number other than 0
- * ends opgp_judge. */
+ * job names: so its certificate is that by whose signatures it is believed. NULL: that key isn't in the keyring. The question's cause says
+ * more of a reason that is the key's; its numbers are those of opgp_merged. A number other than 0 ends opgp_judge. */
 typedef int opgp_judge_reporter(void *context, const opgp_question *question, opgp_verdict verdict, uint8_t why);
 
 /* Judges the signatures over a document that has ended, by a policy (OPGP_POLICY_USUAL ..) and at a present time in seconds since
@@ -1135,14 +1181,15 @@ OPGP_API uint32_t opgp_revocations(const opgp_keyring *keyring, opgp_revocation 
  * The verifier is called as opgp_check calls it, and for key revocations that stand behind another part: they are over the
  * primary key alone (5.2.1.11), so their job has the digest of that; but not for what another key certified (types 10 to 13 and
  * 30), which says nothing. Only signatures found good count, revocations too; with verify NULL, none do. It may
- * make calls on the keyring, but not close it. Each certificate is judged alone: merge a keyring that may have one twice.
+ * make calls on the keyring, but not close it. Since each certificate is judged alone, and one copy may lack a revocation, it
+ * goes by opgp_merged of the keyring: all numbers are of that.
  *
  * OPGP_DONE; or *rows is NULL and *count 0: OPGP_LIMITS: there is no such policy; OPGP_MEMORY. */
 OPGP_API uint32_t opgp_states(const opgp_keyring *keyring, uint32_t policy, uint64_t at, opgp_verifier *verify, void *context,
                               opgp_state **rows, size_t *count);
 
 /* Reads a file of verdicts on the keyring's signatures, as opgp_ring_verdicts does: (*verdicts)[0 .. *count), for free(). They are on the
- * rows of opgp_jobs. `file` may be NULL if n is 0.
+ * rows of opgp_jobs of opgp_merged, as `opgp-verify --verdicts` goes by the merged keyring. `file` may be NULL if n is 0.
  *
  * OPGP_DONE; OPGP_NO_ROW: the file isn't one of verdicts on this keyring; OPGP_MEMORY. With any but OPGP_DONE *verdicts is NULL, and
  * *count 0. */

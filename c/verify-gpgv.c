@@ -216,13 +216,38 @@ static bool is_missing(const struct judged *row)
     return is_absent(row) || (row->verdict == OPGP_BAD && !row->key[0]);
 }
 
+/* The code of ERRSIG, as gpgv 2.2 has it for each: that a key is missing, isn't meant to sign, or isn't bound; that times don't fit; that
+ * the type isn't supported; that the key is refused otherwise; or, for the rest, that an algorithm isn't supported. */
+static int error_code(const struct judged *row, bool is_refused)
+{
+    enum { GENERAL = 1, NO_ALGORITHM = 4, BAD_KEY = 6, NO_KEY = 9, NO_TYPE = 32, TIMES = 39, NO_USE = 125 };
+    if (is_missing(row)) {
+        return NO_KEY;
+    }
+    if (row->verdict != OPGP_GOOD || is_refused) {
+        return !row->is_hashed && strcmp(row->why, "kind") == 0 ? NO_TYPE : NO_ALGORITHM;
+    }
+    switch (row->standing) {
+    case OPGP_NOT_SIGNING:
+        return NO_USE;
+    case OPGP_UNBOUND:
+        return BAD_KEY;
+    case OPGP_EARLY:
+    case OPGP_UNDATED:
+    case OPGP_IN_FUTURE:
+        return TIMES;
+    default:
+        return GENERAL;
+    }
+}
+
 /* Writes the status lines of a signature that isn't verified, or not believed for another reason than time and revocation. */
-static void tell_error(FILE *status, const struct judged *row)
+static void tell_error(FILE *status, const struct judged *row, bool is_refused)
 {
     const char *name = row->key[0] ? row->key : strlen(row->issuer) > 16 ? row->issuer : "-";
     const char *key_id = row->key_id[0] ? row->key_id : "0000000000000000";
     fprintf(status, "[GNUPG:] ERRSIG %s %u %u %02X %" PRIu64 " %d %s\n", key_id, row->algorithm, row->hash, row->kind,
-            row->is_dated ? row->made : 0, is_missing(row) ? 9 : 4, name);
+            row->is_dated ? row->made : 0, error_code(row, is_refused), name);
     if (is_missing(row)) {
         fprintf(status, "[GNUPG:] NO_PUBKEY %s\n", key_id);
     }
@@ -249,7 +274,7 @@ static void tell_row(FILE *status, const struct judged *row, const struct demand
             fprintf(status, "[GNUPG:] ASSERT_PUBKEY_ALGO %s %d %s\n", row->key, is_asserted(row, demands), row->key_name);
         }
         if (refusal) {
-            tell_error(status, row);
+            tell_error(status, row, true);
         } else {
             tell_good(status, row);
         }
@@ -262,7 +287,7 @@ static void tell_row(FILE *status, const struct judged *row, const struct demand
     } else if (row->verdict == OPGP_GOOD && row->standing == OPGP_REVOKED) {
         tell_key(status, "REVKEYSIG", row);
     } else {
-        tell_error(status, row);
+        tell_error(status, row, false);
     }
 }
 

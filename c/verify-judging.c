@@ -591,6 +591,7 @@ static int take(void *context, const opgp_question *question, opgp_verdict verdi
     }
     if (it->is_taken[question->row]) {
         row->standing = verdict == OPGP_GOOD ? why : OPGP_NOT_GOOD;
+        row->cause = question->cause ? *question->cause : (opgp_cause){.why = OPGP_BELIEVED};
         it->homes[question->row] = question->signer ? question->signer->certificate : OPGP_NONE;
     }
     return 0;

@@ -40,6 +40,7 @@ struct judged {
     opgp_verdict verdict;
     const char *why;                /* why it is undecided, or not hashed */
     uint8_t standing;               /* OPGP_BELIEVED, or the first reason why not; OPGP_NOT_GOOD: the verdict isn't good */
+    opgp_cause cause;               /* more of that, if it is the key's; else its why is OPGP_BELIEVED */
 
     /* By judging_names alone. */
     char primary[DIGITS_ROOM];      /* the fingerprint of the primary key of the signer's certificate: where it is believed, if it is */

@@ -1,6 +1,7 @@
 /* What opgp-sopv, opgp-sqv and opgp-gpgv have in common, and which of them a name is. */
 #include "verify-dialects.h"
 
+#include "verify-causes.h"
 #include "verify-words.h"
 
 #include <errno.h>
@@ -117,6 +118,9 @@ void explain(const struct program *program, const struct judged *row, const char
     } else if (row->standing != OPGP_BELIEVED) {
         char word[OPGP_NAME_ROOM];
         fprintf(stderr, "good unbelieved %s", opgp_name_text(OPGP_UNBELIEVED, row->standing, word));
+        if (row->cause.why != OPGP_BELIEVED) {
+            print_cause(stderr, &row->cause);
+        }
     } else if (refusal) {
         fprintf(stderr, "good refused %s", refusal);
     } else {
@@ -128,6 +132,9 @@ void explain(const struct program *program, const struct judged *row, const char
         fputc('"', stderr);
     }
     fputc('\n', stderr);
+    if (row->verdict == OPGP_GOOD && row->cause.why != OPGP_BELIEVED) {
+        explain_cause(program->name, &row->cause);
+    }
 }
 
 dialect *dialect_of(const char *started)

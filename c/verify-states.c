@@ -5,7 +5,8 @@
 #include <stdio.h>
 
 /* Where the words for each standing are, by the numbers of a state's why: OPGP_BELIEVED, OPGP_REVOKED and so on. */
-static const unsigned at[] = {[OPGP_BELIEVED] = 0, [OPGP_REVOKED] = 1, [OPGP_EARLY] = 2, [OPGP_UNBOUND] = 3, [OPGP_EXPIRED] = 4};
+static const unsigned at[] = {[OPGP_BELIEVED] = 0, [OPGP_REVOKED] = 1, [OPGP_EARLY] = 2,
+                              [OPGP_UNBOUND] = 3,  [OPGP_EXPIRED] = 4, [OPGP_NO_USE] = 5};
 
 /* A word and a number, or - for none. */
 static void print_number(const char *word, uint64_t number)
@@ -38,7 +39,7 @@ static void print_uses(unsigned uses)
 
 static void print_key(const opgp_state *state, const opgp_key *key, struct state_counts *counts)
 {
-    static const char *const words[] = {"usable", "revoked", "early", "unbound", "expired"};
+    static const char *const words[] = {"usable", "revoked", "early", "unbound", "expired", "no-use"};
     printf(state->component == OPGP_NONE ? " : pub " : " : sub ");
     for (size_t i = 0; i < key->print_size; i++) {
         printf("%02X", key->print[i]);

@@ -4,9 +4,9 @@
 
 #include <opgp.h>
 
-/* How many keys stand so: usable, revoked, early, unbound, expired. */
+/* How many keys stand so: usable, revoked, early, unbound, expired, no-use. */
 struct state_counts {
-    size_t of[5];
+    size_t of[6];
 };
 
 /* Writes a line for each key, user ID and attribute of a keyring, by its states; the status. Where it isn't OPGP_DONE, memory ran out,

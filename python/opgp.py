@@ -38,7 +38,7 @@ import sys
 import threading
 from typing import Any, BinaryIO, Callable, Iterable, Iterator, NamedTuple, Optional, TypeVar, Union
 
-__all__ = ["Certificate", "Document", "Fault", "FoundBlock", "Judgement", "Key", "KeyFlags", "Keyring", "Limits", "Packet", "Question"]
+__all__ = ["Cause", "Certificate", "Document", "Fault", "FoundBlock", "Judgement", "Key", "KeyFlags", "Keyring", "Lack", "Limits", "Packet", "Question"]
 __all__ += ["Reader", "Signature", "State", "Subpacket", "UserIdFacts", "Verdict", "Why", "cleartext", "document", "find_blocks", "parts"]
 __all__ += ["read", "user_id"]
 
@@ -150,6 +150,16 @@ class _Revocation(ctypes.Structure):
     _fields_ = [("row", ctypes.c_uint64), ("digest_size", ctypes.c_uint8), ("digest", ctypes.c_uint8 * 64), ("reserved", ctypes.c_uint8 * 7)]
 
 
+class _Cause(ctypes.Structure):
+    _fields_ = [(name, ctypes.c_uint64) for name in ("date", "component", "hang")] + [
+        ("why", ctypes.c_uint8),
+        ("is_primary", ctypes.c_uint8),
+        ("is_now", ctypes.c_uint8),
+        ("lack", ctypes.c_uint8),
+        ("reserved", ctypes.c_uint8 * 4),
+    ]
+
+
 class _State(ctypes.Structure):
     _fields_ = [(name, ctypes.c_uint64) for name in ("certificate", "component", "end")] + [
         ("begin", ctypes.c_uint32),
@@ -243,6 +253,7 @@ def _load() -> ctypes.CDLL:
         ("ring_clear", None, pointer(_Ring)),
         ("ring_revocations", status, pointer(_Ring), pointer(_Revocation), size, pointer(number)),
         ("ring_standing", status, pointer(_Ring), *verdicts, *[number] * 4, octets),
+        ("ring_cause", status, pointer(_Ring), *verdicts, *[number] * 4, pointer(_Cause)),
         ("ring_states", status, pointer(_Ring), *verdicts, number, pointer(_State), size, pointer(number)),
         ("document_standing", status, pointer(_Document), pointer(_Ring), *verdicts, *[number] * 4, octets),
         ("check", status, keyring, _Verifier, _Reporter, ctypes.c_void_p),
@@ -663,10 +674,54 @@ class Why(enum.Enum):
     """The signature has expired (5.2.3.18)."""
     ISSUER = 13
     """The signature names another key first."""
+    NO_USE = 14
+    """The key may be used for nothing: of `State` alone."""
     BAD = -1
     """The verdict on the signature is BAD."""
     UNDECIDED = -2
     """The verdict on the signature is UNDECIDED."""
+
+
+_OF_KEYS = {Why.FUTURE, Why.REVOKED, Why.EARLY, Why.UNBOUND, Why.EXPIRED, Why.FLAGS, Why.BACK}
+
+
+class Lack(enum.Enum):
+    """What is lacking for a key that is unbound: of all that signatures lack which could speak for it, the first in this order."""
+
+    NEWER = 1
+    """One was made later."""
+    LAPSED = 2
+    """One has expired (5.2.3.18)."""
+    WEAK = 3
+    """The policy doesn't rely on one's hash algorithm, or on its key."""
+    MALFORMED = 4
+    """A hashed subpacket of one hasn't the form of its kind (5.2.3.7)."""
+    UNDATED = 5
+    """One states no creation time in its hashed area, or several (5.2.3.11)."""
+    YOUNG = 6
+    """One is older than its issuer's key."""
+    CRITICAL = 7
+    """Something critical in one isn't understood (5.2.3.7)."""
+
+
+class Cause(NamedTuple):
+    """What makes a key not believed."""
+
+    why: Why
+    """The first reason."""
+    is_primary: bool
+    """It holds of the primary key, else of the subkey."""
+    is_now: bool
+    """It holds at the present time, and didn't when the signature was made."""
+    lack: Optional[Lack]
+    """Where the key is unbound, what is lacking; None: no signature could speak for it."""
+    date: Optional[int]
+    """In seconds since 1970: when the signature of the future was made; when the revocation was; when the key was created that is younger
+    than the signature; when it expired; until when the one that has lapsed counted; when the one was made that lacks something else."""
+    component: Optional[int]
+    """The component that the signature is on that says so; None: the primary key, or no signature does."""
+    hang: Optional[int]
+    """The number of that signature among the packets that follow it; None: no signature says so."""
 
 
 class State(NamedTuple):
@@ -679,8 +734,8 @@ class State(NamedTuple):
     is_key: bool
     """Whether it is a key."""
     why: Optional[Why]
-    """Why a key is of no use: REVOKED, EARLY, UNBOUND or EXPIRED, the first that applies; None if it is of use. Of a user ID or
-    attribute: REVOKED if the primary key revoked a certification of it, whenever; UNBOUND if it certified none; else None."""
+    """Why a key is of no use: REVOKED, EARLY, UNBOUND, EXPIRED or NO_USE, the first that applies; None if it is of use. Of a user ID or
+    attribute: None if a certification counts that the primary key hasn't revoked; else REVOKED if it revoked one, whenever; else UNBOUND."""
     uses: KeyFlags
     """What all that is heard for a key lets it be used for (5.2.3.29): of CERTIFY, SIGN, ENCRYPT_COMMUNICATIONS and
     AUTHENTICATE. The third stands for both kinds of encryption."""
@@ -700,6 +755,8 @@ class Judgement(NamedTuple):
     """What `Document.check` says of it."""
     why: Optional[Why]
     """Why it isn't believed; None: it is."""
+    cause: Optional[Cause] = None
+    """What makes its signer's key not believed, if that is why."""
 
 
 # ---- Rows of the library's tables
@@ -893,6 +950,13 @@ def _state(it: Any) -> State:
     )
 
 
+def _cause(it: _Cause) -> Optional[Cause]:
+    """The cause in the library's row; None: the key is believed."""
+    lack = Lack(it.lack) if it.lack else None
+    numbers = _number(it.date), _number(it.component), _number(it.hang)
+    return Cause(Why(it.why), bool(it.is_primary), bool(it.is_now), lack, *numbers) if it.why else None
+
+
 def _known(handle: _Handle, key: Key) -> Key:
     """The key, if it is one of this keyring."""
     if not isinstance(key, Key):
@@ -934,6 +998,12 @@ class _Rule:
         place = key.certificate, _NONE if key.component is None else key.component
         _raise_but_for_done(self.handle.by_ring(lambda ring: call(ring, given, place, number)))
         return Why(number.value) if number.value else None
+
+    def cause(self, key: Key, made: int, now: int) -> Optional[Cause]:
+        """What makes the key not believed in its place; None: it is believed."""
+        row, call = _Cause(), _library.opgp_ring_cause
+        self.why(key, lambda ring, given, place, _: call(ring, *given, *place, made, now, row))
+        return _cause(row)
 
     def why_anywhere(self, key: Key, call: Callable[..., Any]) -> Optional[Why]:
         """None: the key is believed in one of its places; else why it isn't in the first."""
@@ -1214,16 +1284,23 @@ class Keyring(_Held):
         return rule.why(_known(handle, key), lambda ring, given, place, why: call(ring, *given, *place, *times, why))
 
 
-    def states(self, at: int, verify: Optional[Verifier], policy: str = "usual") -> list[State]:
-        """How each key, user ID and user attribute stands at a time, in seconds since 1970: the primary key of each certificate,
-        and then its components, in order. docs/VALIDITY.md has the rule, which is proved.
+    def cause(self, key: Key, made: int, now: int, verify: Verifier, policy: str = "usual") -> Optional[Cause]:
+        """What makes this key not believed, where `standing` gives a reason: of which key and at which time it holds, a date, and the
+        signature that says so. None: it is believed. The arguments are those of `standing`, and so is what it raises."""
+        handle = self._open()
+        times = _time(made), _time(now)
+        return _Rule(handle, verify, _policy(policy)).cause(_known(handle, key), *times)
 
-        `verify` is called at most once for each signature of the keyring. What it should verify, and the policy, are those of
+    def states(self, at: int, verify: Optional[Verifier], policy: str = "usual") -> list[State]:
+        """How each key, user ID and user attribute of the `merged` keyring stands at a time, in seconds since 1970: the primary key of
+        each certificate, and then its components, in order. docs/VALIDITY.md has the rule, which is proved.
+
+        `verify` is called at most once for each signature of the merged keyring. What it should verify, and the policy, are those of
         `standing`. With None no signature is good.
 
         Raises ValueError for a time below 0 or from 2**64 on, another policy, or a closed keyring; and what `verify` raises.
         """
-        return list(_states(self._open(), at, verify, policy))
+        return list(_states(self._open().merged(), at, verify, policy))
 
 
 class Reader(_Held):
@@ -1394,15 +1471,18 @@ class Document(_Held):
 
         found = []
         for it in self._found(document, rule.handle):
-            verdict = _verdict(it, rule.handle, verify)
+            verdict, cause = _verdict(it, rule.handle, verify), None
             signer = None if it.signer is None else _key_at(rule.handle, it.signer)
             if signer and verdict is Verdict.GOOD:
                 why = rule.why_anywhere(signer, functools.partial(ask, it.row))
+                if why in _OF_KEYS and it.created is not None:
+                    first = _key_at(rule.handle, next(_rows_of(rule.handle, signer.fingerprint)))
+                    cause = rule.cause(first, it.created, at)
             else:
                 why = Why[verdict.name]
             if signer and handle is not rule.handle:
                 it = dataclasses.replace(it, signer=next(_rows_of(handle, signer.fingerprint)))
-            found.append(Judgement(it, verdict, why))
+            found.append(Judgement(it, verdict, why, cause))
         return found
 
     def front(self, row: int) -> bytes:

@@ -93,7 +93,7 @@ def main() -> int:
     try:
         with open(told.KEYRING, "rb") as keys, open(told.SIGNATURES, "rb") as signatures, open(told.FILE, "rb") as file:
             keyring, document = opgp.read(keys.read()), opgp.document(signatures.read(), file)
-        for it, verdict, why in document.judge(keyring, verify, told.at):
+        for it, verdict, why, _ in document.judge(keyring, verify, told.at):
             believed += why is None
             said = "believed" if why is None else (verdict is not opgp.Verdict.GOOD and it.why_not) or why.name.lower()
             print(f"signature {it.row} : {said} issuer {it.issuer.hex().upper() or '-'}")

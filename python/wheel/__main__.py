@@ -202,11 +202,8 @@ def _judged(
     octets = _read(path)
     if not octets:
         _tell("opgp: the input is empty")
-    given = _keyring(told, octets)
-    keyring = everyday.once(given)
+    keyring = everyday.once(_keyring(told, octets))
     if told.verdicts is not None:
-        if keyring is not given:
-            raise _End(1, "opgp: a certificate is there twice: merge the keyring (opgp join --merge), and verify that")
         return keyring, everyday.verdicts_in(keyring, _read(told.verdicts))
     return keyring, _verified(told, keyring, must_be_verified)
 

@@ -120,7 +120,7 @@ class AuditRow:
     certificate: int
     entry: KeyEntry
     short: tuple[str, ...]
-    """Where it falls short, in words: revoked, early, unbound, expired, size, curve, algorithm, sha1, expires, no-sign and so on.
+    """Where it falls short, in words: revoked, early, unbound, expired, no-use, size, curve, algorithm, sha1, expires, no-sign and so on.
     Empty: nowhere."""
 
     def line(self) -> str:
@@ -153,7 +153,7 @@ def _short(it: KeyEntry, at: int, policy: Policy) -> list[str]:
     """Where a key itself falls short."""
     why = it.state.why
     found = [it.how] if why is not None and (it.key.is_primary or why is opgp.Why.UNBOUND) else []
-    if why not in (None, opgp.Why.UNBOUND):
+    if why not in (None, opgp.Why.UNBOUND, opgp.Why.NO_USE):
         return found
     word = _WORDS.get(it.key.algorithm, "")
     least = {"rsa": policy.rsa, "dsa": policy.dsa, "elgamal": policy.elgamal}

@@ -155,8 +155,9 @@ _NOT_THOSE = "the verdicts aren't those of this keyring: opgp-verify --verdicts 
 
 
 def verdicts_in(keyring: Keyring, file: bytes) -> list[Verdict]:
-    """The verdicts on the keyring's signatures, by their rows, in a file that `opgp-verify --verdicts` wrote of it: the library reads it.
-    Raises WrongVerdicts for any other, such as one that is cut, that is of another keyring, or that a policy has changed."""
+    """The verdicts on the keyring's signatures, by their rows once it is merged (`once`), in a file that `opgp-verify --verdicts` wrote of
+    it: the library reads it. Raises WrongVerdicts for any other, such as one that is cut, that is of another keyring, or that a policy
+    has changed."""
     found = opgp._read_verdicts(opgp._opened(keyring), opgp._bytes(file))
     if found is None:
         raise WrongVerdicts(_NOT_THOSE)
@@ -164,9 +165,10 @@ def verdicts_in(keyring: Keyring, file: bytes) -> list[Verdict]:
 
 
 def verdicts_by(keyring: Keyring, program: str = "opgp-verify") -> list[Verdict]:
-    """The verdicts of the program opgp-verify, by this name or path, on the keyring's signatures, by their rows. It isn't asked about
-    what other keys certify: that says nothing of how a certificate's parts stand, and is most of the work. Raises VerifierFailed if
-    the program can't be run or fails, and WrongVerdicts if it writes no such file as `verdicts_in` takes."""
+    """The verdicts of the program opgp-verify, by this name or path, on the keyring's signatures, by their rows once it is merged
+    (`once`). It isn't asked about what other keys certify: that says nothing of how a certificate's parts stand, and is most of the work.
+    Raises VerifierFailed if the program can't be run or fails, and WrongVerdicts if it writes no such file as `verdicts_in` takes."""
+    keyring = once(keyring)
     rows = _jobs(opgp._opened(keyring))
     primary = {it.certificate: bytes(it.print) for it in rows.keys if it.component == opgp._NONE}
     theirs = {row for row, it in enumerate(rows.jobs) if it.kind in _CERTIFICATIONS and it.nested == opgp._NONE and it.hang != opgp._NONE
@@ -203,9 +205,9 @@ def _run(program: str, octets: bytes) -> bytes:
 
 
 def claims(keyring: Keyring) -> list[Verdict]:
-    """What the signatures claim, by their rows, if nothing is verified: as `opgp state` does without verdicts, each is good, unless
-    its digest is bad."""
-    rows = _jobs(opgp._opened(keyring))
+    """What the signatures claim, by their rows once the keyring is merged (`once`), if nothing is verified: as `opgp state` does without
+    verdicts, each is good, unless its digest is bad."""
+    rows = _jobs(opgp._opened(once(keyring)))
     return [Verdict(it) for it in rows.claims()]
 
 
@@ -256,10 +258,10 @@ def _numbers(rows: _Jobs, keyring: Keyring, basis: Basis) -> bytes:
 
 
 def once(keyring: Keyring) -> Keyring:
-    """The keyring itself; or, if it has a certificate twice, what `Keyring.merged` makes of it."""
-    rows = (it for _, it in opgp._rows("keys", opgp._Key, opgp._opened(keyring), None) if it.component == opgp._NONE)
-    prints = [bytes(it.print[: it.print_size]) for it in rows]
-    return keyring if len(prints) == len(set(prints)) else keyring.merged()
+    """The keyring itself; or, if merging it changes something, what `Keyring.merged` makes of it: one copy of a certificate may lack a
+    revocation."""
+    handle = opgp._opened(keyring)
+    return keyring if handle.merged() is handle else keyring.merged()
 
 
 @dataclasses.dataclass(frozen=True)
@@ -277,8 +279,8 @@ class KeyEntry:
 
     @property
     def how(self) -> str:
-        """usable, revoked, early, unbound or expired."""
-        return "usable" if self.state.why is None else self.state.why.name.lower()
+        """usable, revoked, early, unbound, expired or no-use."""
+        return "usable" if self.state.why is None else self.state.why.name.lower().replace("_", "-")
 
     @property
     def uses(self) -> tuple[str, ...]:
@@ -351,12 +353,13 @@ def survey(keyring: Keyring, at: int, basis: Basis = None, rely: str = "usual") 
     them. With None the entries say what signatures claim, and that they aren't verified. `rely` is the policy of `Keyring.states`:
     which hash algorithms and keys are relied on.
 
-    A certificate is judged alone, and one copy of it may lack a revocation: see `once`.
+    A certificate is judged alone, and one copy of it may lack a revocation, so the keyring is merged: see `once`.
 
     Raises ValueError for a time below 0 or from 2**64 on, another policy, or a closed keyring; WrongVerdicts for verdicts of
     another number; and what the verifier raises.
     """
-    handle, time, policy = opgp._opened(keyring), opgp._time(at), opgp._policy(rely)
+    time, policy, keyring = opgp._time(at), opgp._policy(rely), once(keyring)
+    handle = opgp._opened(keyring)
     return _Survey(_jobs(handle), time, keyring, basis).entries(policy, basis is not None)
 
 
@@ -512,7 +515,7 @@ class _Speakers:
 
 
 def _is_bound(state: Any) -> bool:
-    return state.why in (0, Why.EXPIRED.value)
+    return state.why in (0, Why.EXPIRED.value, Why.NO_USE.value)
 
 
 def _is_certified(state: Any) -> bool:

@@ -1035,6 +1035,15 @@ static void standings(opgp_ring *ring)
     holds(opgp_ring_standing(ring, NULL, 0, 0, 0, OPGP_NONE, 1, 0, &why) == wanted && (wanted || why == OPGP_IN_FUTURE), "in future");
     holds(opgp_ring_standing(ring, NULL, 0, 1, 0, OPGP_NONE, UINT64_MAX, UINT64_MAX, &why) == wanted && (wanted || why == OPGP_UNBOUND),
           "a key that nobody signed");
+    opgp_cause cause = {.date = 7, .why = 0xA5};
+    holds(opgp_ring_cause(ring, NULL, 0, 2, 0, OPGP_NONE, 0, 0, &cause) == OPGP_LIMITS && cause.why == 0xA5, "a cause by no such policy");
+    holds(opgp_ring_cause(ring, NULL, 0, 0, UINT64_MAX, OPGP_NONE, 0, 0, &cause) == OPGP_NO_ROW && cause.why == 0xA5, "of no such certificate");
+    holds(opgp_ring_cause(&none, NULL, 0, 0, 0, OPGP_NONE, 0, 0, &cause) == OPGP_CLOSED && cause.date == 7, "of a closed handle");
+    holds(opgp_ring_cause(ring, NULL, 0, 0, 0, OPGP_NONE, 3, 0, &cause) == wanted && (wanted || (cause.why == OPGP_IN_FUTURE && cause.date == 3)),
+          "the cause of what is in future");
+    holds(opgp_ring_cause(ring, NULL, 0, 1, 0, OPGP_NONE, UINT64_MAX, UINT64_MAX, &cause) == wanted
+              && (wanted || (cause.why == OPGP_UNBOUND && cause.lack == OPGP_LACK_NOTHING && cause.hang == OPGP_NONE && cause.is_primary == 1)),
+          "the cause of a key that nobody signed");
 }
 
 /* How the parts of a keyring stand, in each room: one for each key, user ID and attribute, of which nobody signed one. */
@@ -1302,6 +1311,8 @@ static int take_judgement(void *context, const opgp_question *question, opgp_ver
     holds(question->row == it->count.told && question->job->certificate == OPGP_NONE && question->signer && question->made[1].size == 32
               && question->job->created == made_then,
           "a judgement");
+    holds((question->cause != NULL) == (why >= OPGP_IN_FUTURE && why <= OPGP_UNBACKED) && (!question->cause || question->cause->why == why),
+          "its cause");
     if (it->keyring) {
         const opgp_keyring *merged;
         const opgp_key *keys;
@@ -1474,13 +1485,13 @@ static void judgements(void)
     opgp_document_close(document);
 }
 
-/* Reads a file of verdicts on the input: in one call, and by a handle in each room. Prints the verdicts, the status, and how many octets of the
+/* Reads a file of verdicts on the merged input: in one call, and by a handle in each room. Prints the verdicts, the status, and how many octets of the
  * input were skipped. */
 static int read_verdicts(const char *path)
 {
     static uint8_t octets[MOST];
     opgp_keyring *keyring;
-    opgp_ring ring = {false, NULL};
+    opgp_ring ring = {false, NULL}, merged = {false, NULL};
     opgp_limits limits;
     opgp_fault fault;
     uint8_t *verdicts = (uint8_t *)octets;
@@ -1488,7 +1499,8 @@ static int read_verdicts(const char *path)
     uint64_t n = 0, skipped[2] = {1, 2};
     FILE *file = fopen(path, "rb");
     opgp_usual_limits(&limits);
-    if (!file || opgp_open(in, size, NULL, &keyring, NULL) != OPGP_DONE || opgp_ring_open(in, size, &limits, &ring, &fault) != OPGP_DONE) {
+    if (!file || opgp_open(in, size, NULL, &keyring, NULL) != OPGP_DONE || opgp_ring_open(in, size, &limits, &ring, &fault) != OPGP_DONE
+        || opgp_ring_merge(&ring, &merged) != OPGP_DONE) {
         return 2;
     }
     size_t length = fread(octets, 1, sizeof octets, file);
@@ -1499,7 +1511,7 @@ static int read_verdicts(const char *path)
         uint8_t *found = block_of(room);
         bool fits = room >= count;
         uint32_t wanted = status != OPGP_DONE || fits ? status : OPGP_ROOM;
-        holds(opgp_ring_verdicts(&ring, octets, length, found, room, &n) == wanted && (status != OPGP_DONE || n == count)
+        holds(opgp_ring_verdicts(&merged, octets, length, found, room, &n) == wanted && (status != OPGP_DONE || n == count)
                   && is_blank(found, wanted == OPGP_DONE ? count : 0, room) && (wanted != OPGP_DONE || !count || memcmp(found, verdicts, count) == 0),
               "a file of verdicts in some room");
         free(found);
@@ -1512,6 +1524,7 @@ static int read_verdicts(const char *path)
     free(verdicts);
     opgp_close(keyring);
     opgp_ring_close(ring);
+    opgp_ring_close(merged);
     return failed > 0;
 }
 
@@ -1599,28 +1612,31 @@ static size_t verdicts_by(const opgp_keyring *keyring, opgp_ring *ring, int give
     return asked;
 }
 
-/* The states that opgp_states finds by each answer are those of the proved call, by these verdicts. */
+/* The states that opgp_states finds by each answer are those of the proved call, by these verdicts, of the merged keyring. */
 static void states_on_top(const opgp_keyring *keyring)
 {
     static opgp_state wanted[MOST / 32];
     static uint8_t verdicts[MOST];
     opgp_limits limits;
-    opgp_ring ring = {false, NULL};
+    opgp_ring ring = {false, NULL}, into = {false, NULL};
     opgp_fault fault;
     opgp_state *rows = wanted;
     size_t count = 1;
     struct answering it = {OPGP_GOOD, 0, 0};
     opgp_usual_limits(&limits);
-    holds(opgp_ring_open(in, size, &limits, &ring, &fault) == OPGP_DONE, "the same keyring");
+    const opgp_keyring *merged = NULL;
+    holds(opgp_merged(keyring, &merged) == OPGP_DONE, "the merged keyring");
+    holds(opgp_ring_open(in, size, &limits, &ring, &fault) == OPGP_DONE && opgp_ring_merge(&ring, &into) == OPGP_DONE, "the same, as a handle");
+    opgp_ring_close(ring);
     holds(opgp_states(keyring, 2, 0, answer, &it, &rows, &count) == OPGP_LIMITS && !rows && count == 0 && it.asked == 0, "states by no policy");
     for (int given = -2; given < 4; given++) {
-        size_t asked = verdicts_by(keyring, &ring, given, verdicts), jobs;
-        jobs_in(keyring, &jobs);
+        size_t asked = verdicts_by(merged, &into, given, verdicts), jobs;
+        jobs_in(merged, &jobs);
         for (uint32_t policy = 0; policy < 2; policy++) {
             for (uint64_t at = 0; at <= UINT64_C(1) << 33; at += UINT64_C(1) << 30) {
                 uint64_t n = 0;
                 it = (struct answering){given, 0, 0};
-                holds(opgp_ring_states(&ring, verdicts, jobs, policy, at, wanted, sizeof wanted / sizeof *wanted, &n) == OPGP_DONE, "states");
+                holds(opgp_ring_states(&into, verdicts, jobs, policy, at, wanted, sizeof wanted / sizeof *wanted, &n) == OPGP_DONE, "states");
                 uint32_t status = opgp_states(keyring, policy, at, given < -1 ? NULL : answer, &it, &rows, &count);
                 holds(status == OPGP_DONE && rows && count == n && memcmp(rows, wanted, count * sizeof *rows) == 0, "states by a verifier");
                 holds(it.asked == (given < -1 ? 0 : asked), "who is asked for states");
@@ -1628,7 +1644,7 @@ static void states_on_top(const opgp_keyring *keyring)
             }
         }
     }
-    opgp_ring_close(ring);
+    opgp_ring_close(into);
 }
 
 /* Finds states until memory runs out; then there are none. */
@@ -1928,7 +1944,10 @@ static bool judge_everything(void)
     for (uint64_t certificate = 0; is_done && status != OPGP_NO_ROW; certificate++) {
         uint8_t why = 0xA5;
         status = opgp_ring_standing(&ring, verdicts, sizeof verdicts, OPGP_POLICY_USUAL, certificate, OPGP_NONE, now, now, &why);
-        is_done = status != OPGP_MEMORY;
+        opgp_cause cause = {.why = 0xA5};
+        const uint32_t told = opgp_ring_cause(&ring, verdicts, sizeof verdicts, OPGP_POLICY_USUAL, certificate, OPGP_NONE, now, now, &cause);
+        holds(told == OPGP_DONE ? status != OPGP_DONE || cause.why == why : cause.why == 0xA5, "why it may not be believed");
+        is_done = status != OPGP_MEMORY && told != OPGP_MEMORY;
         holds(status == OPGP_DONE ? why <= OPGP_UNBACKED : (why == 0xA5 && (status == OPGP_MEMORY || status == OPGP_NO_ROW)) && ring.is_open,
               "whether a key may be believed");
     }
@@ -2242,6 +2261,7 @@ static void held_by_calls(void)
     opgp_ring_write(&ring, 0, &byte, 0, &wanted);
     opgp_ring_write(&ring, 1, &byte, 0, &wanted);
     opgp_ring_standing(&ring, NULL, 0, OPGP_POLICY_ANY, 0, OPGP_NONE, 0, 0, &byte);
+    opgp_ring_cause(&ring, NULL, 0, OPGP_POLICY_ANY, 0, OPGP_NONE, 0, 0, &(opgp_cause){.date = 0});
     opgp_ring_states(&ring, NULL, 0, OPGP_POLICY_ANY, 0, NULL, 0, &wanted);
     holds(opgp_ring_certificate(&ring, UINT64_MAX, &into) == OPGP_NO_ROW && !into.is_open, "no certificate");
     holds(held_octets == before, "calls that ask hold nothing more");

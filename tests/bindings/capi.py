@@ -125,11 +125,12 @@ static bool verdicts(const opgp::Keyring &keyring)
     return bare.verdicts(file).empty() && bare.skipped() == 0 && keyring.skipped() == 0;
 }
 
-// Each part has a state, and what a verifier throws comes through.
+// Each part of the merged keyring has a state, and what a verifier throws comes through.
 static bool states(const opgp::Keyring &keyring)
 {
     std::size_t heads = 0, asked = 0, thrown = 0;
-    for (const opgp_packet &packet : keyring.packets()) {
+    const opgp::Keyring merged = keyring.merged();
+    for (const opgp_packet &packet : merged.packets()) {
         heads += packet.certificate != OPGP_NONE && packet.hang == OPGP_NONE;
     }
     bool is_well = keyring.states(0, [](const opgp_question &) { return OPGP_GOOD; }, OPGP_POLICY_ANY).size() == heads;
@@ -655,6 +656,11 @@ def faults(program):
     verdict("most reasons are seen", len(seen) >= 33, sorted(seen))
 
 
+def merged(source):
+    """The packets of a keyring when it is merged, which files of verdicts are on."""
+    return opens(PROGRAM, "join", "--merge", "--malformed", "keep", "--out", "binary", source=source).stdout
+
+
 def verdict_files(program, room):
     """Files of verdicts: of a keyring what they say; any other file, and one on another keyring, is none."""
     def read(source, file):
@@ -665,11 +671,12 @@ def verdict_files(program, room):
 
     seen, before = set(), b""
     for source in SMALL + MADE:
-        lines = lines_of(opens(PROGRAM, "check", source=source).stdout)
+        binary = merged(source)
+        lines = lines_of(run(PROGRAM, "check", input=binary).stdout)
         # The first that is undecided is good, the next one bad, and so on.
         for number, row in enumerate([it for it in range(len(lines)) if lines[it].endswith(" undecided")]):
             lines[row] = lines[row].replace("undecided", ("good", "bad", "undecided absent")[number % 3])
-        digest = hashlib.sha256(opens(PROGRAM, "write", "--out", "binary", source=source).stdout).hexdigest().upper()
+        digest = hashlib.sha256(binary).hexdigest().upper()
         head = f"verdicts by arithmetic of keyring sha256 {digest} rows {len(lines)}"
         file = "".join(f"{it}\n" for it in (head, *lines)).encode()
         wanted = "".join("1" if it.endswith(" good") else "2" if it.endswith(" bad") else "0" for it in lines)
@@ -1524,8 +1531,8 @@ def verdicts_written(program, env):
     is 0 also where a signature is bad."""
     statuses = set()
     for source in (*SMALL, *MADE, os.devnull, *(it for it in ARCHIVE if os.path.getsize(it) <= MOST)):
-        binary = opens(PROGRAM, "write", "--malformed", "keep", "--out", "binary", source=source).stdout
-        bare = opens(program, "--policy=none", source=source, env=env)
+        binary = merged(source)
+        bare = run(program, "--policy=none", input=binary, env=env)
         statuses.add(bare.returncode)
         wanted = f"verdicts by arithmetic of keyring sha256 {hashlib.sha256(binary).hexdigest().upper()} rows {len(lines_of(bare.stdout))}\n"
         for given in (["--verdicts"], ["--verdicts", "--jobs", "3", source], ["--malformed=keep", "--verdicts", "-"]):
@@ -1572,14 +1579,14 @@ def states_verified(program, env, room):
             by = [opens(program, "--state", "--at", at, "--policy", policy, source=source, env=env)]
             by.append(opens(PROGRAM, "state", "--at", at, "--policy", policy, "--verdicts", f"{room}/verdicts", source=source))
             verdict(f"states of {name} at {at}, {policy}", by[0].returncode == by[1].returncode == 0 and by[0].stdout == by[1].stdout, by)
-            found = re.findall(rb" : (?:pub|sub) [0-9A-F]+ (\w+)", by[0].stdout)
-            counts = ", ".join(f"{found.count(it.encode())} {it}" for it in ("usable", "revoked", "early", "unbound", "expired"))
+            found = re.findall(rb" : (?:pub|sub) [0-9A-F]+ ([\w-]+)", by[0].stdout)
+            counts = ", ".join(f"{found.count(it.encode())} {it}" for it in ("usable", "revoked", "early", "unbound", "expired", "no-use"))
             verdict(f"counts of {name} at {at}", by[0].stderr.decode() == f"opgp-verify: {counts}\n", by[0].stderr)
             if vector:
-                keyring = standing.Keyring(vector.octets, vector.verdicts)
+                keyring = standing.Keyring(*standing_cases.once(vector.octets, vector.verdicts))
                 wanted = [state for c in range(len(keyring.certificates)) for state in keyring.state(c, 1795132800)]
                 wanted = [state if isinstance(state, str) else state[0] or "usable" for state in wanted]
-                told = re.findall(r" : (?:(?:pub|sub) \w+ (\w+)|u(?:id|at) (\w+))", by[0].stdout.decode())
+                told = re.findall(r" : (?:(?:pub|sub) \w+ ([\w-]+)|u(?:id|at) (\w+))", by[0].stdout.decode())
                 told = [it or other.replace("certified", "fine") for it, other in told]
                 verdict(f"how the parts of {name} stand", told == wanted, (told, wanted))
                 parts += len(told)

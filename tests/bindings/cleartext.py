@@ -26,6 +26,7 @@ import tempfile
 sys.dont_write_bytecode = True
 sys.path.insert(0, f"{sys.path[0]}/../lib")
 
+import causes  # noqa: E402
 import cleartext  # noqa: E402
 import model  # noqa: E402
 import names  # noqa: E402
@@ -123,7 +124,7 @@ def tried(title, those, message=None, document=TEXT):
         verdict(f"opgp-sqv's document, {title}", taken(out()) == (document if is_fine else None))
 
     ended = run("opgp-verify", "--cleartext", "--keyring", ring, "--output", out(), path)
-    said = [line.partition(" verdict ")[2] or line.partition(" : ")[2] for line in ended.out.splitlines()]
+    said = [line.partition(" verdict ")[2] or line.partition(" : ")[2] for line in causes.without(ended.out).splitlines()]
     status = int(not good or any(case.said == "bad" for case in those))
     verdict(f"opgp-verify, {title}", (ended.status, said) == (status, [case.said for case in those]), (ended, said))
     verdict(f"opgp-verify's document, {title}", taken(out()) == (None if status else document))
@@ -283,7 +284,7 @@ def of_vectors():
         else:
             bodies = [body for _, _, kind, _, body, _ in model.framed(model.dearmored(message[place:], model.USUAL), model.USUAL)]
             hoped = [found_in(body, read[1]) for body in bodies]
-            said = [line.partition(" verdict ")[2] or line.partition(" : ")[2] for line in ended.out.splitlines()]
+            said = [line.partition(" verdict ")[2] or line.partition(" : ")[2] for line in causes.without(ended.out).splitlines()]
             status = int("good" not in hoped or "bad" in hoped)
             verdict(f"{title}: its signatures", (ended.status, said) == (status, hoped), (ended, hoped))
             verdict(f"{title}: its document", document == (None if status else read[1]), document)
@@ -306,14 +307,14 @@ def of_real():
         count += 1
         message = octets_at(f"{room}/{file}")
         ended, read = run(*words, f"{room}/{file}"), cleartext.read(message, LINE)
-        said = [line.partition(" verdict ")[2] for line in ended.out.splitlines()]
+        said = [line.partition(" verdict ")[2] for line in causes.without(ended.out).splitlines()]
         status = int("good" not in verdicts.split(", "))
         verdict(f"{file}: its signatures", (ended.status, said) == (status, verdicts.split(", ")), ended)
         verdict(f"{file}: its document", read[0] == "ok" and taken(out()) == (None if status else read[1]))
         for at in (message.find(b"\n\n") + 2, read[2] // 2, read[2] - 2):
             changed = message[:at] + bytes([message[at] ^ 1]) + message[at + 1 :]
             ended = run(*words, kept("message", changed))
-            said = [line.partition(" verdict ")[2] for line in ended.out.splitlines()]
+            said = [line.partition(" verdict ")[2] for line in causes.without(ended.out).splitlines()]
             holds = ended.status == 1 and not any(it.startswith("good") for it in said)
             verdict(f"{file}: changed at {at}", holds and taken(out()) is None, ended)
     verdict("there are files", count == len(os.listdir(room)) - 3, count)
@@ -350,7 +351,7 @@ def of_mails():
         path, read = kept("message", octets), cleartext.read(octets, LINE)
         for policy, verdicts in (("usual", usual), ("any", by_any)):
             ended = run("opgp-verify", "--cleartext", *keys, "--at", at, "--policy", policy, "--output", out(), path)
-            said = [line.partition(" verdict ")[2] or line.partition(" : ")[2] for line in ended.out.splitlines()]
+            said = [line.partition(" verdict ")[2] or line.partition(" : ")[2] for line in causes.without(ended.out).splitlines()]
             status = int("good" not in verdicts or "bad" in verdicts)
             verdict(f"{file}, policy {policy}: its signatures", (ended.status, said) == (status, verdicts), ended)
             verdict(f"{file}, policy {policy}: its document", read[0] == "ok" and taken(out()) == (None if status else read[1]))
@@ -714,7 +715,7 @@ def times():
     path, ring = kept("message", message), ring_of([good])
     for at, said in ((MADE - DAY, "good unbelieved future"), (MADE, "good"), (MADE + DAY, "good"), (iso(MADE), "good")):
         ended = run("opgp-verify", "--cleartext", "--keyring", ring, f"--at={at}", "--output", out(), path)
-        fits = (ended.status, ended.out.endswith(f" verdict {said}\n")) == (int(said != "good"), True)
+        fits = (ended.status, causes.without(ended.out).endswith(f" verdict {said}\n")) == (int(said != "good"), True)
         verdict(f"opgp-verify --at {at}", fits and taken(out()) == (TEXT if said == "good" else None), ended)
     weakly = kept("weakly", signers.message(TEXT, weak.octets))
     for policy, said in (("usual", "undecided weak-hash"), ("any", "good")):

@@ -209,7 +209,8 @@ def stands(opgp, everyday):
     cases = [(it.octets, it.verdicts, it.policy, [at for _, at in it.states][:2]) for it in standing_cases.cases(7, 150, is_honest=True)]
     cases += [(it.octets, it.verdicts, "usual", [standing_read()]) for it in standing_cases.vectors()]
     spoken = 0
-    for octets, found, policy, times in cases:
+    for given, found, policy, times in cases:
+        octets, found = standing_cases.once(given, found)
         try:
             keyring = opgp.read(octets, opgp.Limits(keep_malformed=True))
         except opgp.Fault:
@@ -852,9 +853,8 @@ def twice_given(made, room, right):
     for octets in (made.of_dave + revoked, revoked + made.of_dave, model.armor(made.of_dave) + model.armor(revoked)):
         ended = command("audit", "--unverified", "--at", str(NOW), given=octets)
         verdict("a revocation in another copy", ended[0] == 1 and len(ended[1].splitlines()) == 1 and b" revoked " in ended[1], ended)
-    ended = command("audit", "--verdicts", put(f"{room}/one", right), given=made.of_dave * 2)
-    said = "opgp: a certificate is there twice: merge the keyring (opgp join --merge), and verify that\n"
-    verdict("verdicts on one that is there twice", ended == (1, b"", said), ended)
+    once, twice = (command("audit", "--verdicts", put(f"{room}/one", right), given=made.of_dave * it) for it in (1, 2))
+    verdict("verdicts on one that is there twice", once == twice and once[1] != b"", twice)
 
 
 def beside_states(opgp, made, verifier):

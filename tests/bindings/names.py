@@ -25,6 +25,7 @@ import tempfile
 sys.dont_write_bytecode = True
 sys.path.insert(0, f"{sys.path[0]}/../lib")
 
+import causes  # noqa: E402
 import model  # noqa: E402
 import openpgp_signers as signers  # noqa: E402
 import standing  # noqa: E402
@@ -62,13 +63,15 @@ Ended = collections.namedtuple("Ended", "status out told lines")
 
 
 def run(name, *words, given=b"", pass_fds=(), env=None, started=None, **how):
-    """The end of a run under a name: its status, standard output and error, and of the latter the lines without the program's name."""
+    """The end of a run under a name: its status, standard output and error, and of the latter the lines without the program's name, and
+    without what makes a key not believed."""
     env = {**os.environ, **(env or {})}
     env = {word: it for word, it in env.items() if it is not None}
     ended = subprocess.run([started or f"{ROOM}/{name}", *words], input=given, capture_output=True, check=False, timeout=SECONDS, env=env,
                            pass_fds=pass_fds, **how)
     told = ended.stderr.decode(errors="replace")
-    return Ended(ended.returncode, ended.stdout.decode(errors="surrogateescape"), told, told.replace(f"{name}: ", "").splitlines())
+    lines = causes.without(told).replace(f"{name}: ", "").splitlines()
+    return Ended(ended.returncode, ended.stdout.decode(errors="surrogateescape"), told, lines)
 
 
 # ---- What is tried of each name
@@ -111,8 +114,10 @@ def tried(title, those, document=DOCUMENT):
         verdict(f"opgp-sqv of {wanted}, {title}", (ended.status, ended.out, ended.lines) == hoped, (ended, hoped))
 
     own = run("opgp-verify", "--signature", signatures, "--keyring", ring, path)
-    said = [line.partition(" verdict ")[2] or line.partition(" : ")[2] for line in own.out.splitlines()]
+    said = [line.partition(" verdict ")[2] or line.partition(" : ")[2] for line in causes.without(own.out).splitlines()]
     verdict(f"opgp-verify, {title}", said == [case.said for case in those], (own, said))
+    told = causes.WORDS.findall(own.out)
+    verdict(f"opgp-gpgv, causes, {title}", causes.WORDS.findall(plain.told) == told, (plain, told))
 
 
 def of_cases():
@@ -234,25 +239,19 @@ def certifications(choose):
     return found
 
 
-def is_revived(its):
-    """Whether a certification of a user ID is newer than its revocation. Then GnuPG and sq have it again, and the rule never."""
-    revoked = [it.made for it in its if it.kind == "revoked"]
-    return revoked and max(it.made for it in its) > max(revoked)
-
-
 def heard_alike(its):
-    """Whether GnuPG hears of a user ID what the rule does. It doesn't where a certification is by SHA-1 or of the future, which GnuPG hears; where
-    one that has lapsed is newer than one that hasn't: then GnuPG drops the user ID; and where one is newer than a revocation."""
+    """Whether GnuPG hears of a user ID what the rule does. It doesn't where a certification is by SHA-1 or of the future, which GnuPG hears, nor
+    where one that has lapsed is newer than one that hasn't: then GnuPG drops the user ID."""
     newest = max(its, key=lambda it: it.made if it.kind == "revoked" or KINDS[it.kind][2] else -1)
     is_odd = any(it.kind in ("weak", "future") for it in its)
     is_lapsed = newest.kind == "lapsed" and any(KINDS[it.kind][1] for it in its if it.kind != "revoked")
-    return not is_odd and not is_lapsed and not is_revived(its)
+    return not is_odd and not is_lapsed
 
 
 def as_heard(user_ids):
     """The user IDs with what the rule hears alone."""
-    stay = {name: its for name, its in user_ids.items() if all(it.kind != "revoked" for it in its)}
-    return {name: [it for it in its if KINDS[it.kind][1]] for name, its in stay.items()}
+    revoked = {name: max((it.made for it in its if it.kind == "revoked"), default=-1) for name, its in user_ids.items()}
+    return {name: [it for it in its if it.kind != "revoked" and KINDS[it.kind][1] and it.made > revoked[name]] for name, its in user_ids.items()}
 
 
 def primary_of(user_ids):
@@ -272,7 +271,7 @@ def named_by(words, ring, signatures, document, form):
 
 def user_ids_generated():
     """Of many certificates the user ID that is named is the primary one by the rule; and so it is by gpgv, gpg and sq, but for what
-    `heard_alike` and `is_revived` name: then they are asked of the certificate without what the rule doesn't hear."""
+    `heard_alike` names: then they are asked of the certificate without what the rule doesn't hear."""
     choose = random.Random(68)
     key = signers.ed25519("one", BORN)
     octets = signers.over(key, DOCUMENT, MADE)
@@ -303,7 +302,7 @@ def user_ids_generated():
         is_alike = all(map(heard_alike, user_ids.values()))
         alike += is_alike
         for program, (words, form) in programs.items() if wanted else ():  # they name one of none that counts, too
-            is_whole = is_alike or (program == "sq" and not any(map(is_revived, user_ids.values())))
+            is_whole = is_alike or program == "sq"
             other = ring if is_whole else ring_of("heard", as_heard(user_ids))
             named = named_by(words, other, signatures, document, form)
             verdict(f"user ID of certificate {number_of} by {program}, {'whole' if is_whole else 'as heard'}", named == wanted, (named, wanted, what))
@@ -677,7 +676,7 @@ def of_vectors():
         signatures, ring = kept("signatures", b"".join(packet(2, body) for body, _ in it.documents)), kept("ring", it.octets)
         document = kept("document", b"document\n")
         own = run("opgp-verify", "--signature", signatures, "--keyring", ring, f"--at={READ}", document)
-        said = [line.partition(" verdict ")[2] for line in own.out.splitlines()]
+        said = [line.partition(" verdict ")[2] for line in causes.without(own.out).splitlines()]
         good = [one == "good" for one in said]
         others += [it.stem] * (good != [why is None and found == standing.GOOD for why, (_, found) in zip(it.expected, it.documents, strict=True)])
         ended = run("opgp-gpgv", "--status-fd=1", "--keyring", ring, signatures, document, env=env)

@@ -35,6 +35,7 @@ import unittest.mock
 sys.dont_write_bytecode = True
 sys.path.insert(0, f"{sys.path[0]}/../lib")
 
+import causes  # noqa: E402
 import cleartext  # noqa: E402
 import model  # noqa: E402
 import standing  # noqa: E402
@@ -1558,7 +1559,12 @@ VERDICTS = {"good": "GOOD", "bad": "BAD", "undecided": "UNDECIDED"}  # the model
 
 def why_of(opgp, word):
     """The module's reason for the model's."""
-    return None if word is None else opgp.Why[word.upper()]
+    return None if word is None else opgp.Why[word.upper().replace("-", "_")]
+
+
+def cause_of(opgp, it):
+    """The module's cause for the model's."""
+    return it and opgp.Cause(why_of(opgp, it.why), it.is_primary, it.is_now, it.lack and opgp.Lack[it.lack.upper()], it.date, it.component, it.hang)
 
 
 class Arithmetic:
@@ -1604,6 +1610,9 @@ def standings(opgp):
                 wanted = why_of(opgp, by_policy[policy].standing(key.certificate, key.component, made, now))
                 verdict(f"{vector.stem}: key {key.row}, {made}, {now}, {policy}", found is wanted, (found, wanted))
                 verdict(f"{vector.stem}: what is asked of key {key.row}", verify.is_once({key.certificate}))
+                cause = keyring.cause(key, made, now, Arithmetic(opgp, vector.verdicts), policy)
+                told = causes.cause(by_policy[policy], key.certificate, key.component, made, now)
+                verdict(f"{vector.stem}: the cause of key {key.row}, {made}, {now}, {policy}", cause == cause_of(opgp, told), (cause, told))
                 believed, tried = believed + (found is None), tried + 1
         rows = list(standing.rows(standing.read(vector.octets)))
         asked = {it.signature.row: it for it in verify.questions}
@@ -1640,19 +1649,20 @@ def states(opgp):
     whys = set()
     for vector in standing_cases.vectors():
         keyring = opgp.read(vector.octets, opgp.Limits(keep_malformed=True))
-        verify = Arithmetic(opgp, vector.verdicts)
+        once, merged = keyring.merged(), standing_cases.once(vector.octets, vector.verdicts)
+        verify = Arithmetic(opgp, merged[1])
         for at, policy in ((READ, "usual"), (OLD, "usual"), (OLD - 1, "any"), (0, "any"), (2**64 - 1, "usual")):
-            by = standing.Keyring(vector.octets, vector.verdicts, policy)
+            by = standing.Keyring(*merged, policy)
             wanted = [[state_of(opgp, (c, n - 1 if n else None), it) for n, it in enumerate(by.state(c, at))] for c in range(len(by.certificates))]
             found = keyring.states(at, verify, policy)
             verdict(f"{vector.stem}: states at {at}, {policy}", found == sum(wanted, []), (found, wanted))
             verdict(f"{vector.stem}: what is asked", verify.is_once(range(len(wanted))))
-            for it, of in zip(keyring.certificates(), wanted):
+            for it, of in zip(once.certificates(), wanted):
                 alone = it.state(at, verify, policy)
                 verdict(f"{vector.stem}: certificate {it.number} at {at}, {policy}", alone == of, (alone, of))
                 verdict(f"{vector.stem}: what is asked of certificate {it.number}", verify.is_once({it.number}))
             whys |= {it.why for it in found}
-    wanted = {None, opgp.Why.REVOKED, opgp.Why.EARLY, opgp.Why.UNBOUND, opgp.Why.EXPIRED}
+    wanted = {None, opgp.Why.REVOKED, opgp.Why.EARLY, opgp.Why.UNBOUND, opgp.Why.EXPIRED, opgp.Why.NO_USE}
     verdict("reasons of states", whys == wanted, whys)
 
 
@@ -1675,11 +1685,8 @@ def states_refused(opgp):
 
 
 def verdicts_of_merged(vector, octets):
-    """The verdict on each row of the merged keyring, which is that on the same signature in the same place before."""
-    rows = [standing.rows(standing.read(it)) for it in (vector.octets, octets)]
-    before, now = ([(c[0].body, part.kind, part.body, it.body, is_embedded) for c, part, it, is_embedded in them] for them in rows)
-    found = dict(zip(before, vector.verdicts))
-    return [found[it] for it in now]
+    """The verdict on each row of the merged keyring."""
+    return standing_cases.carried(vector.octets, vector.verdicts, octets)
 
 
 def judgements(opgp):
@@ -1711,6 +1718,8 @@ def judgements(opgp):
                         verdict(f"{vector.stem}: {policy}, {now}", it.why is why_of(opgp, wanted), (it.why, wanted))
                     else:  # whatever the model calls it
                         verdict(f"{vector.stem}: no good verdict", it.why is opgp.Why[it.verdict.name] and wanted is not None, (it.why, wanted))
+                    told = causes.of_document(by, body, now) if it.why and it.why.name.lower() in causes.OF_KEYS else None
+                    verdict(f"{vector.stem}: the cause, {policy}, {now}", it.cause == cause_of(opgp, told), (it.cause, told))
                     reasons.add(it.why)
         before = standing.Keyring(vector.octets, vector.verdicts)
         after = standing.Keyring(octets, found)
@@ -1790,7 +1799,7 @@ def judgement_refused(opgp):
     told = asked(0, at=-1), asked(0), asked(0, typed_document)
     verdict("another key and another type", told == (None, opgp.Why.ISSUER, opgp.Why.TYPE), told)
     verdict("no row", raised(IndexError, lambda: asked(1)) and raised(IndexError, lambda: asked(1 << 63)))
-    verdict("reasons are truthy", all(opgp.Why) and len(opgp.Why) == 15 and opgp.Judgement._fields == ("signature", "verdict", "why"))
+    verdict("reasons are truthy", all(opgp.Why) and len(opgp.Why) == 16 and opgp.Judgement._fields == ("signature", "verdict", "why", "cause"))
 
 
 class Number:
@@ -1883,7 +1892,7 @@ def judged_in_places(opgp):
         with unittest.mock.patch.object(opgp._library, "opgp_document_standing", answer):
             found = [it.why for it in document.judge(keyring, verify, READ)]
         verdict(f"two places where the library says {answers}", found == [wanted] and asked == [0, 1][:count], (found, asked))
-    for status, number, kind in ((0, 14, ValueError), (0, 255, ValueError), (3, 0, MemoryError), (5, 0, ValueError), (6, 0, IndexError),
+    for status, number, kind in ((0, 15, ValueError), (0, 255, ValueError), (3, 0, MemoryError), (5, 0, ValueError), (6, 0, IndexError),
                                  (77, 0, RuntimeError)):
         def wrong(*given, status=status, number=number):
             given[-1].value = number

@@ -75,6 +75,7 @@ class Made:
             "old.gpg": self.of_alice + self.of_bob + self.of_dave,
             "certificate.asc": model.armor(self.of_alice, b"PUBLIC KEY BLOCK"),
             "other.gpg": self.of_dave,
+            "renewed.gpg": packet(6, self.dave.body) + signers.identity(self.dave, b"Dave", START + 500 * DAY, signers.flags(3)),
             "revocation.asc": model.armor(signers.revocation(self.alice, START + 2), b"PUBLIC KEY BLOCK"),
             "update.asc": model.armor(self.update, b"PUBLIC KEY BLOCK"),
             "fingerprints": f"# two\n{hexed(self.sub)}\n\n{hexed(self.dave).lower()}\n".encode(),
@@ -135,6 +136,8 @@ def wanted(made, folder, program):
         "Is a file signed by a key of the keyring, and may I believe it?": (0, has("verdict good\n")),
         "The same of an InRelease, a `.dsc` or a signed mail; with what was signed:": (
             0, lambda out: "verdict good\n" in out and octets_in(folder, "signed") == DOCUMENT),
+        "A file that was signed before the key's self-signatures were made, which is `unbound`; older copies have others:": (
+            0, has("verdict good\n")),
         "Only the certificates that a list names:": (0, wrote("picked.gpg", a, d)),
         "All but those:": (0, wrote("others.gpg", b, c)),
         SEVERAL: (0, wrote("both.asc", a, d)),

@@ -17,13 +17,14 @@ import tempfile
 HERE = os.path.dirname(os.path.dirname(os.path.dirname(os.path.realpath(__file__))))
 sys.path.insert(0, f"{HERE}/tests/lib")
 
+import causes  # noqa: E402
 import model  # noqa: E402
 import standing  # noqa: E402
 import standing_cases  # noqa: E402
 from openpgp_maker import Key, number, packet, signature, subpacket  # noqa: E402
 from running import processor_seconds  # noqa: E402
 
-WHYS = (None, "future", "revoked", "early", "unbound", "expired", "flags", "back", "type", "critical", "weak", "time", "lapsed", "issuer")
+WHYS = (None, "future", "revoked", "early", "unbound", "expired", "flags", "back", "type", "critical", "weak", "time", "lapsed", "issuer", "no-use")
 DONE, ROOM, LIMITS, CLOSED, NO_ROW = 0, 2, 4, 5, 6
 NONE = 2**64 - 1
 READ = 1795132800  # when the vectors are read: 2026-11-20
@@ -36,6 +37,7 @@ SHOWN = 5  # of what differs
 MANY, MANY_SECONDS = 40000, 4  # subkeys, and how long they take at most, twice
 
 passed, failed = 0, 0
+seen = set()  # the reasons, keys, times and lacks of causes
 
 
 class Handle(ctypes.Structure):
@@ -65,12 +67,19 @@ class State(ctypes.Structure):
     _fields_ += [("reserved", ctypes.c_uint8 * 7)]
 
 
+class CauseRow(ctypes.Structure):
+    _fields_ = [(name, ctypes.c_uint64) for name in ("date", "component", "hang")]
+    _fields_ += [(name, ctypes.c_uint8) for name in ("why", "is_primary", "is_now", "lack")]
+    _fields_ += [("reserved", ctypes.c_uint8 * 4)]
+
+
 class Library:
     def __init__(self, path):
         self.calls = ctypes.CDLL(path)
         wide, octet = ctypes.c_uint64, ctypes.POINTER(ctypes.c_uint8)
         self.calls.opgp_ring_open.argtypes = [ctypes.c_char_p, ctypes.c_size_t] + [ctypes.c_void_p] * 3
         self.calls.opgp_ring_standing.argtypes = [ctypes.c_void_p, ctypes.c_char_p, ctypes.c_size_t, ctypes.c_uint32, wide, wide, wide, wide, octet]
+        self.calls.opgp_ring_cause.argtypes = self.calls.opgp_ring_standing.argtypes[:-1] + [ctypes.POINTER(CauseRow)]
         self.calls.opgp_ring_states.argtypes = [ctypes.c_void_p, ctypes.c_char_p, ctypes.c_size_t, ctypes.c_uint32, wide]
         self.calls.opgp_ring_states.argtypes += [ctypes.c_void_p, ctypes.c_size_t, ctypes.POINTER(wide)]
         self.calls.opgp_ring_revocation.argtypes = [ctypes.c_void_p, wide, octet, ctypes.c_size_t, ctypes.POINTER(wide)]
@@ -97,6 +106,13 @@ class Library:
         place = NONE if component is None else component
         status = self.calls.opgp_ring_standing(ctypes.byref(handle), verdicts, len(verdicts), policy, certificate, place, made, now, why)
         return status, why.value
+
+    def cause(self, handle, verdicts, policy, certificate, component, made, now):
+        """The status, and the row that says why the key isn't to be believed."""
+        row = CauseRow(*[255] * 7)
+        place = NONE if component is None else component
+        status = self.calls.opgp_ring_cause(ctypes.byref(handle), verdicts, len(verdicts), policy, certificate, place, made, now, row)
+        return status, cause_of(row)
 
     def states(self, handle, verdicts, policy, at):
         """The status, and how each part stands."""
@@ -140,6 +156,25 @@ def numbers(verdicts):
     return bytes(NUMBERS[it] for it in verdicts)
 
 
+def cause_of(row):
+    return tuple(getattr(row, name) for name, _ in CauseRow._fields_[:-1]) + (bytes(row.reserved),)
+
+
+def cause_row(it):
+    """The same, worked out here."""
+    if it is None:
+        return NONE, NONE, NONE, 0, 0, 0, 0, bytes(4)
+    numbers = (NONE if number is None else number for number in (it.date, it.component, it.hang))
+    return *numbers, WHYS.index(it.why), it.is_primary, it.is_now, 1 + causes.LACKS.index(it.lack) if it.lack else 0, bytes(4)
+
+
+def compare_causes(library, keyring, handle, found, policy, question, title):
+    """Whether library and model say the same of why a key isn't believed."""
+    told, wanted = library.cause(handle, found, policy, *question), (DONE, cause_row(causes.cause(keyring, *question)))
+    seen.add(wanted[1][3:7])
+    verdict(f"{title}: the cause {question}", told == wanted, f"{told}, not {wanted}: {found.hex()} {policy}")
+
+
 def row_of(row):
     return tuple(getattr(row, name) for name, _ in State._fields_[:-1]) + (bytes(row.reserved),)
 
@@ -175,6 +210,7 @@ def compare(library, case, looks_closely):
         status, why = library.standing(handle, found, policy, *question)
         wanted = keyring.standing(*question)
         verdict(f"{question}", (status, why) == (DONE, WHYS.index(wanted)), f"{status} {why}, not {wanted}: {case.octets.hex()} {found.hex()} {case.policy}")
+        compare_causes(library, keyring, handle, found, policy, question, case.octets.hex())
     for at in {at for _, at in case.states}:
         compare_states(library, keyring, handle, found, policy, at)
     for body, _, now in case.documents:
@@ -214,6 +250,7 @@ def compare_vectors(library):
                 question = (*place, made, READ)
                 wanted = (DONE, WHYS.index(keyring.standing(*question)))
                 verdict(it.title, library.standing(handle, found, POLICIES["usual"], *question) == wanted, f"{question}: not {wanted}")
+                compare_causes(library, keyring, handle, found, POLICIES["usual"], question, it.title)
         for at in {READ, READ - 100 * 86400, *(key.created for _, key in keyring.table())}:
             compare_states(library, keyring, handle, found, POLICIES["usual"], at)
         for body, _ in it.documents:
@@ -239,6 +276,11 @@ def edges(library, case):
     verdict("without verdicts", library.standing(handle, b"", 0, 0, None, 2**40, 2**40) == (DONE, WHYS.index("unbound")))
     verdict("read before it was made", library.standing(handle, b"", 0, 0, None, 1, 0) == (DONE, WHYS.index("future")))
     verdict("a closed handle", library.standing(Handle(), b"", 0, 0, None, 0, 0) == (CLOSED, 255))
+    kept = *[255] * 7, bytes(4)
+    for status, given in ((LIMITS, (handle, b"", 2, 0, None)), (NO_ROW, (handle, b"", 0, NONE, None)), (NO_ROW, (handle, b"", 0, 0, NONE - 1)),
+                          (CLOSED, (Handle(), b"", 0, 0, None))):  # fmt: skip
+        verdict(f"a cause with the status {status}", library.cause(*given, 0, 0) == (status, kept))
+    verdict("the cause of a signature of the future", library.cause(handle, b"", 0, 0, None, 7, 5) == (DONE, (7, NONE, NONE, 1, 1, 0, 0, bytes(4))))
     verdict("states by an unknown policy", library.states(handle, b"", 2, 0) == (LIMITS, []))
     verdict("states of a closed handle", library.states(Handle(), b"", 0, 0) == (CLOSED, []))
     library.calls.opgp_ring_close(handle)
@@ -248,7 +290,7 @@ def large(library):
     """A certificate of many subkeys: the work is linear in their number, so it takes no minutes."""
     made = 1700000000
     keys = [Key(4, made, 27, number(32, it + 1), lambda digest, hash: bytes(64)) for it in range(MANY + 1)]
-    area = subpacket(2, number(4, made)) + subpacket(27, b"\x02") + keys[0].issuer_fingerprint
+    area = subpacket(2, number(4, made)) + subpacket(27, b"\x0e") + keys[0].issuer_fingerprint
     parts = [(6, keys[0], 0x1F), *((14, it, standing.BINDING) for it in keys[1:])]
     octets = b"".join(packet(part, it.body) + packet(2, signature(keys[0], kind, b"", area)) for part, it, kind in parts)
     handle, found = library.opened(octets), bytes([NUMBERS[standing.GOOD]]) * (MANY + 1)
@@ -275,6 +317,8 @@ def main():
             compare(library, case, n % 20 == 0)
         large(library)
         compare_vectors(library)
+        told_of = [{it[n] for it in seen} for n in range(4)]
+        verdict("causes of all kinds", told_of == [{*range(8)}, {0, 1}, {0, 1}, {*range(8)}], told_of)
     print(f"{passed} passed, {failed} failed")
     return failed != 0
 

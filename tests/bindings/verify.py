@@ -16,6 +16,7 @@ What isn't here is said on standard error. The last line counts what was tried.
 """
 
 import argparse
+import contextlib
 import functools
 import glob
 import hashlib
@@ -32,6 +33,7 @@ import time
 sys.dont_write_bytecode = True
 sys.path.insert(0, f"{sys.path[0]}/../lib")
 
+import causes  # noqa: E402
 import model  # noqa: E402
 import openpgp_signers as signers  # noqa: E402
 import standing  # noqa: E402
@@ -77,6 +79,12 @@ def kept(name, octets):
 
 
 def run(*words, given=b"", started=None, **how):
+    """The status, standard output, without the causes of reasons, and standard error."""
+    status, out, err = run_whole(*words, given=given, started=started, **how)
+    return status, causes.without(out), err
+
+
+def run_whole(*words, given=b"", started=None, **how):
     ended = subprocess.run([started or PROGRAM, *words], input=given, capture_output=True, check=False, timeout=SECONDS, **how)
     return ended.returncode, ended.stdout.decode(), ended.stderr.decode()
 
@@ -402,13 +410,17 @@ def judges(name, stems, given, at=READ, policy="usual", documents=None):
     _, octets, _ = model.answer("merge", b"".join(given), bare=True)
     words = [f"--keyring={kept(f'keyring{number}', it)}" for number, it in enumerate(given)]
     path = kept("signature", b"".join(packet(body) for body, _ in documents))
-    ended = run("--signature", path, *words, f"--at={at}", "--policy", policy, given=DOCUMENT)
+    whole = run_whole("--signature", path, *words, f"--at={at}", "--policy", policy, given=DOCUMENT)
+    ended = whole[0], causes.without(whole[1]), whole[2]
     keyring = standing.Keyring(octets, [known[it] for it in rows_in(octets)], policy)
     whys = [keyring.believed(body, own, at) for body, own in documents]
     found = re.findall(r"^signature \d+ : (?:none|.* verdict) (.*)$", ended[1], re.M)
     fits = len(found) == len(whys) == ended[1].count("\n")
     fits = fits and all(re.fullmatch(SAID.get(why, f"good unbelieved {why}"), it) for why, it in zip(whys, found))
     verdict(name, fits and (ended[0], ended[2]) == counts_of(found), (ended, whys))
+    told = [line.partition(" unbelieved ")[2].partition(" ") for line in whole[1].splitlines()]
+    of_keys = [causes.words_of(causes.of_document(keyring, body, at)) if why in causes.OF_KEYS and word else "" for (body, _), why, (word, _, _) in zip(documents, whys, told)]
+    verdict(f"{name}: causes", [f"{blank}{behind}" for _, blank, behind in told] == of_keys, (whole, of_keys))
     return found
 
 
@@ -425,6 +437,41 @@ def of_cases():
         if len(them) > 1:
             judges(f"{stem}, several keyrings", [stem], them)
             judges(f"{stem}, several keyrings in the other order", [stem], them[::-1])
+
+
+# What a terminal is told of a key that isn't believed, by the case, and when it is read.
+TOLD = {
+    ("key_revoked", READ): "the primary key: it was revoked on DATE",
+    ("key_shortened", READ): "the primary key: it had expired on DATE, before the signature was made: get a newer copy of the certificate",
+    ("base", SIGNED - 1): "the signature: it was made on DATE, after the present time",
+    ("base", READ): None,
+}
+
+
+def terminal_text(mine):
+    """What was written to a terminal whose other end is closed."""
+    told = b""
+    with contextlib.suppress(OSError):  # there is nothing more
+        while piece := os.read(mine, 4096):
+            told += piece
+    os.close(mine)
+    return told
+
+
+def on_a_terminal():
+    """On a terminal a line says to people why a key isn't believed, and what to do."""
+    for (stem, at), wanted in TOLD.items():
+        it = cases()[stem]
+        path = kept("signature", b"".join(packet(body) for body, _ in it.documents))
+        words = ["--signature", path, f"--keyring={kept('keyring', it.octets)}", f"--at={at}"]
+        mine, theirs = os.openpty()
+        subprocess.run([PROGRAM, *words], input=DOCUMENT, stdout=subprocess.DEVNULL, stderr=theirs, check=False, timeout=SECONDS)
+        os.close(theirs)
+        told = terminal_text(mine)
+        lines = re.sub(r"\d{4}-\d\d-\d\d", "DATE", told.decode()).splitlines()
+        verdict(f"{stem} at {at} on a terminal", lines[1:] == ([f"opgp-verify: {wanted}"] if wanted else []), told)
+        status, _, err = run(*words, given=DOCUMENT)
+        verdict(f"{stem} at {at}, elsewhere", status == int(wanted is not None) and err.splitlines() == lines[:1], err)
 
 
 def in_other_places():
@@ -1035,10 +1082,10 @@ def by_sanitizers(archive):
         for policy in ("usual", "any"):
             for jobs in (1, 4, 64):
                 words = ["--policy", policy, "--jobs", str(jobs), path]
-                ended, usual = subprocess.run([program, *words], capture_output=True, text=True, check=False, timeout=SECONDS), run(*words)
+                ended, usual = subprocess.run([program, *words], capture_output=True, text=True, check=False, timeout=SECONDS), run_whole(*words)
                 verdict(f"sanitizer {kind}, {policy}, {jobs} jobs", (ended.returncode, ended.stdout, ended.stderr) == usual, ended.stderr)
         for words in judged:
-            ended, usual = subprocess.run([program, *words], capture_output=True, text=True, check=False, timeout=SECONDS), run(*words)
+            ended, usual = subprocess.run([program, *words], capture_output=True, text=True, check=False, timeout=SECONDS), run_whole(*words)
             verdict(f"sanitizer {kind}, {words}", (ended.returncode, ended.stdout, ended.stderr) == usual, ended.stderr)
 
 
@@ -1262,7 +1309,7 @@ def main():
         ROOM = room
         PROGRAM, archive = (os.path.abspath(words.program), words.library) if words.program else built()
         if PROGRAM:
-            for part in (of_others, changed_signatures, several, critical, undecided, of_cases, in_other_places, moments, of_one_key, in_a_crowd, in_many_places,
+            for part in (of_others, changed_signatures, several, critical, undecided, of_cases, on_a_terminal, in_other_places, moments, of_one_key, in_a_crowd, in_many_places,
                          keyrings, streams, command_lines, refused, devices, memory, memory_wanting, threads, debian_keyring, threads_refused,
                          by_valgrind, with_gpg):
                 part()

@@ -23,7 +23,7 @@ TIMES = (1795132800, 1700000000, 1600000000, 1500000000, 1400000000)
 LETTERS = {"c": "certify", "s": "sign", "e": "encrypt", "a": "authenticate"}
 FLAGS = {"certification": "certify", "signing": "sign", "authentication": "authenticate", "transport encryption": "encrypt",
          "data-at-rest encryption": "encrypt"}
-OURS = re.compile(r"cert \d+ part \S+ : (pub|sub) (\w+) (\w+) uses (\S+) begin (\d+) end (\S+) reason \S+")
+OURS = re.compile(r"cert \d+ part \S+ : (pub|sub) (\w+) ([\w-]+) uses (\S+) begin (\d+) end (\S+) reason \S+")
 
 Stands = collections.namedtuple("Stands", "how uses begin end why")
 
@@ -39,7 +39,7 @@ def ours(program, path, at, policy):
         if it := OURS.match(line):
             primary = it[2] if it[1] == "pub" else primary
             end = None if it[6] == "-" else int(it[6])
-            found[primary, it[2]] = Stands(it[3], frozenset(it[4].split(",")) - {"-"}, int(it[5]), end, "")
+            found[primary, it[2]] = Stands(it[3].replace("no-use", "usable"), frozenset(it[4].split(",")) - {"-"}, int(it[5]), end, "")
     return found
 
 

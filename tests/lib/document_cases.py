@@ -135,12 +135,16 @@ def key_id_of(case):
     return digits(case.key.key_id)
 
 
-def error_of(case):
-    """ERRSIG of a case."""
+CODES = {"undecided absent": 9, "none kind": 32, "good unbelieved flags": 125, "good unbelieved unbound": 6}
+CODES |= {f"good unbelieved {why}": 39 for why in ("early", "time", "future")} | {f"good unbelieved {why}": 1 for why in ("back", "weak", "critical", "type", "issuer")}
+
+
+def error_of(case, refused=False):
+    """ERRSIG of a case, with the codes of gpgv."""
     algorithm = case.key.algorithm if case.key else 22 if case.version else 0
     is_absent = case.said == "undecided absent"
     name = digits(case.key.fingerprint) if case.key and case.version > 3 else "-"
-    lines = [f"ERRSIG {key_id_of(case)} {algorithm} {case.hash} {case.kind:02X} {case.made or 0} {9 if is_absent else 4} {name}"]
+    lines = [f"ERRSIG {key_id_of(case)} {algorithm} {case.hash} {case.kind:02X} {case.made or 0} {4 if refused else CODES.get(case.said, 4)} {name}"]
     return lines + [f"NO_PUBKEY {key_id_of(case)}"] * is_absent
 
 
@@ -152,7 +156,7 @@ def status_lines(case, refused=False):
         valid = f"{key} {date} {case.made} {case.expires} {case.version} 0 {case.key.algorithm} {case.hash} {case.kind:02X} {primary}"
         return ["NEWSIG", f"GOODSIG {who}", f"VALIDSIG {valid}", "TRUST_UNDEFINED 0 pgp"]
     words = {"bad": "BADSIG", "good unbelieved expired": "EXPKEYSIG", "good unbelieved revoked": "REVKEYSIG", "good unbelieved lapsed": "EXPSIG"}
-    return ["NEWSIG", *([f"{words[case.said]} {who}"] if case.said in words else error_of(case))]
+    return ["NEWSIG", *([f"{words[case.said]} {who}"] if case.said in words else error_of(case, refused and case.is_good()))]
 
 
 def gpgv_status(those):

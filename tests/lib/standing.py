@@ -28,7 +28,7 @@ PLACES = {
 USES = {"certify": 0x01, "sign": 0x02, "encrypt": 0x0C, "authenticate": 0x20}
 
 Key = collections.namedtuple("Key", "version created fingerprint key_id is_strong least")
-Part = collections.namedtuple("Part", "kind body key hangs")
+Part = collections.namedtuple("Part", "kind body key hangs numbers")
 
 
 # What is read.
@@ -69,8 +69,9 @@ def read(octets):
         certificates.append([])
         for head, hangs in parts:
             kind, body = packets[head][2], packets[head][4]
-            signatures = [model.kept_signature(packets[it][4]) for it in hangs if packets[it][2] == 2]
-            certificates[-1].append(Part(kind, body, key_of(body) if kind in (PRIMARY, SUBKEY) else None, signatures))
+            numbers = [n for n, it in enumerate(hangs) if packets[it][2] == 2]
+            signatures = [model.kept_signature(packets[hangs[n]][4]) for n in numbers]
+            certificates[-1].append(Part(kind, body, key_of(body) if kind in (PRIMARY, SUBKEY) else None, signatures, numbers))
     return certificates
 
 
@@ -123,6 +124,9 @@ class Said:
         self.made = self.times[0] if len(self.times) == 1 else None
         self.is_of_its_age = signer is not None and self.made is not None and self.made >= signer.created
         self.is_good = self.is_genuine and self.is_understood and self.is_relied_on and self.is_of_its_age and not is_unfit(it)
+        doubts = ("weak", not self.is_relied_on), ("malformed", is_unfit(it)), ("undated", self.made is None), ("young", not self.is_of_its_age)
+        self.doubt = next((word for word, holds in doubts if holds), None)
+        self.spot = None, None  # the component that it is on, and its number among the packets behind that
         self.lasts, self.key_lasts = (min(filter(None, map(model.number, said[kind])), default=0) for kind in (3, 9))
         flags = [octets[0] if octets else 0 for octets in said[27]]
         self.has_flags = bool(flags)
@@ -283,13 +287,14 @@ class Certificate:
         lost = ("certify", "sign") if self.lacks_back(component, at) else ()
         uses = [it for it in self.uses(component, at) if it not in lost]
         begin = max(component.key.created, self.primary.key.created)
-        return self.why(component, at, at), uses, begin, self.until(component, at), self.reason(component)
+        why = self.why(component, at, at) or (None if uses else "no-use")
+        return why, uses, begin, self.until(component, at), self.reason(component)
 
     def state_of_identity(self, component, at):
+        if newest(filter(is_good, self.certifications(component, True)), at):
+            return "fine"
         own = [it for it in component.said if it.is_genuine and it.by == self.fingerprint]
-        if any(it.kind == IDENTITY_REVOCATION for it in own):
-            return "revoked"
-        return "fine" if newest(filter(is_good, self.own(CERTIFICATIONS, component)), at) else "unbound"
+        return "revoked" if any(it.kind == IDENTITY_REVOCATION for it in own) else "unbound"
 
 
 class Keyring:
@@ -307,6 +312,7 @@ class Keyring:
         found = list(rows(certificates))
         if len(found) != len(verdicts):
             raise ValueError(f"{len(verdicts)} verdicts for {len(found)} rows")
+        spots = {id(it): (n - 1 if n else None, number) for c in certificates for n, part in enumerate(c) for it, number in zip(part.hangs, part.numbers)}
         outer, is_first = None, True
         for (certificate, part, it, is_embedded), verdict in zip(found, verdicts):
             if is_embedded:
@@ -315,6 +321,7 @@ class Keyring:
                 is_first = False
             else:
                 outer, is_first = self.said(it, verdict, it.kind in PLACES[part.kind]), True
+                outer.spot = spots[id(it)]
                 if it.version == certificate[0].key.version:
                     places[id(part)].said.append(outer)
         for part in places.values():

@@ -45,6 +45,23 @@ CRITICAL = tuple(subpacket(kind, octets, True) for kind, octets in (
     (33, b"\4" + bytes(19)), (16, bytes(7)), (30, b"\1"), (11, b"\x09"), (32, b"\4")))  # fmt: skip
 
 
+def once(octets, verdicts):
+    """The keyring merged, and the verdict on each of its rows: that on the first one of the same signature in the same place before."""
+    block = [(b"PUBLIC KEY BLOCK", octets)]
+    packets = model.framed(block, model.USUAL)
+    lead, certificates = model.compose(block, packets, model.USUAL)
+    merged = model.written("merge", block, packets, lead, certificates, None, True)[1]
+    return merged, carried(octets, verdicts, merged)
+
+
+def carried(octets, verdicts, merged):
+    """The verdicts on the rows of the merged keyring."""
+    before, now = ([(c[0].body, part.kind, part.body, it.body, is_embedded) for c, part, it, is_embedded in standing.rows(standing.read(them))]
+                   for them in (octets, merged))  # fmt: skip
+    found = dict(reversed(list(zip(before, verdicts, strict=True))))
+    return [found[it] for it in now]
+
+
 class Ring:
     """Makes one keyring. new_key(version, created) gives a key; times are those of keys and signatures, a step apart. is_usual leaves out
     what programs refuse, but where it is odd: keys are the oldest of all, subkeys stand behind all else, key IDs are named too."""

@@ -204,11 +204,12 @@ def checked(octets):
     return lines.splitlines()
 
 
-def compare(room, octets, verdicts, rng, title):
-    """The file of verdicts, and what was written by it."""
+def compare(room, given, verdicts, rng, title):
+    """The file of verdicts, and what was written by it: of the merged keyring."""
+    octets, verdicts = standing_cases.once(given, verdicts)
     file, said = file_of(octets, checked(octets), verdicts, rng)
     for options in OPTIONS if rng.random() < 0.3 else ((),):
-        ended = room.write(octets, file, *options)
+        ended = room.write(given, file, *options)
         verdict(title, ended == (0, wanted(octets, said, options), ""), f"{options} {said} {octets.hex()}\n{ended}")
     return file
 
@@ -220,15 +221,17 @@ def generated(room):
         file = compare(room, case.octets, case.verdicts, rng, f"case {n}")
         compare(room, case.octets, ["good"] * len(case.verdicts), rng, f"case {n}, all good")
         for found in (case.verdicts, ["good"] * len(case.verdicts)):
-            said = standing_cases.honest(case.octets, found)
-            why = stands_as_before(case.octets, said, case.policy, [at for _, at in case.states])
-            verdict(f"case {n} stands as before", not why, f"{why} {said} {case.octets.hex()}")
+            octets, found = standing_cases.once(case.octets, found)
+            said = standing_cases.honest(octets, found)
+            why = stands_as_before(octets, said, case.policy, [at for _, at in case.states])
+            verdict(f"case {n} stands as before", not why, f"{why} {said} {octets.hex()}")
         if other is not None and other != file and n % 10 == 0:
             verdict(f"case {n} by another keyring's verdicts", room.write(case.octets, other) == (1, b"", NOT_THOSE))
         other = file
     for it in standing_cases.vectors():
         compare(room, it.octets, it.verdicts, rng, it.title)
-        why = stands_as_before(it.octets, it.verdicts, "usual", TIMES)
+        compare(room, it.octets * 2, it.verdicts * 2, rng, f"{it.title}, twice")
+        why = stands_as_before(*standing_cases.once(it.octets, it.verdicts), "usual", TIMES)
         verdict(f"{it.title}: stands as before", not why, why)
 
 
@@ -285,7 +288,7 @@ def by_hand(room):
             (certified(first, 0x13, 2_000_000_000), 1, "good"), (certified(first, 0x13, 3, subpacket(100, b"", True)), 1, "good"),
             (certified(first, 0x13, 4, hash=2), 1, "good")],
         "one without a time, one with two, and a forged one": [
-            (key, 1), (alice, 1), (states(first.issuer_fingerprint), 1, "good"), (states(first.issuer_fingerprint), 0, "bad"),
+            (key, 1), (alice, 1), (states(first.issuer_fingerprint), 1, "good"), (states(first.issuer_fingerprint + subpacket(101, b"")), 0, "bad"),
             (certified(first, 0x13, 1, subpacket(2, number(4, MADE + 2))), 1, "good")],
         "one without a time alone": [(key, 1), (alice, 1), (states(first.issuer_fingerprint), 1, "good")],
         "one that names its issuer by the key ID alone": [(key, 1), (alice, 1), (states(first.issuer_key_id), 1, "good")],

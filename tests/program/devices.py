@@ -42,8 +42,8 @@ show                                                          219          222  
 list                                                          221          226     228      219
 list --values                                                 225          230     232      223
 check                                                         227          234     237      221
-state --at 0                                                  237          244     248      227
-state --at 2026-11-20 --policy any                            246          253     257      236
+state --at 0                                                  242          255     264      227
+state --at 2026-11-20 --policy any                            251          264     273      236
 check --fingerprints                                          233          240     243      226
 check --places                                                231          240     243      225
 octets --row 0                                                238          245     247      235

@@ -147,7 +147,9 @@ class Room:
         return run("state", *KEEP, "--verdicts", self.file, *words, given=octets)
 
 
-def compare(room, octets, verdicts, policy, times, rng, title):
+def compare(room, given_octets, verdicts, policy, times, rng, title):
+    """The merged keyring, by which it is judged, the lines of `check` of that, and its file of verdicts."""
+    octets, verdicts = standing_cases.once(given_octets, verdicts)
     lines = checked(octets)
     counts = [*counting(octets, lines)]
     rows, said = file_of(lines, verdicts, rng, counts)
@@ -155,10 +157,10 @@ def compare(room, octets, verdicts, policy, times, rng, title):
     for at in times:
         words = "--at", str(at), "--policy", policy
         for given, found in ((file, said), (None, claimed(lines, counts))):
-            ended = room.state(octets, given, *words)
+            ended = room.state(given_octets, given, *words)
             wanted = state_lines(octets, found, policy, at, given is not None)
             verdict(f"{title} at {at}", ended == (0, wanted, ""), f"{policy} {found} {octets.hex()}\n{ended}\n{wanted.decode()}")
-    return lines, file
+    return octets, lines, file
 
 
 def wrongs(file, checks, octets, other):
@@ -229,16 +231,19 @@ def generated(room):
     other = b""
     for n, case in enumerate(standing_cases.cases(told.seed, told.cases)):
         times = sorted({at for _, at in case.states})[:2]
-        lines, file = compare(room, case.octets, case.verdicts, case.policy, times, rng, f"case {n}")
+        octets, lines, file = compare(room, case.octets, case.verdicts, case.policy, times, rng, f"case {n}")
         if file and n % 5 == 0:
-            refused(room, case.octets, lines, file, other)
+            refused(room, octets, lines, file, other)
         other = file or other
 
 
 def vectors(room):
     rng = random.Random(told.seed)
     for it in standing_cases.vectors():
-        compare(room, it.octets, it.verdicts, "usual", (READ,), rng, it.title)
+        octets, _, _ = compare(room, it.octets, it.verdicts, "usual", (READ,), rng, it.title)
+        twice = it.octets + it.octets
+        verdict(f"{it.title}, twice", standing_cases.once(twice, it.verdicts * 2)[0] == octets)
+        compare(room, twice, it.verdicts * 2, "usual", (READ,), rng, f"{it.title}, twice")
 
 
 def seconds_of(text):
@@ -297,9 +302,12 @@ def large(room):
     first = Key(4, made, 27, number(32, 1), lambda digest, hash: bytes(64))
     area = subpacket(2, number(4, made)) + subpacket(27, b"\x02") + first.issuer_fingerprint
     user = packet(13, b"Alice")
-    one = packet(2, signature(first, 0x13, on_identity(13, b"Alice"), area))
+
+    def certified(it):
+        return packet(2, signature(first, 0x13, on_identity(13, b"Alice"), area + subpacket(101, number(4, it))))
+
     for title, octets, lines in (
-        ("signatures", packet(6, first.body) + user + one * MANY, 2),
+        ("signatures", packet(6, first.body) + user + b"".join(map(certified, range(MANY))), 2),
         ("subkeys", packet(6, first.body) + b"".join(
             packet(14, Key(4, made, 27, number(32, it + 2), None).body) + packet(2, signature(first, 0x18, b"", area)) for it in range(MANY)), MANY + 1),
     ):  # fmt: skip

@@ -1,6 +1,7 @@
 -- The definitions of `opgp_valid`, and its types as they are declared.
 pub use Rattle.opgp_valid.specs.declared
 pub use Rattle.opgp_valid.specs.Believed
+pub use Rattle.opgp_valid.specs.Cause
 pub use Rattle.opgp_valid.specs.Current
 pub use Rattle.opgp_valid.specs.Facts
 pub use Rattle.opgp_valid.specs.FlawText

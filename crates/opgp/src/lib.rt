@@ -145,10 +145,11 @@ pub mod state {
 /// Which keys, and signatures over documents, may be believed, by a verifier's verdicts.
 pub mod valid {
     pub use opgp_valid::{
-        Author, Belief, Certified, Facts, Flaw, IdentityState, Judgement, Key, KeyPlace, KeyState,
-        Known, KnownKeys, Life, PartState, Policy, Revoked, Statement, Uses, Why, believe,
-        believe_at, identity_state, is_strong, judge, key_state, laws, least_digest,
-        list_revocations, part_states, revocation_at, standing, subpackets, verdicts_behind,
+        Author, Belief, Cause, Certified, Doubt, Facts, Flaw, IdentityState, Judgement, Key,
+        KeyPlace, KeyState, Known, KnownKeys, Lack, Life, PartState, Policy, Revoked, Spot,
+        Statement, Uses, Why, believe, believe_at, cause_of, identity_state, is_strong, judge,
+        key_state, laws, least_digest, list_revocations, part_states, revocation_at, standing,
+        subpackets, verdicts_behind,
     };
 }
 

@@ -32,19 +32,19 @@ use Rattle.opgp_bound.specs.Judged.{certificate_rows, component_rows, judged_com
 use Rattle.opgp_bound.specs.Role.{kind_in}
 
 -- ---- lists
-from_flat : {X Y : Type 0} (f : X → List Y) (xs : List X) (y : Y) → Contains (flat_map f xs) y → (x : X) × Contains xs x × Contains (f x) y
+pub from_flat : {X Y : Type 0} (f : X → List Y) (xs : List X) (y : Y) → Contains (flat_map f xs) y → (x : X) × Contains xs x × Contains (f x) y
 from_flat f [] y h = absurd (none_in y h)
 from_flat f (x ∷ xs) y h = elim (Contains-append_cases (f x) (flat_map f xs) y h) [ inl a ↦ (x, member_here x xs, a) | inr b ↦ let r = from_flat f xs y b in (r.0, member_there x r.0 xs r.1, r.2) ]
 
-from_map : {X Y : Type 0} (f : X → Y) (xs : List X) (y : Y) → Contains (map f xs) y → (x : X) × Contains xs x × (f x ≡ y)
+pub from_map : {X Y : Type 0} (f : X → Y) (xs : List X) (y : Y) → Contains (map f xs) y → (x : X) × Contains xs x × (f x ≡ y)
 from_map f [] y h = absurd (none_in y h)
 from_map f (x ∷ xs) y h = elim (member_cases (f x) y (map f xs) h) [ inl e ↦ (x, member_here x xs, e) | inr b ↦ let r = from_map f xs y b in (r.0, member_there x r.0 xs r.1, r.2) ]
 
-to_map : {X Y : Type 0} (f : X → Y) (xs : List X) (x : X) → Contains xs x → Contains (map f xs) (f x)
+pub to_map : {X Y : Type 0} (f : X → Y) (xs : List X) (x : X) → Contains xs x → Contains (map f xs) (f x)
 to_map f [] x h = absurd (none_in x h)
 to_map {X} {Y} f (y ∷ xs) x h = elim (member_cases y x xs h) [ inl e ↦ subst (λ (z : X). Contains (f y ∷ map f xs) (f z)) e (member_here (f y) (map f xs)) | inr b ↦ member_there (f y) (f x) (map f xs) (to_map f xs x b) ]
 
-single : {X : Type 0} (y x : X) → Contains (y ∷ []) x → y ≡ x
+pub single : {X : Type 0} (y x : X) → Contains (y ∷ []) x → y ≡ x
 single y x h = elim (member_cases y x [] h) [ inl e ↦ e | inr b ↦ absurd (none_in x b) ]
 
 found_before : {X : Type 0} (p : X → Bool) (xs : List X) (x : X) → Contains xs x → p x ≡ true → position_or_len p xs < length xs
@@ -52,7 +52,7 @@ found_before p xs x (k, within, is) e =
     let not_before : k < position_or_len p xs → ⊥ = λ l. true≢false (sym (ap p is ∙ e) ∙ fails_before_first p xs k x l) in
     omega (arith, not_before, within)
 
-found : {X : Type 0} (p : X → Bool) (xs : List X) (x : X) → Contains xs x → p x ≡ true → is_some (position p xs) ≡ true
+pub found : {X : Type 0} (p : X → Bool) (xs : List X) (x : X) → Contains xs x → p x ≡ true → is_some (position p xs) ≡ true
 found p xs x h e = ap (λ (b : Bool). is_some (cond b (Some (position_or_len p xs)) None)) (lt-ltb (position_or_len p xs) (length xs) (found_before p xs x h e))
 
 -- ---- fingerprints

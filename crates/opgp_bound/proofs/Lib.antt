@@ -1,8 +1,12 @@
+pub mod Copies
 pub mod First
 pub mod Found
+pub mod Hanging
 pub mod Issuing
 pub mod Kept
 pub mod Naming
+pub mod Revoking
 pub mod Rows
 pub mod Staying
+pub mod United
 pub mod Without

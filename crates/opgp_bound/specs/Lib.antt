@@ -1,4 +1,5 @@
 pub mod Bound
+pub mod Copies
 pub mod Gathering
 pub mod Issuers
 pub mod Judged

@@ -1,16 +1,22 @@
 //! What the definitions imply.
 
-ghost use Rattle.std.specs.Prelude.{◌≡◌, ◌⊎◌, ℕ, List, [], length, All, true};
+ghost use Rattle.std.specs.Prelude.{◌≡◌, ◌⊎◌, ℕ, List, [], length, All, Some, slice_get, true};
 ghost use Rattle.std.specs.List.{Contains};
 ghost use Rattle.opgp_octets.specs.declared.signature_type.SignatureType.{SignatureType};
 ghost use Rattle.opgp_packet.specs.SignatureBody.{SignatureValue};
 ghost use Rattle.opgp_hash.specs.SubjectValue.{SubjectValue};
 ghost use Rattle.opgp_hash.specs.declared.fingerprints.Fingerprint.{Fingerprint};
-ghost use Rattle.opgp_ring.specs.Keyring.{CertificateValue, IsKeyring, KeyringValue};
+ghost use Rattle.opgp_ring.specs.Keyring.{CertificateValue, ComponentValue, IsKeyring};
+ghost use Rattle.opgp_ring.specs.Keyring.{KeyringValue};
 ghost use Rattle.opgp_report.specs.Standing.{certificate_standing};
 ghost use Rattle.opgp_report.specs.declared.verifier.Verdict.{Verdict};
+ghost use Rattle.opgp_merge.specs.Merged.{merged_of, same_head, same_primary};
 ghost use Rattle.opgp_valid.specs.KnownKeys.{known_in};
+ghost use Rattle.opgp_valid.specs.Standing.{is_revoked};
+ghost use Rattle.opgp_valid.specs.declared.facts.Key.TheVariants.{Primary, Subkey};
 ghost use Rattle.opgp_valid.specs.declared.known_keys.Known.{Known};
+ghost use Rattle.opgp_valid.specs.declared.policy.Policy.{Policy};
+ghost use Rattle.opgp_bound.specs.Copies.{Deciding, facts_decided};
 ghost use Rattle.opgp_bound.specs.Bound.{bound_certificate, bound_keyring, component_stays};
 ghost use Rattle.opgp_bound.specs.Bound.{components_in, is_genuine, own_in, revokes, role_stays};
 ghost use Rattle.opgp_bound.specs.Issuers.{revocation_issuers};
@@ -86,4 +92,23 @@ pub fn verdicts_are_those_of_the_rows()
 /// Without verdicts no user ID, attribute or subkey stays.
 pub fn nothing_is_bound_without_verdicts()
     ensures { (r : KeyringValue) → All (λ c. c.components ≡ []) (bound_keyring r []).certificates }
+{}
+
+/// Merging is careful: what revokes a key in one copy of its certificate revokes it in the merged
+/// one, too, so that a key that is of use there is revoked in no copy. The verdicts go by what is
+/// signed, and the keys that are known are the same. Of two keys with the same key ID it is the
+/// first in the keyring that a key ID names (RFC 9580, 5.2.3.12).
+pub fn merging_is_careful()
+    ensures primary { (known : List Known) (policy : Policy) (v : Deciding) (r : KeyringValue)
+        (c m : CertificateValue) → Contains r.certificates c
+        → Contains (merged_of r).certificates m → same_primary c m ≡ true
+        → is_revoked (facts_decided known policy v c) Primary ≡ true
+        → is_revoked (facts_decided known policy v m) Primary ≡ true }
+    ensures subkey { (known : List Known) (policy : Policy) (v : Deciding) (r : KeyringValue)
+        (c m : CertificateValue) (n k created again : ℕ) (d e : ComponentValue)
+        → Contains r.certificates c → Contains (merged_of r).certificates m
+        → same_primary c m ≡ true → slice_get c.components n ≡ Some d
+        → slice_get m.components k ≡ Some e → same_head d e ≡ true
+        → is_revoked (facts_decided known policy v c) (Subkey n created) ≡ true
+        → is_revoked (facts_decided known policy v m) (Subkey k again) ≡ true }
 {}

@@ -4,11 +4,12 @@ ghost use Rattle.std.specs.Prelude.{◌≡◌, ◌≢◌, ◌↔◌, ◌⊎◌, 
 ghost use Rattle.opgp_hash.specs.Digest.{digest_octets, digest_of};
 ghost use Rattle.opgp_hash.specs.QuestionValue.{QuestionValue};
 ghost use Rattle.opgp_handles.specs.Calls.{HoldsTheSame, IsFilled};
+ghost use Rattle.opgp_handles.specs.Causes.{caused_by};
 ghost use Rattle.opgp_handles.specs.Standings.{judged_by, place_by, policy_by};
 ghost use Rattle.opgp_valid.specs.Revocation.{revocation_at};
 ghost use Rattle.opgp_valid.specs.declared.policy.Policy.{Policy};
 
-use opgp_handles::{Ring, ring_revocation, ring_standing};
+use opgp_handles::{CauseRow, Ring, ring_cause, ring_revocation, ring_standing};
 use std::alloc::Global;
 
 /// Puts whether the key at a place of the keyring may be believed for a signature that was made at
@@ -57,6 +58,50 @@ pub extern "C" fn opgp_ring_standing(
         made,
         now,
         why,
+    )
+}
+
+/// Puts why the key at a place of the keyring may not be believed, as `opgp_ring_standing` judges it
+/// by what it takes: the first reason, of which key and at which of the two times it holds, a date,
+/// and the signature that says so. Of a key that may be believed the reason is 0.
+///
+/// The status says whether it is done; else the cause is unchanged: there is no such key or no such
+/// policy, memory ran out, or the handle holds nothing.
+#[unsafe(no_mangle)]
+pub extern "C" fn opgp_ring_cause(
+    alloc: Global,
+    ring: &mut Ring,
+    verdicts: &[u8],
+    policy: u32,
+    certificate: u64,
+    component: u64,
+    made: u64,
+    now: u64,
+    cause: &mut CauseRow,
+) -> u32
+    ensures done { result ≡ 0 → (p : Policy) × (policy_by policy ≡ Some p)
+        × (caused_by ring.old.slot.held.keyring p verdicts.now (place_by certificate component)
+        made now ≡ Some cause.new) }
+    ensures none { result ≡ 6 → (p : Policy) × (policy_by policy ≡ Some p)
+        × (caused_by ring.old.slot.held.keyring p verdicts.now (place_by certificate component)
+        made now ≡ None) }
+    ensures limits { result ≡ 4 → policy_by policy ≡ None }
+    ensures kept { result ≢ 0 → cause.new ≡ cause.old }
+    ensures closed { (result ≡ 5) ↔ (ring.old.is_open ≡ false) }
+    ensures ring { HoldsTheSame ring.old ring.new }
+    ensures status { (result ≡ 0) ⊎ ((result ≡ 3) ⊎ ((result ≡ 4) ⊎ ((result ≡ 5)
+        ⊎ (result ≡ 6)))) }
+{
+    ring_cause(
+        alloc,
+        ring,
+        verdicts,
+        policy,
+        certificate,
+        component,
+        made,
+        now,
+        cause,
     )
 }
 

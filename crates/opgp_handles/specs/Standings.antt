@@ -63,7 +63,7 @@ why_number Back = 7
 -- 0 for a key that is believed; none where there is no key
 abbrev pub judgement_number : Judgement → Option ℕ
 judgement_number Stands = Some 0
-judgement_number (Fails why) = Some (why_number why)
+judgement_number (Fails cause) = Some (why_number cause.why)
 judgement_number NoKey = None
 
 -- of the key at a place of a keyring, by the numbers of verdicts
@@ -83,7 +83,7 @@ flaw_number flaw.Issuer = 13
 abbrev pub belief_number : Belief → Option ℕ
 belief_number belief.Believed = Some 0
 belief_number (belief.Flawed flaw) = Some (flaw_number flaw)
-belief_number (belief.Unbelieved why) = Some (why_number why)
+belief_number (belief.Unbelieved cause) = Some (why_number cause.why)
 belief_number belief.NoKey = None
 
 -- in a cleartext message only signatures over text are those of a document (RFC 9580, 7.1)

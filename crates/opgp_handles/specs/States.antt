@@ -10,6 +10,7 @@ use Rattle.opgp_tables.specs.Room.{none}
 use Rattle.opgp_valid.specs.Judgement.{facts_by}
 use Rattle.opgp_valid.specs.KnownKeys.{known_in}
 use Rattle.opgp_valid.specs.States.{states_of}
+use Rattle.opgp_valid.specs.Uses.{has_use}
 use Rattle.opgp_valid.specs.declared.known_keys.Known.{Known}
 use Rattle.opgp_valid.specs.declared.policy.Policy.{Policy}
 use Rattle.opgp_valid.specs.declared.state.IdentityState.{IdentityState}
@@ -31,10 +32,10 @@ abbrev pub flags_of : Uses → ℕ
 flags_of u = flag_if 1 u.certify + flag_if 2 u.sign + flag_if 4 u.encrypt
     + flag_if 32 u.authenticate
 
--- 0 for a key that is of use
-abbrev pub unusable_number : Option Why → ℕ
-unusable_number None = 0
-unusable_number (Some why) = why_number why
+-- 0 for a key that is of use, and 14 for one that may be used for nothing
+abbrev pub key_number : Option Why → Uses → ℕ
+key_number None uses = if has_use uses then 0 else 14
+key_number (Some why) uses = why_number why
 
 abbrev pub key_row : ℕ → ℕ → KeyState → StateRow
 key_row certificate component s = record {
@@ -42,7 +43,7 @@ key_row certificate component s = record {
   component = component;
   end = unwrap_or s.end none;
   begin = s.begin;
-  why = unusable_number s.why;
+  why = key_number s.why s.uses;
   is_key = 1;
   uses = flags_of s.uses;
   has_reason = flag_if 1 (is_some s.reason);

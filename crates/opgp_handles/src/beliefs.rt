@@ -46,7 +46,7 @@ pub(crate) fn belief_number(belief: Belief) -> Option<u8>
     match belief {
         Belief::Believed => Some(0),
         Belief::Flawed(flaw) => Some(flaw_number(flaw)),
-        Belief::Unbelieved(why) => Some(why_number(why)),
+        Belief::Unbelieved(cause) => Some(why_number(cause.why)),
         Belief::NoKey => None,
     }
 }

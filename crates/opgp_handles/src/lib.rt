@@ -7,6 +7,8 @@
 mod beliefs;
 mod beliefs_at;
 mod calls;
+mod cause_row;
+mod causes;
 mod counted;
 mod document;
 mod documents;
@@ -40,6 +42,8 @@ mod whys;
 
 pub use beliefs::document_standing;
 pub use beliefs_at::document_standings;
+pub use cause_row::CauseRow;
+pub use causes::ring_cause;
 pub use document::Document;
 pub use documents::{
     document_clear, document_close, document_end, document_jobs, document_octets, document_open,

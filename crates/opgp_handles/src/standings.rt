@@ -92,7 +92,7 @@ fn judgement_number(judgement: Judgement) -> Option<u8>
 {
     match judgement {
         Judgement::Stands => Some(0),
-        Judgement::Fails(why) => Some(why_number(why)),
+        Judgement::Fails(cause) => Some(why_number(cause.why)),
         Judgement::NoKey => None,
     }
 }

@@ -1,8 +1,8 @@
 //! A row of the table of states.
 
 ghost use Rattle.std.specs.Prelude.{◌≡◌};
-ghost use Rattle.opgp_handles.specs.States.{flags_of, identity_row, key_row, state_row};
-ghost use Rattle.opgp_handles.specs.States.{unusable_number};
+ghost use Rattle.opgp_handles.specs.States.{flags_of, identity_row, key_number, key_row};
+ghost use Rattle.opgp_handles.specs.States.{state_row};
 
 use crate::standings::why_number;
 use opgp_tables::NONE;
@@ -21,8 +21,9 @@ pub struct StateRow {
     pub end: u64,
     /// From when on a key is there, in seconds since 1970; 0 for what isn't a key.
     pub begin: u32,
-    /// 0 for a key that is of use, or else 2 to 5 for why it isn't: the numbers of [`Why`]. 0 for a
-    /// user ID or attribute that is certified, 2 for one that is revoked, and 4 for any other.
+    /// 0 for a key that is of use, or else 2 to 5 for why it isn't: the numbers of [`Why`]; 14 for
+    /// one that may be used for nothing. 0 for a user ID or attribute that is certified, 2 for one
+    /// that is revoked, and 4 for any other.
     pub why: u8,
     /// 1 for a key; else 0.
     pub is_key: u8,
@@ -48,12 +49,13 @@ fn flags_of(uses: Uses) -> u8
 }
 
 /// The number of why a key is of no use; 0 if it is.
-fn unusable_number(why: Option<Why>) -> u8
-    ensures { result ≡ unusable_number why }
+fn key_number(why: Option<Why>, uses: Uses) -> u8
+    ensures { result ≡ key_number why uses }
 {
     match why {
         Some(why) => why_number(why),
-        None => 0,
+        None if uses.has_use() => 0,
+        None => 14,
     }
 }
 
@@ -66,7 +68,7 @@ fn key_row(certificate: u64, component: u64, state: KeyState) -> StateRow
         component,
         end: state.end.unwrap_or(NONE),
         begin: state.begin,
-        why: unusable_number(state.why),
+        why: key_number(state.why, state.uses),
         is_key: 1,
         uses: flags_of(state.uses),
         has_reason: if state.reason.is_some() { 1 } else { 0 },

@@ -3,7 +3,6 @@ use Rattle.std.proofs.Common.{◌≡◌, ◌∙◌, ℕ, Bool, true, false, List
 use Rattle.std.specs.Global.{Vec}
 use Rattle.opgp_octets.specs.Limits.{line_limit}
 use Rattle.opgp_octets.specs.declared.limits.Limits.{Limits}
-use Rattle.opgp_frame.specs.Packet.{PacketValue}
 use Rattle.opgp_cleartext.specs.Cleartext.{HasCleartext}
 use Rattle.opgp_codec.specs.Cleartext.{CleartextAnswer, SignedLines}
 use Rattle.opgp_codec.specs.Pulled.{OfAll}
@@ -15,7 +14,6 @@ use Rattle.opgp_stack.specs.Running.{ReadsFor}
 use Rattle.opgp_stack.specs.declared.cleartext.CleartextPart.{CleartextPart}
 use Rattle.opgp_stack.specs.declared.run_fault.RunFault.{RunFault}
 use Rattle.opgp_stack.specs.declared.run_fault.RunFault.TheVariants as run
-use Rattle.opgp_stack.proofs.ReadFor.{Returns, err_is}
 
 -- ---- a part of a message with this behind its document
 pub part_is : (limits : Limits) (text : List ℕ) (s : SignedLines) (rest : List ℕ) → CleartextAnswer limits text (Ok s) → HasCleartext (line_limit limits) text s.0 rest

@@ -1,5 +1,5 @@
 -- Times written as dates.
-use Rattle.std.proofs.Common.{◌≡◌, ◌∙◌, ℕ, ◌+◌, ◌*◌, ◌/◌, ◌%◌, ◌<◌, List, ◌++◌, codes, refl, sym, ap, arith, append_assoc, ◌^◌, get_or}
+use Rattle.std.proofs.Common.{◌≡◌, ◌∙◌, ℕ, ◌+◌, ◌*◌, ◌/◌, ◌%◌, ◌<◌, List, ◌++◌, codes, refl, sym, ap, arith, ◌^◌, get_or}
 use Rattle.opgp_stack.specs.Date.{DateValue, IsDate, clock_text, date_of, date_text, date_word, day_text, days_before, seconds_text, time_of}
 use Rattle.opgp_stack.proofs.Calendar.{date_found, dated, day_of, month_bounds, year_bound}
 

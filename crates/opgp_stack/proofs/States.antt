@@ -3,6 +3,7 @@ use Rattle.std.proofs.Common.{◌≡◌, ◌⊎◌, inl, inr, ℕ, Bool, List, a
 use Rattle.std.specs.Borrow.{Bor}
 use Rattle.std.specs.Option.{option_map}
 use Rattle.opgp_ring.specs.Keyring.{KeyringValue}
+use Rattle.opgp_merge.specs.Merged.{merged_of}
 use Rattle.opgp_report.specs.declared.verifier.Verdict.{Verdict}
 use Rattle.opgp_valid.specs.declared.policy.Policy.{Policy}
 use Rattle.opgp_state.specs.Claimed.{claims_of}
@@ -29,11 +30,11 @@ RingOf task octets answer = AnswerOf key_label (ComposesTo task.limits) task.mod
 
 module _ {R W : Type 0} (left : R → Option (List ℕ)) (has_failed : R → Bool) (held : W → Option (List ℕ)) (failed : W → Bool) (reader reader' : R) (writer : W) (task : StateTask) (file : Option (List ℕ)) where
   -- the states of the keyring are written, or memory ran out
-  pub states_ran : (writer' : W) (r : KeyringValue) (result ended : Result Unit RunFault) → OfAll left has_failed reader reader' task.limits (λ octets. RingOf task octets (Ok r)) → result ≡ ended
-      → ((ended ≡ Err run.Memory) × (writer' ≡ writer)) ⊎ ((made : Made) × AreStates task.policy task.at file r made × IsMade held failed writer writer' ended made)
+  pub states_ran : (writer' : W) (r : KeyringValue) (result : Result Unit RunFault) → OfAll left has_failed reader reader' task.limits (λ octets. RingOf task octets (Ok r))
+      → ((result ≡ Err run.Memory) × (writer' ≡ writer)) ⊎ ((made : Made) × AreStates task.policy task.at file (merged_of r) made × IsMade held failed writer writer' result made)
       → RunsOf left has_failed (IsMade held failed) task.limits (OfStates task file) reader reader' writer writer' result
-  states_ran writer' r result ended read same (inl h) = lacks (cc (same, h.0)) read.sound h.1
-  states_ran writer' r result ended read same (inr (made, are, is)) = ran_of (RingOf task) (λ fault. (refl, refl)) writer' result ended r (λ octets h. (made, (Ok r, h, are), is)) read same
+  states_ran writer' r result read (inl h) = lacks h.0 read.sound h.1
+  states_ran writer' r result read (inr (made, are, is)) = ran_of (RingOf task) (λ fault. (refl, refl)) writer' result result r (λ octets h. (made, (Ok r, h, are), is)) read refl
 
   -- or the input is refused
   pub states_refused : (fault : Fault) → OfAll left has_failed reader reader' task.limits (λ octets. RingOf task octets (Err fault)) → RunsOf left has_failed (IsMade held failed) task.limits (OfStates task file) reader reader' writer writer (Err (run.Refused fault))

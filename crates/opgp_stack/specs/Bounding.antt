@@ -3,6 +3,7 @@ use Rattle.std.specs.Prelude.{◌≡◌, ◌⊎◌, ℕ, List, Ok, Err}
 use Rattle.opgp_report.specs.declared.verifier.Verdict.{Verdict}
 use Rattle.opgp_ring.specs.Keyring.{KeyringValue, flat}
 use Rattle.opgp_merge.specs.Chosen.{chosen_keyring}
+use Rattle.opgp_merge.specs.Merged.{merged_of}
 use Rattle.opgp_bound.specs.Bound.{bound_keyring}
 use Rattle.opgp_state.specs.VerdictFile.{HasVerdicts}
 use Rattle.opgp_codec.specs.Keyrings.{ComposesTo, key_label}
@@ -18,9 +19,9 @@ IsBoundOf task file r made = ((verdicts : List Verdict) × HasVerdicts file r ve
     (flat (chosen_keyring task.choice (bound_keyring r verdicts))))))
     ⊎ (((verdicts : List Verdict) → HasVerdicts file r verdicts → ⊥) × (made ≡ OtherVerdicts))
 
--- of what is read: a refusal stays one
+-- of what is read, with its certificates of one primary key merged; a refusal stays one
 abbrev pub IsBoundIn : BoundTask → List ℕ → Outcome KeyringValue → Made → Type 0
-IsBoundIn task file (Ok r) made = IsBoundOf task file r made
+IsBoundIn task file (Ok r) made = IsBoundOf task file (merged_of r) made
 IsBoundIn task file (Err fault) made = made ≡ Refused fault
 
 -- what a task makes of octets

@@ -2,6 +2,7 @@
 use Rattle.std.specs.Prelude.{◌≡◌, ℕ, ◌⊎◌, List, Option, Some, None, Ok, Err}
 use Rattle.opgp_report.specs.declared.verifier.Verdict.{Verdict}
 use Rattle.opgp_ring.specs.Keyring.{KeyringValue}
+use Rattle.opgp_merge.specs.Merged.{merged_of}
 use Rattle.opgp_valid.specs.declared.policy.Policy.{Policy}
 use Rattle.opgp_state.specs.Claimed.{claims_of}
 use Rattle.opgp_state.specs.StateLines.{state_lines}
@@ -20,9 +21,9 @@ AreStates policy at (Some file) r made =
     × (made ≡ Text (state_lines Verdicts r verdicts policy at)))
     ⊎ (((verdicts : List Verdict) → HasVerdicts file r verdicts → ⊥) × (made ≡ OtherVerdicts))
 
--- of what is read: a refusal stays one
+-- of what is read, with its certificates of one primary key merged; a refusal stays one
 abbrev pub AreStatesOf : Policy → ℕ → Option (List ℕ) → Outcome KeyringValue → Made → Type 0
-AreStatesOf policy at file (Ok r) made = AreStates policy at file r made
+AreStatesOf policy at file (Ok r) made = AreStates policy at file (merged_of r) made
 AreStatesOf policy at file (Err fault) made = made ≡ Refused fault
 
 -- what a task makes of octets

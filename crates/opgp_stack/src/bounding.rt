@@ -2,6 +2,7 @@
 
 ghost use Rattle.std.specs.Prelude.{◌≡◌, ◌⊎◌, IfOk, false, Err};
 ghost use Rattle.opgp_merge.specs.Chosen.{chosen_keyring};
+ghost use Rattle.opgp_merge.specs.Merged.{merged_of};
 ghost use Rattle.opgp_bound.specs.Bound.{bound_keyring};
 ghost use Rattle.opgp_stack.specs.Bounding.{IsBoundOf, OfBound};
 ghost use Rattle.opgp_stack.specs.Running.{IsMade, Made, RunsOf};
@@ -12,7 +13,7 @@ use crate::running::{After, done, end};
 use opgp_bound::keep_bound;
 use opgp_codec::{Answer, Mode, Out, read_keyring, write_keyring};
 use opgp_io::{Sink, Source};
-use opgp_merge::{Choice, choose};
+use opgp_merge::{Choice, choose, merge};
 use opgp_octets::{Limits, OutOfMemory};
 use opgp_report::Verdict;
 use opgp_ring::Keyring;
@@ -32,16 +33,17 @@ pub struct BoundTask<'a> {
     pub choice: Choice<'a>,
 }
 
-/// Reads a keyring, and writes the chosen ones of the parts that are bound by the verdicts in a
-/// file, as [`keep_bound`] and [`choose`] have them. The conditions are that neither the
-/// source nor the sink has failed.
+/// Reads a keyring, merges its certificates of one primary key, as [`merge`] does, and writes the
+/// chosen ones of the parts that are bound by the verdicts in a file, as [`keep_bound`] and
+/// [`choose`] have them. The conditions are that neither the source nor the sink has failed.
 ///
 /// The errors are `Refused`, `Read`, `Memory`, `OtherVerdicts`: the file isn't one of verdicts on
-/// this keyring, as [`read_verdicts`] has them; and `Write`, after which the sink holds a prefix of
-/// the text. With any other nothing was written.
+/// this keyring when it is merged, as [`read_verdicts`] has them; and `Write`, after which the sink
+/// holds a prefix of the text. With any other nothing was written.
 ///
 /// [`keep_bound`]: opgp_bound::keep_bound
 /// [`choose`]: opgp_merge::choose
+/// [`merge`]: opgp_merge::merge
 /// [`read_verdicts`]: opgp_state::read_verdicts
 pub fn run_bound<R: Source, W: Sink>(
     alloc: Global,
@@ -56,10 +58,28 @@ pub fn run_bound<R: Source, W: Sink>(
         (OfBound task.now file.now) reader.old reader.new writer.old writer.new result }
 {
     match read_keyring(alloc, reader, task.mode, &task.limits) {
-        Ok(Answer::Ring(keyring)) => write_bound(alloc, keyring, task, file, writer),
+        Ok(Answer::Ring(keyring)) => write_merged_bound(alloc, keyring, task, file, writer),
         Ok(Answer::Refused(fault)) => Err(RunFault::Refused(fault)),
         Err(error) => end(Err(error)),
     }
+}
+
+/// Merges the certificates of a keyring, and writes the chosen bound parts, if the file has verdicts
+/// on it.
+fn write_merged_bound<W: Sink>(
+    alloc: Global,
+    keyring: Keyring,
+    task: &BoundTask,
+    file: &[u8],
+    writer: &mut W,
+) -> Result<(), RunFault>
+    requires { W.has_failed writer.old ≡ false }
+    ensures { ((result ≡ Err run.Memory) × (writer.new ≡ writer.old)) ⊎ ((made : Made)
+        × IsBoundOf task.now file.now (merged_of keyring) made
+        × IsMade W.held W.has_failed writer.old writer.new result made) }
+{
+    let merged = merge(keyring)?;
+    write_bound(alloc, merged, task, file, writer)
 }
 
 /// Writes the chosen bound parts of a keyring, if the file has verdicts on it.

@@ -2,6 +2,7 @@
 
 ghost use Rattle.std.specs.Prelude.{◌≡◌, ◌⊎◌, false, Err};
 ghost use Rattle.std.specs.Option.{option_map};
+ghost use Rattle.opgp_merge.specs.Merged.{merged_of};
 ghost use Rattle.opgp_state.specs.KeyringStates.{states_in};
 ghost use Rattle.opgp_state.specs.StateLines.{lines_from};
 ghost use Rattle.opgp_stack.specs.Running.{IsMade, Made, RunsOf};
@@ -12,6 +13,7 @@ use crate::run_fault::RunFault;
 use crate::running::{After, done, end};
 use opgp_codec::{Answer, Mode, Text, read_keyring, write};
 use opgp_io::{Output, Sink, Source};
+use opgp_merge::merge;
 use opgp_octets::Limits;
 use opgp_ring::Keyring;
 use opgp_state::{Basis, KeyringStates, add_states, read_verdicts};
@@ -49,19 +51,20 @@ impl Text for StatesText<'_> {
     }
 }
 
-/// Reads a keyring, and writes how each key, user ID and user attribute of it stands at a time, a
-/// line for each, as [`add_states`] has them. The conditions are that neither the source nor the
-/// sink has failed.
+/// Reads a keyring, merges its certificates of one primary key, as [`merge`] does, and writes how
+/// each key, user ID and user attribute stands at a time, a line for each, as [`add_states`] has
+/// them. The conditions are that neither the source nor the sink has failed.
 ///
 /// Without a file of verdicts the lines say what the signatures claim, and that nothing is
 /// verified: each that is hashed counts as good, unless its digest is bad. A file has the verdicts
 /// of a verifier, as [`read_verdicts`] has them.
 ///
 /// The errors are `Refused`, `Read`, `Memory`, `OtherVerdicts`: the file isn't one of verdicts on
-/// this keyring; and `Write`, after which the sink holds a prefix of the lines. With any other
-/// nothing was written.
+/// this keyring when it is merged; and `Write`, after which the sink holds a prefix of the lines.
+/// With any other nothing was written.
 ///
 /// [`add_states`]: opgp_state::add_states
+/// [`merge`]: opgp_merge::merge
 /// [`read_verdicts`]: opgp_state::read_verdicts
 pub fn run_states<R: Source, W: Sink>(
     alloc: Global,
@@ -77,13 +80,29 @@ pub fn run_states<R: Source, W: Sink>(
         writer.new result }
 {
     match read_keyring(alloc, reader, task.mode, &task.limits) {
-        Ok(Answer::Ring(keyring)) => {
-            let ended = write_states(alloc, &keyring, task, file, writer);
-            done(ended, keyring, After::Frees)
-        }
+        Ok(Answer::Ring(keyring)) => write_merged_states(alloc, keyring, task, file, writer),
         Ok(Answer::Refused(fault)) => Err(RunFault::Refused(fault)),
         Err(error) => end(Err(error)),
     }
+}
+
+/// Merges the certificates of a keyring, and writes how its parts stand.
+fn write_merged_states<W: Sink>(
+    alloc: Global,
+    keyring: Keyring,
+    task: &StateTask,
+    file: Option<&[u8]>,
+    writer: &mut W,
+) -> Result<(), RunFault>
+    requires { W.has_failed writer.old ≡ false }
+    ensures { ((result ≡ Err run.Memory) × (writer.new ≡ writer.old)) ⊎ ((made : Made)
+        × AreStates task.now.policy task.now.at (option_map (λ f. f.now) file.entry)
+        (merged_of keyring) made
+        × IsMade W.held W.has_failed writer.old writer.new result made) }
+{
+    let merged = merge(keyring)?;
+    let ended = write_states(alloc, &merged, task, file, writer);
+    done(ended, merged, After::Frees)
 }
 
 /// Writes how the parts of a keyring stand.

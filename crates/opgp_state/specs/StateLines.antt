@@ -12,6 +12,7 @@ use Rattle.opgp_io.specs.Texts.{escaped}
 use Rattle.opgp_report.specs.First.{print_of}
 use Rattle.opgp_report.specs.declared.verifier.Verdict.{Verdict}
 use Rattle.opgp_ring.specs.Keyring.{CertificateValue, ComponentValue, KeyringValue}
+use Rattle.opgp_valid.specs.Uses.{has_use}
 use Rattle.opgp_valid.specs.Why.{why_text}
 use Rattle.opgp_valid.specs.declared.policy.Policy.{Policy}
 use Rattle.opgp_valid.specs.declared.state.IdentityState.{IdentityState}
@@ -32,10 +33,10 @@ abbrev pub basis_text : Basis → List ℕ
 basis_text Claims = codes " : unverified "
 basis_text Verdicts = codes " : "
 
--- a key that is of use is usable; any other is revoked, early, unbound or expired
-abbrev pub key_name : Option Why → List ℕ
-key_name None = codes "usable"
-key_name (Some why) = why_text why
+-- a key is revoked, early, unbound or expired; else usable, unless it may be used for nothing
+abbrev pub key_name : Option Why → Uses → List ℕ
+key_name None uses = if has_use uses then codes "usable" else codes "no-use"
+key_name (Some why) uses = why_text why
 
 abbrev pub identity_name : IdentityState → List ℕ
 identity_name Certified = codes "certified"
@@ -66,7 +67,7 @@ print_in body = print_octets (print_of body)
 -- the word, then `<fingerprint> <usable, ..> uses <..> begin <n> end <n or -> reason <n or ->`
 abbrev pub key_words : List ℕ → List ℕ → KeyState → List (List ℕ)
 key_words word print s = word ∷ encode_upper print ∷ codes " "
-    ∷ key_name s.why ∷ codes " uses " ∷ uses_text s.uses ∷ codes " begin " ∷ decimal s.begin
+    ∷ key_name s.why s.uses ∷ codes " uses " ∷ uses_text s.uses ∷ codes " begin " ∷ decimal s.begin
     ∷ codes " end " ∷ number_or_none s.end ∷ codes " reason " ∷ number_or_none s.reason ∷ []
 
 -- `uid <certified, ..> "<text>"`

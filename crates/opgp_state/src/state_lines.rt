@@ -52,12 +52,13 @@ fn code_or_none(code: Option<u8>) -> Word<'static>
 }
 
 /// The name of how a key stands.
-fn key_name(why: Option<Why>) -> &'static [u8]
-    ensures { result.now ≡ key_name why }
+fn key_name(why: Option<Why>, uses: Uses) -> &'static [u8]
+    ensures { result.now ≡ key_name why uses }
 {
     match why {
         Some(why) => why.name().as_bytes(),
-        None => b"usable",
+        None if uses.has_use() => b"usable",
+        None => b"no-use",
     }
 }
 
@@ -118,7 +119,7 @@ fn add_print<'p, W: Sink>(
         Word::Text(word),
         Word::Hex(print.octets()),
         Word::Text(b" "),
-        Word::Text(key_name(state.why)),
+        Word::Text(key_name(state.why, state.uses)),
         Word::Text(b" uses "),
         Word::Text(uses_text(state.uses)),
         Word::Text(b" begin "),
@@ -338,9 +339,9 @@ fn add_certificates<W: Sink>(
 /// then its components, in order. Allocates nothing.
 ///
 /// - Of a key: `cert <n> part <n or -> : <pub or sub> <fingerprint> <how>`, and behind that
-///   `uses <uses or -> begin <n> end <n or -> reason <n or ->`. It is `usable`, `revoked`, `early`,
-///   `unbound` or `expired`, and its uses are `certify`, `sign`, `encrypt` and `authenticate`, with
-///   commas between them.
+///   `uses <uses or -> begin <n> end <n or -> reason <n or ->`. It is `revoked`, `early`,
+///   `unbound` or `expired`; else `usable`, or `no-use` if it may be used for nothing. Its uses are
+///   `certify`, `sign`, `encrypt` and `authenticate`, with commas between them.
 /// - Of a user ID: `cert <n> part <n> : uid <certified, revoked or unbound> "<text>"`, with its
 ///   text as listings have it.
 /// - Of a user attribute: `cert <n> part <n> : uat <certified, revoked or unbound>`.

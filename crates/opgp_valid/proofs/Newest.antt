@@ -8,7 +8,7 @@ use Rattle.opgp_octets.specs.declared.signature_type.SignatureType.TheVariants a
 use Rattle.opgp_valid.specs.Group.{binds, certifies, is_certification_on, is_direct, is_direct_on, is_in, is_primary, is_the, on_component, speaks}
 use Rattle.opgp_valid.specs.Speaking.{current, is_current, is_same, latest, latest_on, made_at, made_then, newest, newest_current, speakers}
 use Rattle.opgp_valid.specs.Stands.{Certifies, IsCertification, IsCurrent, IsDirect, IsInForce, IsNewest, IsNewestCurrent, IsNoLater, IsOf, Speaks}
-use Rattle.opgp_valid.specs.Statement.{lives, lives_if}
+use Rattle.opgp_valid.specs.Statement.{is_good, lives, lives_if}
 use Rattle.opgp_valid.specs.declared.group.Group.{Group}
 use Rattle.opgp_valid.specs.declared.group.Sort.{Sort}
 use Rattle.opgp_valid.specs.declared.group.Sort.TheVariants.{Direct, UserIds, Certifications, Main, Expiring, Identity, Bindings}
@@ -55,9 +55,9 @@ is_certifies t (inr (inl e)) = ap certifies e
 is_certifies t (inr (inr (inl e))) = ap certifies e
 is_certifies t (inr (inr (inr e))) = ap certifies e
 
-none_is : (o : Option ℕ) → is_none o ≡ true → o ≡ None
+none_is : {A : Type 0} (o : Option A) → is_none o ≡ true → o ≡ None
 none_is None e = refl
-none_is (Some n) e = absurd (false≢true e)
+none_is (Some x) e = absurd (false≢true e)
 
 pub the_is : (n : ℕ) (o : Option ℕ) → is_the n o ≡ true → o ≡ Some n
 the_is n None e = absurd (false≢true e)
@@ -126,13 +126,13 @@ not_true false e = refl
 pub speaks_is : (group : Group) (at : ℕ) (s : Statement) → speaks group at s ≡ true → Speaks group at s
 speaks_is group at s e =
     let a = and_parts (is_in group.sort s) _ e in
-    let b = and_parts (not group.must_be_good || s.is_good) _ a.1 in
+    let b = and_parts (not group.must_be_good || is_good s) _ a.1 in
     let r = and_parts (not group.must_stand || not s.is_revoked) _ b.1 in
     let u = and_parts s.is_understood _ r.1 in
     let c = and_parts (is_primary s.author) (lives_if at s.life) u.1 in
     record {
       of = is_of group.sort s a.0;
-      good = asked_good group.must_be_good s.is_good b.0;
+      good = λ m. none_is s.doubt (asked_good group.must_be_good (is_good s) b.0 m);
       standing = λ m. not_true s.is_revoked (asked_good group.must_stand (not s.is_revoked) r.0 m);
       understood = u.0;
       own = primary_is s.author c.0;
@@ -142,7 +142,7 @@ speaks_is group at s e =
 pub is_speaks : (group : Group) (at : ℕ) (s : Statement) → Speaks group at s → speaks group at s ≡ true
 is_speaks group at s h =
     and_from _ _ (of_is group.sort s h.of)
-    (and_from _ _ (good_asked group.must_be_good s.is_good h.good)
+    (and_from _ _ (good_asked group.must_be_good (is_good s) (λ m. ap is_none (h.good m)))
     (and_from _ _ (good_asked group.must_stand (not s.is_revoked) (λ m. ap not (h.standing m)))
     (and_from _ _ h.understood (and_from _ _ (ap is_primary h.own) (from_force at s.life h.in_force)))))
 

@@ -37,7 +37,7 @@ module _ (p q : Statement → Bool) (h : (s : Statement) → q s ≡ false → p
   pub same_kept : (a b : List Statement) → filter q a ≡ filter q b → filter p a ≡ filter p b
   same_kept a b e = sym (kept a) ∙ ap (filter p) e ∙ kept b
 
-  same_found : (a b : List Statement) → filter q a ≡ filter q b → list_any p a ≡ list_any p b
+  pub same_found : (a b : List Statement) → filter q a ≡ filter q b → list_any p a ≡ list_any p b
   same_found a b e = sym (found a) ∙ ap (list_any p) e ∙ found b
 
 -- ---- a test with a part that fails
@@ -70,10 +70,10 @@ same_latest_on group n at a b e = ap latest (same_kept (speaks (on_component n g
 
 pub same_identity : (n at : ℕ) (f g : FactsValue) → all_on n f.statements ≡ all_on n g.statements → identity_of f n at ≡ identity_of g n at
 same_identity n at f g e =
-    ap (λ t. state t (list_any (vouches n at) f.statements)) (same_found (revokes_identity n) (is_on n) (λ s h. then_fails _ (is_the n s.component) _ h) f.statements g.statements e)
-    ∙ ap (λ t. state (list_any (revokes_identity n) g.statements) t) (same_found (vouches n at) (is_on n) (λ s h. then_fails _ (is_the n s.component) _ h) f.statements g.statements e) where
+    ap (λ t. state t (list_any (revokes_identity n) f.statements)) (same_found (vouches n at) (is_on n) (λ s h. then_fails _ (is_the n s.component) _ h) f.statements g.statements e)
+    ∙ ap (λ t. state (list_any (vouches n at) g.statements) t) (same_found (revokes_identity n) (is_on n) (λ s h. then_fails _ (is_the n s.component) _ h) f.statements g.statements e) where
       state : Bool → Bool → IdentityState
-      state t u = cond t identity.Revoked (cond u identity.Certified identity.Unbound)
+      state t u = cond t identity.Certified (cond u identity.Revoked identity.Unbound)
 
 -- ---- the states of components
 -- the state of the next component, added to those so far

@@ -12,7 +12,7 @@ use Rattle.opgp_valid.specs.Speaking.{current, end_in, is_current, is_same, late
 use Rattle.opgp_valid.specs.Speaking as speaking
 use Rattle.opgp_valid.specs.Standing.{applies, created_of, has_ended, heard, is_component, is_expired_at, is_revocation_of, is_unbacked_at, is_unbound_at, limiters, limiting, may_not_sign_at, must_stand, revokes, speakers, spoken, standing_of}
 use Rattle.opgp_valid.specs.State.{revokes_certification}
-use Rattle.opgp_valid.specs.Statement.{has_back, is_alive}
+use Rattle.opgp_valid.specs.Statement.{has_back, is_alive, is_good}
 use Rattle.opgp_valid.specs.Told.{is_older, is_revoked_among, is_revoked_by, is_same_number, with_revocations, with_revoked}
 use Rattle.opgp_valid.specs.declared.facts.Key.{Key}
 use Rattle.opgp_valid.specs.declared.facts.Key.TheVariants as key
@@ -33,7 +33,7 @@ to o s = record {
   hang = s.hang;
   author = s.author;
   is_understood = s.is_understood;
-  is_good = s.is_good;
+  doubt = s.doubt;
   life = s.life;
   key_lasts = s.key_lasts;
   has_flags = s.has_flags;
@@ -148,7 +148,7 @@ module _ (p : ℕ → ℕ) (once : (m n : ℕ) → p m ≡ p n → m ≡ n) wher
 
   speaks_same : (group : Group) (at : ℕ) (s : Statement) → speaks (regroup p group) at (renumber p s) ≡ speaks group at s
   speaks_same group at s =
-      ap (λ (t : Bool). t && ((not group.must_be_good || s.is_good) && ((not group.must_stand || not s.is_revoked) && (s.is_understood && (is_primary s.author && is_alive at s))))) (in_same group.sort s)
+      ap (λ (t : Bool). t && ((not group.must_be_good || is_good s) && ((not group.must_stand || not s.is_revoked) && (s.is_understood && (is_primary s.author && is_alive at s))))) (in_same group.sort s)
 
   latest_same : (ss : List Statement) → latest (map (renumber p) ss) ≡ latest ss
   latest_same [] = refl

@@ -213,11 +213,11 @@ module _ (f : FactsValue) (at : ℕ) where
     may_sign h = or_from _ _ (ap not (passes_some (λ s. s.has_flags) (speakers f k at) h.flagged.0 (is_speaker f at h.flagged.0 k h.flagged.1) h.flagged.2)) (signs_each (heard f k at) (λ s c. h.signs s (one_heard f at s k c)))
 
 -- ---- the first reason
-first_none : {A : Type 0} (b : Bool) (x : A) (o : Option A) → cond b (Some x) o ≡ None → (b ≡ false) × (o ≡ None)
+pub first_none : {A : Type 0} (b : Bool) (x : A) (o : Option A) → cond b (Some x) o ≡ None → (b ≡ false) × (o ≡ None)
 first_none true x o e = absurd (cc)
 first_none false x o e = (refl, e)
 
-none_first : {A : Type 0} (b : Bool) (x : A) (o : Option A) → b ≡ false → o ≡ None → cond b (Some x) o ≡ None
+pub none_first : {A : Type 0} (b : Bool) (x : A) (o : Option A) → b ≡ false → o ≡ None → cond b (Some x) o ≡ None
 none_first b x o e n = rw e n
 
 module _ (f : FactsValue) (k : Key) (made now : ℕ) where

@@ -28,11 +28,11 @@ flat_by {A} {B} p f h (x ∷ xs) = step (p x) refl (flat_by p f h xs) where
   step true e rest = ap (λ l. f x ++ l) rest
   step false e rest = ap (λ l. l ++ flat_map f xs) (h x e) ∙ rest
 
-told_nothing : (known : List Known) (policy : Policy) (primary : Fingerprint) (revokers : List Fingerprint) (before : List Statement) (s : Standing) (found : Verdict) (r : Result SignatureValue BodyFault) → is_good_verdict found ≡ false → told_with known policy primary revokers before s found r ≡ before
+pub told_nothing : (known : List Known) (policy : Policy) (primary : Fingerprint) (revokers : List Fingerprint) (before : List Statement) (s : Standing) (found : Verdict) (r : Result SignatureValue BodyFault) → is_good_verdict found ≡ false → told_with known policy primary revokers before s found r ≡ before
 told_nothing known policy primary revokers before s found (Err fault) e = refl
 told_nothing known policy primary revokers before s found (Ok v) e = rw e refl
 
-named_none : (known : List Known) (primary : Fingerprint) (s : Standing) (found : Verdict) (r : Result SignatureValue BodyFault) → is_good_verdict found ≡ false → revokers_by known primary s found r ≡ []
+pub named_none : (known : List Known) (primary : Fingerprint) (s : Standing) (found : Verdict) (r : Result SignatureValue BodyFault) → is_good_verdict found ≡ false → revokers_by known primary s found r ≡ []
 named_none known primary s found (Err fault) e = refl
 named_none known primary s found (Ok v) e = rw (e, and_right (is_none s.place.nested) false refl) refl
 

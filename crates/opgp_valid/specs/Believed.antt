@@ -81,7 +81,7 @@ made_by (Some life) = life.made
 -- as its key is
 abbrev pub believed_as : Judgement → Belief
 believed_as judgement.Stands = belief.Believed
-believed_as (judgement.Fails why) = belief.Unbelieved why
+believed_as (judgement.Fails cause) = belief.Unbelieved cause
 believed_as judgement.NoKey = belief.NoKey
 
 abbrev pub believed_if : Option Flaw → Judgement → Belief

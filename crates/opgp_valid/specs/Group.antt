@@ -10,7 +10,7 @@ use Rattle.opgp_valid.specs.declared.group.Sort.TheVariants.{Main, Expiring, Ide
 use Rattle.opgp_valid.specs.declared.statement.Author.{Author}
 use Rattle.opgp_valid.specs.declared.statement.Author.TheVariants.{Primary, Revoker}
 use Rattle.opgp_valid.specs.declared.statement.Statement.{Statement}
-use Rattle.opgp_valid.specs.Statement.{is_alive}
+use Rattle.opgp_valid.specs.Statement.{is_alive, is_good}
 
 -- a certification of a user ID or user attribute (RFC 9580, 5.2.1.4 to 5.2.1.7)
 abbrev pub certifies : SignatureType → Bool
@@ -78,6 +78,6 @@ is_primary Revoker = false
 -- it is one of them by the primary key, nothing critical in it is unknown, and it counts at this
 -- time
 abbrev pub speaks : Group → ℕ → Statement → Bool
-speaks group at s = is_in group.sort s && ((not group.must_be_good || s.is_good)
+speaks group at s = is_in group.sort s && ((not group.must_be_good || is_good s)
     && ((not group.must_stand || not s.is_revoked)
     && (s.is_understood && (is_primary s.author && is_alive at s))))

@@ -10,8 +10,9 @@ use Rattle.opgp_report.specs.declared.verifier.Verdict.{Verdict}
 use Rattle.opgp_valid.specs.Facts.{FactsValue}
 use Rattle.opgp_valid.specs.KnownKeys.{known_in}
 use Rattle.opgp_valid.specs.Policy.{created_of, version_of}
-use Rattle.opgp_valid.specs.Standing.{standing_of}
+use Rattle.opgp_valid.specs.Cause.{cause_of}
 use Rattle.opgp_valid.specs.Told.{statements_of}
+use Rattle.opgp_valid.specs.declared.cause.Cause.{Cause}
 use Rattle.opgp_valid.specs.declared.certified.Certified.{Certified}
 use Rattle.opgp_valid.specs.declared.facts.Key.{Key}
 use Rattle.opgp_valid.specs.declared.facts.Key.TheVariants as key
@@ -20,7 +21,6 @@ use Rattle.opgp_valid.specs.declared.judgement.KeyPlace.{KeyPlace}
 use Rattle.opgp_valid.specs.declared.judgement.Judgement.TheVariants.{Stands, Fails, NoKey}
 use Rattle.opgp_valid.specs.declared.known_keys.Known.{Known}
 use Rattle.opgp_valid.specs.declared.policy.Policy.{Policy}
-use Rattle.opgp_valid.specs.declared.why.Why.{Why}
 
 -- ---- what a certificate's signatures say
 abbrev pub facts_by : List Known → Policy → CertificateValue → List Verdict → FactsValue
@@ -58,15 +58,15 @@ key_at c None = Some key.Primary
 key_at c (Some n) = subkey_at n (slice_get c.components n)
 
 -- ---- the judgement
-abbrev pub judged : Option Why → Judgement
+abbrev pub judged : Option Cause → Judgement
 judged None = Stands
-judged (Some why) = Fails why
+judged (Some cause) = Fails cause
 
 abbrev pub judged_key : KeyringValue → Policy → List Verdict → CertificateValue → ℕ → ℕ
     → Option Key → Judgement
 judged_key r policy founds c made now None = NoKey
 judged_key r policy founds c made now (Some k) =
-    judged (standing_of (facts_by (known_in r) policy c founds) k made now)
+    judged (cause_of (facts_by (known_in r) policy c founds) k made now)
 
 abbrev pub judged_in : KeyringValue → Policy → List Verdict → KeyPlace → ℕ → ℕ
     → Option CertificateValue → Judgement

@@ -1,4 +1,5 @@
 pub mod Believed
+pub mod Cause
 pub mod Current
 pub mod Facts
 pub mod FlawText

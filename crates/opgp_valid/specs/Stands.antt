@@ -55,7 +55,7 @@ IsOf (Bindings n) s = (s.kind ≡ types.SubkeyBinding) × (s.component ≡ Some 
 -- in it is unknown (5.2.3.7), the primary key itself made it (5.2.3.10), and it is in force.
 pub record Speaks (group : Group) (at : ℕ) (s : Statement) : Type 0 where
   pub of : IsOf group.sort s
-  pub good : group.must_be_good ≡ true → s.is_good ≡ true
+  pub good : group.must_be_good ≡ true → s.doubt ≡ None
   pub standing : group.must_stand ≡ true → s.is_revoked ≡ false
   pub understood : s.is_understood ≡ true
   pub own : s.author ≡ Primary

@@ -10,7 +10,7 @@ use Rattle.opgp_valid.specs.Group.{certifies, is_primary, is_the}
 use Rattle.opgp_valid.specs.Speaking.{end_in, sooner, uses_in}
 use Rattle.opgp_valid.specs.Standing.{applies, created_of, heard, is_subkey, is_unbacked_at}
 use Rattle.opgp_valid.specs.Standing.{revokes, speakers}
-use Rattle.opgp_valid.specs.Statement.{is_alive}
+use Rattle.opgp_valid.specs.Statement.{is_alive, is_good}
 use Rattle.opgp_valid.specs.Uses.{no_use}
 use Rattle.opgp_valid.specs.declared.facts.Key.{Key}
 use Rattle.opgp_valid.specs.declared.facts.Key.TheVariants as key
@@ -89,11 +89,13 @@ abbrev pub revokes_identity : ℕ → Statement → Bool
 revokes_identity n s =
     revokes_certification s.kind && (is_the n s.component && is_primary s.author)
 
--- a good certification of it by the primary key that counts at a time
+-- a good certification of it by the primary key that counts at a time, and isn't revoked
 abbrev pub vouches : ℕ → ℕ → Statement → Bool
-vouches n at s = certifies s.kind && (is_the n s.component
-    && (s.is_good && (s.is_understood && (is_primary s.author && is_alive at s))))
+vouches n at s = certifies s.kind && (is_the n s.component && (not s.is_revoked
+    && (is_good s && (s.is_understood && (is_primary s.author && is_alive at s)))))
 
+-- where nothing vouches for it, it is revoked if a revocation is there, whenever that was made
 abbrev pub identity_of : FactsValue → ℕ → ℕ → IdentityState
-identity_of f n at = if list_any (revokes_identity n) f.statements then identity.Revoked
-    else (if list_any (vouches n at) f.statements then identity.Certified else identity.Unbound)
+identity_of f n at = if list_any (vouches n at) f.statements then identity.Certified
+    else (if list_any (revokes_identity n) f.statements then identity.Revoked
+    else identity.Unbound)

@@ -1,6 +1,6 @@
 -- What a signature of a certificate says at a time.
 use Rattle.std.specs.Prelude.{ℕ, ◌+◌, nat_le, nat_lt, Bool, false, ◌&&◌, ◌||◌, ◌==◌}
-use Rattle.std.specs.Prelude.{if◌then◌else◌, Option, Some, None}
+use Rattle.std.specs.Prelude.{if◌then◌else◌, Option, Some, None, is_none}
 use Rattle.opgp_valid.specs.declared.statement.Life.{Life}
 use Rattle.opgp_valid.specs.declared.statement.Statement.{Statement}
 
@@ -12,6 +12,10 @@ lives at life = nat_le life.made at && ((life.lasts == 0) || nat_lt at (life.mad
 abbrev pub lives_if : ℕ → Option Life → Bool
 lives_if at None = false
 lives_if at (Some life) = lives at life
+
+-- nothing is in doubt of it
+abbrev pub is_good : Statement → Bool
+is_good s = is_none s.doubt
 
 -- it counts at a time
 abbrev pub is_alive : ℕ → Statement → Bool

@@ -1,7 +1,7 @@
 -- What the signatures of a certificate say, by the verdicts on them.
 use Rattle.std.specs.Prelude.{ℕ, nat_le, nat_lt, Bool, true, false, ◌&&◌, ◌||◌, ◌==◌, if◌then◌else◌}
 use Rattle.std.specs.Prelude.{List, [], ◌∷◌}
-use Rattle.std.specs.Prelude.{◌++◌, map, Option, Some, None, is_some, is_none, is_ok, not}
+use Rattle.std.specs.Prelude.{◌++◌, map, Option, Some, None, is_some, is_none, find, is_ok, not}
 use Rattle.std.specs.Prelude.{Result, Ok, Err}
 use Rattle.std.specs.List.{flat_map, fold, list_any}
 use Rattle.std.specs.Option.{option_map}
@@ -34,6 +34,8 @@ use Rattle.opgp_valid.specs.State.{revokes_certification}
 use Rattle.opgp_valid.specs.Subpackets.{has_flags, has_unfit, has_unknown_critical, revokers_in}
 use Rattle.opgp_valid.specs.Subpackets.{is_main_in, lasts_in, made_in, numbers_in, reason_in}
 use Rattle.opgp_valid.specs.Subpackets.{uses_in_area}
+use Rattle.opgp_valid.specs.declared.doubt.Doubt.{Doubt}
+use Rattle.opgp_valid.specs.declared.doubt.Doubt.TheVariants.{Weak, Malformed, Undated, Young}
 use Rattle.opgp_valid.specs.declared.known_keys.Known.{Known}
 use Rattle.opgp_valid.specs.declared.policy.Policy.{Policy}
 use Rattle.opgp_valid.specs.declared.statement.Author.{Author}
@@ -124,6 +126,20 @@ abbrev pub is_of_age : Option Life → Option Known → Bool
 is_of_age (Some life) (Some k) = nat_le k.created life.made
 is_of_age life k = false
 
+-- what is in doubt of a signature with this hash algorithm and these hashed subpackets by this key:
+-- the policy doesn't rely on it; a hashed subpacket hasn't the form of its kind (5.2.3.7); it
+-- states no creation time, or several (5.2.3.11); its key is younger
+abbrev pub has_doubt : Policy → ℕ → List Sub → Option Known → Doubt → Bool
+has_doubt policy hash subs k Weak = not (relies_with policy hash k)
+has_doubt policy hash subs k Malformed = has_unfit subs
+has_doubt policy hash subs k Undated = is_none (life_of subs)
+has_doubt policy hash subs k Young = not (is_of_age (life_of subs) k)
+
+-- the first of these that it has, if it isn't good
+unfoldable pub doubt_by : Policy → ℕ → List Sub → Option Known → Option Doubt
+doubt_by policy hash subs k =
+    find (has_doubt policy hash subs k) (Weak ∷ Malformed ∷ Undated ∷ Young ∷ [])
+
 -- signatures that may name keys which may revoke (5.2.3.23)
 abbrev pub names_revokers : SignatureType → Bool
 names_revokers t = is_direct t || certifies t
@@ -182,7 +198,7 @@ with_back place life st = if holds place st then record {
   hang = st.hang;
   author = st.author;
   is_understood = st.is_understood;
-  is_good = st.is_good;
+  doubt = st.doubt;
   life = st.life;
   key_lasts = st.key_lasts;
   has_flags = st.has_flags;
@@ -215,7 +231,7 @@ with_revoked revoked st = record {
   hang = st.hang;
   author = st.author;
   is_understood = st.is_understood;
-  is_good = st.is_good;
+  doubt = st.doubt;
   life = st.life;
   key_lasts = st.key_lasts;
   has_flags = st.has_flags;
@@ -250,16 +266,15 @@ module _ (known : List Known) (policy : Policy) (primary : Fingerprint) where
   abbrev pub issuer : SignatureValue → Option Known
   issuer v = issuer_among known v
 
-  -- the policy relies on it, its hashed subpackets have the form of their kinds, and its key is no
-  -- younger
-  abbrev pub is_good : SignatureValue → Bool
-  is_good v = relies_with policy (hash_in v) (issuer v)
-      && (not (has_unfit (hashed_subs v)) && is_of_age (life_in v) (issuer v))
+  -- why it isn't good, if it isn't
+  abbrev pub doubt_of : SignatureValue → Option Doubt
+  doubt_of v = doubt_by policy (hash_in v) (hashed_subs v) (issuer v)
 
   -- its life, if it is good and by the subkey
   abbrev pub back_in : Option (List ℕ) → SignatureValue → Option Life
   back_in subkey v = if is_some (signed_of v)
-      && (is_by_subkey subkey (issuer v) && (is_understood v && is_good v)) then life_in v else None
+      && (is_by_subkey subkey (issuer v) && (is_understood v && is_none (doubt_of v)))
+      then life_in v else None
 
   module _ (revokers : List Fingerprint) where
     -- whose it is, if what they say counts
@@ -276,7 +291,7 @@ module _ (known : List Known) (policy : Policy) (primary : Fingerprint) where
       hang = place.hang;
       author = by;
       is_understood = is_understood v;
-      is_good = is_good v;
+      doubt = doubt_of v;
       life = life;
       key_lasts = lasts_in kind.KeyExpires (hashed_subs v);
       has_flags = has_flags (hashed_subs v);

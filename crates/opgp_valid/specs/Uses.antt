@@ -22,6 +22,10 @@ all_uses = record { certify = true; sign = true; encrypt = true; authenticate = 
 abbrev pub no_use : Uses
 no_use = record { certify = false; sign = false; encrypt = false; authenticate = false }
 
+-- it allows some use
+abbrev pub has_use : Uses → Bool
+has_use u = u.certify || (u.sign || (u.encrypt || u.authenticate))
+
 -- what both allow
 abbrev pub both : Uses → Uses → Uses
 both a b = record {

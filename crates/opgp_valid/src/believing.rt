@@ -13,6 +13,7 @@ ghost use Rattle.opgp_valid.specs.KnownKeys.{known_in, knowns};
 ghost use Rattle.opgp_valid.specs.FlawText.{flaw_text};
 ghost use Rattle.opgp_valid.specs.Told.{life_in};
 
+use crate::cause::Cause;
 use crate::context::{is_print, is_understood, life_in, parts_of, relies_with};
 use crate::judgement::{Judgement, KeyPlace, component_at, judge_in};
 use crate::known_keys::KnownKeys;
@@ -20,7 +21,6 @@ use crate::policy::Policy;
 use crate::reached::{Reached, first, go_on};
 use crate::statement::Life;
 use crate::subpackets::has_unfit;
-use crate::why::Why;
 use opgp_hash::Fingerprint;
 use opgp_octets::{OutOfMemory, SignatureType};
 use opgp_packet::SigView;
@@ -70,8 +70,8 @@ pub enum Belief {
     Believed,
     /// Not believed; the first flaw.
     Flawed(Flaw),
-    /// Not believed, since its key isn't; the first reason.
-    Unbelieved(Why),
+    /// Not believed, since its key isn't; what makes it so.
+    Unbelieved(Cause),
     /// There is no such key.
     NoKey,
 }
@@ -159,7 +159,7 @@ fn believed_as(judgement: Judgement) -> Belief
 {
     match judgement {
         Judgement::Stands => Belief::Believed,
-        Judgement::Fails(why) => Belief::Unbelieved(why),
+        Judgement::Fails(cause) => Belief::Unbelieved(cause),
         Judgement::NoKey => Belief::NoKey,
     }
 }

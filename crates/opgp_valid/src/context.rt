@@ -1,6 +1,6 @@
 //! What is found of the signatures of a certificate, by the verdicts on them.
 
-ghost use Rattle.std.specs.Prelude.{◌≡◌, ◌&&◌, ◌||◌, not, IfNone, IfSome, None, is_some, true};
+ghost use Rattle.std.specs.Prelude.{◌≡◌, ◌||◌, not, IfNone, IfSome, None, is_none, is_some, true};
 ghost use Rattle.opgp_packet.specs.Areas.{hashed_subs, unhashed_subs};
 ghost use Rattle.opgp_packet.specs.SigView.{sig_view_value};
 ghost use Rattle.opgp_packet.specs.Subs.{subs_to_come};
@@ -9,10 +9,11 @@ ghost use Rattle.opgp_hash.specs.Subject.{subject_value};
 ghost use Rattle.opgp_hash.specs.SubjectValue.{first_key};
 ghost use Rattle.opgp_report.specs.KeyIndex.{prints_shown};
 ghost use Rattle.opgp_valid.specs.KnownKeys.{knowns};
-ghost use Rattle.opgp_valid.specs.Subpackets.{has_unfit, has_unknown_critical};
-ghost use Rattle.opgp_valid.specs.Told.{author_of, hash_in, is_asked_alone, is_of_age, is_print};
-ghost use Rattle.opgp_valid.specs.Told.{is_print_among, life_of, relies_with, type_in};
+ghost use Rattle.opgp_valid.specs.Subpackets.{has_unknown_critical};
+ghost use Rattle.opgp_valid.specs.Told.{author_of, doubt_by, hash_in, is_asked_alone, is_of_age};
+ghost use Rattle.opgp_valid.specs.Told.{is_print, is_print_among, life_of, relies_with, type_in};
 
+use crate::doubt::Doubt;
 use crate::known_keys::{Known, KnownKeys};
 use crate::policy::Policy;
 use crate::statement::{Author, Life};
@@ -148,16 +149,32 @@ pub(crate) fn is_understood(read: &Read<'_>) -> bool
 }
 
 impl Context<'_> {
-    /// Whether the policy relies on a signature by this key, its hashed subpackets have the form of
-    /// their kinds, and the key is no younger.
-    pub(crate) fn is_good(&self, read: &Read<'_>, issuer: Option<Known>) -> bool
-        ensures { result ≡ relies_with self.now.policy read.now.hash issuer
-            && (not (has_unfit (subs_to_come read.now.hashed))
-            && is_of_age (life_of (subs_to_come read.now.hashed)) issuer) }
+    /// Why a signature by this key isn't good, if it isn't: the first that holds.
+    #[tactic(auto, unfolding(crate::specs::Told::doubt_by))]
+    pub(crate) fn doubt_of(&self, read: &Read<'_>, issuer: Option<Known>) -> Option<Doubt>
+        ensures { result ≡ doubt_by self.now.policy read.now.hash (subs_to_come read.now.hashed)
+            issuer }
     {
-        relies_with(self.policy, read.hash, issuer)
-            && !has_unfit(read.hashed)
-            && is_of_age(life_in(read.hashed), issuer)
+        let life = life_in(read.hashed);
+        if !relies_with(self.policy, read.hash, issuer) {
+            Some(Doubt::Weak)
+        } else if has_unfit(read.hashed) {
+            Some(Doubt::Malformed)
+        } else if life.is_none() {
+            Some(Doubt::Undated)
+        } else if !is_of_age(life, issuer) {
+            Some(Doubt::Young)
+        } else {
+            None
+        }
+    }
+
+    /// Whether a signature by this key is good.
+    pub(crate) fn is_good(&self, read: &Read<'_>, issuer: Option<Known>) -> bool
+        ensures { result ≡ is_none (doubt_by self.now.policy read.now.hash
+            (subs_to_come read.now.hashed) issuer) }
+    {
+        self.doubt_of(read, issuer).is_none()
     }
 
     /// Whose a signature by this key is, if what it says counts.

@@ -132,7 +132,7 @@ impl<'v> Gatherer<'v> {
             hang: place.hang,
             author,
             is_understood: is_understood(&parts),
-            is_good: context.is_good(&parts, issuer),
+            doubt: context.doubt_of(&parts, issuer),
             life: None,
             key_lasts: key_lasts(parts.hashed),
             has_flags: has_flags(parts.hashed),

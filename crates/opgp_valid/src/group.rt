@@ -119,7 +119,7 @@ impl Group {
         ensures { result ≡ speaks self at statement.now }
     {
         self.sort.has(statement)
-            && (!self.must_be_good || statement.is_good)
+            && (!self.must_be_good || statement.is_good())
             && (!self.must_stand || !statement.is_revoked)
             && statement.is_understood
             && matches!(statement.author, Author::Primary)

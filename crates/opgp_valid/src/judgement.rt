@@ -10,12 +10,11 @@ ghost use Rattle.std.specs.Option.{option_map};
 ghost use Rattle.opgp_valid.specs.Judgement.{judged, judgement_of, key_at, subkey_at, verdicts_from};
 ghost use Rattle.opgp_valid.specs.KnownKeys.{known_in, knowns};
 
+use crate::cause::{Cause, cause_of};
 use crate::certified::{Certified, created_of};
 use crate::facts::Key;
-use crate::judging::standing;
 use crate::known_keys::KnownKeys;
 use crate::policy::Policy;
-use crate::why::Why;
 use opgp_octets::OutOfMemory;
 use opgp_report::{Verdict, rows_left};
 use opgp_ring::{Certificate, Component, Components, Head, Keyring};
@@ -26,8 +25,8 @@ use std::alloc::Global;
 pub enum Judgement {
     /// It is.
     Stands,
-    /// It isn't, and this is the first reason.
-    Fails(Why),
+    /// It isn't, and this is what makes it so: the first reason, and more.
+    Fails(Cause),
     /// There is no such key.
     NoKey,
 }
@@ -120,23 +119,25 @@ pub(crate) fn certificate_at<'a>(
     None
 }
 
-/// Whether a standing is that of a key that is believed.
-fn judged(standing: Option<Why>) -> Judgement
-    ensures { result ≡ judged standing }
+/// Whether a key is believed that has this cause not to be, or none.
+fn judged(cause: Option<Cause>) -> Judgement
+    ensures { result ≡ judged cause }
 {
-    match standing {
-        Some(why) => Judgement::Fails(why),
+    match cause {
+        Some(cause) => Judgement::Fails(cause),
         None => Judgement::Stands,
     }
 }
 
 /// Whether the key at a place of a keyring is believed for a signature that was made then and is
 /// read now, in seconds since 1970, by this policy and by these verdicts: one for each row of the
-/// keyring's report, in order. A row without one is undecided. [`standing`] has the rule, and
-/// [`Certified::of`] says what the verdicts are about.
+/// keyring's report, in order. A row without one is undecided. [`standing`] has the rule, [`cause_of`]
+/// what is told of a key that isn't, and [`Certified::of`] says what the verdicts are about.
 ///
 /// Each key of the keyring is hashed once; the rest of the work is linear in the keyring's
 /// certificates up to this one, and in this one's octets. Fails only when out of memory.
+///
+/// [`standing`]: crate::standing
 pub fn judge(
     alloc: Global,
     keyring: &Keyring,
@@ -197,5 +198,5 @@ pub(crate) fn judge_in(
         return Ok(Judgement::NoKey);
     };
     let certified = Certified::of(alloc, known, policy, certificate, verdicts)?;
-    Ok(judged(standing(certified.facts(), key, made, now)))
+    Ok(judged(cause_of(certified.facts(), key, made, now)))
 }

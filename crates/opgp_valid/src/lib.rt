@@ -4,9 +4,11 @@
 
 mod asking;
 mod believing;
+mod cause;
 mod certified;
 mod context;
 mod current;
+mod doubt;
 mod facts;
 mod gathering;
 mod group;
@@ -34,7 +36,9 @@ mod walk;
 mod why;
 
 pub use believing::{Belief, Flaw, believe, believe_at};
+pub use cause::{Cause, Spot, cause_of};
 pub use certified::Certified;
+pub use doubt::{Doubt, Lack};
 pub use facts::{Facts, Key};
 pub use judgement::{Judgement, KeyPlace, judge, verdicts_behind};
 pub use judging::standing;

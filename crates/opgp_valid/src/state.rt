@@ -42,9 +42,10 @@ pub struct KeyState {
 /// How a user ID or user attribute stands at a time.
 #[derive(Clone, Copy, Debug, PartialEq, Eq)]
 pub enum IdentityState {
-    /// A good certification of it by the primary key counts, and none is revoked.
+    /// A good certification of it by the primary key counts, which that hasn't revoked: a newer one
+    /// stands.
     Certified,
-    /// The primary key revoked a certification of it, whenever that was.
+    /// No such one, and the primary key revoked a certification of it, whenever that was.
     Revoked,
     /// Neither.
     Unbound,
@@ -173,13 +174,15 @@ pub(crate) fn revokes_identity(number: usize, statement: &Statement) -> bool
         && matches!(statement.author, Author::Primary)
 }
 
-/// Whether a signature is a good certification of this component that counts at this time.
+/// Whether a signature is a good certification of this component that counts at this time, and isn't
+/// revoked.
 fn vouches(number: usize, at: u64, statement: &Statement) -> bool
     ensures { result ≡ vouches number at statement.now }
 {
     certifies(statement.kind)
         && statement.component == Some(number)
-        && statement.is_good
+        && !statement.is_revoked
+        && statement.is_good()
         && statement.is_understood
         && matches!(statement.author, Author::Primary)
         && statement.is_alive(at)
@@ -199,7 +202,7 @@ fn is_identity_revoked(statements: &[Statement], number: usize) -> bool
     false
 }
 
-/// Whether one of these signatures is a good certification of this component at this time.
+/// Whether one of these signatures is such a certification of this component at this time.
 fn is_vouched_for(statements: &[Statement], number: usize, at: u64) -> bool
     ensures { result ≡ list_any (vouches number at) statements.now }
 {
@@ -218,10 +221,10 @@ fn is_vouched_for(statements: &[Statement], number: usize, at: u64) -> bool
 pub fn identity_state(facts: Facts<'_>, number: usize, at: u64) -> IdentityState
     ensures { result ≡ identity_of (facts_value facts.entry) number at }
 {
-    if is_identity_revoked(facts.statements, number) {
-        IdentityState::Revoked
-    } else if is_vouched_for(facts.statements, number, at) {
+    if is_vouched_for(facts.statements, number, at) {
         IdentityState::Certified
+    } else if is_identity_revoked(facts.statements, number) {
+        IdentityState::Revoked
     } else {
         IdentityState::Unbound
     }

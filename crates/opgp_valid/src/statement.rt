@@ -2,6 +2,7 @@
 
 ghost use Rattle.std.specs.Prelude.{◌≡◌};
 
+use crate::doubt::Doubt;
 use crate::uses::Uses;
 use opgp_octets::SignatureType;
 
@@ -51,9 +52,8 @@ pub struct Statement {
     pub author: Author,
     /// Nothing critical in it is unknown (5.2.3.7).
     pub is_understood: bool,
-    /// The policy relies on its hash algorithm and on its key, which is no younger than it is, and
-    /// its hashed subpackets have the form of their kinds.
-    pub is_good: bool,
+    /// Why it isn't good, if it isn't: the first that holds.
+    pub doubt: Option<Doubt>,
     /// From when it counts, and how long; None if it states no time when it was made. One that
     /// states several is a statement for each of them, and none of these is good.
     pub life: Option<Life>,
@@ -76,7 +76,16 @@ pub struct Statement {
 }
 
 impl Statement {
-    ghost use Rattle.opgp_valid.specs.Statement.{end_of, has_back, is_alive};
+    ghost use Rattle.opgp_valid.specs.Statement.{end_of, has_back, is_alive, is_good};
+
+    /// Whether it is good: the policy relies on its hash algorithm and on its key, which is no
+    /// younger than it is, it states one creation time, and its hashed subpackets have the form of
+    /// their kinds.
+    pub fn is_good(&self) -> bool
+        ensures { result ≡ is_good self.now }
+    {
+        self.doubt.is_none()
+    }
 
     /// Whether it counts at this time.
     pub fn is_alive(&self, at: u64) -> bool

@@ -16,7 +16,7 @@ pub struct Uses {
 }
 
 impl Uses {
-    ghost use Rattle.opgp_valid.specs.Uses.{all_uses, both, no_use, uses_of};
+    ghost use Rattle.opgp_valid.specs.Uses.{all_uses, both, has_use, no_use, uses_of};
 
     /// Every use.
     pub const ALL: Uses = Uses {
@@ -33,6 +33,13 @@ impl Uses {
         encrypt: false,
         authenticate: false,
     };
+
+    /// Whether there is some use.
+    pub fn has_use(self) -> bool
+        ensures { result ≡ has_use self }
+    {
+        self.certify || self.sign || self.encrypt || self.authenticate
+    }
 
     /// The uses that both allow.
     pub fn and(self, other: Uses) -> Uses

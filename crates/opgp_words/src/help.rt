@@ -38,9 +38,10 @@ pub const STATE_HELP: &str =
     "Each key, user ID and attribute has a line: its place, how it stands, \
 and of a key its uses,
 from when until when it is there, and the code of its revocation's reason. A key is usable
-if it is bound to its certificate, and neither revoked nor expired. The file of verdicts is
-what opgp-verify --verdicts writes of the same keyring; no other is taken. Without it the
-lines say what the signatures claim, and that they are unverified.
+if it is bound to its certificate, and neither revoked nor expired. The keyring is merged
+first, as join --merge does it. The file of verdicts is what opgp-verify --verdicts writes of
+the same keyring; no other is taken. Without it the lines say what the signatures claim, and
+that they are unverified.
 
 Example: opgp-verify --verdicts < KEYRING > VERDICTS
          opgp state --at 2026-11-20 --verdicts VERDICTS < KEYRING";
@@ -64,7 +65,7 @@ that are given, with their signatures. No signature is verified.
 --bound leaves out each user ID, attribute and subkey on which no self-signature is that is
 good by the verdicts in the file of --verdicts, which opgp-verify --verdicts writes of the
 same keyring; and self-signatures that aren't good. Revocations stay, and subkeys that made
-good ones. It doesn't go with --user-id.
+good ones. The keyring is merged first. It doesn't go with --user-id.
 
 Example: opgp write --own-signatures --user-id 0 < KEYRING > MINIMAL.asc";
 

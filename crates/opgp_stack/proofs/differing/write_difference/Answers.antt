@@ -1,4 +1,4 @@
-use Rattle.std.proofs.Common.{◌≡◌, ℕ, List, ◌++◌, codes, subst}
+use Rattle.std.proofs.Common.{ℕ, List, ◌++◌, codes, subst}
 use Rattle.std.specs.List.{flat_map}
 use Rattle.opgp_codec.specs.Written.{IsWritten}
 use Rattle.opgp_stack.specs.Differing.{changed_line}

@@ -1,4 +1,4 @@
-use Rattle.std.proofs.Common.{◌++◌, ℕ, ap, refl}
+use Rattle.std.proofs.Common.{◌++◌, ℕ, ap}
 use Rattle.opgp_packet.specs.Key.{key_value}
 use Rattle.opgp_packet.specs.Parsed.{body_octets}
 use Rattle.opgp_io.proofs.Extended.{extends_stop, extends_then}

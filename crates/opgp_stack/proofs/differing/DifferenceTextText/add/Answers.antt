@@ -1,4 +1,4 @@
-use Rattle.std.proofs.Common.{◌≡◌, List, ◌++◌, codes, sym, ap}
+use Rattle.std.proofs.Common.{List, ◌++◌, codes, sym, ap}
 use Rattle.std.specs.List.{flat_map}
 use Rattle.opgp_difference.specs.Entries.{PlacedValue}
 use Rattle.opgp_io.proofs.Extended.{extends_stop, extends_then}

@@ -1,7 +1,7 @@
 # Completion of opgp for bash.
 _opgp() {
     local word=${COMP_WORDS[COMP_CWORD]} before=${COMP_WORDS[COMP_CWORD - 1]} words
-    local limits="--mode --outside --malformed --line --body --cert --input --pieces --progress --quiet --spool --help"
+    local limits="--mode --outside --malformed --line --body --cert --input --pieces --progress --quiet --hints --spool --help"
     # Bash takes --out=binary for three words.
     if [ "$word" = = ]; then
         word=
@@ -23,6 +23,7 @@ _opgp() {
                 esac
                 ;;
             --policy) words="usual any" ;;
+            --hints) words="auto always never" ;;
             --row | --nth | --key | --at | --user-id | --octets | --line | --body | --cert | --input | --pieces)
                 compopt +o default # a number, a key or a time, and no file
                 return
@@ -39,9 +40,9 @@ _opgp() {
                 case ${COMP_WORDS[1]} in
                     show | list) words="--values $limits" ;;
                     check) words="--fingerprints --places $limits" ;;
-                    state) words="--at --policy --verdicts $limits" ;;
+                    state) words="--at --policy --verdicts --values $limits" ;;
                     octets) words="--row --all --explain --of $limits" ;;
-                    write) words="--out --own-signatures --no-attributes --user-id --bound --verdicts $limits" ;;
+                    write) words="--out --own-signatures --no-attributes --user-id --bound --verdicts --newest --at $limits" ;;
                     normalise) words="--out $limits" ;;
                     split) words="--out --nth --key --keys --except $limits" ;;
                     join) words="--out --merge $limits" ;;

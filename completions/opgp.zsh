@@ -29,7 +29,8 @@ _opgp() {
         '--input=[the most octets of the input]:number:'
         '--pieces=[the most partial lengths of a packet]:number:'
         '--progress[show on standard error how much was read]'
-        '--quiet[leave out the second line on standard error]'
+        '--quiet[the same as --hints never]'
+        '--hints=[when to say on standard error what a refused input seems to be, and what to do]:when:(auto always never)'
         '--spool=[hold the output in a file in this directory]:directory:_files -/'
         '--help[prints the help]'
     )
@@ -42,9 +43,9 @@ _opgp() {
         show) shift words; ((CURRENT--)); _arguments $limits '--values[show the fields of each packet, and what each subpacket means]' ;;
         list) shift words; ((CURRENT--)); _arguments $limits '--values[show how large each key is, and who made each signature, and when]' ;;
         check) shift words; ((CURRENT--)); _arguments $limits '--fingerprints[show the fingerprints of each signature'"'"'s certificate and signer]' '--places[show the number of each signature'"'"'s packet, and of the user ID that it is on]' ;;
-        state) shift words; ((CURRENT--)); _arguments $limits '--at=[the time, in seconds since 1970 or as a UTC date]:time:' '--policy=[which hash algorithms and keys to rely on]:policy:(usual any)' '--verdicts=[the file of verdicts of a verifier on the signatures]:file:_files' ;;
+        state) shift words; ((CURRENT--)); _arguments $limits '--at=[the time, in seconds since 1970 or as a UTC date]:time:' '--policy=[which hash algorithms and keys to rely on]:policy:(usual any)' '--verdicts=[the file of verdicts of a verifier on the signatures]:file:_files' '--values[show dates, and why a key is not usable]' ;;
         octets) shift words; ((CURRENT--)); _arguments $limits '--row=[the number of the row]:number:' '--all[write those of every row, each after a line of its own]' '--explain[write a line for each field of the octets instead]' '--of=[what to read the input as]:top:(ring literal)' ;;
-        write) shift words; ((CURRENT--)); _arguments $limits $out '--own-signatures[leave out signatures that do not name the primary key as their issuer]' '--no-attributes[leave out user attributes]' '*--user-id=[the number of a user ID to keep in each certificate, from 0]:number:' '--bound[leave out what no good self-signature binds]' '--verdicts=[the file of verdicts of a verifier on the signatures]:file:_files' ;;
+        write) shift words; ((CURRENT--)); _arguments $limits $out '--own-signatures[leave out signatures that do not name the primary key as their issuer]' '--no-attributes[leave out user attributes]' '*--user-id=[the number of a user ID to keep in each certificate, from 0]:number:' '--bound[leave out what no good self-signature binds]' '--verdicts=[the file of verdicts of a verifier on the signatures]:file:_files' '--newest[with --bound, leave out what a newer self-signature replaces at the time of --at]' '--at=[the time of --newest, in seconds since 1970 or as a UTC date]:time:' ;;
         normalise) shift words; ((CURRENT--)); _arguments $limits $out ;;
         split) shift words; ((CURRENT--)); _arguments $limits $out '--nth=[the number of the certificate]:number:' '*--key=[the fingerprint or key ID of a key]:key:' '--keys=[a file of fingerprints and key IDs, one in each line]:file:_files' '--except[write all certificates but those]' ;;
         join) shift words; ((CURRENT--)); _arguments $limits $out '--merge[merge certificates of the same primary key]' ;;

@@ -979,7 +979,7 @@ def secrets(made):
         refused = ended[0] == 1 and re.match("(input|armor|framing|body|composition): ", fault)
         kept = ended[0] == 0 and "skipped" in fault  # behind an armored key
         verdict(f"a secret key, {what}", (refused or kept) and more == [secret_keys.SAID] and not secret_keys.shown(ended[1]), ended)
-        theirs = run(PROGRAM, "list", input=octets) if os.path.exists(PROGRAM) else None
+        theirs = run(PROGRAM, "list", "--hints", "always", input=octets) if os.path.exists(PROGRAM) else None
         verdict(f"{what}: the fault is that of opgp", not theirs or theirs.stderr.decode().splitlines(keepends=True)[0] == fault, (theirs, fault))
         named += bool(theirs) and theirs.stderr.decode().endswith(secret_keys.SAID)
     verdict("opgp names some of them", named > 5 or not os.path.exists(PROGRAM), named)

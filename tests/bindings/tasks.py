@@ -130,6 +130,7 @@ def wanted(made, folder, program):
             0, lambda out: out == "" and octets_in(folder, "small.gpg") == b"".join(it for it in small(made))),
         "Only what its owner signed; a key stands as before:": (
             0, lambda out: out == "" and octets_in(folder, "bound.gpg") == made.keyring),
+        "Of that only what counts today:": (0, lambda out: out == "" and octets_in(folder, "newest.gpg") == made.keyring),
         "The same field by field, each with its place, value and section of RFC 9580:": (
             0, has("0 1 primary-key-prefix 99 5.2.4\n", ' user-id "bob@example.net" 5.11\n', " trailer-marker FF 5.2.4\n")),
         "Do all signatures in the keyring verify?": (1, lambda out: out == ""),

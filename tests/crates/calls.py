@@ -311,6 +311,20 @@ def bound():
         yield "bound", KEY + certified[0] + certified[1] * count, KEY + certified[0]
 
 
+def newest():
+    """Of the good certifications the newest stays, with the verdict on it; and those of which nothing is known."""
+    def made(at):
+        area = subpacket(2, number(4, 1_600_000_000 + at)) + subpacket(16, model.key_id(KEY[2:]))
+        return new5(2, signature_body(4, 22, 8, bytes(4), (area, b""), 0x13))
+
+    name, (first, second, third, last) = b"\xcd\1a", map(made, range(4))
+    yield "newest", KEY + name + first, KEY + name + first + b"v"
+    yield "newest", KEY + name + second + third + first, KEY + name + third + b"v"
+    yield "newest", KEY + name + third + third + second, KEY + name + third + third + b"vv"
+    for count in COUNTS:
+        yield "newest", KEY + name + first + third + second + last * count, KEY + name + third + last * count + b"v"
+
+
 def fields():
     """The fields of hashed octets whose area has no subpackets: a length of 5 with one octet behind it (5.2.3.7)."""
     names = ("content", "signature-version", "signature-type", "key-algorithm", "hash-algorithm", "hashed-area-length", "hashed-area")
@@ -381,6 +395,7 @@ def refused():
     yield "signed", ONE_PASS + DOCUMENT + SIGNED_LITERAL, ONE_PASS + DOCUMENT + SIGNED_LITERAL
     yield "signatures", SIGNED_LITERAL * 2, SIGNED_LITERAL * 2
     yield from [*bound()][:2]
+    yield from [*newest()][:3]
     yield from [*fields()][:1]
     yield from errors()
     ring = b"".join(SIGNED_KEY + [NAME, EDDSA])
@@ -388,7 +403,7 @@ def refused():
         yield run_row(action, ONE_PASS + DOCUMENT + SIGNED_LITERAL if "literal" in it else ring)
 
 
-TABLES = (bodies, octets_written, header_lines, texts, packets_copied, keyrings_of_sizes, keyrings_of_many, signed_literals, bound, fields, errors, runs)
+TABLES = (bodies, octets_written, header_lines, texts, packets_copied, keyrings_of_sizes, keyrings_of_many, signed_literals, bound, newest, fields, errors, runs)
 
 
 class Tried:

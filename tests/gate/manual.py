@@ -154,10 +154,10 @@ for shell in ("bash", "zsh", "fish"):
         found = [it for it in found if it != "--help" or "--help" in wanted]
         verdict(f"completion of '{typed}' in {shell}", sorted(found) == sorted(wanted), found)
 
-# What README shows is what the program writes: the standard's certificate, and the same with the label of a secret key.
+# What README shows is what the program writes on a terminal: the standard's certificate, and the same with the label of a secret key.
 readme, certificate = text_of("README.md"), text_of("examples/rfc9580-a3.asc")
 printed = re.search(r"```console\n\$ opgp list < examples/rfc9580-a3\.asc\n(.*)\$ opgp list < secret\.asc\n(.*)```\n\nIt is", readme, re.S)
-listed = [subprocess.run([PROGRAM, "list"], input=it, capture_output=True, text=True, check=False)
+listed = [subprocess.run([PROGRAM, "list", "--hints", "always"], input=it, capture_output=True, text=True, check=False)
           for it in (certificate, certificate.replace("PUBLIC KEY", "PRIVATE KEY"))]
 verdict("README's listing", printed and printed[1] == listed[0].stdout, listed[0].stdout)
 verdict("README's refusal", printed and printed[2] == listed[1].stderr, listed[1].stderr)

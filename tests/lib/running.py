@@ -30,7 +30,7 @@ def built(test):
 
 
 class Runner:
-    """Starts the program, whose commands say no more than a fault (--quiet), unless they are to. One that takes too long is killed, and
+    """Starts the program, whose commands say no more than a fault (--quiet), unless they are to (--hints always). One that takes too long is killed, and
     ends with the status -9."""
 
     def __init__(self, path, quiet=True):
@@ -54,8 +54,8 @@ class Runner:
             os.lseek(file, 0, os.SEEK_SET)
             ends.append((os.POSIX_SPAWN_DUP2, file, end))
         signal.alarm(SECONDS)
-        if self.quiet and words and words[0] in COMMANDS:
-            words = [words[0], "--quiet", *words[1:]]
+        if words and words[0] in COMMANDS:
+            words = [words[0], *(["--quiet"] if self.quiet else ["--hints", "always"]), *words[1:]]
         self.child = os.posix_spawn(self.path, ["opgp", *words], environment, file_actions=ends)
 
     def end(self):

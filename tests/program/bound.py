@@ -1,6 +1,7 @@
 #!/usr/bin/env python3
 """Runs `write --bound` over generated certificates with verdicts on their signatures, and compares what it writes with the rule, worked
-out here in another way. By tests/lib/standing.py each part that stays then stands as before, and no part goes that is of use.
+out here in another way. By tests/lib/standing.py each part that stays then stands as before, and no part goes that is of use. With
+--newest it stands as before at the time of --at.
 
 Usage: tests/program/bound.py [--cases N] [--seed N] [--program FILE]
 
@@ -33,12 +34,11 @@ parser.add_argument("--program", help="the program that is run, in place of that
 told = parser.parse_args()
 PROGRAM = told.program or built("tests/program/bound.py")
 KEEP = ("--malformed", "keep")
-NOT_THOSE = (
-    "opgp: the verdicts aren't those of this keyring\n"
-    "opgp: opgp-verify --verdicts writes the file of verdicts on a keyring, from the same octets\n"
-)
+NOT_THOSE = "opgp: the verdicts aren't those of this keyring\n"
 SELF = (0x10, 0x11, 0x12, 0x13, 0x18, 0x1F)
 REVOCATIONS = (0x20, 0x28, 0x30)
+# Of these types a newer self-signature replaces others on the same part.
+SORTS = ((0x1F,), (0x10, 0x11, 0x12, 0x13), (0x18,))
 OPTIONS = ((), ("--own-signatures",), ("--no-attributes",), ("--own-signatures", "--no-attributes"))
 MADE = 1700000000
 # In the cases of tests/vectors/validity: early, when a document is signed, and when a case is read.
@@ -165,6 +165,38 @@ def wanted(octets, verdicts, options):
     return model.written(command, blocks, packets, lead, certificates, None, True)[1]
 
 
+def replaced(parts, certificate, at):
+    """The packets of a certificate that are older than the newest self-signature of their sort on their part that counts at a time. What
+    names a revoker stays, and what doesn't state one time."""
+    for (_, hangs), component in zip(parts, (certificate.primary, *certificate.components), strict=True):
+        own = [it for it in component.said if it.is_genuine and it.by == certificate.fingerprint and len(it.times) == 1]
+        for sort in SORTS:
+            ones = [it for it in own if it.kind in sort]
+            last = max((it.made for it in ones if it.is_good and it.lives(at) and not certificate.is_withdrawn(it, component)), default=0)
+            yield from (hangs[it.spot[1]] for it in ones if it.made < last and not it.revokers)
+
+
+def newest(octets, verdicts, at):
+    """The keyring without what is replaced at a time, and the verdicts on its rows."""
+    block = (b"PUBLIC KEY BLOCK", octets)
+    packets = model.framed([block], model.USUAL)
+    certificates = model.compose([block], packets, model.USUAL)[1]
+    rows = by_packet(packets, certificates, verdicts)
+    known = standing.Keyring(octets, standing_cases.honest(octets, verdicts)).certificates
+    gone = {it for parts, certificate in zip(certificates, known, strict=True) for it in replaced(parts, certificate, at)}
+    said = [found for parts in certificates for _, hangs in parts for it in hangs if it in rows and it not in gone for _, found in rows[it]]
+    return b"".join(octets[it[1] : it[1] + it[5]] for n, it in enumerate(packets) if n not in gone), said
+
+
+def stands_then(octets, verdicts, at):
+    """Where a part stands otherwise at a time without what is replaced then; or nothing."""
+    before, after = (standing.Keyring(*it) for it in ((octets, verdicts), newest(octets, verdicts, at)))
+    for c in range(len(before.certificates)):
+        if before.state(c, at) != after.state(c, at):
+            return f"certificate {c} at {at}: {before.state(c, at)} {after.state(c, at)}"
+    return ""
+
+
 def stands_as_before(octets, verdicts, policy, times):
     """Where a part that stays stands otherwise than before, or one goes that is of use; or nothing. A revocation may state another reason,
     since those that move come before others."""
@@ -204,13 +236,18 @@ def checked(octets):
     return lines.splitlines()
 
 
-def compare(room, given, verdicts, rng, title):
+def compare(room, given, verdicts, rng, title, times=TIMES):
     """The file of verdicts, and what was written by it: of the merged keyring."""
     octets, verdicts = standing_cases.once(given, verdicts)
     file, said = file_of(octets, checked(octets), verdicts, rng)
     for options in OPTIONS if rng.random() < 0.3 else ((),):
         ended = room.write(given, file, *options)
         verdict(title, ended == (0, wanted(octets, said, options), ""), f"{options} {said} {octets.hex()}\n{ended}")
+    at = rng.choice(times)
+    ended = room.write(given, file, "--newest", "--at", str(at))
+    verdict(f"{title}, the newest at {at}", ended == (0, wanted(*newest(octets, said, at), ()), ""), f"{said} {octets.hex()}\n{ended}")
+    why = stands_then(octets, said, at)
+    verdict(f"{title}, the newest stand as before", not why, f"{why} {said} {octets.hex()}")
     return file
 
 
@@ -218,8 +255,9 @@ def generated(room):
     rng = random.Random(told.seed)
     other = None
     for n, case in enumerate(standing_cases.cases(told.seed, told.cases)):
-        file = compare(room, case.octets, case.verdicts, rng, f"case {n}")
-        compare(room, case.octets, ["good"] * len(case.verdicts), rng, f"case {n}, all good")
+        times = sorted({at for _, at in case.states})
+        file = compare(room, case.octets, case.verdicts, rng, f"case {n}", times)
+        compare(room, case.octets, ["good"] * len(case.verdicts), rng, f"case {n}, all good", times)
         for found in (case.verdicts, ["good"] * len(case.verdicts)):
             octets, found = standing_cases.once(case.octets, found)
             said = standing_cases.honest(octets, found)
@@ -320,6 +358,54 @@ def by_hand(room):
     verdict("a key revocation on a user ID that goes", ended == (0, key + revocation + bound_one + binding, ""), f"{ended}")
 
 
+def newest_by_hand(room):
+    """Certificates of which is said what stays of the newest at a time: packets with True or False, and with the verdicts on their rows."""
+    first, other = (Key(4, MADE, 27, number(32, n), lambda digest, hash: bytes(64)) for n in (1, 2))
+    subkey = Key(4, MADE, 27, number(32, 3), lambda digest, hash: bytes(64))
+    alice = on_identity(13, b"Alice")
+
+    def made(kind, at, on=b"", more=b"", hash=8):
+        area = subpacket(2, number(4, MADE + at)) + first.issuer_fingerprint + more
+        return packet(2, signature(first, kind, first.octets + on, area, hash=hash))
+
+    key, name, trust = packet(6, first.body), packet(13, b"Alice"), packet(12, b"\1")
+    revoker = subpacket(12, b"\x80" + bytes([27]) + other.fingerprint)
+    bind = packet(14, subkey.body)
+    rows = {
+        "an older certification goes, with one of another type": [
+            (key, 1), (name, 1), (made(0x10, 1, alice), 0, "good"), (made(0x13, 3, alice), 1, "good"), (trust, 1), (made(0x13, 2, alice), 0, "good")],
+        "two of the newest": [(key, 1), (name, 1), (made(0x13, 3, alice), 1, "good"), (made(0x10, 3, alice), 1, "good"), (made(0x12, 2, alice), 0, "good")],
+        "one that is newer than the time": [(key, 1), (name, 1), (made(0x13, 1, alice), 1, "good"), (made(0x13, 99, alice), 1, "good")],
+        "one that has expired by then": [
+            (key, 1), (name, 1), (made(0x13, 1, alice), 1, "good"), (made(0x13, 3, alice, subpacket(3, number(4, 2))), 1, "good")],
+        "one by SHA-1, one that is critical": [
+            (key, 1), (name, 1), (made(0x13, 1, alice), 1, "good"), (made(0x13, 3, alice, hash=2), 1, "good"),
+            (made(0x13, 4, alice, subpacket(100, b"", True)), 1, "good")],
+        "one that is revoked": [
+            (key, 1), (name, 1), (made(0x13, 1, alice), 1, "good"), (made(0x13, 3, alice), 1, "good"), (made(0x30, 4, alice), 1, "good")],
+        "one that names a revoker": [
+            (key, 1), (made(0x1F, 1, more=revoker), 1, "good"), (made(0x1F, 2), 0, "good"), (made(0x1F, 3), 1, "good"), (name, 1),
+            (made(0x13, 1, alice, revoker), 1, "good"), (made(0x13, 3, alice), 1, "good")],
+        "one with two times": [
+            (key, 1), (name, 1), (made(0x13, 1, alice, subpacket(2, number(4, MADE + 2))), 1, "good"), (made(0x13, 3, alice), 1, "good")],
+        "one that is bad, and one that is undecided": [
+            (key, 1), (name, 1), (made(0x13, 1, alice), 1, "good"), (made(0x13, 3, alice), 0, "bad"), (made(0x13, 4, alice), 0, "undecided")],
+        "each part by itself, and each sort": [
+            (key, 1), (made(0x1F, 1), 1, "good"), (name, 1), (made(0x13, 2, alice), 1, "good"), (bind, 1),
+            (made(0x18, 1, subkey.octets), 0, "good"), (made(0x18, 2, subkey.octets), 1, "good")],
+    }  # fmt: skip
+    for title, row in rows.items():
+        octets = b"".join(it[0] for it in row)
+        file, _ = file_of(octets, checked(octets), [it[2] for it in row if len(it) > 2], random.Random(1))
+        ended = room.write(octets, file, "--newest", "--at", str(MADE + 50))
+        verdict(title, ended == (0, b"".join(it[0] for it in row if it[1]), ""), f"{ended}")
+    octets = b"".join(it[0] for it in rows["two of the newest"])
+    file, _ = file_of(octets, checked(octets), ["good"] * 3, random.Random(1))
+    for at in ("2023-11-14T22:14:00Z", str(MADE + 40)):  # the same time
+        ended = room.write(octets, file, "--newest", "--at", at)
+        verdict(f"the newest at {at}", ended == (0, b"".join(it[0] for it in rows["two of the newest"] if it[1]), ""), f"{ended}")
+
+
 def command_lines(room, octets):
     with open(room.file, "wb") as it:
         it.write(file_of(octets, checked(octets), ["good"] * len(checked(octets)), random.Random(1))[0])
@@ -327,17 +413,24 @@ def command_lines(room, octets):
         (("--bound",), "error: the argument '--bound' wants '--verdicts <FILE>'"),
         (("--verdicts", room.file), "error: the argument '--verdicts <FILE>' wants '--bound'"),
         (("--bound", "--verdicts", room.file, "--user-id", "0"), "error: the argument '--user-id <N>' cannot be used with '--bound'"),
+        (("--newest",), "error: the argument '--newest' wants '--at <TIME>'"),
+        (("--at", "0"), "error: the argument '--at <TIME>' wants '--newest'"),
+        (("--newest", "--at", "0"), "error: the argument '--newest' wants '--bound'"),
+        (("--bound", "--newest", "--at", "0"), "error: the argument '--bound' wants '--verdicts <FILE>'"),
+        (("--bound", "--verdicts", room.file, "--newest"), "error: the argument '--newest' wants '--at <TIME>'"),
+        (("--bound", "--verdicts", room.file, "--at", "0"), "error: the argument '--at <TIME>' wants '--newest'"),
+        (("--bound", "--verdicts", room.file, "--newest", "--at", "now"), "error: invalid value 'now' for '--at <TIME>': a time is a number"),
         (("--bound", "--verdicts", "-"), "opgp: standard input is the keyring; the verdicts are in a file"),
         (("--bound", "--verdicts", "/dev/stdin"), "opgp: standard input is the keyring; the verdicts are in a file"),
     ):
         ended = run("write", *words, given=octets)
-        verdict(f"{words}", ended[:2] == (2, b"") and ended[2].startswith(f"{line}\n"), f"{ended}")
+        verdict(f"{words}", ended[:2] == (2, b"") and ended[2].startswith(line), f"{ended}")
     for name in (f"{room.file}.none", os.path.dirname(room.file)):
         verdict(f"verdicts from {name}", run("write", "--bound", "--verdicts", name, given=octets)[:2] == (3, b""))
     verdict("a file that is too long", room.write(octets, b"x" * 2000, "--input", "1999")[:2] == (1, b""))
     verdict("an input that is no keyring", room.write(b"\x99", b"")[:2] == (1, b""))
     verdict("an empty keyring", room.write(b"", verdict_files.head(b"", 0), "--quiet") == (0, b"", ""))
-    verdict("an empty keyring, and an empty file", room.write(b"", b"", "--quiet") == (1, b"", NOT_THOSE.splitlines(keepends=True)[0]))
+    verdict("an empty keyring, and an empty file", room.write(b"", b"", "--quiet") == (1, b"", NOT_THOSE))
     verdict("no verdicts", room.write(octets, b"") == (1, b"", NOT_THOSE))
     file, _ = file_of(octets, checked(octets), ["good"] * len(checked(octets)), random.Random(1))
     for title, wrong in verdict_files.with_other_heads(octets, file[file.index(b"\n") + 1 :]):
@@ -348,6 +441,7 @@ def main():
     with tempfile.TemporaryDirectory(prefix="opgp-bound-") as folder:
         room = Room(folder)
         by_hand(room)
+        newest_by_hand(room)
         generated(room)
         command_lines(room, next(standing_cases.cases(1, 1)).octets)
     print(f"{passed} passed, {failed} failed")

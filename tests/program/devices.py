@@ -38,64 +38,65 @@ INPUTS = {
 # The growths of each command over each input. More are a failure: an answer would have come to cost more memory.
 GROWTHS = """
 command                                                       key  certificate  blocks  literal
-show                                                          219          222     222      216
-list                                                          221          226     228      219
-list --values                                                 225          230     232      223
-check                                                         227          234     237      221
-state --at 0                                                  242          255     264      227
-state --at 2026-11-20 --policy any                            251          264     273      236
-check --fingerprints                                          233          240     243      226
-check --places                                                231          240     243      225
-octets --row 0                                                238          245     247      235
-octets --row 0 --explain                                      245          257     259      242
-octets --row 1                                                238          245     247      235
-octets --all                                                  234          241     244      231
-octets --row 0 --of literal                                   246          252     253      246
-octets --row 9 --of literal                                   246          252     253      245
-write                                                         233          238     240      231
-write --out binary                                            239          244     246      237
-write --own-signatures --no-attributes                        245          252     256      241
-write --user-id 0 --own-signatures --out binary               259          266     270      255
-normalise                                                     221          226     228      219
-normalise --out binary                                        227          232     234      225
-split                                                         225          230     232      223
-split --out binary                                            231          236     238      229
-split --nth 0                                                 234          239     241      231
-split --nth 1 --out binary                                    242          247     249      239
-split --nth 9                                                 234          239     241      231
-split --key 8CFDE12197965A9A                                  237          243     244      235
-split --key CB186C4F0609A697 --out binary                     246          250     252      243
-split --key 0000000000000000                                  238          243     245      235
-join                                                          225          230     232      223
-join --out binary                                             231          236     238      229
-join --merge                                                  234          245     252      225
-join --merge --out binary                                     242          253     260      233
-list --progress                                               229          234     236      227
-list --malformed keep                                         228          233     235      226
-list --spool DIR                                              233          238     240      231
-write --out binary --spool DIR                                253          258     260      251
-write --no-attributes --spool DIR                             254          261     265      250
-split --spool DIR                                             237          242     244      235
-octets --all --spool DIR                                      248          255     258      245
-check --spool DIR                                             240          247     250      234
-list --mode armor                                             227          232     234      225
-list --mode binary                                            224          224     224      225
-show --line 128 --body 512 --cert 512 --pieces 1              247          250     250      244
-show --values                                                 223          226     226      220
-signatures                                                    216          222     223      215
-signatures --malformed keep                                   223          229     230      222
-canonical                                                     213          213     213      214
-canonical --spool DIR                                         225          225     225      226
-cleartext                                                     217          217     217      217
-cleartext --of signatures                                     223          223     223      223
---help                                                        217          217     217      217
-help list                                                     332          332     332      332
-list --help                                                   333          333     333      333
-lists                                                         272          272     272      272
-octets                                                        222          222     222      222
-octets --all --row 0                                          238          238     238      238
-list --body 511                                               182          182     182      182
-list list                                                     175          175     175      175
+show                                                          231          234     234      228
+list                                                          233          238     240      231
+list --values                                                 239          244     246      237
+check                                                         239          246     249      233
+state --at 0                                                  261          274     283      245
+state --at 2026-11-20 --policy any                            268          281     290      252
+state --at 0 --values                                         266          279     289      249
+check --fingerprints                                          247          254     257      240
+check --places                                                245          254     257      239
+octets --row 0                                                252          259     261      249
+octets --row 0 --explain                                      257          269     271      254
+octets --row 1                                                252          259     261      249
+octets --all                                                  248          255     258      245
+octets --row 0 --of literal                                   258          264     265      258
+octets --row 9 --of literal                                   258          264     265      257
+write                                                         249          254     256      247
+write --out binary                                            257          262     264      255
+write --own-signatures --no-attributes                        263          270     274      259
+write --user-id 0 --own-signatures --out binary               278          285     289      274
+normalise                                                     233          238     240      231
+normalise --out binary                                        241          246     248      239
+split                                                         237          242     244      235
+split --out binary                                            245          250     252      243
+split --nth 0                                                 248          253     255      245
+split --nth 1 --out binary                                    254          259     261      251
+split --nth 9                                                 248          253     255      245
+split --key 8CFDE12197965A9A                                  251          257     258      249
+split --key CB186C4F0609A697 --out binary                     258          262     264      255
+split --key 0000000000000000                                  252          257     259      249
+join                                                          237          242     244      235
+join --out binary                                             245          250     252      243
+join --merge                                                  248          259     266      239
+join --merge --out binary                                     254          265     272      245
+list --progress                                               243          248     250      241
+list --malformed keep                                         242          247     249      240
+list --spool DIR                                              247          252     254      245
+write --out binary --spool DIR                                270          275     277      268
+write --no-attributes --spool DIR                             271          278     282      267
+split --spool DIR                                             251          256     258      249
+octets --all --spool DIR                                      260          267     270      257
+check --spool DIR                                             254          261     264      248
+list --mode armor                                             241          246     248      239
+list --mode binary                                            238          238     238      239
+show --line 128 --body 512 --cert 512 --pieces 1              259          262     262      256
+show --values                                                 237          240     240      234
+signatures                                                    228          234     235      227
+signatures --malformed keep                                   237          243     244      236
+canonical                                                     225          225     225      226
+canonical --spool DIR                                         239          239     239      240
+cleartext                                                     229          229     229      229
+cleartext --of signatures                                     237          237     237      237
+--help                                                        219          219     219      219
+help list                                                     355          355     355      355
+list --help                                                   367          367     367      367
+lists                                                         274          274     274      274
+octets                                                        234          234     234      234
+octets --all --row 0                                          250          250     250      250
+list --body 511                                               194          194     194      194
+list list                                                     188          188     188      188
 """
 # Other texts that are held in a spool, over these inputs.
 SPOOLED = ("show --values --spool DIR", "normalise --spool DIR", "split --key 8CFDE12197965A9A --except --spool DIR", "join --out binary --spool DIR")

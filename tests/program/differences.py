@@ -139,7 +139,7 @@ def generated(room, rng):
 
 def faults(room, rng):
     ring = octets_of([certificate(rng)], rng)
-    refused = room.diff(b"\x99", ring)
+    refused = room.diff(b"\x99", ring, "--hints", "always")
     verdict("a refused old keyring", refused[0] == 1 and refused[1] == "" and room.file in refused[2], refused)
     one = run("list", "--quiet", given=b"\x99")[2]
     verdict("its fault", room.diff(b"\x99", ring, "--quiet") == (1, "", one))

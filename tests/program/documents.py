@@ -193,7 +193,7 @@ def refused(room):
     said = run("digest", "--signatures", "/dev/stdin", "--octets", "0", given=one)
     verdict("signatures on standard input, and no document", said == (0, signature(4, 0, 8)[2], ""), said)
     said = run("digest", "--signatures", f"{room}/none", given=b"x")
-    verdict("no file", said == (3, b"", f"opgp: read failed\nopgp: {room}/none can't be opened\n"), said)
+    verdict("no file", said == (3, b"", "opgp: read failed\n"), said)
     said = run("digest", "--signatures", room, "--quiet", given=b"x")
     verdict("a directory", said[:2] == (3, b"") and said[2] == "opgp: read failed\n", said)
 

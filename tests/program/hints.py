@@ -1,7 +1,7 @@
 #!/usr/bin/env python3
 """What the program tells people of an input, beside its fault, or beside what it writes: each row is an input, made by the program that
 makes such files where Python has one, and the line that is wanted. Without that line, which --quiet leaves out, status, output and
-the first line stay the same. The last line counts the tests."""
+the first line stay the same. It is there on a terminal, and by --hints always. The last line counts the tests."""
 
 import base64
 import bz2
@@ -9,7 +9,9 @@ import gzip
 import io
 import lzma
 import os
+import pty
 import re
+import subprocess
 import sys
 import zipfile
 
@@ -134,7 +136,7 @@ def rows():
     yield "many pieces", "show --pieces 1", bytes([0xCB, 0xE9]) + b"b" + bytes(511) + bytes([0xE0, 0, 0]), "a packet in more pieces than --pieces allows"
     yield "a long certificate", "list --cert 512", key + packet(13, bytes(500)), "a certificate, or what precedes the first one, longer than --cert allows"
     yield "a key of version 5", "list", packet(6, b"\5"), "a key of a version other than 4 and 6; nothing of the keyring is read, so export it without that key"
-    yield "a malformed key", "list", packet(6, b"\4"), "a malformed packet; --malformed keep accepts malformed signatures"
+    yield "a malformed key", "list", packet(6, b"\4"), "a malformed packet; --malformed keep accepts it if it is a signature"
     secret = "a secret key; don't pass it on (gpg --export writes the public key)"
     yield "a secret key", "list", armored(packet(5, key[2:] + b"\0"), b"PRIVATE KEY BLOCK"), secret
     yield "a secret key in binary", "list", packet(5, key[2:] + b"\0"), secret
@@ -180,6 +182,44 @@ def tried(runner, name, words, octets, told):
     return ""
 
 
+def on_terminal(words, octets):
+    """What a run says whose standard error is a terminal."""
+    ours, theirs = pty.openpty()
+    with open(theirs, "wb") as it:
+        subprocess.run([f"{running.HERE}/crates/opgp_tool/out/opgp_tool", *words], input=octets, stdout=subprocess.DEVNULL, stderr=it, check=False)
+    said = b""
+    while True:
+        try:
+            piece = os.read(ours, 4096)
+        except OSError:  # the other end is closed
+            piece = b""
+        if not piece:
+            break
+        said += piece
+    os.close(ours)
+    return said.replace(b"\r\n", b"\n")
+
+
+def elsewhere(words, octets):
+    """What it says where standard error is a pipe."""
+    return subprocess.run([f"{running.HERE}/crates/opgp_tool/out/opgp_tool", *words], input=octets, capture_output=True, check=False).stderr
+
+
+def whens():
+    """When there is a line for people: a name, and whether it is so."""
+    fault, empty = b"framing: NotAPacket block 0 at 0 inner 0\n", b"opgp: the input is empty\n"
+    hint = b"opgp: these octets aren't an OpenPGP packet\n"
+    lost = b"opgp: 1 octets outside of armored blocks were skipped; read a binary file by itself\n"
+    for said, where in ((on_terminal, "on a terminal"), (elsewhere, "in a pipe")):
+        for words, shows in ((["--hints", "always"], True), (["--hints", "never"], False), (["--quiet"], False), (["--hints", "always", "--quiet"], False),
+                             (["--hints", "auto"], said is on_terminal), ([], said is on_terminal)):  # fmt: skip
+            yield f"a fault {where}, {words}", said(["list", "--mode", "binary", *words], b"\1") == fault + (hint if shows else b"")
+            yield f"no octets {where}, {words}", said(["list", *words], b"") == (empty if shows else b"")
+            # What is lost is told everywhere.
+            is_told = shows or words in ([], ["--hints", "auto"])
+            yield f"a loss {where}, {words}", said(["list", *words], KEY + b"\0") == (lost if is_told else b"")
+
+
 def main():
     runner, passed, failed = running.Runner(running.built("tests/program/hints.py"), quiet=False), 0, 0
     met = set()
@@ -214,6 +254,10 @@ def main():
             failed += 1
             print(f"tests/program/hints.py: pieces of {size}: {ended.status}, {ended.err}: FAILED", file=sys.stderr)
     runner.close()
+    for name, holds in whens():
+        passed, failed = passed + holds, failed + (not holds)
+        if not holds:
+            print(f"tests/program/hints.py: {name}: FAILED", file=sys.stderr)
     print(f"{passed} passed, {failed} failed")
     return int(failed > 0)
 

@@ -4,7 +4,8 @@
 Usage: tests/program/states.py [--cases N] [--seed N] [--program FILE]
 
 The certificates come with verdicts on their signatures, of which a file is written as opgp-verify writes it; without one all signatures
-count that `check` doesn't find bad. Those of tests/vectors/validity were verified. Files of verdicts with a line left out,
+count that `check` doesn't find bad. With --values the dates and causes are those of tests/lib/causes.py. Those of tests/vectors/validity
+were verified. Files of verdicts with a line left out,
 twice or of another keyring, with a changed sign, other line ends or something behind are refused. Times are compared with Python's
 calendar. A certificate with 20,000 signatures or subkeys takes little time. The last line counts the tests."""
 
@@ -19,6 +20,7 @@ import tempfile
 sys.dont_write_bytecode = True
 sys.path.insert(0, f"{sys.path[0]}/../lib")
 
+import causes  # noqa: E402
 import model  # noqa: E402
 import standing  # noqa: E402
 import standing_cases  # noqa: E402
@@ -35,13 +37,11 @@ PROGRAM = told.program or built("tests/program/states.py")
 READ = 1795132800  # when the vectors are read: 2026-11-20
 MANY, MANY_SECONDS = 20000, 10
 KEEP = ("--malformed", "keep")
-NOT_THOSE = (
-    "opgp: the verdicts aren't those of this keyring\n"
-    "opgp: opgp-verify --verdicts writes the file of verdicts on a keyring, from the same octets\n"
-)
+NOT_THOSE = "opgp: the verdicts aren't those of this keyring\n"
 IDENTITIES = {"fine": "certified", "revoked": "revoked", "unbound": "unbound"}
 WORDS = (b"absent", b"weak-hash", b"small-key", b"version", b"critical")
 USES = ("certify", "sign", "encrypt", "authenticate")
+UNUSABLE = ("revoked", "early", "unbound", "expired")
 SHOWN = 5  # of what differs
 passed = failed = 0
 
@@ -108,6 +108,21 @@ def or_dash(value):
     return "-" if value is None else str(value)
 
 
+def date_of(seconds):
+    """A time as a date of the Gregorian calendar."""
+    return "-" if seconds is None else f"{datetime.datetime(1970, 1, 1) + datetime.timedelta(seconds=seconds):%Y-%m-%dT%H:%M:%SZ}"
+
+
+def values_of(keyring, place, state, at):
+    """What --values adds to the line of a key: the dates from when until when it is there, and why it isn't usable."""
+    why, _, begin, end, _ = state
+    if why not in UNUSABLE:
+        return f" {date_of(begin)} {date_of(end)}"
+    it = causes.cause(keyring, *place, at, at)
+    spot = " ".join(f"{name} {or_dash(value)}" for name, value in (("date", it.date), ("part", it.component), ("hang", it.hang)))
+    return f" {date_of(begin)} {date_of(end)} key {'pub' if it.is_primary else 'sub'} lack {it.lack or '-'} {spot} {date_of(it.date)}"
+
+
 def part_line(place, part, state, is_verified):
     c, n = place
     front = f"cert {c} part {or_dash(n)} : {'' if is_verified else 'unverified '}"
@@ -123,13 +138,15 @@ def part_line(place, part, state, is_verified):
 
 
 def state_lines(octets, verdicts, policy, at, is_verified):
-    """The lines, worked out here."""
+    """The lines, worked out here, and those with --values."""
     keyring = standing.Keyring(octets, verdicts, policy)
-    lines = []
+    lines, valued = [], []
     for c, parts in enumerate(standing.read(octets)):
         for n, (part, state) in enumerate(zip(parts, keyring.state(c, at), strict=True)):
-            lines.append(part_line((c, n - 1 if n else None), part, state, is_verified) + "\n")
-    return "".join(lines).encode()
+            place = c, n - 1 if n else None
+            lines.append(part_line(place, part, state, is_verified))
+            valued.append(lines[-1] + (values_of(keyring, place, state, at) if part.key else ""))
+    return ["".join(f"{line}\n" for line in some).encode() for some in (lines, valued)]
 
 
 class Room:
@@ -157,9 +174,10 @@ def compare(room, given_octets, verdicts, policy, times, rng, title):
     for at in times:
         words = "--at", str(at), "--policy", policy
         for given, found in ((file, said), (None, claimed(lines, counts))):
-            ended = room.state(given_octets, given, *words)
-            wanted = state_lines(octets, found, policy, at, given is not None)
-            verdict(f"{title} at {at}", ended == (0, wanted, ""), f"{policy} {found} {octets.hex()}\n{ended}\n{wanted.decode()}")
+            wants = state_lines(octets, found, policy, at, given is not None)
+            for more, wanted in zip(((), ("--values",)), wants, strict=True):
+                ended = room.state(given_octets, given, *words, *more)
+                verdict(f"{title} at {at} {more}", ended == (0, wanted, ""), f"{policy} {found} {octets.hex()}\n{ended}\n{wanted.decode()}")
     return octets, lines, file
 
 
@@ -311,11 +329,12 @@ def large(room):
         ("subkeys", packet(6, first.body) + b"".join(
             packet(14, Key(4, made, 27, number(32, it + 2), None).body) + packet(2, signature(first, 0x18, b"", area)) for it in range(MANY)), MANY + 1),
     ):  # fmt: skip
-        began = processor_seconds()
-        status, found, _ = run("state", "--at", str(made), given=octets)
-        spent = processor_seconds() - began
-        verdict(f"many {title}", status == 0 and found.count(b"\n") == lines, f"{status} {found[:200]}")
-        verdict(f"many {title} in little time", spent < MANY_SECONDS, f"{spent} s")
+        for more in (), ("--values",):
+            began = processor_seconds()
+            status, found, _ = run("state", "--at", str(made), *more, given=octets)
+            spent = processor_seconds() - began
+            verdict(f"many {title} {more}", status == 0 and found.count(b"\n") == lines, f"{status} {found[:200]}")
+            verdict(f"many {title} {more} in little time", spent < MANY_SECONDS, f"{spent} s")
         rows, _ = file_of(checked(octets), [standing.GOOD] * MANY, random.Random(1))
         file = verdict_files.file(octets, rows)
         began = processor_seconds()

@@ -27,7 +27,7 @@ NO_ROW, NO_CERTIFICATE = "opgp: no such row", "opgp: no such certificate"
 
 
 def no_key(key):
-    return f"{NO_CERTIFICATE}\nopgp: no certificate has the key {key}"
+    return f"{NO_CERTIFICATE}\nopgp: no certificate has the key {key}"  # by --hints always
 
 
 KEYS = f"{ROOM.name}/keys"
@@ -37,7 +37,7 @@ SIGNATURE = f"--signatures {HERE}/examples/rfc9580-a2.asc"
 NO_LITERAL = "composition: BlockLabel block 0 at 0 inner 0"
 # What --progress shows: within the limit 10 one octet more is read, else all of the key.
 READ = {True: "\ropgp: 11 octets, 0 packets\n", False: "\ropgp: 147 octets, 1 packets\n"}
-# What is told beside a fault, without --quiet.
+# What is told beside a fault by --hints always.
 TOLD = {
     NO_LITERAL: "opgp: a block that this command doesn't read; opgp show lists its packets\n",
     "input: InputTooLong block 0 at 10 inner 0": "opgp: the input is longer than --input allows\n",
@@ -55,6 +55,7 @@ ACCEPTED = {
     "state --at 0": b"cert 0 part - : unverified pub C959BDBAFA32A2F89A153B678CFDE12197965A9A early uses - ",
     "state --policy any --at=2026-11-20": b"cert 0 part - : unverified pub C959BDBAFA32A2F89A153B678CFDE12197965A9A unbound uses - ",
     "state --at 1970-01-01T00:00:01Z --policy=usual --malformed keep": b"cert 0 part - : unverified pub ",
+    "state --values --at 1408458507": b"cert 0 part - : unverified pub C959BDBAFA32A2F89A153B678CFDE12197965A9A unbound uses - begin 1408458507 end - reason - 2014-08-19T14:28:27Z - key pub lack - date - part - hang - -\n",
     "state --at 0 --input 10": "input: InputTooLong block 0 at 10 inner 0",
     "octets --row 0": NO_ROW,
     "octets --row 0 --explain": NO_ROW,
@@ -82,18 +83,20 @@ ACCEPTED = {
     "split --key=0xC959BDBAFA32a2f89a153b678cfde12197965A9A --spool " + ROOM.name: ARMOR,
     "split --key 8CFDE12197965A9A": ARMOR,
     "split --progress --key 0X8cfde12197965a9a": ARMOR,
-    "split --key 8CFDE12197965A9B": no_key("8CFDE12197965A9B"),
-    "split --key C959BDBAFA32A2F89A153B678CFDE12197965A9B": no_key("C959BDBAFA32A2F89A153B678CFDE12197965A9B"),
-    "split --key " + 64 * "0": no_key(64 * "0"),
+    "split --key 8CFDE12197965A9B": NO_CERTIFICATE,
+    "split --key C959BDBAFA32A2F89A153B678CFDE12197965A9B": NO_CERTIFICATE,
+    "split --key " + 64 * "0": NO_CERTIFICATE,
     "split --key 8CFDE12197965A9A --key=0x8cfde12197965a9a": ARMOR,
-    "split --key 8CFDE12197965A9A --key 8CFDE12197965A9B": no_key("8CFDE12197965A9B"),
-    "split --key 8CFDE12197965A9B --out binary --key 8CFDE12197965A9A": no_key("8CFDE12197965A9B"),
+    "split --key 8CFDE12197965A9A --key 8CFDE12197965A9B": NO_CERTIFICATE,
+    "split --key 8CFDE12197965A9B --out binary --key 8CFDE12197965A9A": NO_CERTIFICATE,
     "split --except --key C959BDBAFA32A2F89A153B678CFDE12197965A9A": b"",
-    "split --key 8CFDE12197965A9B --except": no_key("8CFDE12197965A9B"),
+    "split --key 8CFDE12197965A9B --except": NO_CERTIFICATE,
     f"split --keys {KEYS}": ARMOR,
     f"split --out binary --keys={KEYS} --key 8CFDE12197965A9A": BINARY,
     f"split --keys {KEYS} --except --spool {ROOM.name}": b"",
-    f"split --keys {KEYS} --key 8CFDE12197965A9B": no_key("8CFDE12197965A9B"),
+    f"split --keys {KEYS} --key 8CFDE12197965A9B": NO_CERTIFICATE,
+    "split --key 8CFDE12197965A9B --hints always": no_key("8CFDE12197965A9B"),
+    "split --hints=always --key 8CFDE12197965A9A --key C959BDBAFA32A2F89A153B678CFDE12197965A9B": no_key("C959BDBAFA32A2F89A153B678CFDE12197965A9B"),
     "show --values": USUAL["show"],
     "list --values": USUAL["list"],
     "list --values --progress": USUAL["list"],
@@ -118,6 +121,13 @@ ACCEPTED = {
     "list --progress --input 10": "input: InputTooLong block 0 at 10 inner 0",
     "list --input +010": "input: InputTooLong block 0 at 10 inner 0",
     "list --quiet --input 10": "input: InputTooLong block 0 at 10 inner 0",
+    "list --hints always --input 0": "input: InputTooLong block 0 at 0 inner 0",
+    "list --hints=always --quiet --input 0": "input: InputTooLong block 0 at 0 inner 0",
+    "octets --row 0 --of literal --hints always": NO_LITERAL,
+    "cleartext --hints always": "cleartext: Label block 0 at 0 inner 0",
+    "signatures --mode binary --hints always": "framing: NotAPacket block 0 at 0 inner 0",
+    "list --hints never --input 0": "input: InputTooLong block 0 at 0 inner 0",
+    "list --hints=auto --input 0": "input: InputTooLong block 0 at 0 inner 0",
     "octets --quiet --of literal --row 1": NO_LITERAL,
     "split --nth=7 --quiet": NO_CERTIFICATE,
     "list --progress --quiet --input 10": "input: InputTooLong block 0 at 10 inner 0",
@@ -207,6 +217,13 @@ REFUSED = [
     ("write --bound", "'--bound' wants '--verdicts <FILE>'"), ("write --verdicts x", "'--verdicts <FILE>' wants '--bound'"),
     ("write --bound --user-id 0", "'--bound' wants '--verdicts <FILE>'"), ("write --verdicts x --user-id 0", "'--verdicts <FILE>' wants '--bound'"),
     ("write --user-id 0 --bound --verdicts x", "'--user-id <N>' cannot be used with '--bound'"),
+    ("write --newest", "'--newest' wants '--at <TIME>'"), ("write --at 0", "'--at <TIME>' wants '--newest'"), ("write --at x", "'--at <TIME>' wants '--newest'"),
+    ("write --newest --at 0", "'--newest' wants '--bound'"), ("write --newest --at x", "'--newest' wants '--bound'"),
+    ("write --newest --at 0 --bound", "'--bound' wants '--verdicts <FILE>'"), ("write --newest --at 0 --verdicts x", "'--verdicts <FILE>' wants '--bound'"),
+    ("write --bound --verdicts x --newest", "'--newest' wants '--at <TIME>'"), ("write --bound --verdicts x --at 0", "'--at <TIME>' wants '--newest'"),
+    ("write --bound --verdicts x --newest --at 0 --user-id 1", "'--user-id <N>' cannot be used with '--bound'"),
+    ("write --bound --verdicts x --newest --at now", "invalid value 'now' for '--at <TIME>'"), ("write --newest=1", "--newest"),
+    ("write --newest --newest", "--newest"), ("write --at 0 --at 0", "--at"), ("normalise --newest", "--newest"), ("split --at 0", "--at"),
     ("check --places --places", "--places"), ("check --places=true", "--places"), ("list --places", "--places"), ("check --place", "--place"),
     ("check --places --fingerprints", "'--places' cannot be used with '--fingerprints'"), ("check --fingerprints --places", "'--places' cannot be used with '--fingerprints'"),
     ("check --fingerprint", "--fingerprint"), ("list --values --values", "--values"), ("list --values=true", "--values"),
@@ -224,11 +241,14 @@ REFUSED = [
     ("state", "--at <TIME>"), ("state --policy any", "--at <TIME>"), ("state --at", "--at"), ("state --at=", "--at"), ("state --at now", "now"),
     ("state --at 0 --at 0", "--at"), ("state --at 2026-02-29", "2026-02-29"), ("state --at 0 --policy", "--policy"), ("state --at 0 --policy odd", "odd"),
     ("state --at 0 --verdicts", "--verdicts"), ("state --at 0 --verdicts=", "--verdicts"),
-    ("check --at 0", "--at"), ("list --policy any", "--policy"), ("state --at 0 --values", "--values"),
+    ("check --at 0", "--at"), ("list --policy any", "--policy"), ("state --at 0 --values --values", "--values"), ("state --at 0 --values=true", "--values"),
+    ("state --values", "--at <TIME>"),
     ("cleartext --of", "--of"), ("cleartext --of=", "--of"), ("cleartext --of text", "text"), ("cleartext --of document --of hashed", "--of"),
     ("cleartext --out armor", "--out"), ("cleartext --values", "--values"), ("canonical --of document", "--of"),
     ("canonical --salt", "--salt"), ("canonical --out armor", "--out"), ("signatures --values", "--values"), ("digests", "unrecognized subcommand 'digests'"),
     ("join --merge --merge", "--merge"), ("join --merge=true", "--merge"), ("--version", "--version"),
+    ("list --hints", "--hints"), ("list --hints=", "--hints"), ("list --hints odd", "odd"), ("list --hints Always", "Always"),
+    ("list --hints auto --hints never", "--hints"), ("--hints always list", "--hints"),
     ("list --quiet --quiet", "--quiet"), ("list --quiet=true", "--quiet"), ("--quiet list", "--quiet"), ("list -q", "-q"),
     ("list --progress --progress", "--progress"), ("list --progress=true", "--progress"), ("--progress list", "--progress"),
     ("list --version", "--version"), ("-V", "-V"), ("list --spool", "--spool"), ("list --spool=", "--spool"),
@@ -242,7 +262,7 @@ for line in ("list --help", "list -h", "help list"):
         "Usage: opgp list [OPTIONS]", "--mode <MODE>", "[possible values: auto, armor, binary]", "[default: auto]",
         "--outside <POLICY>", "[possible values: skip, refuse]", "[default: skip]",
         "--malformed <POLICY>", "[possible values: refuse, keep]", "[default: refuse]", "--values",
-        "--line <N>", "--body <N>", "--cert <N>", "--input <N>", "--pieces <N>", "--progress", "--quiet", "--spool <DIR>")]
+        "--line <N>", "--body <N>", "--cert <N>", "--input <N>", "--pieces <N>", "--progress", "--quiet", "--hints <WHEN>", "--spool <DIR>")]
 # What steers a terminal is escaped: a color, the direction of letters, a bell, a control above ASCII.
 REFUSED += [("\x1b[31mlist", r"'\u{1b}[31mlist'"), ("list \u202emoc", r"'\u{202e}moc'"), ("state --at 1\a", r"'1\u{7}'"), ("split --key \x9b0m", r"'\u{9b}0m'")]
 REFUSED += [("octets --help", "--of <TOP>"), ("octets --help", "--row <N>"), ("octets --help", "--all"), ("octets --help", "--explain"), ("show --help", "--values"), ("check --help", "--fingerprints"), ("check --help", "--places"), ("split --help", "--nth <N>"), ("write --help", "--own-signatures"), ("write --help", "--no-attributes"), ("write --help", "--user-id <N>"), ("split --help", "--key <KEY>"), ("split --help", "--keys <FILE>"), ("split --help", "--except"), ("join --help", "--merge")]
@@ -307,7 +327,7 @@ for line, wanted in ACCEPTED.items():
     if isinstance(wanted, bytes):
         verdict(line, status == 0 and out.startswith(wanted) and bool(out) == bool(wanted) and err == read, (status, out, err))
     else:
-        told = "" if "--quiet" in line else TOLD.get(wanted, "")
+        told = TOLD.get(wanted, "") if re.search("--hints[ =]always", line) and "--quiet" not in line else ""
         verdict(line, (status, out, err) == (1, b"", f"{read}{wanted}\n{told}"), (status, out, err))
 for line, mention in REFUSED:
     status, out, err = run(line)

@@ -51,7 +51,7 @@ MORE = (("instructions", (1.20, 1.50), 40_000), ("octets held", (1.05, 1.20), 4_
 KIT = "# kit: "
 # What `check` may hold of a certificate with one key and at most one signature: its row, the issuer's name, the key in the index; and
 # `state`, which holds how its parts stand.
-CHECKED = {"check": 400, "check --fingerprints": 466, "check --places": 466, "state --at 1795132800": 450}
+CHECKED = {"check": 400, "check --fingerprints": 466, "check --places": 466, "state --at 1795132800": 450, "state --at 1795132800 --values": 450}
 
 
 def armored(octets, size):
@@ -278,6 +278,7 @@ COMMANDS = (
     "cleartext --of hashed",
     "cleartext --of signatures",
     "state --at 1795132800",
+    "state --at 1795132800 --values",
 )
 # What else is tried, by the name of the parts.
 ALSO = {"user IDs": ("normalise --out binary", "split", "split --key FIRST", "join --out binary", "write"), "octets of a user ID": ("split",),

@@ -5,7 +5,6 @@ pub use Rattle.opgp_stack.specs.Bounding
 pub use Rattle.opgp_stack.specs.ByKey
 pub use Rattle.opgp_stack.specs.Canonical
 pub use Rattle.opgp_stack.specs.CleartextRun
-pub use Rattle.opgp_stack.specs.Date
 pub use Rattle.opgp_stack.specs.Differing
 pub use Rattle.opgp_stack.specs.Digits
 pub use Rattle.opgp_stack.specs.Documents
@@ -17,7 +16,6 @@ pub use Rattle.opgp_stack.specs.KeySize
 pub use Rattle.opgp_stack.specs.KeyText
 pub use Rattle.opgp_stack.specs.Listing
 pub use Rattle.opgp_stack.specs.Making
-pub use Rattle.opgp_stack.specs.March
 pub use Rattle.opgp_stack.specs.Octets
 pub use Rattle.opgp_stack.specs.OnePart
 pub use Rattle.opgp_stack.specs.PacketText

@@ -8,6 +8,7 @@ pub use Rattle.opgp_valid.specs.FlawText
 pub use Rattle.opgp_valid.specs.Gathering
 pub use Rattle.opgp_valid.specs.Group
 pub use Rattle.opgp_valid.specs.Judgement
+pub use Rattle.opgp_valid.specs.KeyCauses
 pub use Rattle.opgp_valid.specs.KnownKeys
 pub use Rattle.opgp_valid.specs.Laws
 pub use Rattle.opgp_valid.specs.Listing

@@ -18,7 +18,7 @@ pub mod blocks {
 
 /// Certificates of which only bound components stay, by a verifier's verdicts.
 pub mod bound {
-    pub use opgp_bound::{keep_bound, laws};
+    pub use opgp_bound::{keep_bound, keep_newest, laws, newest_laws};
 }
 
 /// Messages in the cleartext signature framework (RFC 9580, 7): documents with their signatures.
@@ -137,8 +137,9 @@ pub mod stack {
 /// Lines of what is found of signatures, keys and user IDs, and files of verdicts.
 pub mod state {
     pub use opgp_state::{
-        Basis, KeyringStates, Placing, RowPlace, add_fingerprinted_report, add_placed_report,
-        add_report, add_states, claimed_verdicts, laws, left_of, read_verdicts, verdict_words,
+        Basis, DAY, Date, KeyringStates, Placing, RowPlace, add_date, add_date_or_none,
+        add_date_word, add_fingerprinted_report, add_placed_report, add_report, add_states,
+        claimed_verdicts, date_text, laws, left_of, read_verdicts, verdict_words,
     };
 }
 
@@ -148,8 +149,8 @@ pub mod valid {
         Author, Belief, Cause, Certified, Doubt, Facts, Flaw, IdentityState, Judgement, Key,
         KeyPlace, KeyState, Known, KnownKeys, Lack, Life, PartState, Policy, Revoked, Spot,
         Statement, Uses, Why, believe, believe_at, cause_of, identity_state, is_strong, judge,
-        key_state, laws, least_digest, list_revocations, part_states, revocation_at, standing,
-        subpackets, verdicts_behind,
+        key_state, laws, least_digest, list_revocations, part_causes, part_states, revocation_at,
+        standing, subpackets, verdicts_behind,
     };
 }
 

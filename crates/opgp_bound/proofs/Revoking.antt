@@ -36,13 +36,13 @@ or_itself true = refl
 or_itself false = refl
 
 -- of items of which each answers the same
-of_alike : {A B : Type 0} (q : B → Bool) (f : A → B) (t : Bool) → ((x : A) → q (f x) ≡ t) → (x : A) (xs : List A) → list_any q (map f (x ∷ xs)) ≡ t
+pub of_alike : {A B : Type 0} (q : B → Bool) (f : A → B) (t : Bool) → ((x : A) → q (f x) ≡ t) → (x : A) (xs : List A) → list_any q (map f (x ∷ xs)) ≡ t
 of_alike q f t same x [] = ap (λ (a : Bool). a || false) (same x) ∙ or_none t
 of_alike q f t same x (y ∷ ys) =
     ap (λ (a : Bool). a || list_any q (map f (y ∷ ys))) (same x) ∙ ap (λ (a : Bool). t || a) (of_alike q f t same y ys) ∙ or_itself t
 
 -- of a list whose last item is changed, where that answers the same
-of_changed : {A : Type 0} (q : A → Bool) (f : A → A) → ((x : A) → q (f x) ≡ q x) → (xs : List A) → list_any q (change_last f xs) ≡ list_any q xs
+pub of_changed : {A : Type 0} (q : A → Bool) (f : A → A) → ((x : A) → q (f x) ≡ q x) → (xs : List A) → list_any q (change_last f xs) ≡ list_any q xs
 of_changed q f same [] = refl
 of_changed q f same (x ∷ []) = ap (λ (a : Bool). a || false) (same x)
 of_changed q f same (x ∷ y ∷ ys) = ap (λ (a : Bool). q x || a) (of_changed q f same (y ∷ ys))

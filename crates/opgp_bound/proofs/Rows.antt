@@ -23,13 +23,13 @@ nested_counted : (place : Place) (subject : SubjectValue) (n : ℕ) (bodies : Li
 nested_counted place subject n [] = refl
 nested_counted place subject n (b ∷ bodies) = ap suc (nested_counted place subject (n + 1) bodies)
 
-hang_counted : (certificate : ℕ) (component : Option ℕ) (subject : SubjectValue) (n : ℕ) (p : PacketValue) → length (hang_standing certificate component subject n p) ≡ rows_of subject p
+pub hang_counted : (certificate : ℕ) (component : Option ℕ) (subject : SubjectValue) (n : ℕ) (p : PacketValue) → length (hang_standing certificate component subject n p) ≡ rows_of subject p
 hang_counted certificate component subject n p = go (is_signature p) where
   go : (b : Bool) → length (if b then signature_standing (hung_at certificate component n) subject p.body else []) ≡ (if b then 1 + length (bodies_within subject (signature_at p.body)) else 0)
   go true = omega (arith, nested_counted (hung_at certificate component n) subject 0 (bodies_within subject (signature_at p.body)))
   go false = refl
 
-hangs_counted : (certificate : ℕ) (component : Option ℕ) (subject : SubjectValue) (n : ℕ) (ps : List PacketValue) → length (by_number (hang_standing certificate component subject) n ps) ≡ rows_on subject ps
+pub hangs_counted : (certificate : ℕ) (component : Option ℕ) (subject : SubjectValue) (n : ℕ) (ps : List PacketValue) → length (by_number (hang_standing certificate component subject) n ps) ≡ rows_on subject ps
 hangs_counted certificate component subject n [] = refl
 hangs_counted certificate component subject n (p ∷ ps) =
     length-append (hang_standing certificate component subject n p) (by_number (hang_standing certificate component subject) (n + 1) ps)

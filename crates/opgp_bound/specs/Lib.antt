@@ -1,7 +1,11 @@
+pub mod Before
 pub mod Bound
 pub mod Copies
 pub mod Gathering
 pub mod Issuers
 pub mod Judged
+pub mod Newest
+pub mod Outdated
+pub mod Replacing
 pub mod Role
 pub mod Staying

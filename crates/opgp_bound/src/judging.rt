@@ -27,14 +27,14 @@ use opgp_ring::{Component, Components, Content, Hangs, Head, Member};
 use std::alloc::Global;
 
 /// The verdicts behind this many.
-fn behind(verdicts: &[Verdict], rows: usize) -> &[Verdict]
+pub(crate) fn behind(verdicts: &[Verdict], rows: usize) -> &[Verdict]
     ensures { result.now ≡ drop rows verdicts.now }
 {
     &verdicts[rows.min(verdicts.len())..]
 }
 
 /// The first of these verdicts; where there is none it is undecided.
-fn first_verdict(verdicts: &[Verdict]) -> Verdict
+pub(crate) fn first_verdict(verdicts: &[Verdict]) -> Verdict
     ensures { result ≡ first_verdict verdicts.now }
 {
     match verdicts {
@@ -44,7 +44,7 @@ fn first_verdict(verdicts: &[Verdict]) -> Verdict
 }
 
 /// What signatures on a component are made over.
-fn subject_on<'a>(primary: KeyView<'a>, component: Component<'a>) -> Subject<'a>
+pub(crate) fn subject_on<'a>(primary: KeyView<'a>, component: Component<'a>) -> Subject<'a>
     ensures value { subject_value result
         ≡ on_head (body_octets primary.entry) (component_of component.entry).head }
     ensures within { is_within (subject_value result) ≡ true }
@@ -59,7 +59,7 @@ fn subject_on<'a>(primary: KeyView<'a>, component: Component<'a>) -> Subject<'a>
 impl Context<'_> {
     /// What a packet on a subject is there for, by the verdict in its row; and how many rows it
     /// has.
-    fn judge<'a>(
+    pub(crate) fn judge<'a>(
         &self,
         subject: Subject<'a>,
         found: Verdict,

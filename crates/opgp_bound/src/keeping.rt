@@ -18,7 +18,7 @@ use opgp_ring::{Certificate, Member};
 use std::alloc::Global;
 
 /// Whether it is a genuine self-signature.
-fn is_genuine(role: Role) -> bool
+pub(crate) fn is_genuine(role: Role) -> bool
     ensures { result ≡ is_genuine role }
 {
     match role {
@@ -52,7 +52,11 @@ fn component_stays(component: &JudgedComponent<'_>) -> bool
 }
 
 /// Adds a copy of a packet, if it stays.
-fn add_if(chosen: &mut Certificate, member: Member<'_>, stays: bool) -> Result<(), OutOfMemory>
+pub(crate) fn add_if(
+    chosen: &mut Certificate,
+    member: Member<'_>,
+    stays: bool,
+) -> Result<(), OutOfMemory>
     requires { IsHung (member_packet member) }
     ensures { OnOk result (certificate_packets chosen.new ≡ certificate_packets chosen.old
         ++ (if stays then member_packet member.entry ∷ [] else [])) }

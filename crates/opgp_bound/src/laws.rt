@@ -1,6 +1,7 @@
 //! What the definitions imply.
 
 ghost use Rattle.std.specs.Prelude.{◌≡◌, ◌⊎◌, ℕ, List, [], length, All, Some, slice_get, true};
+ghost use Rattle.std.specs.Prelude.{false, is_some};
 ghost use Rattle.std.specs.List.{Contains};
 ghost use Rattle.opgp_octets.specs.declared.signature_type.SignatureType.{SignatureType};
 ghost use Rattle.opgp_packet.specs.SignatureBody.{SignatureValue};
@@ -13,12 +14,17 @@ ghost use Rattle.opgp_report.specs.declared.verifier.Verdict.{Verdict};
 ghost use Rattle.opgp_merge.specs.Merged.{merged_of, same_head, same_primary};
 ghost use Rattle.opgp_valid.specs.KnownKeys.{known_in};
 ghost use Rattle.opgp_valid.specs.Standing.{is_revoked};
+ghost use Rattle.opgp_valid.specs.State.{identity_of, reason_of, unusable};
 ghost use Rattle.opgp_valid.specs.declared.facts.Key.TheVariants.{Primary, Subkey};
 ghost use Rattle.opgp_valid.specs.declared.known_keys.Known.{Known};
 ghost use Rattle.opgp_valid.specs.declared.policy.Policy.{Policy};
+ghost use Rattle.opgp_valid.specs.declared.state.IdentityState.TheVariants.{Certified};
+ghost use Rattle.opgp_bound.specs.Before.{IsBoundOf, PutsNone, SaysSameAnywhere, StandsAs};
+ghost use Rattle.opgp_bound.specs.Before.{components_decided, number_kept};
 ghost use Rattle.opgp_bound.specs.Copies.{Deciding, facts_decided};
 ghost use Rattle.opgp_bound.specs.Bound.{bound_certificate, bound_keyring, component_stays};
-ghost use Rattle.opgp_bound.specs.Bound.{components_in, is_genuine, own_in, revokes, role_stays};
+ghost use Rattle.opgp_bound.specs.Bound.{components_in, is_genuine, kept_component, own_in};
+ghost use Rattle.opgp_bound.specs.Bound.{revokes, role_stays};
 ghost use Rattle.opgp_bound.specs.Issuers.{revocation_issuers};
 ghost use Rattle.opgp_bound.specs.Judged.{JudgedComponentValue, JudgedValue, certificate_rows};
 ghost use Rattle.opgp_bound.specs.Role.{is_own_and_good, is_self_type, role_by};
@@ -111,4 +117,50 @@ pub fn merging_is_careful()
         → slice_get m.components k ≡ Some e → same_head d e ≡ true
         → is_revoked (facts_decided known policy v c) (Subkey n created) ≡ true
         → is_revoked (facts_decided known policy v m) (Subkey k again) ≡ true }
+{}
+
+/// What is bound of a certificate stands as before, by the same keys, and by verdicts that go by
+/// what is hashed: the primary key; and each subkey, user ID and attribute that stays, by the number
+/// that it gets. A key is believed for the same signatures, has the same state at each time, and the
+/// same reasons of revocations. Only which of these comes first may change, where a key revocation
+/// is put elsewhere. A subkey that goes was never of use, and nothing that goes was ever certified.
+pub fn what_is_bound_stands_as_before()
+    ensures primary { (policy : Policy) (v : Deciding) (r : KeyringValue) (c m : CertificateValue)
+        → SaysSameAnywhere v → IsBoundOf v r c m
+        → StandsAs (facts_decided (known_in r) policy v c) (facts_decided (known_in r) policy v m)
+        Primary Primary }
+    ensures number { (v : Deciding) (r : KeyringValue) (c m : CertificateValue) (n : ℕ)
+        (d : JudgedComponentValue) → IsBoundOf v r c m
+        → slice_get (components_decided v r c) n ≡ Some d → component_stays d ≡ true
+        → slice_get m.components (number_kept (components_decided v r c) n)
+        ≡ Some (kept_component d) }
+    ensures subkey { (policy : Policy) (v : Deciding) (r : KeyringValue) (c m : CertificateValue)
+        (n created : ℕ) (d : JudgedComponentValue) → SaysSameAnywhere v → IsBoundOf v r c m
+        → slice_get (components_decided v r c) n ≡ Some d → component_stays d ≡ true
+        → StandsAs (facts_decided (known_in r) policy v c) (facts_decided (known_in r) policy v m)
+        (Subkey n created) (Subkey (number_kept (components_decided v r c) n) created) }
+    ensures reason { (policy : Policy) (v : Deciding) (r : KeyringValue) (c m : CertificateValue)
+        → IsBoundOf v r c m → PutsNone v r c
+        → reason_of (facts_decided (known_in r) policy v c) Primary
+        ≡ reason_of (facts_decided (known_in r) policy v m) Primary }
+    ensures subkey_reason { (policy : Policy) (v : Deciding) (r : KeyringValue)
+        (c m : CertificateValue) (n created : ℕ) (d : JudgedComponentValue) → IsBoundOf v r c m
+        → slice_get (components_decided v r c) n ≡ Some d → component_stays d ≡ true
+        → PutsNone v r c → reason_of (facts_decided (known_in r) policy v c) (Subkey n created)
+        ≡ reason_of (facts_decided (known_in r) policy v m)
+        (Subkey (number_kept (components_decided v r c) n) created) }
+    ensures identity { (policy : Policy) (v : Deciding) (r : KeyringValue)
+        (c m : CertificateValue) (n at : ℕ) (d : JudgedComponentValue) → IsBoundOf v r c m
+        → slice_get (components_decided v r c) n ≡ Some d → component_stays d ≡ true
+        → identity_of (facts_decided (known_in r) policy v c) n at
+        ≡ identity_of (facts_decided (known_in r) policy v m)
+        (number_kept (components_decided v r c) n) at }
+    ensures usable { (policy : Policy) (v : Deciding) (r : KeyringValue) (c : CertificateValue)
+        (n created at : ℕ) (d : JudgedComponentValue)
+        → slice_get (components_decided v r c) n ≡ Some d → component_stays d ≡ false
+        → is_some (unusable (facts_decided (known_in r) policy v c) (Subkey n created) at) ≡ true }
+    ensures certified { (policy : Policy) (v : Deciding) (r : KeyringValue) (c : CertificateValue)
+        (n at : ℕ) (d : JudgedComponentValue)
+        → slice_get (components_decided v r c) n ≡ Some d → component_stays d ≡ false
+        → identity_of (facts_decided (known_in r) policy v c) n at ≡ Certified → ⊥ }
 {}

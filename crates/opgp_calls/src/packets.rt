@@ -1,7 +1,7 @@
 //! Packets, keyrings and signed literals.
 
 use crate::lines;
-use opgp_bound::keep_bound;
+use opgp_bound::{keep_bound, keep_newest};
 use opgp_codec::{Mode, Out, Watched, read_packets, read_signatures};
 use opgp_frame::{Packet, Placed, write_packet};
 use opgp_octets::{Limits, Malformed};
@@ -19,6 +19,7 @@ pub(crate) fn add_made(alloc: Global, name: &str, octets: &[u8], out: &mut Vec<u
         "signatures" => add_signatures(alloc, octets, out),
         "ring" => add_ring(alloc, &ring_of(alloc, octets)?, out),
         "bound" => add_bound(alloc, ring_of(alloc, octets)?, out),
+        "newest" => add_newest(alloc, ring_of(alloc, octets)?, out),
         "binary" => lines::add_certificates(alloc, &ring_of(alloc, octets)?, Out::Binary, out),
         "armored" => lines::add_certificates(alloc, &ring_of(alloc, octets)?, Out::Armor, out),
         "listing" => lines::add_listing(alloc, &ring_of(alloc, octets)?, out),
@@ -99,4 +100,16 @@ fn add_ring(alloc: Global, ring: &Keyring, out: &mut Vec<u8>) -> Option<()> {
 /// What stays of a keyring whose first signature is good; of the others nothing is known.
 fn add_bound(alloc: Global, ring: Keyring, out: &mut Vec<u8>) -> Option<()> {
     add_ring(alloc, &keep_bound(alloc, ring, &[Verdict::Good]).ok()?, out)
+}
+
+/// What newer self-signatures leave of a keyring in 2033, whose first three signatures are good; and
+/// a letter for each verdict that is left of these.
+fn add_newest(alloc: Global, ring: Keyring, out: &mut Vec<u8>) -> Option<()> {
+    let good = [Verdict::Good, Verdict::Good, Verdict::Good];
+    let (newest, founds) = keep_newest(alloc, ring, &good, 2_000_000_000).ok()?;
+    add_ring(alloc, &newest, out)?;
+    for _ in &founds {
+        out.push(b'v').ok()?;
+    }
+    Some(())
 }

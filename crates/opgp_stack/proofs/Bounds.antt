@@ -5,14 +5,13 @@ use Rattle.opgp_ring.specs.Keyring.{KeyringValue, flat}
 use Rattle.opgp_report.specs.declared.verifier.Verdict.{Verdict}
 use Rattle.opgp_merge.specs.Chosen.{chosen_keyring}
 use Rattle.opgp_merge.specs.Merged.{merged_of}
-use Rattle.opgp_bound.specs.Bound.{bound_keyring}
 use Rattle.opgp_state.specs.VerdictFile.{HasVerdicts}
 use Rattle.opgp_codec.specs.Keyrings.{ComposesTo, key_label}
 use Rattle.opgp_codec.specs.Pulled.{OfAll}
 use Rattle.opgp_codec.specs.Reading.{AnswerOf, Outcome}
 use Rattle.opgp_codec.specs.Writing.{packets_text}
 use Rattle.opgp_codec.proofs.Pulling.{of_all}
-use Rattle.opgp_stack.specs.Bounding.{IsBoundOf, OfBound}
+use Rattle.opgp_stack.specs.Bounding.{IsBoundOf, OfBound, bound_then}
 use Rattle.opgp_stack.specs.Running.{IsMade, Made, Refused, RunsOf, Text, lacks, makes}
 use Rattle.opgp_stack.specs.declared.bounding.BoundTask.{BoundTask}
 use Rattle.opgp_stack.specs.declared.run_fault.RunFault.{RunFault}
@@ -37,5 +36,5 @@ module _ {R W : Type 0} (left : R → Option (List ℕ)) (has_failed : R → Boo
 
 -- what is bound by the verdicts of a file
 pub bound_said : (task : BoundTask) (file : List ℕ) (r chosen : KeyringValue) (verdicts : List Verdict) → HasVerdicts file r verdicts
-    → chosen ≡ chosen_keyring task.choice (bound_keyring r verdicts) → IsBoundOf task file r (Text (packets_text task.out (flat chosen)))
+    → chosen ≡ chosen_keyring task.choice (bound_then task.newest_at r verdicts) → IsBoundOf task file r (Text (packets_text task.out (flat chosen)))
 bound_said task file r chosen verdicts has is = inl (verdicts, has, ap (λ (s : KeyringValue). Text (packets_text task.out (flat s))) is)

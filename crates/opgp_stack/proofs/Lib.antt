@@ -1,9 +1,7 @@
 mod AllRows
 mod Bounds
-mod Calendar
 mod CanonicalText
 mod CleartextParts
-mod DateTexts
 mod Differences
 mod DocumentLines
 mod GoingOn

@@ -6,10 +6,10 @@ use Rattle.std.proofs.lemmas.Int.Digits.{digits_value-lt}
 use Rattle.std.proofs.lemmas.Str.Parse.{without_leading_plus_none}
 use Rattle.std.proofs.lemmas.List.{length-append}
 use Rattle.std.proofs.Math.Nat.{pow-le-pow_right}
-use Rattle.opgp_stack.specs.Date.{DateValue, date_of, date_text, day_text, days_before, days_in_month, days_in_year, days_of_months, days_of_years, seconds_text}
+use Rattle.opgp_state.specs.Date.{DateValue, date_of, date_text, day_text, days_before, days_in_month, days_in_year, days_of_months, days_of_years, seconds_text}
 use Rattle.opgp_stack.specs.Time.{IsDateOf, IsSeconds, IsTime, date_at, seconds_at, two_at}
-use Rattle.opgp_stack.proofs.DateTexts.{one_time}
-use Rattle.opgp_stack.proofs.Calendar.{dated, day_of, month_bounds, year_bound}
+use Rattle.opgp_state.proofs.DateTexts.{one_time, text_is}
+use Rattle.opgp_state.proofs.Calendar.{dated, day_of, month_bounds, year_bound}
 
 -- ---- sums of days
 pub year_most : (y : ℕ) → days_in_year y ≤ 366
@@ -39,10 +39,6 @@ unfolding days_before
 before_is d = refl
 
 -- ---- a date's text is read as its numbers
-text_is : (n : ℕ) → date_text n ≡ day_text (date_of (n / 86400)) ++ seconds_text (n % 86400)
-unfolding date_text
-text_is n = refl
-
 two_value : (x : ℕ) → x < 100 → (48 + x / 10 % 10 - 48) * 10 + (48 + x % 10 - 48) ≡ x
 two_value x h = omega arith
 
@@ -86,10 +82,6 @@ time_read n text small e =
 pub date_missed : (text : List ℕ) → ((n : ℕ) → n < 2 ^ 32 → n ≡ days_before (date_at text) * 86400 + seconds_at text → ⊥) → (n : ℕ) → IsDateOf text n → ⊥
 date_missed text none n h = none n h.small (time_read n text h.small h.written)
 
--- the text of a date, written in two pieces
-pub date_joined : (n : ℕ) → date_text n ≡ day_text (date_of (n / 86400)) ++ seconds_text (n % 86400)
-date_joined n = text_is n
-
 pub date_long : (n : ℕ) → length (date_text n) ≡ 20
 date_long n = ap (λ (l : List ℕ). length l) (text_is n)
 
@@ -122,7 +114,7 @@ same_digits : (text : List ℕ) (a b : ℕ) → IsSeconds text a → IsSeconds t
 same_digits text a b h k = h.value ∙ sym k.value
 
 same_date : (text : List ℕ) (a b : ℕ) → IsDateOf text a → IsDateOf text b → a ≡ b
-same_date text a b h k = one_time a b h.small k.small (h.written ∙ sym k.written)
+same_date text a b h k = one_time a b (omega (arith, h.small)) (omega (arith, k.small)) (h.written ∙ sym k.written)
 
 -- a date has a dash where digits have none
 dashed : (d : DateValue) (s : ℕ) → get_or (day_text d ++ seconds_text s) 4 0 ≡ 45

@@ -3,7 +3,6 @@ pub mod Bounding
 pub mod ByKey
 pub mod Canonical
 pub mod CleartextRun
-pub mod Date
 pub mod Differing
 pub mod Digits
 pub mod Documents
@@ -15,7 +14,6 @@ pub mod KeySize
 pub mod KeyText
 pub mod Listing
 pub mod Making
-pub mod March
 pub mod Octets
 pub mod OnePart
 pub mod PacketText

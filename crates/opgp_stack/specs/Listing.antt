@@ -16,7 +16,7 @@ use Rattle.opgp_packet.specs.KeyBody.{key}
 use Rattle.opgp_frame.specs.Header.{is_type}
 use Rattle.opgp_packet.specs.SignatureBody.{SignatureValue, of_three, of_four, of_six, of_other}
 use Rattle.opgp_packet.specs.SignatureBody.{signature_at}
-use Rattle.opgp_stack.specs.Date.{date_word}
+use Rattle.opgp_state.specs.Date.{date_word}
 use Rattle.opgp_stack.specs.KeySize.{key_size, size_words}
 use Rattle.opgp_stack.specs.declared.listing.Behind.{Behind}
 use Rattle.opgp_stack.specs.declared.listing.Behind.TheVariants.{End, Left}

@@ -1,5 +1,6 @@
 -- How the parts of a keyring stand, as a run writes it.
-use Rattle.std.specs.Prelude.{◌≡◌, ℕ, ◌⊎◌, List, Option, Some, None, Ok, Err}
+use Rattle.std.specs.Prelude.{◌≡◌, ℕ, ◌⊎◌, Bool, List, Option, Some, None}
+use Rattle.std.specs.Prelude.{Ok, Err}
 use Rattle.opgp_report.specs.declared.verifier.Verdict.{Verdict}
 use Rattle.opgp_ring.specs.Keyring.{KeyringValue}
 use Rattle.opgp_merge.specs.Merged.{merged_of}
@@ -14,20 +15,22 @@ use Rattle.opgp_stack.specs.Running.{Made, Text, Refused, OtherVerdicts}
 use Rattle.opgp_stack.specs.declared.stating.StateTask.{StateTask}
 
 -- of a keyring: by what its signatures claim; or by a file of verdicts on them, if it is one
-abbrev pub AreStates : Policy → ℕ → Option (List ℕ) → KeyringValue → Made → Type 0
-AreStates policy at None r made = made ≡ Text (state_lines Claims r (claims_of r) policy at)
-AreStates policy at (Some file) r made =
+abbrev pub AreStates : Bool → Policy → ℕ → Option (List ℕ) → KeyringValue → Made → Type 0
+AreStates values policy at None r made =
+    made ≡ Text (state_lines Claims values r (claims_of r) policy at)
+AreStates values policy at (Some file) r made =
     ((verdicts : List Verdict) × HasVerdicts file r verdicts
-    × (made ≡ Text (state_lines Verdicts r verdicts policy at)))
+    × (made ≡ Text (state_lines Verdicts values r verdicts policy at)))
     ⊎ (((verdicts : List Verdict) → HasVerdicts file r verdicts → ⊥) × (made ≡ OtherVerdicts))
 
 -- of what is read, with its certificates of one primary key merged; a refusal stays one
-abbrev pub AreStatesOf : Policy → ℕ → Option (List ℕ) → Outcome KeyringValue → Made → Type 0
-AreStatesOf policy at file (Ok r) made = AreStates policy at file (merged_of r) made
-AreStatesOf policy at file (Err fault) made = made ≡ Refused fault
+abbrev pub AreStatesOf : StateTask → Option (List ℕ) → Outcome KeyringValue → Made → Type 0
+AreStatesOf task file (Ok r) made =
+    AreStates task.values task.policy task.at file (merged_of r) made
+AreStatesOf task file (Err fault) made = made ≡ Refused fault
 
 -- what a task makes of octets
 abbrev pub OfStates : StateTask → Option (List ℕ) → List ℕ → Made → Type 0
 OfStates task file octets made = (answer : Outcome KeyringValue)
     × AnswerOf key_label (ComposesTo task.limits) task.mode task.limits octets answer
-    × AreStatesOf task.policy task.at file answer made
+    × AreStatesOf task file answer made

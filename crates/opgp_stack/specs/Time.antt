@@ -1,7 +1,7 @@
 -- Times as a command line says them.
 use Rattle.std.specs.Prelude.{◌≡◌, ℕ, ◌+◌, ◌-◌, ◌*◌, ◌<◌, ◌≤◌, ◌^◌, ◌⊎◌, List, ◌++◌, codes, length, slice_index}
 use Rattle.std.specs.Str.Parse.{IsNumeral, digits_value}
-use Rattle.opgp_stack.specs.Date.{DateValue, date_text}
+use Rattle.opgp_state.specs.Date.{DateValue, date_text}
 
 -- a number of seconds since 1970 in decimal digits, 18 at most
 pub record IsSeconds (text : List ℕ) (n : ℕ) : Type 0 where

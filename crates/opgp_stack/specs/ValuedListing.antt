@@ -18,7 +18,7 @@ use Rattle.opgp_frame.specs.Packet.{PacketValue}
 use Rattle.opgp_report.specs.Left.{left_in}
 use Rattle.opgp_report.specs.Named.{named_of}
 use Rattle.opgp_report.specs.Signer.{NameValue, by_print, by_id, unnamed, first_some}
-use Rattle.opgp_stack.specs.Date.{date_words_or_none}
+use Rattle.opgp_state.specs.Date.{date_words_or_none}
 use Rattle.opgp_stack.specs.Listing.{dated_key_line, number_at, packet_line}
 use Rattle.opgp_state.specs.Report.{number_or_none}
 

@@ -27,7 +27,7 @@ use Rattle.opgp_packet.specs.SubView.{kind_shown}
 use Rattle.opgp_codec.specs.Packets.{BlockValue}
 use Rattle.opgp_stack.specs.declared.showing.Area.{Area}
 use Rattle.opgp_stack.specs.declared.showing.Area.TheVariants.{Hashed, Unhashed}
-use Rattle.opgp_stack.specs.Date.{date_words}
+use Rattle.opgp_state.specs.Date.{date_words}
 use Rattle.opgp_stack.specs.Listing.{attribute_line, dated_key_line, signature_line, user_id_line}
 use Rattle.opgp_stack.specs.Showing.{header_line, lines_of, subpacket_start}
 use Rattle.opgp_io.specs.Texts.{escaped}

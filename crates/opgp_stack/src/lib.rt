@@ -10,7 +10,6 @@ mod checking;
 mod checking_fingerprints;
 mod checking_places;
 mod cleartext;
-mod date;
 mod differing;
 mod digest_lines;
 mod digesting;

@@ -13,17 +13,17 @@ ghost use Rattle.opgp_stack.specs.Listing.{key_fields_in, key_line, key_start, l
 ghost use Rattle.opgp_stack.specs.Listing.{opaque_text, packet_line, signature_line};
 ghost use Rattle.opgp_stack.specs.Listing.{signature_text, typed_start};
 ghost use Rattle.opgp_stack.specs.Listing.{key_names, key_numbers, user_id_line};
-ghost use Rattle.opgp_stack.specs.Date.{date_word};
+ghost use Rattle.opgp_state.specs.Date.{date_word};
 ghost use Rattle.opgp_stack.specs.KeySize.{key_size, size_words};
 ghost use Rattle.opgp_stack.specs.Role.{role_name};
 ghost use Rattle.opgp_io.specs.Output.{Extends, sink_of};
 
-use crate::date::add_date_word;
 use crate::key_size::{add_size, size_of};
 use opgp_hash::{KeyId, fingerprint_of_view};
 use opgp_io::{Output, Sink, Word};
 use opgp_packet::{AttributeView, KeyView, SigView};
 use opgp_ring::{Content, Packets};
+use opgp_state::add_date_word;
 use std::io;
 
 /// What a key's line begins with.
@@ -126,7 +126,7 @@ fn add_date_and_size<W: Sink>(output: &mut Output<'_, W>, key: KeyView<'_>) -> i
 {
     opgp_packet::key_laws::written(&key);
     let size = size_of(key);
-    add_date_word(output, key.created())?;
+    add_date_word(output, key.created() as u64)?;
     add_size(output, size)
 }
 

@@ -3,7 +3,7 @@
 ghost use Rattle.std.specs.Prelude.{◌≡◌, ◌⊎◌, false, Err};
 ghost use Rattle.std.specs.Option.{option_map};
 ghost use Rattle.opgp_merge.specs.Merged.{merged_of};
-ghost use Rattle.opgp_state.specs.KeyringStates.{states_in};
+ghost use Rattle.opgp_state.specs.KeyringStates.{causes_in, states_in};
 ghost use Rattle.opgp_state.specs.StateLines.{lines_from};
 ghost use Rattle.opgp_stack.specs.Running.{IsMade, Made, RunsOf};
 ghost use Rattle.opgp_stack.specs.Stating.{AreStates, OfStates};
@@ -32,28 +32,33 @@ pub struct StateTask {
     pub policy: Policy,
     /// The time at which they are judged, in seconds since 1970.
     pub at: u64,
+    /// Whether dates, and what makes a key not usable, are written too.
+    pub values: bool,
 }
 
 /// A line for each part of a keyring.
 #[derive(Clone, Copy)]
 struct StatesText<'a> {
     basis: Basis,
+    values: bool,
     keyring: &'a Keyring,
     states: &'a KeyringStates,
 }
 
 impl Text for StatesText<'_> {
     ghost octets = { λ text.
-        lines_from text.basis 0 text.keyring.now.certificates (states_in text.states.now) };
+        lines_from text.basis text.values 0 text.keyring.now.certificates
+        (states_in text.states.now) (causes_in text.states.now) };
 
     fn add<W: Sink>(self, output: &mut Output<'_, W>) -> io::Result<()> {
-        add_states(output, self.basis, self.keyring, self.states)
+        add_states(output, self.basis, self.values, self.keyring, self.states)
     }
 }
 
 /// Reads a keyring, merges its certificates of one primary key, as [`merge`] does, and writes how
 /// each key, user ID and user attribute stands at a time, a line for each, as [`add_states`] has
-/// them. The conditions are that neither the source nor the sink has failed.
+/// them, with values if they are wanted. The conditions are that neither the source nor the sink
+/// has failed.
 ///
 /// Without a file of verdicts the lines say what the signatures claim, and that nothing is
 /// verified: each that is hashed counts as good, unless its digest is bad. A file has the verdicts
@@ -96,8 +101,8 @@ fn write_merged_states<W: Sink>(
 ) -> Result<(), RunFault>
     requires { W.has_failed writer.old ≡ false }
     ensures { ((result ≡ Err run.Memory) × (writer.new ≡ writer.old)) ⊎ ((made : Made)
-        × AreStates task.now.policy task.now.at (option_map (λ f. f.now) file.entry)
-        (merged_of keyring) made
+        × AreStates task.now.values task.now.policy task.now.at
+        (option_map (λ f. f.now) file.entry) (merged_of keyring) made
         × IsMade W.held W.has_failed writer.old writer.new result made) }
 {
     let merged = merge(keyring)?;
@@ -115,19 +120,32 @@ fn write_states<W: Sink>(
 ) -> Result<(), RunFault>
     requires { W.has_failed writer.old ≡ false }
     ensures { ((result ≡ Err run.Memory) × (writer.new ≡ writer.old)) ⊎ ((made : Made)
-        × AreStates task.now.policy task.now.at (option_map (λ f. f.now) file.entry)
-        keyring.now made
+        × AreStates task.now.values task.now.policy task.now.at
+        (option_map (λ f. f.now) file.entry) keyring.now made
         × IsMade W.held W.has_failed writer.old writer.new result made) }
 {
     match file {
         None => {
-            let states = KeyringStates::claimed(alloc, keyring, task.policy, task.at)?;
-            write_lines(alloc, keyring, Basis::Claims, &states, writer)
+            let states = KeyringStates::claimed(alloc, keyring, task.policy, task.at, task.values)?;
+            write_lines(alloc, keyring, Basis::Claims, task.values, &states, writer)
         }
         Some(file) => match read_verdicts(alloc, keyring, file)? {
             Some(verdicts) => {
-                let states = KeyringStates::of(alloc, keyring, &verdicts, task.policy, task.at)?;
-                write_lines(alloc, keyring, Basis::Verdicts, &states, writer)
+                let StateTask {
+                    policy,
+                    at,
+                    values,
+                    ..
+                } = *task;
+                let states = KeyringStates::of(alloc, keyring, &verdicts, policy, at, values)?;
+                write_lines(
+                    alloc,
+                    keyring,
+                    Basis::Verdicts,
+                    task.values,
+                    &states,
+                    writer,
+                )
             }
             None => Err(RunFault::OtherVerdicts),
         },
@@ -139,15 +157,18 @@ fn write_lines<W: Sink>(
     alloc: Global,
     keyring: &Keyring,
     basis: Basis,
+    values: bool,
     states: &KeyringStates,
     writer: &mut W,
 ) -> Result<(), RunFault>
     requires { W.has_failed writer.old ≡ false }
     ensures { IsMade W.held W.has_failed writer.old writer.new result
-        (Made.Text (lines_from basis 0 keyring.now.certificates (states_in states.now))) }
+        (Made.Text (lines_from basis values 0 keyring.now.certificates
+        (states_in states.now) (causes_in states.now))) }
 {
     let text = StatesText {
         basis,
+        values,
         keyring,
         states,
     };

@@ -1,13 +1,13 @@
 //! Times as a command line says them, without an allocation.
 
 ghost use Rattle.std.specs.Prelude.{◌≡◌, ◌+◌, ◌-◌, ◌*◌, ◌^◌, ◌<◌, ◌≤◌, ◌++◌, ℕ, IfNone, IfSome, codes};
-ghost use Rattle.opgp_stack.specs.Date.{days_before, days_in_month, days_in_year, days_of_months};
-ghost use Rattle.opgp_stack.specs.Date.{date_text, days_of_years};
-ghost use Rattle.opgp_stack.specs.March.{date_value};
+ghost use Rattle.opgp_state.specs.Date.{days_before, days_in_month, days_in_year, days_of_months};
+ghost use Rattle.opgp_state.specs.Date.{date_text, days_of_years};
+ghost use Rattle.opgp_state.specs.March.{date_value};
 ghost use Rattle.opgp_stack.specs.Time.{IsDateOf, IsSeconds, IsTime, date_at, digit_at, four_at};
 ghost use Rattle.opgp_stack.specs.Time.{seconds_at, two_at};
 
-use crate::date::{DAY, Date, date_of, day_text, seconds_text};
+use opgp_state::{DAY, Date, date_text};
 
 /// How many digits a number of seconds has at most.
 const MOST_DIGITS: usize = 18;
@@ -118,23 +118,12 @@ fn candidate(text: &[u8; 20]) -> Option<u32>
         day: two_at(text, 8),
     });
     let seconds = two_at(text, 11) * 3600 + two_at(text, 14) * 60 + two_at(text, 17);
-    let time = u64::from(days) * u64::from(DAY) + u64::from(seconds);
+    let time = u64::from(days) * DAY + u64::from(seconds);
     if time < 4_294_967_296 {
         Some(time as u32)
     } else {
         None
     }
-}
-
-/// A time as a date.
-#[tactic(auto, using(crate::proofs::Times::date_joined))]
-fn date_text(time: u32) -> [u8; 20]
-    ensures { result ≡ date_text time }
-{
-    let mut text = [0; 20];
-    text[..10].copy_from_slice(&day_text(date_of(time / DAY)));
-    text[10..].copy_from_slice(&seconds_text(time % DAY));
-    text
 }
 
 /// The time whose date a text is.
@@ -144,7 +133,7 @@ fn time_of_date(text: &[u8; 20]) -> Option<u64>
 {
     match candidate(text) {
         Some(time) => {
-            if date_text(time) == *text {
+            if date_text(time as u64) == *text {
                 Some(time as u64)
             } else {
                 None

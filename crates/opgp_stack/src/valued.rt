@@ -20,7 +20,6 @@ ghost use Rattle.opgp_stack.specs.Values.{valued_area, valued_areas};
 ghost use Rattle.opgp_stack.specs.Values.{valued_line, valued_lines, where_sound};
 ghost use Rattle.opgp_io.specs.Output.{Extends, sink_of};
 
-use crate::date::add_date;
 use crate::listing::{Role, add_attribute, add_dated_key, add_opaque, add_signature, add_user_id};
 use crate::showing::{Area, add_header, add_subpacket};
 use crate::values::add_value;
@@ -28,6 +27,7 @@ use opgp_frame::PlacedView;
 use opgp_io::{Output, Sink, Word};
 use opgp_octets::PacketType;
 use opgp_packet::{AttributeView, KeyView, LiteralView, SigView, SubView, Subs};
+use opgp_state::add_date;
 use std::io;
 
 /// Adds the line of a subpacket, with what it means.

@@ -15,7 +15,6 @@ ghost use Rattle.opgp_stack.specs.ValuedListing.{valued_listing, valued_packet_l
 ghost use Rattle.opgp_stack.specs.ValuedListing.{with_values};
 ghost use Rattle.opgp_io.specs.Output.{Extends, sink_of};
 
-use crate::date::add_date_or_none;
 use crate::listing::{Behind, Role, add_content, add_dated_key, add_signature, add_typed};
 use opgp_codec::Text;
 use opgp_hash::KeyId;
@@ -24,6 +23,7 @@ use opgp_octets::SubpacketKind;
 use opgp_packet::{SigView, SubView, Subs};
 use opgp_report::{IssuerName, issuer_named};
 use opgp_ring::{Content, Member, Packets};
+use opgp_state::add_date_or_none;
 use std::io;
 
 /// The creation time that a subpacket states, in seconds since 1970, if the kind is 2 and there are

@@ -13,10 +13,10 @@ ghost use Rattle.opgp_stack.specs.Values.{text_line, time_line, time_words, valu
 ghost use Rattle.opgp_io.specs.Line.{word_text};
 ghost use Rattle.opgp_io.specs.Output.{Extends, sink_of};
 
-use crate::date::add_date;
 use crate::listing::add_body;
 use opgp_io::{Output, Sink, Word};
 use opgp_packet::{Flag, SubMeaning, features, key_flags, key_server_preferences};
+use opgp_state::add_date;
 use std::io;
 
 /// Adds a word, and a number behind it.

@@ -1,5 +1,6 @@
 -- The claims of a keyring are those of its certificates, one after the other.
-use Rattle.std.proofs.Common.{◌≡◌, ◌∙◌, ℕ, ◌+◌, Bool, true, false, cond, List, [], ◌∷◌, ◌++◌, map, drop, Option, Some, None, Ok, Err, refl, sym, ap, append_assoc}
+use Rattle.std.proofs.Common.{◌≡◌, ◌∙◌, ℕ, ◌+◌, Bool, true, false, cond, List, [], ◌∷◌, ◌++◌, length, map, drop, Option, Some, None, Ok, Err, refl, sym, ap, append_assoc}
+use Rattle.std.specs.Global.{Vec}
 use Rattle.std.specs.List.{flat_map}
 use Rattle.std.proofs.lemmas.List.{length-map, map-append}
 use Rattle.std.proofs.Math.Seq.{drop-append_seam}
@@ -16,13 +17,14 @@ use Rattle.opgp_report.specs.Report.{finding_of, keys_in, row_of}
 use Rattle.opgp_report.specs.Standing.{Standing, bodies_within, by_number, certificate_standing, component_standing, hang_standing, hangs_standing, hung_at, is_signature, nested_standing, on_head, signature_standing, standing_in, stands}
 use Rattle.opgp_valid.specs.Judgement.{facts_by}
 use Rattle.opgp_valid.specs.States.{states_of}
+use Rattle.opgp_valid.specs.declared.cause.Cause.{Cause}
 use Rattle.opgp_valid.specs.declared.known_keys.Known.{Known}
 use Rattle.opgp_valid.specs.declared.policy.Policy.{Policy}
 use Rattle.opgp_valid.specs.declared.states.PartState.{PartState}
 use Rattle.opgp_state.specs.Claimed.{claimed, claims_of}
 use Rattle.opgp_state.specs.Claiming.{claim, claim_heard}
 use Rattle.opgp_state.specs.Claims.{certificate_claims}
-use Rattle.opgp_state.specs.KeyringStates.{states_among}
+use Rattle.opgp_state.specs.KeyringStates.{causes_among, causes_if, states_among}
 
 -- numbers aren't seen in what is made
 unnumbered : {A B C : Type 0} (make : ℕ → A → List B) (see : B → C) (each : A → List C) → ((n : ℕ) (x : A) → map see (make n x) ≡ each x) → (n : ℕ) (xs : List A) → map see (by_number make n xs) ≡ flat_map each xs
@@ -88,18 +90,65 @@ first_states known policy at c cs =
     (ap (λ (n : ℕ). drop n (certificate_claims c ++ flat_map certificate_claims cs)) (sym (length-map (certificate_standing 0 c) claim))
     ∙ drop-append_seam (certificate_claims c) (flat_map certificate_claims cs))
 
--- the states of the next certificate, added to those so far
-pub added_states : (known : List Known) (policy : Policy) (at : ℕ) (before after : List (List PartState)) (x : List PartState) (c : CertificateValue) (left more : List CertificateValue) (all : List (List PartState))
-    → left ≡ c ∷ more → ((behind : List Verdict) → x ≡ states_of (facts_by known policy c (certificate_claims c ++ behind)) c at) → after ≡ before ++ x ∷ []
-    → before ++ states_among known policy at left (flat_map certificate_claims left) ≡ all → after ++ states_among known policy at more (flat_map certificate_claims more) ≡ all
-added_states known policy at before after x c left more all here is pushed e =
-    let rest : List (List PartState) = states_among known policy at more (flat_map certificate_claims more) in
-    ap (λ (l : List (List PartState)). l ++ rest) pushed
+-- the items of what is pushed
+pub pushed : {A : Type 0} (xs ys : List (Vec A)) (x : Vec A) (is : List A) → ys ≡ xs ++ x ∷ [] → x.items ≡ is → map (λ parts. parts.items) ys ≡ map (λ parts. parts.items) xs ++ is ∷ []
+pushed {A} xs ys x is e f =
+    ap (λ (l : List (Vec A)). map (λ parts. parts.items) l) e
+    ∙ map-append (λ parts. parts.items) xs (x ∷ [])
+    ∙ ap (λ (l : List A). map (λ parts. parts.items) xs ++ l ∷ []) f
+
+-- what is behind, added to those so far
+pub added_behind : {A : Type 0} (before after : List A) (x y : A) (rest rest' all : List A) → after ≡ before ++ x ∷ [] → x ≡ y → y ∷ rest ≡ rest' → before ++ rest' ≡ all → after ++ rest ≡ all
+added_behind {A} before after x y rest rest' all pushed is next e =
+    ap (λ (l : List A). l ++ rest) pushed
     ∙ append_assoc before (x ∷ []) rest
-    ∙ ap (λ (y : List PartState). before ++ y ∷ rest) (is (flat_map certificate_claims more))
-    ∙ ap (λ (l : List (List PartState)). before ++ l) (sym (first_states known policy at c more))
-    ∙ ap (λ (l : List CertificateValue). before ++ states_among known policy at l (flat_map certificate_claims l)) (sym here)
+    ∙ ap (λ (z : A). before ++ z ∷ rest) is
+    ∙ ap (λ (l : List A). before ++ l) next
     ∙ e
+
+-- those of the next certificate, by the verdicts on its rows
+pub next_states : (known : List Known) (policy : Policy) (at : ℕ) (before after : List (List PartState)) (c : CertificateValue) (left more : List CertificateValue) (found found' : List Verdict) (all : List (List PartState))
+    → left ≡ c ∷ more → found' ≡ drop (length (certificate_standing 0 c)) found → after ≡ before ++ states_of (facts_by known policy c found) c at ∷ []
+    → before ++ states_among known policy at left found ≡ all → after ++ states_among known policy at more found' ≡ all
+next_states known policy at before after c left more found found' all here behind is e =
+    let first : List PartState = states_of (facts_by known policy c found) c at in
+    added_behind before after first first (states_among known policy at more found') (states_among known policy at left found) all is refl
+    (ap (λ (l : List Verdict). first ∷ states_among known policy at more l) behind ∙ ap (λ (l : List CertificateValue). states_among known policy at l found) (sym here)) e
+
+pub next_causes : (wanted : Bool) (known : List Known) (policy : Policy) (at : ℕ) (before after : List (List (Option Cause))) (c : CertificateValue) (left more : List CertificateValue) (found found' : List Verdict) (all : List (List (Option Cause)))
+    → left ≡ c ∷ more → found' ≡ drop (length (certificate_standing 0 c)) found → after ≡ before ++ causes_if wanted (facts_by known policy c found) c at ∷ []
+    → before ++ causes_among wanted known policy at left found ≡ all → after ++ causes_among wanted known policy at more found' ≡ all
+next_causes wanted known policy at before after c left more found found' all here behind is e =
+    let first : List (Option Cause) = causes_if wanted (facts_by known policy c found) c at in
+    added_behind before after first first (causes_among wanted known policy at more found') (causes_among wanted known policy at left found) all is refl
+    (ap (λ (l : List Verdict). first ∷ causes_among wanted known policy at more l) behind ∙ ap (λ (l : List CertificateValue). causes_among wanted known policy at l found) (sym here)) e
+
+-- the states of the next certificate, added to those so far
+pub added_states : (known : List Known) (policy : Policy) (at : ℕ) (before after : List (List PartState)) (c : CertificateValue) (left more : List CertificateValue) (all : List (List PartState))
+    → left ≡ c ∷ more → ((behind : List Verdict) → after ≡ before ++ states_of (facts_by known policy c (certificate_claims c ++ behind)) c at ∷ [])
+    → before ++ states_among known policy at left (flat_map certificate_claims left) ≡ all → after ++ states_among known policy at more (flat_map certificate_claims more) ≡ all
+added_states known policy at before after c left more all here is e =
+    added_behind before after _ _ (states_among known policy at more (flat_map certificate_claims more)) (states_among known policy at left (flat_map certificate_claims left)) all
+    (is (flat_map certificate_claims more)) refl (sym (first_states known policy at c more) ∙ ap (λ (l : List CertificateValue). states_among known policy at l (flat_map certificate_claims l)) (sym here)) e
+
+-- the same of what makes keys of no use
+first_causes : (wanted : Bool) (known : List Known) (policy : Policy) (at : ℕ) (c : CertificateValue) (cs : List CertificateValue)
+    → causes_among wanted known policy at (c ∷ cs) (flat_map certificate_claims (c ∷ cs))
+    ≡ causes_if wanted (facts_by known policy c (certificate_claims c ++ flat_map certificate_claims cs)) c at ∷ causes_among wanted known policy at cs (flat_map certificate_claims cs)
+first_causes wanted known policy at c cs =
+    ap (λ (l : List Verdict). causes_if wanted (facts_by known policy c (certificate_claims c ++ flat_map certificate_claims cs)) c at ∷ causes_among wanted known policy at cs l)
+    (ap (λ (n : ℕ). drop n (certificate_claims c ++ flat_map certificate_claims cs)) (sym (length-map (certificate_standing 0 c) claim))
+    ∙ drop-append_seam (certificate_claims c) (flat_map certificate_claims cs))
+
+pub added_causes : (wanted : Bool) (known : List Known) (policy : Policy) (at : ℕ) (before after : List (List (Option Cause))) (c : CertificateValue) (left more : List CertificateValue) (all : List (List (Option Cause)))
+    → left ≡ c ∷ more → ((behind : List Verdict) → after ≡ before ++ causes_if wanted (facts_by known policy c (certificate_claims c ++ behind)) c at ∷ [])
+    → before ++ causes_among wanted known policy at left (flat_map certificate_claims left) ≡ all → after ++ causes_among wanted known policy at more (flat_map certificate_claims more) ≡ all
+added_causes wanted known policy at before after c left more all here is e =
+    added_behind before after _ _ (causes_among wanted known policy at more (flat_map certificate_claims more)) (causes_among wanted known policy at left (flat_map certificate_claims left)) all
+    (is (flat_map certificate_claims more)) refl (sym (first_causes wanted known policy at c more) ∙ ap (λ (l : List CertificateValue). causes_among wanted known policy at l (flat_map certificate_claims l)) (sym here)) e
+
+pub claimed_causes : (r : KeyringValue) (wanted : Bool) (known : List Known) (policy : Policy) (at : ℕ) → causes_among wanted known policy at r.certificates (flat_map certificate_claims r.certificates) ≡ causes_among wanted known policy at r.certificates (claims_of r)
+claimed_causes r wanted known policy at = ap (λ (l : List Verdict). causes_among wanted known policy at r.certificates l) (sym (claims_by r))
 
 pub claimed_states : (r : KeyringValue) (known : List Known) (policy : Policy) (at : ℕ) → states_among known policy at r.certificates (flat_map certificate_claims r.certificates) ≡ states_among known policy at r.certificates (claims_of r)
 claimed_states r known policy at = ap (λ (l : List Verdict). states_among known policy at r.certificates l) (sym (claims_by r))

@@ -1,5 +1,7 @@
 mod AllClaims
 mod Blocks
+pub mod Calendar
+pub mod DateTexts
 mod Fed
 mod Fronts
 mod Gathered

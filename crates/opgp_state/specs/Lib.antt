@@ -1,7 +1,9 @@
 pub mod Claimed
 pub mod Claiming
 pub mod Claims
+pub mod Date
 pub mod KeyringStates
+pub mod March
 pub mod Places
 pub mod Placing
 pub mod Reordered

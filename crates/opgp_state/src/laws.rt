@@ -1,7 +1,7 @@
-//! What the rule implies of the order of a certificate's parts, and the definitions of places and of
-//! files of verdicts.
+//! What the rule implies of the order of a certificate's parts, and the definitions of places, of
+//! files of verdicts and of dates.
 
-ghost use Rattle.std.specs.Prelude.{◌≡◌, ◌∷◌, ◌++◌, ℕ, List, length, map, slice_get};
+ghost use Rattle.std.specs.Prelude.{◌≡◌, ◌<◌, ◌∷◌, ◌++◌, ℕ, List, length, map, slice_get};
 ghost use Rattle.std.specs.List.Sorted.{IsPermutation};
 ghost use Rattle.sha2.specs.Sha256.{sha256};
 ghost use Rattle.opgp_frame.specs.Packet.{packets_octets};
@@ -13,6 +13,8 @@ ghost use Rattle.opgp_valid.specs.Standing.{standing_of};
 ghost use Rattle.opgp_valid.specs.declared.facts.Key.TheVariants.{Primary, Subkey};
 ghost use Rattle.opgp_valid.specs.declared.known_keys.Known.{Known};
 ghost use Rattle.opgp_valid.specs.declared.policy.Policy.{Policy};
+ghost use Rattle.opgp_state.specs.Date.{DateValue, IsDate, clock_text, date_of, date_text};
+ghost use Rattle.opgp_state.specs.Date.{day_text, days_before, time_of, year_10000};
 ghost use Rattle.opgp_state.specs.Places.{places_of};
 ghost use Rattle.opgp_state.specs.Reordered.{AreJudged, Judged, facts_with};
 ghost use Rattle.opgp_state.specs.VerdictFile.{HasVerdicts};
@@ -56,4 +58,23 @@ pub fn file_of_verdicts_is_of_one_keyring()
         → sha256 (packets_octets (flat r)) ≡ sha256 (packets_octets (flat s)) }
     ensures once { (file : List ℕ) (r : KeyringValue) (v w : List Verdict)
         → HasVerdicts file r v → HasVerdicts file r w → v ≡ w }
+{}
+
+/// The date so many days after 1970-01-01 is a day of the calendar, and so many days lie before it,
+/// in whole years, whole months and its own month; each day from 1970 on is found by their number.
+pub fn days_count_dates()
+    ensures counted { (n : ℕ) → IsDate (date_of n) × (days_before (date_of n) ≡ n) }
+    ensures found { (d : DateValue) → IsDate d → date_of (days_before d) ≡ d }
+{}
+
+/// The time of a date, an hour, a minute and a second is written as these.
+pub fn a_time_is_written_as_its_date()
+    ensures { (d : DateValue) (hour minute second : ℕ)
+        → IsDate d → hour < 24 → minute < 60 → second < 60
+        → date_text (time_of d hour minute second) ≡ day_text d ++ clock_text hour minute second }
+{}
+
+/// Two times before the year 10000 are never written as one date.
+pub fn a_date_is_that_of_one_time()
+    ensures { (a b : ℕ) → a < year_10000 → b < year_10000 → date_text a ≡ date_text b → a ≡ b }
 {}

@@ -4,6 +4,7 @@
 mod basis;
 mod claiming;
 mod claims;
+mod date;
 mod keyring_digest;
 mod keyring_states;
 pub mod laws;
@@ -19,6 +20,7 @@ mod verdict_lines;
 
 pub use basis::Basis;
 pub use claims::claimed_verdicts;
+pub use date::{DAY, Date, add_date, add_date_or_none, add_date_word, date_text};
 pub use keyring_states::KeyringStates;
 pub use placing::Placing;
 pub use reporting::{

@@ -1,32 +1,38 @@
 //! The lines of how the parts of a keyring stand, without an allocation.
 
-ghost use Rattle.std.specs.Prelude.{◌≡◌, ◌<◌, [], false, map};
+ghost use Rattle.std.specs.Prelude.{◌≡◌, ◌++◌, ◌<◌, [], codes, false, map, Some};
 ghost use Rattle.opgp_hash.specs.Fingerprint.{print_octets};
 ghost use Rattle.opgp_packet.specs.Parsed.{body_octets};
 ghost use Rattle.opgp_report.specs.First.{print_of};
 ghost use Rattle.opgp_io.specs.Line.{word_text};
 ghost use Rattle.opgp_io.specs.Output.{Extends, sink_of};
 ghost use Rattle.opgp_ring.specs.Grouped.{component_of, components_left};
-ghost use Rattle.opgp_state.specs.Report.{number_or_none};
-ghost use Rattle.opgp_state.specs.KeyringStates.{states_in};
-ghost use Rattle.opgp_state.specs.StateLines.{attribute_words, certificate_lines, component_lines};
-ghost use Rattle.opgp_state.specs.StateLines.{identity_name, key_name, key_words, lines_from};
-ghost use Rattle.opgp_state.specs.StateLines.{state_line, user_id_words, uses_text, words_line};
+ghost use Rattle.opgp_state.specs.Report.{joined, number_or_none};
+ghost use Rattle.opgp_state.specs.KeyringStates.{causes_in, states_in};
+ghost use Rattle.opgp_state.specs.StateLines.{attribute_words, cause_words, certificate_lines};
+ghost use Rattle.opgp_state.specs.StateLines.{component_lines, date_of_time, first_cause};
+ghost use Rattle.opgp_state.specs.StateLines.{first_causes, hang_of, identity_name, key_dates};
+ghost use Rattle.opgp_state.specs.StateLines.{key_fields, key_name, key_values, key_words};
+ghost use Rattle.opgp_state.specs.StateLines.{lack_name, lines_from, part_of, role_name};
+ghost use Rattle.opgp_state.specs.StateLines.{state_line, text_or_none, user_id_words, uses_text};
+ghost use Rattle.opgp_state.specs.StateLines.{without_first, words_at, words_line};
 
 use crate::basis::Basis;
+use crate::date::{YEAR_10000, date_text};
 use crate::keyring_states::KeyringStates;
 use opgp_hash::Fingerprint;
 use opgp_io::{Output, Sink, Word};
 use opgp_packet::KeyView;
 use opgp_report::print_of;
 use opgp_ring::{Certificate, Component, Components, Head, Keyring};
-use opgp_valid::{IdentityState, KeyState, PartState, Uses, Why};
+use opgp_valid::{Cause, IdentityState, Key, KeyState, Lack, PartState, Spot, Uses, Why};
 use std::io;
 
 /// What the line of a part begins with.
 #[derive(Clone, Copy)]
 struct Place {
     basis: Basis,
+    values: bool,
     certificate: u64,
     component: Option<u64>,
 }
@@ -51,6 +57,26 @@ fn code_or_none(code: Option<u8>) -> Word<'static>
     }
 }
 
+/// The date of a time, if there is one before the year 10000.
+fn date_if_any(time: Option<u64>) -> Option<[u8; 20]>
+    ensures { result ≡ date_of_time time }
+{
+    match time {
+        Some(time) if time < YEAR_10000 => Some(date_text(time)),
+        _ => None,
+    }
+}
+
+/// A text, or `-` for none.
+fn text_or_none(text: &Option<[u8; 20]>) -> Word<'_>
+    ensures { word_text result ≡ text_or_none text.now }
+{
+    match text {
+        Some(text) => Word::Text(text.as_slice()),
+        None => Word::Text(b"-"),
+    }
+}
+
 /// The name of how a key stands.
 fn key_name(why: Option<Why>, uses: Uses) -> &'static [u8]
     ensures { result.now ≡ key_name why uses }
@@ -59,6 +85,57 @@ fn key_name(why: Option<Why>, uses: Uses) -> &'static [u8]
         Some(why) => why.name().as_bytes(),
         None if uses.has_use() => b"usable",
         None => b"no-use",
+    }
+}
+
+/// What the first signature lacks that could speak for a key, or `-` for nothing.
+fn lack_name(lack: Option<Lack>) -> &'static [u8]
+    ensures { result.now ≡ lack_name lack }
+{
+    match lack {
+        Some(Lack::Newer) => b"newer",
+        Some(Lack::Lapsed) => b"lapsed",
+        Some(Lack::Weak) => b"weak",
+        Some(Lack::Malformed) => b"malformed",
+        Some(Lack::Undated) => b"undated",
+        Some(Lack::Young) => b"young",
+        Some(Lack::Critical) => b"critical",
+        None => b"-",
+    }
+}
+
+/// The word for the primary key, or for a subkey.
+fn role_name(key: Key) -> &'static [u8]
+    ensures { result.now ≡ role_name key }
+{
+    match key {
+        Key::Primary => b"pub",
+        Key::Subkey { .. } => b"sub",
+    }
+}
+
+/// The number of the component that a signature is on.
+fn part_of(spot: Option<Spot>) -> Option<u64>
+    ensures { result ≡ part_of spot }
+{
+    match spot {
+        Some(
+            Spot {
+                component: Some(component),
+                ..
+            },
+        ) => Some(component as u64),
+        _ => None,
+    }
+}
+
+/// The number of a signature among the packets there.
+fn hang_of(spot: Option<Spot>) -> Option<u64>
+    ensures { result ≡ hang_of spot }
+{
+    match spot {
+        Some(spot) => Some(spot.hang as u64),
+        None => None,
     }
 }
 
@@ -97,8 +174,8 @@ fn uses_text(uses: Uses) -> &'static [u8]
     }
 }
 
-/// Adds the line of the key of this fingerprint, behind its place. The word is `pub ` or `sub `.
-fn add_print<'p, W: Sink>(
+/// Adds the fields of the key of this fingerprint, behind its place. The word is `pub ` or `sub `.
+fn add_fields<'p, W: Sink>(
     output: &mut Output<'_, W>,
     place: Place,
     word: &'p [u8],
@@ -107,8 +184,8 @@ fn add_print<'p, W: Sink>(
 ) -> io::Result<()>
     requires { W.has_failed (sink_of output.old) ≡ false }
     ensures { Extends W.held W.has_failed output.old output.new result
-        (words_line place.basis place.certificate place.component
-        (key_words word.now (print_octets print.now) state)) }
+        (words_at place.basis place.certificate place.component
+        (key_fields word.now (print_octets print.now) state)) }
 {
     output.add_words(&[
         Word::Text(b"cert "),
@@ -128,8 +205,102 @@ fn add_print<'p, W: Sink>(
         number_or_none(state.end),
         Word::Text(b" reason "),
         code_or_none(state.reason),
+    ])
+}
+
+/// Adds the dates of a key's line.
+fn add_dates<W: Sink>(output: &mut Output<'_, W>, state: KeyState) -> io::Result<()>
+    requires { W.has_failed (sink_of output.old) ≡ false }
+    ensures { Extends W.held W.has_failed output.old output.new result
+        (joined (key_dates state)) }
+{
+    let begin = date_text(state.begin as u64);
+    let end = date_if_any(state.end);
+    output.add_words(&[
+        Word::Text(b" "),
+        Word::Text(begin.as_slice()),
+        Word::Text(b" "),
+        text_or_none(&end),
+    ])
+}
+
+/// Adds what makes a key of no use, with the date of its time, and the line's end.
+fn add_known_cause<'d, W: Sink>(
+    output: &mut Output<'_, W>,
+    cause: Cause,
+    date: &'d Option<[u8; 20]>,
+) -> io::Result<()>
+    requires sound { W.has_failed (sink_of output.old) ≡ false }
+    requires date { date.now ≡ date_of_time cause.date }
+    ensures { Extends W.held W.has_failed output.old output.new result
+        (joined (cause_words (Some cause)) ++ codes "\n") }
+{
+    output.add_words(&[
+        Word::Text(b" key "),
+        Word::Text(role_name(cause.key)),
+        Word::Text(b" lack "),
+        Word::Text(lack_name(cause.lack)),
+        Word::Text(b" date "),
+        number_or_none(cause.date),
+        Word::Text(b" part "),
+        number_or_none(part_of(cause.spot)),
+        Word::Text(b" hang "),
+        number_or_none(hang_of(cause.spot)),
+        Word::Text(b" "),
+        text_or_none(date),
         Word::Text(b"\n"),
     ])
+}
+
+/// Adds what makes a key of no use, if something does, and the line's end.
+fn add_cause<W: Sink>(output: &mut Output<'_, W>, cause: Option<Cause>) -> io::Result<()>
+    requires { W.has_failed (sink_of output.old) ≡ false }
+    ensures { Extends W.held W.has_failed output.old output.new result
+        (joined (cause_words cause) ++ codes "\n") }
+{
+    match cause {
+        Some(cause) => {
+            let date = date_if_any(cause.date);
+            add_known_cause(output, cause, &date)
+        }
+        None => output.add(b"\n"),
+    }
+}
+
+/// Adds what is behind the fields of a key's line, if values are wanted, and the line's end.
+fn add_end<W: Sink>(
+    output: &mut Output<'_, W>,
+    values: bool,
+    state: KeyState,
+    cause: Option<Cause>,
+) -> io::Result<()>
+    requires { W.has_failed (sink_of output.old) ≡ false }
+    ensures { Extends W.held W.has_failed output.old output.new result
+        (joined (key_values values state cause) ++ codes "\n") }
+{
+    if !values {
+        return output.add(b"\n");
+    }
+    add_dates(output, state)?;
+    add_cause(output, cause)
+}
+
+/// Adds the line of the key of this fingerprint, behind its place. The word is `pub ` or `sub `.
+fn add_print<'p, W: Sink>(
+    output: &mut Output<'_, W>,
+    place: Place,
+    word: &'p [u8],
+    print: &'p Fingerprint,
+    state: KeyState,
+    cause: Option<Cause>,
+) -> io::Result<()>
+    requires { W.has_failed (sink_of output.old) ≡ false }
+    ensures { Extends W.held W.has_failed output.old output.new result
+        (words_line place.basis place.certificate place.component
+        (key_words place.values word.now (print_octets print.now) state cause)) }
+{
+    add_fields(output, place, word, print, state)?;
+    add_end(output, place.values, state, cause)
 }
 
 /// Adds the line of a key, behind its place. The word is `pub ` or `sub `.
@@ -139,14 +310,16 @@ fn add_key<W: Sink>(
     word: &[u8],
     key: KeyView<'_>,
     state: KeyState,
+    cause: Option<Cause>,
 ) -> io::Result<()>
     requires { W.has_failed (sink_of output.old) ≡ false }
     ensures { Extends W.held W.has_failed output.old output.new result
         (words_line place.basis place.certificate place.component
-        (key_words word.now (print_octets (print_of (body_octets key.entry))) state)) }
+        (key_words place.values word.now (print_octets (print_of (body_octets key.entry)))
+        state cause)) }
 {
     let print = print_of(&key);
-    add_print(output, place, word, &print, state)
+    add_print(output, place, word, &print, state, cause)
 }
 
 /// Adds the line of a user ID, behind its place.
@@ -220,15 +393,19 @@ fn add_primary<W: Sink>(
     place: Place,
     certificate: &Certificate,
     state: PartState,
+    cause: Option<Cause>,
 ) -> io::Result<()>
     requires { W.has_failed (sink_of output.old) ≡ false }
     ensures { Extends W.held W.has_failed output.old output.new result
-        (state_line place.basis place.certificate place.component certificate.now.primary state) }
+        (state_line place.basis place.values place.certificate place.component
+        certificate.now.primary state cause) }
 {
     // Called for its contract: the first packet is the primary key.
     let _primary = certificate.primary();
     match state {
-        PartState::Key(state) => add_key(output, place, b"pub ", certificate.key(), state),
+        PartState::Key(state) => {
+            add_key(output, place, b"pub ", certificate.key(), state, cause)
+        }
         PartState::Identity(_) => add_place(output, place),
     }
 }
@@ -239,14 +416,17 @@ fn add_component<W: Sink>(
     place: Place,
     component: Component<'_>,
     state: PartState,
+    cause: Option<Cause>,
 ) -> io::Result<()>
     requires { W.has_failed (sink_of output.old) ≡ false }
     ensures { Extends W.held W.has_failed output.old output.new result
-        (state_line place.basis place.certificate place.component
-        (component_of component.entry).head state) }
+        (state_line place.basis place.values place.certificate place.component
+        (component_of component.entry).head state cause) }
 {
     match (component.head().head(), state) {
-        (Head::Subkey(key), PartState::Key(state)) => add_key(output, place, b"sub ", key, state),
+        (Head::Subkey(key), PartState::Key(state)) => {
+            add_key(output, place, b"sub ", key, state, cause)
+        }
         (Head::UserId(octets), PartState::Identity(state)) => {
             add_user_id(output, place, octets, state)
         }
@@ -255,32 +435,62 @@ fn add_component<W: Sink>(
     }
 }
 
+/// The first of these causes, if there is one, and those behind it.
+fn next_cause(causes: &[Option<Cause>]) -> (Option<Cause>, &[Option<Cause>])
+    ensures first { result.0 ≡ first_cause causes.now }
+    ensures behind { result.1.now ≡ without_first causes.now }
+{
+    match causes {
+        [cause, more @ ..] => (*cause, more),
+        [] => (None, causes),
+    }
+}
+
+/// The causes of the first certificate, if there are some, and those of the ones behind it.
+fn next_causes(causes: &[Vec<Option<Cause>>]) -> (&[Option<Cause>], &[Vec<Option<Cause>>])
+    ensures first { result.0.now ≡ first_causes (map (λ parts. parts.items) causes.now) }
+    ensures behind { map (λ parts. parts.items) result.1.now
+        ≡ without_first (map (λ parts. parts.items) causes.now) }
+{
+    match causes {
+        [first, more @ ..] => (first, more),
+        [] => (&[], causes),
+    }
+}
+
 /// Adds the lines of components.
 fn add_components<W: Sink>(
     output: &mut Output<'_, W>,
     basis: Basis,
+    values: bool,
     certificate: u64,
     mut components: Components<'_>,
     states: &[PartState],
+    causes: &[Option<Cause>],
 ) -> io::Result<()>
     requires { W.has_failed (sink_of output.old) ≡ false }
     ensures { Extends W.held W.has_failed output.old output.new result
-        (component_lines basis certificate 0 (components_left components.entry) states.now) }
+        (component_lines basis values certificate 0 (components_left components.entry)
+        states.now causes.now) }
 {
     let mut number = 0u64;
     let mut rest = states;
+    let mut left = causes;
     'states: while let Some((state, more)) = rest.split_first() {
         let Some(component) = components.next() else {
             return Ok(());
         };
         let place = Place {
             basis,
+            values,
             certificate,
             component: Some(number),
         };
-        add_component(output, place, component, *state)?;
+        let (cause, behind) = next_cause(left);
+        add_component(output, place, component, *state, cause)?;
         number += 1;
         rest = more;
+        left = behind;
     }
     Ok(())
 }
@@ -289,48 +499,59 @@ fn add_components<W: Sink>(
 fn add_certificate<W: Sink>(
     output: &mut Output<'_, W>,
     basis: Basis,
+    values: bool,
     number: u64,
     certificate: &Certificate,
     states: &[PartState],
+    causes: &[Option<Cause>],
 ) -> io::Result<()>
     requires { W.has_failed (sink_of output.old) ≡ false }
     ensures { Extends W.held W.has_failed output.old output.new result
-        (certificate_lines basis number certificate.now states.now) }
+        (certificate_lines basis values number certificate.now states.now causes.now) }
 {
     let Some((primary, components)) = states.split_first() else {
         return Ok(());
     };
     let place = Place {
         basis,
+        values,
         certificate: number,
         component: None,
     };
-    add_primary(output, place, certificate, *primary)?;
-    add_components(output, basis, number, certificate.components(), components)
+    let (cause, behind) = next_cause(causes);
+    add_primary(output, place, certificate, *primary, cause)?;
+    let parts = certificate.components();
+    add_components(output, basis, values, number, parts, components, behind)
 }
 
 /// Adds the lines of certificates, numbered from 0.
 fn add_certificates<W: Sink>(
     output: &mut Output<'_, W>,
     basis: Basis,
+    values: bool,
     certificates: &[Certificate],
     states: &[Vec<PartState>],
+    causes: &[Vec<Option<Cause>>],
 ) -> io::Result<()>
     requires { W.has_failed (sink_of output.old) ≡ false }
     ensures { Extends W.held W.has_failed output.old output.new result
-        (lines_from basis 0 certificates.now (map (λ parts. parts.items) states.now)) }
+        (lines_from basis values 0 certificates.now (map (λ parts. parts.items) states.now)
+        (map (λ parts. parts.items) causes.now)) }
 {
     let mut number = 0u64;
     let mut rest = certificates;
     let mut left = states;
+    let mut whys = causes;
     'certificates: while let Some((certificate, more)) = rest.split_first() {
         let Some((parts, others)) = left.split_first() else {
             return Ok(());
         };
-        add_certificate(output, basis, number, certificate, parts)?;
+        let (first, behind) = next_causes(whys);
+        add_certificate(output, basis, values, number, certificate, parts, first)?;
         number += 1;
         rest = more;
         left = others;
+        whys = behind;
     }
     Ok(())
 }
@@ -349,15 +570,27 @@ fn add_certificates<W: Sink>(
 /// Behind the colon stands `unverified`, if nothing is verified. The certificate's number and the
 /// part's count from 0; `part -` is the primary key. Times are in seconds since 1970. A reason is
 /// the code of the first revocation's (RFC 9580, 5.2.3.31).
+///
+/// With `values` a key's line goes on with ` <begin date> <end date or ->`: the dates of the two
+/// times, as RFC 3339 writes them in UTC. It writes none from the year 10000 on. That of a key of
+/// which the states know what makes it of no use goes on, of the [`Cause`], with
+/// ` key <pub or sub> lack <word or -> date <n or -> part <n or -> hang <n or -> <date or ->`.
 pub fn add_states<W: Sink>(
     output: &mut Output<'_, W>,
     basis: Basis,
+    values: bool,
     keyring: &Keyring,
     states: &KeyringStates,
 ) -> io::Result<()>
     requires { W.has_failed (sink_of output.old) ≡ false }
     ensures { Extends W.held W.has_failed output.old output.new result
-        (lines_from basis 0 keyring.now.certificates (states_in states.now)) }
+        (lines_from basis values 0 keyring.now.certificates (states_in states.now)
+        (causes_in states.now)) }
 {
-    add_certificates(output, basis, keyring.certificates(), &states.certificates)
+    let KeyringStates {
+        certificates,
+        causes,
+    } = states;
+    let all = keyring.certificates();
+    add_certificates(output, basis, values, all, certificates, causes)
 }

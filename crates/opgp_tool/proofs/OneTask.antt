@@ -21,7 +21,8 @@ use Rattle.opgp_stack.proofs.KeyTexts.{one_name}
 use Rattle.opgp_stack.proofs.Times.{one_time_said}
 use Rattle.opgp_stack.proofs.Zips.{zip_same}
 use Rattle.opgp_tool.specs.Saying.{SaysTask}
-use Rattle.opgp_tool.specs.Words.{AreVerdicts, Asked, AskedWork, Chosen, DocumentWork, HasKeys, HasLimits, HasNumber, HasNumbers, HasTime, IsAction, IsChosen, IsDocumentWork, IsGivenNumber, IsNumber, IsRequest, IsSplitWork, IsStatesWith, IsTask, IsWork, SplitWork, texts_of}
+use Rattle.opgp_tool.specs.declared.task.Hints.{Hints}
+use Rattle.opgp_tool.specs.Words.{AreNewest, AreVerdicts, Asked, AskedWork, Chosen, DocumentWork, HasKeys, HasLimits, HasNumber, HasNumbers, HasTime, IsAction, IsChosen, IsDocumentWork, IsGivenNumber, IsNumber, IsRequest, IsSplitWork, IsStatesWith, IsTask, IsWork, SplitWork, texts_of}
 use Rattle.opgp_tool.specs.Words.{of_around, of_canonical, of_cleartext, of_difference, of_digests, of_document, of_keys, of_number, of_signatures, of_split, of_states, of_task, of_write}
 use Rattle.opgp_tool.proofs.Reading.{apart, not_both, other_apart, split_named, write_named}
 use Rattle.opgp_tool.proofs.SameLimits.{same_limits}
@@ -233,19 +234,20 @@ one_at : (options : List Row) (m n : ℕ) → HasTime options m → HasTime opti
 one_at options m n a b =
     one_time_said b.0 m n (subst (λ (t : Text). IsTime t m) (same_Some a.0 b.0 (sym a.1 ∙ b.1)) a.2) b.2
 
-abbrev states_with : Mode → Limits → Policy → ℕ → StateTask
-states_with mode limits policy at = record { mode = mode; limits = limits; policy = policy; at = at }
+abbrev states_with : Mode → Limits → Policy → ℕ → Bool → StateTask
+states_with mode limits policy at values = record { mode = mode; limits = limits; policy = policy; at = at; values = values }
 
 one_judged : (options : List Row) (a b : StateTask) → IsStatesWith options a → IsStatesWith options b → a ≡ b
 one_judged options a b m n =
-    ap (λ (x : Mode). states_with x a.limits a.policy a.at) (m.mode ∙ sym n.mode)
-    ∙ ap (λ (x : Limits). states_with b.mode x a.policy a.at) (one_limits options _ _ m.limits n.limits)
-    ∙ ap (λ (x : Policy). states_with b.mode b.limits x a.at) (m.policy ∙ sym n.policy)
-    ∙ ap (states_with b.mode b.limits b.policy) (one_at options a.at b.at m.at n.at)
+    ap (λ (x : Mode). states_with x a.limits a.policy a.at a.values) (m.mode ∙ sym n.mode)
+    ∙ ap (λ (x : Limits). states_with b.mode x a.policy a.at a.values) (one_limits options _ _ m.limits n.limits)
+    ∙ ap (λ (x : Policy). states_with b.mode b.limits x a.at a.values) (m.policy ∙ sym n.policy)
+    ∙ ap (λ (x : ℕ). states_with b.mode b.limits b.policy x a.values) (one_at options a.at b.at m.at n.at)
+    ∙ ap (states_with b.mode b.limits b.policy b.at) (m.values ∙ sym n.values)
 
 -- ---- the commands `write` and `split`
-abbrev chosen_with : Out → Bool → Bool → List ℕ → Option Text → Chosen
-chosen_with out own none ids file = record { out = out; own_signatures = own; no_attributes = none; user_ids = ids; verdicts = file }
+abbrev chosen_with : Out → Bool → Bool → List ℕ → Option Text → Option ℕ → Chosen
+chosen_with out own none ids file at = record { out = out; own_signatures = own; no_attributes = none; user_ids = ids; verdicts = file; newest_at = at }
 
 one_file : (options : List Row) (f g : Option Text) → AreVerdicts options f → AreVerdicts options g → f ≡ g
 one_file options None None a b = refl
@@ -253,13 +255,20 @@ one_file options (Some f) (Some g) a b = ap {B = Option Text} Some (same_Some f 
 one_file options None (Some g) a b = absurd (apart (sym b.0 ∙ a.0))
 one_file options (Some f) None a b = absurd (apart (sym a.0 ∙ b.0))
 
+one_newest : (options : List Row) (m n : Option ℕ) → AreNewest options m → AreNewest options n → m ≡ n
+one_newest options None None a b = refl
+one_newest options None (Some n) a b = absurd (apart (sym b.0 ∙ a.0))
+one_newest options (Some m) None a b = absurd (apart (sym a.0 ∙ b.0))
+one_newest options (Some m) (Some n) a b = ap {B = Option ℕ} Some (one_at options m n a.1 b.1)
+
 one_chosen : (options : List Row) (x y : Chosen) → IsChosen options x → IsChosen options y → x ≡ y
 one_chosen options x y a b =
-    ap (λ (out : Out). chosen_with out x.own_signatures x.no_attributes x.user_ids x.verdicts) (a.out ∙ sym b.out)
-    ∙ ap (λ (own : Bool). chosen_with y.out own x.no_attributes x.user_ids x.verdicts) (a.own_signatures ∙ sym b.own_signatures)
-    ∙ ap (λ (none : Bool). chosen_with y.out y.own_signatures none x.user_ids x.verdicts) (a.no_attributes ∙ sym b.no_attributes)
-    ∙ ap (λ (ids : List ℕ). chosen_with y.out y.own_signatures y.no_attributes ids x.verdicts) (one_list options _ x.user_ids y.user_ids a.user_ids b.user_ids)
-    ∙ ap (chosen_with y.out y.own_signatures y.no_attributes y.user_ids) (one_file options x.verdicts y.verdicts a.verdicts b.verdicts)
+    ap (λ (out : Out). chosen_with out x.own_signatures x.no_attributes x.user_ids x.verdicts x.newest_at) (a.out ∙ sym b.out)
+    ∙ ap (λ (own : Bool). chosen_with y.out own x.no_attributes x.user_ids x.verdicts x.newest_at) (a.own_signatures ∙ sym b.own_signatures)
+    ∙ ap (λ (none : Bool). chosen_with y.out y.own_signatures none x.user_ids x.verdicts x.newest_at) (a.no_attributes ∙ sym b.no_attributes)
+    ∙ ap (λ (ids : List ℕ). chosen_with y.out y.own_signatures y.no_attributes ids x.verdicts x.newest_at) (one_list options _ x.user_ids y.user_ids a.user_ids b.user_ids)
+    ∙ ap (λ (file : Option Text). chosen_with y.out y.own_signatures y.no_attributes y.user_ids file x.newest_at) (one_file options x.verdicts y.verdicts a.verdicts b.verdicts)
+    ∙ ap (chosen_with y.out y.own_signatures y.no_attributes y.user_ids y.verdicts) (one_newest options x.newest_at y.newest_at a.newest b.newest)
 
 one_split : (options : List Row) (x y : SplitWork) → IsSplitWork options x → IsSplitWork options y → x ≡ y
 one_split options (of_number out nth) (of_number other m) a b =
@@ -322,16 +331,16 @@ one_work name options (of_task a) (of_split y k v) m n = absurd (apart (sym (spl
 one_work name options (of_document x l w) (of_split y k v) m n = absurd (apart (sym (split_named name options y k v n) ∙ other_apart name options (of_document x l w) refl m))
 one_work name options (of_states a f) (of_split y k v) m n = absurd (apart (sym (split_named name options y k v n) ∙ other_apart name options (of_states a f) refl m))
 
-abbrev asked_with : AskedWork → Bool → Bool → Option Text → Asked
-asked_with work progress quiet spool = record { work = work; progress = progress; quiet = quiet; spool = spool }
+abbrev asked_with : AskedWork → Bool → Hints → Option Text → Asked
+asked_with work progress hints spool = record { work = work; progress = progress; hints = hints; spool = spool }
 
 one_request : (name : Text) (options : List Row) (a b : Asked) → IsRequest name options a
     → IsRequest name options b → a ≡ b
 one_request name options a b m n =
-    ap (λ (x : AskedWork). asked_with x a.progress a.quiet a.spool) (one_work name options _ _ m.work n.work)
-    ∙ ap (λ (x : Bool). asked_with b.work x a.quiet a.spool) (m.progress ∙ sym n.progress)
-    ∙ ap (λ (x : Bool). asked_with b.work b.progress x a.spool) (m.quiet ∙ sym n.quiet)
-    ∙ ap (asked_with b.work b.progress b.quiet) (m.spool ∙ sym n.spool)
+    ap (λ (x : AskedWork). asked_with x a.progress a.hints a.spool) (one_work name options _ _ m.work n.work)
+    ∙ ap (λ (x : Bool). asked_with b.work x a.hints a.spool) (m.progress ∙ sym n.progress)
+    ∙ ap (λ (x : Hints). asked_with b.work b.progress x a.spool) (m.hints ∙ sym n.hints)
+    ∙ ap (asked_with b.work b.progress b.hints) (m.spool ∙ sym n.spool)
 
 pub one_task : (program : App) (words : List Text) (a b : Asked) → SaysTask program words a
     → SaysTask program words b → a ≡ b

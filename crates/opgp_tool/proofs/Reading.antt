@@ -16,7 +16,7 @@ use Rattle.opgp_stack.specs.declared.key_name.KeyName.{KeyName}
 use Rattle.opgp_tool.specs.Words.{Chosen, HasKeys, HasNumber, IsAction, IsGivenNumber, IsSplit, IsSplitWork, IsWrite, SplitWork, is_given, is_other, names_keys, top_of}
 use Rattle.opgp_tool.specs.Words.{AskedWork, DocumentWork, IsDifference, IsDocument, IsDocumentWork, IsTask, IsWork}
 use Rattle.opgp_tool.specs.Words.{of_around, of_canonical, of_cleartext, of_difference, of_digests, of_document, of_keys, of_number, of_signatures, of_split, of_states, of_task, of_write}
-use Rattle.opgp_tool.specs.Words.{HasTime, IsStates}
+use Rattle.opgp_tool.specs.Words.{AreNewest, HasTime, IsStates}
 use Rattle.opgp_stack.specs.Time.{IsTime}
 use Rattle.opgp_stack.specs.declared.stating.StateTask.{StateTask}
 
@@ -224,3 +224,7 @@ nth_given (Some t) given lacks = absurd (cc lacks)
 pub no_time : (options : List Row) (text : Text) (r : Option ℕ) → Some text ≡ first_of (codes "at") options → IfNone r ((n : ℕ) → IsTime text n → ⊥) → IfNone r ((n : ℕ) → HasTime options n → ⊥)
 no_time options text None is none = λ n has. none n (subst (λ (t : Text). IsTime t n) (same_Some has.0 text (sym has.1 ∙ sym is)) has.2)
 no_time options text (Some n) is none = tt
+
+pub no_newest : (options : List Row) (text : Text) → Some text ≡ first_of (codes "at") options → ((n : ℕ) → IsTime text n → ⊥) → (at : Option ℕ) → AreNewest options at → ⊥
+no_newest options text is none None says = none-some text (sym says.1 ∙ sym is)
+no_newest options text is none (Some n) says = none n (subst (λ (t : Text). IsTime t n) (same_Some says.1.0 text (sym says.1.1 ∙ sym is)) says.1.2)

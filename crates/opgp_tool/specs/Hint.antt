@@ -30,6 +30,12 @@ hint_text (hint.Skipped count) =
     codes "opgp: " ++ decimal count
     ++ codes " octets outside of armored blocks were skipped; read a binary file by itself"
 
+-- it tells of a loss
+abbrev pub is_loss : Hint → Bool
+is_loss (hint.Plain advice) = false
+is_loss (hint.Line advice line) = false
+is_loss (hint.Skipped count) = true
+
 -- ---- what the first octets of an input are
 abbrev pub begins : List ℕ → List ℕ → Bool
 begins octets front = starts_with nat_eq octets front

@@ -60,7 +60,7 @@ text_of advice.LongBody = codes "a packet longer than --body allows, or no OpenP
 text_of advice.ManyPieces = codes "a packet in more pieces than --pieces allows"
 text_of advice.LongCertificate =
     codes "a certificate, or what precedes the first one, longer than --cert allows"
-text_of advice.Malformed = codes "a malformed packet; --malformed keep accepts malformed signatures"
+text_of advice.Malformed = codes "a malformed packet; --malformed keep accepts it if it is a signature"
 text_of advice.OtherKeyVersion =
     codes "a key of a version other than 4 and 6; nothing of the keyring is read, so export it without that key"
 text_of advice.SecretKey =

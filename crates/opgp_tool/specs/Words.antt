@@ -32,6 +32,8 @@ use Rattle.opgp_stack.specs.declared.around.Around.{Around}
 use Rattle.opgp_stack.specs.declared.around.Around.TheVariants as around
 use Rattle.opgp_stack.specs.declared.cleartext.CleartextPart.{CleartextPart}
 use Rattle.opgp_stack.specs.declared.cleartext.CleartextPart.TheVariants as part
+use Rattle.opgp_tool.specs.declared.task.Hints.{Hints}
+use Rattle.opgp_tool.specs.declared.task.Hints.TheVariants.{Auto, Always, Never}
 use Rattle.opgp_tool.specs.declared.task.Request.{Request}
 use Rattle.opgp_tool.specs.declared.document.DocumentAction.{DocumentAction}
 use Rattle.opgp_tool.specs.declared.document.DocumentAction.TheVariants as said
@@ -154,15 +156,21 @@ pub record IsTask (name : Text) (options : List Row) (task : Task) : Type 0 wher
   pub limits : HasLimits options task.limits
   pub action : IsAction name options task.action
 
+-- `--at`: the time that its text says
+abbrev pub HasTime : List Row → ℕ → Type 0
+HasTime options n = (text : Text) × (first_of (codes "at") options ≡ Some text) × IsTime text n
+
 -- ---- the command `write`
 -- which parts of certificates it writes, and how: `--own-signatures`, `--no-attributes`,
--- `--user-id`, and the name of the file of `--verdicts`, by which it writes bound parts alone
+-- `--user-id`; the name of the file of `--verdicts`, by which it writes bound parts alone; and the
+-- time of `--newest`
 pub record Chosen : Type 0 where
   pub out : Out
   pub own_signatures : Bool
   pub no_attributes : Bool
   pub user_ids : List ℕ
   pub verdicts : Option Text
+  pub newest_at : Option ℕ
 
 -- `--bound` takes `--verdicts`, which takes `--bound`; they don't take `--user-id`
 abbrev pub AreVerdicts : List Row → Option Text → Type 0
@@ -172,6 +180,13 @@ AreVerdicts options (Some file) = (is_given (first_of (codes "bound") options) �
     × (first_of (codes "verdicts") options ≡ Some file)
     × (first_of (codes "user-id") options ≡ None)
 
+-- `--newest` takes `--bound` and `--at`, which takes `--newest`
+abbrev pub AreNewest : List Row → Option ℕ → Type 0
+AreNewest options None = (is_given (first_of (codes "newest") options) ≡ false)
+    × (first_of (codes "at") options ≡ None)
+AreNewest options (Some n) = (is_given (first_of (codes "newest") options) ≡ true)
+    × HasTime options n × (is_given (first_of (codes "bound") options) ≡ true)
+
 pub record IsChosen (options : List Row) (chosen : Chosen) : Type 0 where
   pub out : chosen.out ≡ out_of (first_of (codes "out") options)
   pub own_signatures : chosen.own_signatures
@@ -180,6 +195,7 @@ pub record IsChosen (options : List Row) (chosen : Chosen) : Type 0 where
       ≡ is_given (first_of (codes "no-attributes") options)
   pub user_ids : HasNumbers options (codes "user-id") chosen.user_ids
   pub verdicts : AreVerdicts options chosen.verdicts
+  pub newest : AreNewest options chosen.newest_at
 
 pub record IsWrite (name : Text) (options : List Row) (mode : Mode) (limits : Limits)
     (chosen : Chosen) : Type 0 where
@@ -202,7 +218,7 @@ abbrev pub WritesBound : Chosen → BoundTask → Type 0
 WritesBound chosen task = (task.out ≡ chosen.out)
     × (task.choice.own_signatures ≡ chosen.own_signatures)
     × (task.choice.no_attributes ≡ chosen.no_attributes)
-    × (task.choice.user_ids.now ≡ chosen.user_ids)
+    × (task.choice.user_ids.now ≡ chosen.user_ids) × (task.newest_at ≡ chosen.newest_at)
 
 -- ---- the command `split`
 -- every certificate, or that of a number; or those with keys that are named, and that are named in
@@ -274,15 +290,12 @@ abbrev pub reliance_of : Option Text → Policy
 reliance_of None = Usual
 reliance_of (Some word) = if bytes_eq word (codes "any") then Any else Usual
 
--- `--at`: the time that its text says
-abbrev pub HasTime : List Row → ℕ → Type 0
-HasTime options n = (text : Text) × (first_of (codes "at") options ≡ Some text) × IsTime text n
-
 pub record IsStatesWith (options : List Row) (task : StateTask) : Type 0 where
   pub mode : task.mode ≡ mode_of (first_of (codes "mode") options)
   pub limits : HasLimits options task.limits
   pub policy : task.policy ≡ reliance_of (first_of (codes "policy") options)
   pub at : HasTime options task.at
+  pub values : task.values ≡ is_given (first_of (codes "values") options)
 
 -- the states of the command of this name with these options, and the name of the file of
 -- `--verdicts`, if it is given
@@ -333,12 +346,26 @@ is_other (of_write mode limits chosen) = false
 is_other (of_split mode limits work) = false
 is_other other = true
 
--- what a command line asks for: its work, whether `--progress` and `--quiet` are given, and the
--- directory of `--spool`, if it is
+-- `--quiet` is the same as `--hints never`; else `--hints` says it: `always`, `never`, or `auto`
+abbrev pub hints_of : Bool → Option Text → Hints
+hints_of true word = Never
+hints_of false None = Auto
+hints_of false (Some word) = if bytes_eq word (codes "always") then Always
+    else (if bytes_eq word (codes "never") then Never else Auto)
+
+-- a line for people is written: always, never, or where standard error is a terminal or the line
+-- tells of a loss
+abbrev pub shows : Hints → Bool → Bool → Bool
+shows Always is_terminal is_loss = true
+shows Never is_terminal is_loss = false
+shows Auto is_terminal is_loss = is_terminal || is_loss
+
+-- what a command line asks for: its work, whether `--progress` is given, when a line for people
+-- is written, and the directory of `--spool`, if it is given
 pub record Asked : Type 0 where
   pub work : AskedWork
   pub progress : Bool
-  pub quiet : Bool
+  pub hints : Hints
   pub spool : Option Text
 
 abbrev pub document_said : DocumentAction → DocumentWork
@@ -355,6 +382,7 @@ chosen_said task = record {
   no_attributes = task.no_attributes;
   user_ids = task.user_ids.items;
   verdicts = option_map (λ word. word.now) task.verdicts;
+  newest_at = task.newest_at;
 }
 
 abbrev pub split_said : SplitAction → SplitWork
@@ -376,12 +404,13 @@ abbrev pub asked_by : Request → Asked
 asked_by request = record {
   work = work_said request.work;
   progress = request.progress;
-  quiet = request.quiet;
+  hints = request.hints;
   spool = option_map (λ word. word.now) request.spool;
 }
 
 pub record IsRequest (name : Text) (options : List Row) (asked : Asked) : Type 0 where
   pub work : IsWork name options asked.work
   pub progress : asked.progress ≡ is_given (first_of (codes "progress") options)
-  pub quiet : asked.quiet ≡ is_given (first_of (codes "quiet") options)
+  pub hints : asked.hints ≡ hints_of (is_given (first_of (codes "quiet") options))
+      (first_of (codes "hints") options)
   pub spool : asked.spool ≡ first_of (codes "spool") options

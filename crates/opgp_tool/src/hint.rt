@@ -1,7 +1,7 @@
 //! What an input that is refused seems to be, in a few words for people.
 
 ghost use Rattle.std.specs.Prelude.{◌≡◌, Some};
-ghost use Rattle.opgp_tool.specs.Hint.{hint_text};
+ghost use Rattle.opgp_tool.specs.Hint.{hint_text, is_loss};
 ghost use Rattle.opgp_tool.specs.HintText.{text_of};
 
 use std::fmt;
@@ -155,7 +155,7 @@ impl Advice {
             ManyPieces "a packet in more pieces than --pieces allows",
             LongCertificate
                 "a certificate, or what precedes the first one, longer than --cert allows",
-            Malformed "a malformed packet; --malformed keep accepts malformed signatures",
+            Malformed "a malformed packet; --malformed keep accepts it if it is a signature",
             OtherKeyVersion
                 "a key of a version other than 4 and 6; nothing of the keyring is read, so export it without that key",
             SecretKey "a secret key; don't pass it on (gpg --export writes the public key)",
@@ -192,6 +192,15 @@ pub enum Hint {
     Line(Advice, u64),
     /// So many octets outside of armored blocks were passed over.
     Skipped(u64),
+}
+
+impl Hint {
+    /// Whether it tells of octets that were passed over.
+    pub fn is_loss(self) -> bool
+        ensures { result ≡ is_loss self }
+    {
+        matches!(self, Hint::Skipped(_))
+    }
 }
 
 /// The line, without its line feed.

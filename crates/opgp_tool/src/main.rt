@@ -39,10 +39,10 @@ use split::{SplitAction, SplitTask};
 use spool_file::{beside_streams, open_spool};
 use states::StatesTask;
 use std::fs::File;
-use std::io::{Stderr, Stdin, Write};
+use std::io::{IsTerminal, Stderr, Stdin, Write};
 use std::process::ExitCode;
 use std::{env, io, mem};
-use task::{NAME, Request, Usage, Work, task_of};
+use task::{Hints, NAME, Request, Usage, Work, task_of};
 use write::WriteTask;
 
 /// The exit status of an invalid command line.
@@ -130,13 +130,18 @@ fn run_task(rt: &HostRuntime, request: &Request, task: &Task) -> u8 {
     status
 }
 
+/// Whether a line for people follows a fault.
+fn shows_hints(rt: &HostRuntime, request: &Request) -> bool {
+    request.hints.shows(rt.stderr().is_terminal(), false)
+}
+
 /// Says which key no certificate has.
 fn name_missing(rt: &HostRuntime, request: &Request, key: Option<&KeyName>) {
     let octets = match key {
         Some(key) => key.octets(),
         None => return,
     };
-    if !request.quiet && octets.len() <= 32 {
+    if shows_hints(rt, request) && octets.len() <= 32 {
         let mut room = [0; 64];
         let digits = write_hexadecimal(octets, &mut room[..2 * octets.len()]);
         let _ = eprintln!(rt; "opgp: no certificate has the key {digits}");
@@ -440,7 +445,7 @@ fn list_difference(rt: &HostRuntime, request: &Request, task: &DifferenceTask) -
         Err(error) => Err(fault_of(error)),
     };
     let status = finish(rt, request, task.mode, &outcome, &source);
-    if !request.quiet {
+    if shows_hints(rt, request) {
         say_of(rt, "this is of the old keyring, ", file, "");
     }
     status
@@ -494,7 +499,7 @@ fn open_beside(rt: &HostRuntime, file: &str) -> io::Result<Progress<Watched<File
 /// Says that a file can't be opened.
 fn unopened(rt: &HostRuntime, request: &Request, file: &str) -> u8 {
     let status = end(rt, &Err(RunFault::Read));
-    if !request.quiet {
+    if shows_hints(rt, request) {
         say_of(rt, "", file, " can't be opened");
     }
     status
@@ -558,7 +563,7 @@ fn finish_beside(
     most: u64,
 ) -> u8 {
     let status = end(rt, outcome);
-    if !request.quiet && status != FAILED {
+    if shows_hints(rt, request) && status != FAILED {
         say_of_most(rt, file, most);
     }
     status
@@ -573,7 +578,7 @@ fn finish<R: Source, W: Write + Drop>(
     reader: &Progress<R, W>,
 ) -> u8 {
     let status = end(rt, outcome);
-    if !request.quiet && status != FAILED {
+    if status != FAILED && !matches!(request.hints, Hints::Never) {
         let beginning = reader.beginning();
         let hint = hint_of(
             mode,
@@ -583,7 +588,7 @@ fn finish<R: Source, W: Write + Drop>(
             reader.octets(),
             reader.skipped(),
         );
-        explain(rt, hint);
+        explain(rt, request, hint);
     }
     status
 }
@@ -604,9 +609,14 @@ fn finish_document<R: Source, W: Write + Drop>(
 }
 
 /// Prints what is told of the input beside the fault, if there is something to tell.
-fn explain(rt: &HostRuntime, hint: Option<Hint>) {
+fn explain(rt: &HostRuntime, request: &Request, hint: Option<Hint>) {
     if let Some(hint) = hint {
-        let _ = eprintln!(rt; "{hint}");
+        if request
+            .hints
+            .shows(rt.stderr().is_terminal(), hint.is_loss())
+        {
+            let _ = eprintln!(rt; "{hint}");
+        }
     }
 }
 

@@ -5,7 +5,7 @@ ghost use Rattle.clap.specs.Words.{Text, first_of, found_of, rows_of};
 ghost use Rattle.opgp_stack.specs.declared.stating.StateTask.{StateTask};
 ghost use Rattle.opgp_tool.specs.Words.{HasTime, IsStates, IsStatesWith, reliance_of};
 
-use crate::task::{limits_of, mode_of, word_of};
+use crate::task::{is_given, limits_of, mode_of, word_of};
 use clap::ArgMatches;
 use opgp_stack::{Policy, StateTask, time_in};
 
@@ -53,6 +53,7 @@ fn task_of_states(matches: &ArgMatches) -> Option<StateTask>
         limits,
         policy: policy_of(matches),
         at,
+        values: is_given(matches, "values"),
     })
 }
 

@@ -11,7 +11,7 @@ ghost use Rattle.opgp_tool.specs.Words.{mode_of, outside_of, malformed_of, out_o
 ghost use Rattle.opgp_tool.specs.Words.{is_given, HasNumber, HasLimits, Asked, IsAction};
 ghost use Rattle.opgp_tool.specs.Words.{DocumentWork, IsDocument, IsGivenNumber, IsRequest, IsTask};
 ghost use Rattle.opgp_tool.specs.Words.{AskedWork, IsWork, asked_by, document_said, is_other};
-ghost use Rattle.opgp_tool.specs.Words.{work_said};
+ghost use Rattle.opgp_tool.specs.Words.{hints_of, shows, work_said};
 ghost use Rattle.opgp_codec.specs.declared.mode.Mode.{Mode};
 ghost use Rattle.opgp_tool.specs.Saying.{SaysNone, SaysTask};
 ghost use Rattle.opgp_words.specs.Program.{IsProgram};
@@ -44,10 +44,34 @@ pub struct Request<'a> {
     pub work: Work<'a>,
     /// Whether standard error shows how much was read.
     pub progress: bool,
-    /// Whether standard error says no more than the fault.
-    pub quiet: bool,
+    /// When a line for people is written.
+    pub hints: Hints,
     /// The directory of the file in which the output is held; None: it is held in memory.
     pub spool: Option<&'a str>,
+}
+
+/// When standard error says what a refused input seems to be, and what to do.
+#[derive(Clone, Copy, Debug)]
+pub enum Hints {
+    /// Where it is a terminal; and where something was lost.
+    Auto,
+    /// Always.
+    Always,
+    /// Never: it says no more than the fault.
+    Never,
+}
+
+impl Hints {
+    /// Whether it does, if this says whether it is a terminal, and whether something was lost.
+    pub fn shows(self, is_terminal: bool, is_loss: bool) -> bool
+        ensures { result ≡ shows self is_terminal is_loss }
+    {
+        match self {
+            Hints::Auto => is_terminal || is_loss,
+            Hints::Always => true,
+            Hints::Never => false,
+        }
+    }
 }
 
 /// What is to be made, and of what.
@@ -325,6 +349,22 @@ fn work_from<'a>(
     }
 }
 
+/// When a line for people is written.
+fn hints_of(matches: &ArgMatches) -> Hints
+    ensures { result
+        ≡ hints_of (is_given (first_of (codes "quiet") (rows_of (found_of matches.now))))
+        (first_of (codes "hints") (rows_of (found_of matches.now))) }
+{
+    if is_given(matches, "quiet") {
+        return Hints::Never;
+    }
+    match word_of(matches, "hints") {
+        Some("always") => Hints::Always,
+        Some("never") => Hints::Never,
+        _ => Hints::Auto,
+    }
+}
+
 /// What a command of this name with these options asks for. Fails only when out of memory.
 fn request_from<'a>(
     alloc: Global,
@@ -340,7 +380,7 @@ fn request_from<'a>(
         Some(work) => Ok(Some(Request {
             work,
             progress: is_given(matches, "progress"),
-            quiet: is_given(matches, "quiet"),
+            hints: hints_of(matches),
             spool: word_of(matches, "spool"),
         })),
         None => Ok(None),
@@ -460,26 +500,48 @@ fn no_states(alloc: Global, options: &ArgMatches) -> Usage {
             let text = "error: the following required arguments were not provided:\n  --at <TIME>";
             with_advice(alloc, String::from_str(alloc, text))
         }
-        Some(at) => {
-            with_advice(
-                alloc,
-                format!(in alloc; "error: invalid value '{at}' for '--at <TIME>': {TIME}"),
-            )
-        }
+        Some(at) => no_time(alloc, at),
     }
 }
 
 /// What to print where the options of `write` name no task: `clap` judges neither that one wants
-/// another nor that two exclude each other.
+/// another, nor that two exclude each other, nor the text of `--at`.
 fn no_write(alloc: Global, options: &ArgMatches) -> Usage {
-    let text = if word_of(options, "verdicts").is_none() {
+    let has_verdicts = word_of(options, "verdicts").is_some();
+    let is_bound = is_given(options, "bound");
+    let text = if is_bound && !has_verdicts {
         "error: the argument '--bound' wants '--verdicts <FILE>'"
-    } else if !is_given(options, "bound") {
+    } else if has_verdicts && !is_bound {
         "error: the argument '--verdicts <FILE>' wants '--bound'"
-    } else {
+    } else if is_bound && word_of(options, "user-id").is_some() {
         "error: the argument '--user-id <N>' cannot be used with '--bound'"
+    } else {
+        return no_newest(alloc, options);
     };
     with_advice(alloc, String::from_str(alloc, text))
+}
+
+/// The same where `--newest` or `--at` is why.
+fn no_newest(alloc: Global, options: &ArgMatches) -> Usage {
+    let text = match word_of(options, "at") {
+        None => "error: the argument '--newest' wants '--at <TIME>'",
+        Some(_) if !is_given(options, "newest") => {
+            "error: the argument '--at <TIME>' wants '--newest'"
+        }
+        Some(_) if !is_given(options, "bound") => {
+            "error: the argument '--newest' wants '--bound'"
+        }
+        Some(at) => return no_time(alloc, at),
+    };
+    with_advice(alloc, String::from_str(alloc, text))
+}
+
+/// What to print where the text of `--at` says no time.
+fn no_time(alloc: Global, at: &str) -> Usage {
+    with_advice(
+        alloc,
+        format!(in alloc; "error: invalid value '{at}' for '--at <TIME>': {TIME}"),
+    )
 }
 
 /// What to print where the options of `split` name no task: `clap` judges neither the texts of

@@ -6,13 +6,13 @@ ghost use Rattle.std.specs.List.{AllZip};
 ghost use Rattle.clap.specs.Words.{Text, found_of, rows_of};
 ghost use Rattle.opgp_codec.specs.declared.mode.Mode.{Mode};
 ghost use Rattle.opgp_octets.specs.declared.limits.Limits.{Limits};
-ghost use Rattle.opgp_tool.specs.Words.{AreVerdicts, Chosen, HasNumbers, IsNumber, IsWrite};
-ghost use Rattle.opgp_tool.specs.Words.{Writes, WritesBound, chosen_said};
+ghost use Rattle.opgp_tool.specs.Words.{AreNewest, AreVerdicts, Chosen, HasNumbers, IsNumber};
+ghost use Rattle.opgp_tool.specs.Words.{IsWrite, Writes, WritesBound, chosen_said};
 
 use crate::task::{is_given, limits_of, mode_of, out_of, word_of};
 use clap::ArgMatches;
 use opgp_octets::{Limits, OutOfMemory};
-use opgp_stack::{Action, BoundTask, Choice, Mode, Out, Task};
+use opgp_stack::{Action, BoundTask, Choice, Mode, Out, Task, time_in};
 use std::alloc::Global;
 
 /// Which parts of the certificates on standard input are written, and how.
@@ -32,6 +32,9 @@ pub struct WriteTask<'a> {
     pub user_ids: Vec<u64>,
     /// The name of the file of verdicts by which only bound parts stay; None: all of them.
     pub verdicts: Option<&'a str>,
+    /// The time, in seconds since 1970, at which newer self-signatures replace others of what is
+    /// bound; None: all of them stay.
+    pub newest_at: Option<u64>,
 }
 
 impl WriteTask<'_> {
@@ -59,6 +62,7 @@ impl WriteTask<'_> {
             limits: self.limits,
             out: self.out,
             choice: self.choice(),
+            newest_at: self.newest_at,
         }
     }
 
@@ -131,6 +135,25 @@ fn verdicts_of<'a>(matches: &ArgMatches<'a>) -> Option<Option<&'a str>>
     }
 }
 
+/// The time of `--newest`, if it is given. The outer None means that one of `--newest` and `--at` is
+/// given without the other, that `--at` says no time, or that `--bound` isn't given beside them.
+fn newest_of(matches: &ArgMatches) -> Option<Option<u64>>
+    ensures some { IfSome result (AreNewest (rows_of (found_of matches.now))) }
+    ensures none { IfNone result ((at : Option ℕ)
+        → AreNewest (rows_of (found_of matches.now)) at → ⊥) }
+{
+    let newest = is_given(matches, "newest");
+    match word_of(matches, "at") {
+        None if newest => None,
+        None => Some(None),
+        Some(text) if newest && is_given(matches, "bound") => match time_in(text) {
+            Some(at) => Some(Some(at)),
+            None => None,
+        },
+        Some(_) => None,
+    }
+}
+
 /// What `write` with these options writes. Fails only when out of memory.
 pub(crate) fn write_from<'a>(
     alloc: Global,
@@ -151,6 +174,10 @@ pub(crate) fn write_from<'a>(
         Some(verdicts) => verdicts,
         None => return Ok(None),
     };
+    let newest_at = match newest_of(matches) {
+        Some(newest_at) => newest_at,
+        None => return Ok(None),
+    };
     match user_ids_of(alloc, matches)? {
         Some(user_ids) => Ok(Some(WriteTask {
             mode: mode_of(matches),
@@ -160,6 +187,7 @@ pub(crate) fn write_from<'a>(
             no_attributes: is_given(matches, "no-attributes"),
             user_ids,
             verdicts,
+            newest_at,
         })),
         None => Ok(None),
     }

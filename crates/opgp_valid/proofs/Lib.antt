@@ -15,6 +15,7 @@ pub mod NewestOf
 pub mod Orders
 pub mod OthersSilent
 pub mod OwnRows
+pub mod PartCauses
 pub mod Parts
 pub mod Renumbered
 pub mod Revocations

@@ -6,6 +6,7 @@ pub mod FlawText
 pub mod Gathering
 pub mod Group
 pub mod Judgement
+pub mod KeyCauses
 pub mod KnownKeys
 pub mod Laws
 pub mod Listing

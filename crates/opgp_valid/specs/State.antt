@@ -5,9 +5,10 @@ use Rattle.std.specs.List.{list_any}
 use Rattle.std.specs.Option.{option_and_then, option_map}
 use Rattle.opgp_octets.specs.declared.signature_type.SignatureType.{SignatureType}
 use Rattle.opgp_octets.specs.declared.signature_type.SignatureType.TheVariants as types
+use Rattle.opgp_valid.specs.Cause.{revokes_primary, spot_of}
 use Rattle.opgp_valid.specs.Facts.{FactsValue}
 use Rattle.opgp_valid.specs.Group.{certifies, is_primary, is_the}
-use Rattle.opgp_valid.specs.Speaking.{end_in, sooner, uses_in}
+use Rattle.opgp_valid.specs.Speaking.{end_in, made_at, sooner, uses_in}
 use Rattle.opgp_valid.specs.Standing.{applies, created_of, heard, is_subkey, is_unbacked_at}
 use Rattle.opgp_valid.specs.Standing.{revokes, speakers}
 use Rattle.opgp_valid.specs.Statement.{is_alive, is_good}
@@ -59,14 +60,19 @@ abbrev pub end_at : FactsValue → Key → ℕ → Option ℕ
 end_at f k at = sooner (end_in f.created (heard f key.Primary at))
     (end_in (created_of f k) (heard f k at))
 
--- the code of the reason of the first revocation (5.2.3.31)
 -- the first of these that revokes a key
 abbrev pub revocation_in : Statement → Revocation
-revocation_in s = record { reason = s.reason }
+revocation_in s = record {
+  reason = s.reason;
+  is_of_primary = revokes_primary s.kind;
+  made = made_at s;
+  spot = spot_of s;
+}
 
 abbrev pub first_revocation : Key → List Statement → Option Revocation
 first_revocation k ss = option_map revocation_in (find (revokes k) ss)
 
+-- the code of the reason of the first revocation (5.2.3.31)
 abbrev pub reason_of : FactsValue → Key → Option ℕ
 reason_of f k = option_and_then (λ s. s.reason) (find (revokes k) f.statements)
 

@@ -54,7 +54,7 @@ pub struct Cause {
 }
 
 /// Where a signature is.
-fn spot_of(statement: &Statement) -> Spot
+pub(crate) fn spot_of(statement: &Statement) -> Spot
     ensures { result ≡ spot_of statement.now }
 {
     Spot {
@@ -64,7 +64,7 @@ fn spot_of(statement: &Statement) -> Spot
 }
 
 /// When a signature was made, if it states one time.
-fn made_of(statement: &Statement) -> Option<u64>
+pub(crate) fn made_of(statement: &Statement) -> Option<u64>
     ensures { result ≡ made_at statement.now }
 {
     match statement.life {
@@ -241,7 +241,7 @@ fn lack_date(lack: Lack, statement: &Statement) -> Option<u64>
 }
 
 /// A cause of which nothing more is known.
-fn of_key(why: Why, key: Key, is_now: bool) -> Cause
+pub(crate) fn of_key(why: Why, key: Key, is_now: bool) -> Cause
     ensures { result ≡ cause_with why key is_now None None None }
 {
     Cause {
@@ -273,7 +273,7 @@ fn lacking_by(key: Key, is_now: bool, lack: Lack, statement: Option<&Statement>)
 }
 
 /// The cause that nothing speaks for a key at a time, which is now or when the signature was made.
-fn unbound_at(facts: Facts<'_>, key: Key, is_now: bool, at: u64) -> Cause
+pub(crate) fn unbound_at(facts: Facts<'_>, key: Key, is_now: bool, at: u64) -> Cause
     ensures { result ≡ unbound_at (facts_value facts.entry) key is_now at }
 {
     match lack_of(facts, key, at) {
@@ -324,7 +324,13 @@ fn spot_of_end(
 }
 
 /// The cause that a key has expired by a time, with its end.
-fn expired_by(facts: Facts<'_>, key: Key, is_now: bool, at: u64, end: Option<u64>) -> Cause
+pub(crate) fn expired_by(
+    facts: Facts<'_>,
+    key: Key,
+    is_now: bool,
+    at: u64,
+    end: Option<u64>,
+) -> Cause
     ensures { result ≡ expired_by (facts_value facts.entry) key is_now at end }
 {
     let created = created_of(facts, key);
@@ -417,7 +423,7 @@ fn revoked(statements: &[Statement], key: Key) -> Cause
 }
 
 /// The key that is younger than a signature: the primary key, if that is so of it.
-fn early_key(facts: Facts<'_>, key: Key, made: u64) -> Key
+pub(crate) fn early_key(facts: Facts<'_>, key: Key, made: u64) -> Key
     ensures { result ≡ early_key (facts_value facts.entry) key made }
 {
     if made < u64::from(facts.created) {
@@ -428,7 +434,7 @@ fn early_key(facts: Facts<'_>, key: Key, made: u64) -> Key
 }
 
 /// The cause that a signature is older than this key.
-fn early_by(facts: Facts<'_>, key: Key) -> Cause
+pub(crate) fn early_by(facts: Facts<'_>, key: Key) -> Cause
     ensures { result ≡ early_by (facts_value facts.entry) key }
 {
     let created = created_of(facts, key);
@@ -488,7 +494,7 @@ fn without_back(facts: Facts<'_>, key: Key, made: u64) -> Cause
 }
 
 /// What makes a key not believed by this reason.
-fn cause_by(facts: Facts<'_>, key: Key, made: u64, now: u64, why: Why) -> Cause
+pub(crate) fn cause_by(facts: Facts<'_>, key: Key, made: u64, now: u64, why: Why) -> Cause
     ensures { result ≡ cause_by (facts_value facts.entry) key made now why }
 {
     match why {

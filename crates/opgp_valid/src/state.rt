@@ -4,12 +4,13 @@ ghost use Rattle.std.specs.Prelude.{◌≡◌};
 ghost use Rattle.std.specs.List.{list_any};
 ghost use Rattle.opgp_valid.specs.Facts.{facts_value};
 ghost use Rattle.opgp_valid.specs.Moment.{saying_at};
-ghost use Rattle.opgp_valid.specs.State.{first_revocation, identity_of, revokes_identity};
-ghost use Rattle.opgp_valid.specs.State.{state_of, unusable, uses_by, vouches};
+ghost use Rattle.opgp_valid.specs.State.{first_revocation, identity_of, revocation_in};
+ghost use Rattle.opgp_valid.specs.State.{revokes_identity, state_of, unusable, uses_by, vouches};
 ghost use Rattle.opgp_valid.specs.Standing.{is_revoked};
 ghost use Rattle.opgp_valid.specs.declared.facts.Key.TheVariants as keys;
 ghost use Rattle.std.specs.Option.{option_and_then};
 
+use crate::cause::{Spot, made_of, spot_of};
 use crate::facts::{Facts, Key};
 use crate::group::certifies;
 use crate::judging::{created_of, revokes};
@@ -56,6 +57,24 @@ pub enum IdentityState {
 pub(crate) struct Revocation {
     /// The code of its reason (RFC 9580, 5.2.3.31).
     pub(crate) reason: Option<u8>,
+    /// It revokes the primary key.
+    pub(crate) is_of_primary: bool,
+    /// When it was made, in seconds since 1970, if it states one time.
+    pub(crate) made: Option<u64>,
+    /// Where it is.
+    pub(crate) spot: Spot,
+}
+
+/// The revocation that a signature is.
+fn revocation_in(statement: &Statement) -> Revocation
+    ensures { result ≡ revocation_in statement.now }
+{
+    Revocation {
+        reason: statement.reason,
+        is_of_primary: matches!(statement.kind, SignatureType::KeyRevocation),
+        made: made_of(statement),
+        spot: spot_of(statement),
+    }
 }
 
 /// The first of these signatures that revokes a key.
@@ -65,9 +84,7 @@ pub(crate) fn first_revocation(statements: &[Statement], key: Key) -> Option<Rev
     let mut rest = statements;
     'statements: while let [statement, more @ ..] = rest {
         if revokes(key, statement) {
-            return Some(Revocation {
-                reason: statement.reason,
-            });
+            return Some(revocation_in(statement));
         }
         rest = more;
     }
@@ -103,7 +120,7 @@ fn uses_of(own: Saying, key: Key) -> Uses
 
 /// Why a key is of no use at all at a time, if it isn't, where this is said of its primary key and
 /// of it.
-fn unusable(
+pub(crate) fn unusable(
     facts: Facts<'_>,
     key: Key,
     primary: Saying,

@@ -35,12 +35,12 @@ pub enum PartState {
 /// What is found of the primary key, once for all parts.
 #[derive(Clone, Copy)]
 pub(crate) struct Primary {
-    saying: Saying,
-    revocation: Option<Revocation>,
+    pub(crate) saying: Saying,
+    pub(crate) revocation: Option<Revocation>,
 }
 
 /// What is found of the primary key at a time.
-fn primary_of(facts: Facts<'_>, at: u64) -> Primary
+pub(crate) fn primary_of(facts: Facts<'_>, at: u64) -> Primary
     ensures { IsOfPrimary (facts_value facts.entry) at result }
 {
     Primary {

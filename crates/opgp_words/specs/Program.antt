@@ -54,6 +54,9 @@ outside_rule policies = choice_rule (codes "outside") policies (codes "skip")
 abbrev pub malformed_rule : Choice → Rule
 malformed_rule policies = choice_rule (codes "malformed") policies (codes "refuse")
 
+abbrev pub hints_rule : Choice → Rule
+hints_rule whens = choice_rule (codes "hints") whens (codes "auto")
+
 abbrev pub out_rule : Choice → Rule
 out_rule outs = choice_rule (codes "out") outs (codes "armor")
 
@@ -115,6 +118,9 @@ no_attributes_rule = flag_rule (codes "no-attributes")
 abbrev pub bound_rule : Rule
 bound_rule = flag_rule (codes "bound")
 
+abbrev pub newest_rule : Rule
+newest_rule = flag_rule (codes "newest")
+
 abbrev pub progress_rule : Rule
 progress_rule = flag_rule (codes "progress")
 
@@ -161,7 +167,7 @@ keys_rule = text_rule (codes "keys")
 abbrev pub except_rule : Rule
 except_rule = flag_rule (codes "except")
 
--- the values of `--mode`, `--outside`, `--malformed`, `--out`, `--of` and `--policy`
+-- the values of `--mode`, `--outside`, `--malformed`, `--hints`, `--out`, `--of` and `--policy`
 abbrev pub AreModes : Choice → Type 0
 AreModes modes = words_in modes ≡ codes "auto" ∷ codes "armor" ∷ codes "binary" ∷ []
 
@@ -170,6 +176,9 @@ ArePolicies policies = words_in policies ≡ codes "skip" ∷ codes "refuse" ∷
 
 abbrev pub AreSignaturePolicies : Choice → Type 0
 AreSignaturePolicies policies = words_in policies ≡ codes "refuse" ∷ codes "keep" ∷ []
+
+abbrev pub AreWhens : Choice → Type 0
+AreWhens whens = words_in whens ≡ codes "auto" ∷ codes "always" ∷ codes "never" ∷ []
 
 abbrev pub AreOuts : Choice → Type 0
 AreOuts outs = words_in outs ≡ codes "armor" ∷ codes "binary" ∷ []
@@ -189,25 +198,27 @@ abbrev pub with_limits : App → App
 with_limits app = with_rule (with_rule (with_rule (with_rule (with_rule app line_rule) body_rule)
     cert_rule) input_rule) pieces_rule
 
--- the values of the three options of every command that take one of some words
+-- the values of the four options of every command that take one of some words
 pub record Choices : Type 0 where
   pub modes : Choice
   pub policies : Choice
   pub signature_policies : Choice
+  pub whens : Choice
 
 pub record AreChoices (choices : Choices) : Type 0 where
   pub modes : AreModes choices.modes
   pub policies : ArePolicies choices.policies
   pub signature_policies : AreSignaturePolicies choices.signature_policies
+  pub whens : AreWhens choices.whens
 
 -- the command of this name takes the mode, the policies for lines outside and for malformed
--- signatures, the limits, `--progress`, `--quiet`, `--spool`, and these options
+-- signatures, the limits, `--progress`, `--quiet`, `--hints`, `--spool`, and these options
 abbrev pub command_shape : Text → Choices → List Rule → Shape
 command_shape name choices more = record (new_shape name) {
   rules = mode_rule choices.modes
       ∷ outside_rule choices.policies ∷ malformed_rule choices.signature_policies
       ∷ line_rule ∷ body_rule ∷ cert_rule ∷ input_rule ∷ pieces_rule ∷ progress_rule ∷ quiet_rule
-      ∷ spool_rule ∷ more;
+      ∷ hints_rule choices.whens ∷ spool_rule ∷ more;
 }
 
 pub record IsCommand (name : Text) (more : List Rule) (c : Command) : Type 0 where
@@ -242,7 +253,8 @@ listing_commands show list check state octets reliances tops =
     command_shape (codes "show") show (values_rule ∷ [])
     ∷ command_shape (codes "list") list (values_rule ∷ [])
     ∷ command_shape (codes "check") check (fingerprints_rule ∷ places_rule ∷ [])
-    ∷ command_shape (codes "state") state (at_rule ∷ policy_rule reliances ∷ verdicts_rule ∷ [])
+    ∷ command_shape (codes "state") state
+    (at_rule ∷ policy_rule reliances ∷ verdicts_rule ∷ values_rule ∷ [])
     ∷ command_shape (codes "octets") octets
     (row_rule ∷ of_rule tops ∷ all_rule ∷ explain_rule ∷ []) ∷ []
 
@@ -252,7 +264,7 @@ abbrev pub writing_commands : (write normalise split join : Choices)
 writing_commands write normalise split join write_outs normalise_outs split_outs join_outs =
     command_shape (codes "write") write
     (out_rule write_outs ∷ own_signatures_rule ∷ no_attributes_rule ∷ user_id_rule ∷ bound_rule
-    ∷ verdicts_rule ∷ [])
+    ∷ verdicts_rule ∷ newest_rule ∷ at_rule ∷ [])
     ∷ command_shape (codes "normalise") normalise (out_rule normalise_outs ∷ [])
     ∷ command_shape (codes "split") split
     (out_rule split_outs ∷ nth_rule ∷ key_rule ∷ keys_rule ∷ except_rule ∷ [])

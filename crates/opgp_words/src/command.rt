@@ -5,7 +5,7 @@ ghost use Rattle.clap.specs.Words.{rule_of, app_of, shape_of, with_rule, with_su
 ghost use Rattle.opgp_words.specs.Program.{Choice, AreModes, ArePolicies, AreSignaturePolicies};
 ghost use Rattle.opgp_words.specs.Program.{AreOuts, AreTops, mode_rule, outside_rule};
 ghost use Rattle.opgp_words.specs.Program.{malformed_rule, out_rule, of_rule, limit_rule, row_rule};
-ghost use Rattle.opgp_words.specs.Program.{bound_rule};
+ghost use Rattle.opgp_words.specs.Program.{AreWhens, bound_rule, hints_rule, newest_rule};
 ghost use Rattle.opgp_words.specs.Program.{nth_rule, flag_rule, merge_rule, key_rule, choice_rule};
 ghost use Rattle.opgp_words.specs.Program.{number_rule, valued_rule, text_rule, values_rule};
 ghost use Rattle.opgp_words.specs.Program.{fingerprints_rule, places_rule, all_rule, explain_rule};
@@ -32,6 +32,8 @@ static MODES: [&str; 3] = ["auto", "armor", "binary"];
 static POLICIES: [&str; 2] = ["skip", "refuse"];
 
 static SIGNATURE_POLICIES: [&str; 2] = ["refuse", "keep"];
+
+static WHENS: [&str; 3] = ["auto", "always", "never"];
 
 static OUTS: [&str; 2] = ["armor", "binary"];
 
@@ -115,6 +117,15 @@ fn malformed_option<'a>(alloc: Global) -> Arg<'a>
         "refuse",
         help,
     )
+}
+
+/// `--hints`: when a line for people follows a fault.
+fn hints_option<'a>(alloc: Global) -> Arg<'a>
+    ensures rule { (words : Choice) × AreWhens words × (rule_of result ≡ hints_rule words) }
+    ensures own { result.global ≡ false }
+{
+    let help = "When to say on standard error what a refused input seems to be, and what to do";
+    choice_option(alloc, "hints", "WHEN", WHENS.as_slice(), "auto", help)
 }
 
 /// `--out`: how keyrings are written.
@@ -280,8 +291,9 @@ fn new_command<'a>(
     let command = with_limits(alloc, command);
     let help = "Show on standard error how much was read";
     let command = with_option(command, flag_option(alloc, "progress", help));
-    let help = "Leave out the second line on standard error";
+    let help = "The same as --hints never";
     let command = with_option(command, flag_option(alloc, "quiet", help));
+    let command = with_option(command, hints_option(alloc));
     let help = "Hold the output in a file in this directory";
     with_option(command, text_option(alloc, "spool", "DIR", help))
 }
@@ -317,7 +329,8 @@ fn check_command<'a>(alloc: Global) -> Result<Command<'a>, OutOfMemory>
 
 fn state_command<'a>(alloc: Global) -> Result<Command<'a>, OutOfMemory>
     ensures { IfOk result (λ c. (reliances : Choice) × AreReliances reliances
-        × IsCommand (codes "state") (at_rule ∷ policy_rule reliances ∷ verdicts_rule ∷ []) c) }
+        × IsCommand (codes "state")
+        (at_rule ∷ policy_rule reliances ∷ verdicts_rule ∷ values_rule ∷ []) c) }
 {
     let about = "List how the keys and user IDs of a keyring stand at a time";
     let command = new_command(alloc, "state", about, STATE_HELP);
@@ -325,7 +338,9 @@ fn state_command<'a>(alloc: Global) -> Result<Command<'a>, OutOfMemory>
     let command = with_option(command, text_option(alloc, "at", "TIME", help));
     let command = with_option(command, policy_option(alloc));
     let help = "The file of a verifier's verdicts on the signatures";
-    with_option(command, text_option(alloc, "verdicts", "FILE", help))
+    let command = with_option(command, text_option(alloc, "verdicts", "FILE", help));
+    let help = "Show dates, and why a key isn't usable";
+    with_option(command, flag_option(alloc, "values", help))
 }
 
 fn octets_command<'a>(alloc: Global) -> Result<Command<'a>, OutOfMemory>
@@ -359,7 +374,7 @@ fn writing_command<'a>(
 fn write_command<'a>(alloc: Global) -> Result<Command<'a>, OutOfMemory>
     ensures { IfOk result (λ c. (outs : Choice) × AreOuts outs × IsCommand (codes "write")
         (out_rule outs ∷ own_signatures_rule ∷ no_attributes_rule ∷ user_id_rule ∷ bound_rule
-        ∷ verdicts_rule ∷ []) c) }
+        ∷ verdicts_rule ∷ newest_rule ∷ at_rule ∷ []) c) }
 {
     let about = "Write a keyring, with its framing";
     let command = writing_command(alloc, "write", about, WRITE_HELP);
@@ -374,7 +389,11 @@ fn write_command<'a>(alloc: Global) -> Result<Command<'a>, OutOfMemory>
     let help = "Leave out what no good self-signature binds, by the file of --verdicts";
     let command = with_option(command, flag_option(alloc, "bound", help));
     let help = "The file of a verifier's verdicts on the signatures";
-    with_option(command, text_option(alloc, "verdicts", "FILE", help))
+    let command = with_option(command, text_option(alloc, "verdicts", "FILE", help));
+    let help = "With --bound, leave out what a newer self-signature replaces at the time of --at";
+    let command = with_option(command, flag_option(alloc, "newest", help));
+    let help = "The time of --newest, in seconds since 1970 or as a UTC date";
+    with_option(command, text_option(alloc, "at", "TIME", help))
 }
 
 fn split_command<'a>(alloc: Global) -> Result<Command<'a>, OutOfMemory>

@@ -41,7 +41,8 @@ from when until when it is there, and the code of its revocation's reason. A key
 if it is bound to its certificate, and neither revoked nor expired. The keyring is merged
 first, as join --merge does it. The file of verdicts is what opgp-verify --verdicts writes of
 the same keyring; no other is taken. Without it the lines say what the signatures claim, and
-that they are unverified.
+that they are unverified. --values adds dates, and for a key that isn't usable which key that
+is because of, what is lacking, a date, and the signature that says so.
 
 Example: opgp-verify --verdicts < KEYRING > VERDICTS
          opgp state --at 2026-11-20 --verdicts VERDICTS < KEYRING";
@@ -65,7 +66,9 @@ that are given, with their signatures. No signature is verified.
 --bound leaves out each user ID, attribute and subkey on which no self-signature is that is
 good by the verdicts in the file of --verdicts, which opgp-verify --verdicts writes of the
 same keyring; and self-signatures that aren't good. Revocations stay, and subkeys that made
-good ones. The keyring is merged first. It doesn't go with --user-id.
+good ones. The keyring is merged first. It doesn't go with --user-id. --newest leaves out
+self-signatures that newer ones replace, too: how each part stands at the time of --at is
+the same, but older signatures may no longer be believed.
 
 Example: opgp write --own-signatures --user-id 0 < KEYRING > MINIMAL.asc";
 

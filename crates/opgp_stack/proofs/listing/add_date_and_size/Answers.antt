@@ -2,7 +2,7 @@ use Rattle.std.proofs.Common.{◌++◌, ℕ, ap}
 use Rattle.opgp_packet.specs.Key.{key_value}
 use Rattle.opgp_packet.specs.Parsed.{body_octets}
 use Rattle.opgp_io.proofs.Extended.{extends_stop, extends_then}
-use Rattle.opgp_stack.specs.Date.{date_word}
+use Rattle.opgp_state.specs.Date.{date_word}
 use Rattle.opgp_stack.specs.KeySize.{key_size, size_words}
 use Rattle.opgp_stack.proofs.KeyLines.{creation_is}
 use Rattle.opgp_stack.proofs.listing.add_date_and_size.Goals as goal

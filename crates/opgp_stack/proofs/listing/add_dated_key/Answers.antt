@@ -1,7 +1,7 @@
 use Rattle.std.proofs.Common.{◌++◌, refl}
 use Rattle.opgp_packet.specs.Parsed.{body_octets}
 use Rattle.opgp_io.proofs.Extended.{extends_stop, extends_then}
-use Rattle.opgp_stack.specs.Date.{date_word}
+use Rattle.opgp_state.specs.Date.{date_word}
 use Rattle.opgp_stack.specs.KeySize.{key_size, size_words}
 use Rattle.opgp_stack.specs.Listing.{key_fields_in, key_start, number_at}
 use Rattle.opgp_stack.specs.Role.{role_name}

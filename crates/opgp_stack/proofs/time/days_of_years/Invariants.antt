@@ -1,5 +1,5 @@
 use Rattle.std.proofs.Common.{◌≡◌, ◌*◌, ◌≤◌}
-use Rattle.opgp_stack.specs.Date.{days_of_years}
+use Rattle.opgp_state.specs.Date.{days_of_years}
 use Rattle.opgp_stack.proofs.time.days_of_years.Given as goal
 
 -- the days of the years so far

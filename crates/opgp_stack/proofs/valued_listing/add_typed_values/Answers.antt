@@ -2,7 +2,7 @@ use Rattle.std.proofs.Common.{◌≡◌, List, ℕ, ◌++◌, codes, append_asso
 use Rattle.hex.specs.Hex.{encode_upper}
 use Rattle.opgp_report.specs.IssuerName.{name_value}
 use Rattle.opgp_io.proofs.Extended.{extends_stop, extends_then}
-use Rattle.opgp_stack.specs.Date.{date_words_or_none}
+use Rattle.opgp_state.specs.Date.{date_words_or_none}
 use Rattle.opgp_stack.specs.Listing.{typed_start}
 use Rattle.opgp_stack.specs.ValuedListing.{created_words, issuer_words}
 use Rattle.opgp_stack.proofs.valued_listing.add_typed_values.Goals as goal

@@ -1,6 +1,6 @@
 use Rattle.std.proofs.Common.{refl}
 use Rattle.opgp_io.proofs.Extended.{extends_stop, extends_then}
-use Rattle.opgp_stack.specs.Date.{date_words}
+use Rattle.opgp_state.specs.Date.{date_words}
 use Rattle.opgp_stack.proofs.values.add_time.Goals as goal
 
 pub returns-in_err-add_seconds : goal.returns-in_err-add_seconds

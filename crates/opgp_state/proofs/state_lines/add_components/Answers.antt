@@ -11,15 +11,15 @@ states-init g c = record { but = extends_all_left c.requires; count = omega arit
 
 pub returns-in_err-add_component : goal.returns-in_err-add_component
 returns-in_err-add_component g c =
-    extends_broken_left (component_lines c.args.basis c.args.certificate (c.states.number + 1) (components_left c.next.new.self) c.in-Some.more.now) c.states.invariant.but
-    (next_component c.args.basis c.args.certificate c.states.number (components_left c.states.components) (components_left c.next.new.self) (component_of c.in-Some-next.component) c.states.rest.now c.in-Some.more.now c.in-Some.state.now c.in-Some-next.ensures c.in-Some.ensures.cases.0) c.from_residual.ensures.0 c.in_err-add_component.ensures
+    extends_broken_left (component_lines c.args.basis c.args.values c.args.certificate (c.states.number + 1) (components_left c.next.new.self) c.in-Some.more.now c.next_cause-cause.result.1.now) c.states.invariant.but
+    (next_component c.args.basis c.args.values c.args.certificate c.states.number (components_left c.states.components) (components_left c.next.new.self) (component_of c.in-Some-next.component) c.states.rest.now c.in-Some.more.now c.in-Some.state.now c.states.left.now c.next_cause-cause.result.1.now c.next_cause-cause.result.0 c.in-Some-next.ensures c.in-Some.ensures.cases.0 c.next_cause-cause.ensures.first c.next_cause-cause.ensures.behind) c.from_residual.ensures.0 c.in_err-add_component.ensures
 
 pub states-preserved : goal.states-preserved
 states-preserved g c = record {
   but = extends_less_left c.states.invariant.but
-      (next_component c.args.basis c.args.certificate c.states.number (components_left c.states.components) (components_left c.next.new.self) (component_of c.in-Some-next.component) c.states.rest.now c.in-Some.more.now c.in-Some.state.now c.in-Some-next.ensures c.in-Some.ensures.cases.0) c.in_ok-add_component.ensures;
+      (next_component c.args.basis c.args.values c.args.certificate c.states.number (components_left c.states.components) (components_left c.next.new.self) (component_of c.in-Some-next.component) c.states.rest.now c.in-Some.more.now c.in-Some.state.now c.states.left.now c.next_cause-cause.result.1.now c.next_cause-cause.result.0 c.in-Some-next.ensures c.in-Some.ensures.cases.0 c.next_cause-cause.ensures.first c.next_cause-cause.ensures.behind) c.in_ok-add_component.ensures;
   count = omega (arith, c.in-Some.ensures.cases.1, c.states.invariant.count);
 }
 
 pub returns : goal.returns
-returns g c = extends_nothing_left c.states.invariant.but (states_gone c.args.basis c.args.certificate c.states.number (components_left c.states.components) c.states.rest.now (nil_from_length c.states.rest.now c.in_default.ensures.cases))
+returns g c = extends_nothing_left c.states.invariant.but (states_gone c.args.basis c.args.values c.args.certificate c.states.number (components_left c.states.components) c.states.rest.now c.states.left.now (nil_from_length c.states.rest.now c.in_default.ensures.cases))

@@ -30,14 +30,19 @@ returns c =
     let app_6 : App = with_rule app_5 (rule_of c.flag_option-2.result) in
     let six = known c.with_option-command-4.result c.with_option-command-5.result
     (λ a. with_rule a (rule_of c.flag_option-2.result)) app_5 five c.with_option-command-5.ensures in
-    let seven = known c.with_option-command-5.result c.with_option.result
-    (λ a. with_rule a (rule_of c.text_option.result)) app_6 six c.with_option.ensures in
+    let hints = c.hints_option.ensures.rule in
+    let app_7 : App = with_rule app_6 (rule_of c.hints_option.result) in
+    let seven = known c.with_option-command-5.result c.with_option-command-6.result
+    (λ a. with_rule a (rule_of c.hints_option.result)) app_6 six c.with_option-command-6.ensures in
+    let eight = known c.with_option-command-6.result c.with_option.result
+    (λ a. with_rule a (rule_of c.text_option.result)) app_7 seven c.with_option.ensures in
     let rules_1 : app_1 ≡ with_rule bare (mode_rule mode.0) = ap (λ (rule : Rule). with_rule bare rule) mode.2 in
     let rules_3 = ap₂ with_rule (ap₂ with_rule rules_1 outside.2) malformed.2 in
     let rules_5 = ap₂ with_rule (ap with_limits rules_3) c.flag_option.ensures.rule in
     let rules_6 = ap₂ with_rule rules_5 c.flag_option-2.ensures.rule in
+    let rules_7 = ap₂ with_rule rules_6 hints.2 in
     IfOk-weaker c.with_option.result _ _ (λ r last. record {
-      choices = record { modes = mode.0; policies = outside.0; signature_policies = malformed.0 };
-      are_choices = record { modes = mode.1; policies = outside.1; signature_policies = malformed.1 };
-      app = last ∙ ap₂ with_rule rules_6 c.text_option.ensures.rule;
-    }) seven
+      choices = record { modes = mode.0; policies = outside.0; signature_policies = malformed.0; whens = hints.0 };
+      are_choices = record { modes = mode.1; policies = outside.1; signature_policies = malformed.1; whens = hints.1 };
+      app = last ∙ ap₂ with_rule rules_7 c.text_option.ensures.rule;
+    }) eight

@@ -1,5 +1,0 @@
-use Rattle.opgp_stack.proofs.DateTexts.{one_time}
-use Rattle.opgp_stack.proofs.laws.a_date_is_that_of_one_time.Goals as goal
-
-pub returns : goal.returns
-returns c = one_time

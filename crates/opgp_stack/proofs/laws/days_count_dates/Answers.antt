@@ -1,6 +1,0 @@
-use Rattle.opgp_stack.proofs.Calendar.{dated}
-use Rattle.opgp_stack.proofs.DateTexts.{date_of_before}
-use Rattle.opgp_stack.proofs.laws.days_count_dates.Goals as goal
-
-pub returns : goal.returns
-returns c = record { counted = dated; found = date_of_before }

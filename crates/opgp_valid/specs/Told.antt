@@ -332,11 +332,18 @@ module _ (known : List Known) (policy : Policy) (primary : Fingerprint) where
     abbrev pub told : List Statement → Standing × Verdict → List Statement
     told before x = told_with before x.0 x.1 (signature_at x.0.body)
 
--- what the signatures of a certificate say, by these verdicts on its rows in a report
+-- the keys that genuine signatures of a certificate name for revoking (5.2.3.23), by these verdicts
+-- on its rows in a report
 abbrev pub revokers_of : List Known → CertificateValue → List Verdict → List Fingerprint
 revokers_of known c founds = flat_map (revokers_at known (print_of c.primary.body))
     (with_verdicts founds (certificate_standing 0 c))
 
+-- What its signatures say. In plain words: of each of its packets, in order, that is a signature of
+-- version 4 or 6, whose verdict is good over what it follows, and that the primary key made or one
+-- of those keys, it is what that says, at each time that it states. Of the signatures that are
+-- embedded in it the first is its back signature, if it is good and by the subkey (5.2.1.9). A
+-- certification is marked as revoked if the primary key revoked it, not before it was made
+-- (5.2.1.13).
 abbrev pub statements_of : List Known → Policy → CertificateValue → List Verdict → List Statement
 statements_of known policy c founds = with_revocations
     (fold (told known policy (print_of c.primary.body) (revokers_of known c founds)) []

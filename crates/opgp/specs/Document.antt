@@ -8,7 +8,6 @@ pub use Rattle.opgp_document.specs.HashedDocument
 pub use Rattle.opgp_document.specs.OpenFault
 pub use Rattle.opgp_document.specs.OwnOctets
 pub use Rattle.opgp_document.specs.Place
-pub use Rattle.opgp_document.specs.Sha1Hasher
 pub use Rattle.opgp_document.specs.ShortTable
 pub use Rattle.opgp_document.specs.SignatureHasher
 pub use Rattle.opgp_document.specs.SignedDocument

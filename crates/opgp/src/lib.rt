@@ -30,10 +30,10 @@ pub mod cleartext {
 pub mod codec {
     pub use opgp_codec::{
         Answer, Draft, DraftError, EngineError, IncomingOctets, IncomingPackets, IncomingParts,
-        Mode, NoSpool, Out, PacketReader, PacketsText, PartReader, Parts, ReadError, Sink, Source,
-        Spool, Text, Waiting, WaitingPackets, Watched, cleartext_laws, laws, read_cleartext,
-        read_keyring, read_packets, read_signatures, read_signed, write, write_certificate,
-        write_certificates, write_keyring,
+        Mode, NoSpool, Out, PacketReader, PacketsAnswer, PacketsText, PartReader, Parts, ReadError,
+        SignedAnswer, Sink, Source, Spool, Text, Waiting, WaitingPackets, Watched, cleartext_laws,
+        laws, read_cleartext, read_keyring, read_packets, read_signatures, read_signed, write,
+        write_certificate, write_certificates, write_keyring,
     };
 }
 
@@ -69,8 +69,9 @@ pub mod frame {
 /// Fingerprints, and what a signature hashes (RFC 9580, 5.2.4, 5.5.4).
 pub mod hash {
     pub use opgp_hash::{
-        CertificateHasher, Digest, Fingerprint, KeyId, Question, Site, Subject, Why, ask, ask_at,
-        ask_view, digest, fingerprint, fingerprint_of_view, key_id, laws, reopen, write_octets,
+        CertificateHasher, Digest, Fingerprint, KeyId, Question, Sha1Hasher, Site, Subject, Why,
+        ask, ask_at, ask_view, digest, fingerprint, fingerprint_of_view, key_id, laws, reopen,
+        write_octets,
     };
 }
 
@@ -115,12 +116,12 @@ pub mod report {
 
 /// Keyrings, certificates, signed literals and detached signatures (RFC 9580, 10).
 pub mod ring {
-    pub use opgp_ring::{
-        BlockOf, Certificate, Component, Components, Composer, Content, DetachedGathering,
-        DetachedPackets, DetachedSignatures, Hangs, Head, Keyring, Lead, Member, Members, Packets,
-        Ready, Signatures, SignedGathering, SignedLiteral, body_fault, check_bodies,
-        check_bodies_by, compose, compose_signed, compose_signed_by, end_fits, flatten, join, laws,
-        normalise, nth, packet_fault, view_fault,
+    pub use opgp_keyring::{
+        BlockOf, Certificate, Component, Components, Composed, Composer, Content,
+        DetachedGathering, DetachedPackets, DetachedSignatures, Hangs, Head, Keyring, Lead, Member,
+        Members, Packets, Ready, Signatures, SignedGathering, SignedLiteral, body_fault,
+        check_bodies, check_bodies_by, compose, compose_signed, compose_signed_by, end_fits,
+        flatten, join, laws, normalise, nth, packet_fault, view_fault,
     };
 }
 

@@ -10,7 +10,7 @@ use Rattle.opgp_armor.specs.Cuts.{is_plain, IsLineSplit, Cut, cut, lines_ended}
 use Rattle.opgp_armor.specs.Text.{Line, lines}
 use Rattle.opgp_armor.specs.Events.{Event, events_of}
 use Rattle.opgp_armor.specs.Shown.{Shown}
-use Rattle.opgp_armor.specs.Fed.{Stands, Fed, KeepsFed, IsQuiet, rule_of}
+use Rattle.opgp_armor.specs.Fed.{Stands, Fed, KeepsFed, IsQuiet, rule_of, spare_of}
 use Rattle.opgp_armor.proofs.Octets.{AreOctets, all_octets}
 use Rattle.opgp_armor.proofs.DataLine.{all_parts}
 use Rattle.opgp_armor.proofs.Texts.{IsLine, are_lines, recursion_front}
@@ -89,6 +89,7 @@ pub record Pushed (d e : Dearmor) (piece : List ℕ) (n : ℕ) : Type 0 where
   pub fed : KeepsFed d e (take n piece) []
   pub stopped : (f : Fault) → d.fault ≡ Some f → (e.fault ≡ Some f) × (e.ready ≡ None)
   pub quiet : IsQuiet d piece n
+  pub spare : spare_of e ≤ spare_of d
 
 pub pushed_none : (d : Dearmor) (piece : List ℕ) → d.spent ≡ false → d.ended ≡ false → d.ready ≡ None → Pushed d d piece 0
 pushed_none d piece spent open_ none = record {
@@ -101,6 +102,7 @@ pushed_none d piece spent open_ none = record {
   fed = λ given taken fed. no_octet d given (taken ++ []) (no_event d given taken fed);
   stopped = λ f e. (e, none);
   quiet = λ k h. absurd (omega arith);
+  spare = omega arith;
 }
 
 -- one part more
@@ -108,8 +110,9 @@ pub pushed_more : (d m e : Dearmor) (piece : List ℕ) (t n : ℕ) → Pushed d 
     → KeepsFed m e (take n (take (length piece - t) (drop t piece))) []
     → ((f : Fault) → m.fault ≡ Some f → (e.fault ≡ Some f) × (e.ready ≡ None))
     → IsQuiet m (take (length piece - t) (drop t piece)) n
+    → spare_of e ≤ spare_of m
     → Pushed d e piece (t + n)
-pushed_more d m e piece t n p some within count spent open_ rule fed stopped quiet = record {
+pushed_more d m e piece t n p some within count spent open_ rule fed stopped quiet spare = record {
   within = part_fits piece t n p.within within;
   count = omega (arith, count, p.count);
   before = λ z. absurd (omega arith);
@@ -132,4 +135,5 @@ pushed_more d m e piece t n p some within count spent open_ rule fed stopped qui
         subst (λ (v : LineRule). Shown v (cut (given ++ take k piece)).ended taken) p.rule
         (subst (λ (v : List ℕ). Shown (rule_of m) (cut v).ended taken) same now)
   ];
+  spare = omega (arith, spare, p.spare);
 }

@@ -50,6 +50,11 @@ fault_of d = d.fault
 abbrev pub held_of : Dearmor → ℕ
 held_of d = octets_held d.buffer.items (pending_of d.pending).letters d.ready
 
+-- the octets that lie in the memory that lines use in turn, which mean nothing; no other field is a
+-- list
+abbrev pub spare_of : Dearmor → ℕ
+spare_of d = length d.spare.octets.items + length d.spare.letters.items
+
 -- what a spent reader reports in the end
 abbrev pub spent_fault : Fault
 spent_fault =

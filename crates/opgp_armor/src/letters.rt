@@ -1,6 +1,7 @@
 //! The letters of a block's data lines.
 
-ghost use Rattle.std.specs.Prelude.{◌≡◌, ◌++◌, ℕ, List, true, false, if◌then◌else◌, length, Ok};
+ghost use Rattle.std.specs.Prelude.{◌≡◌, ◌≤◌, ◌++◌, ℕ, List, [], true, false, if◌then◌else◌};
+ghost use Rattle.std.specs.Prelude.{length, Ok};
 ghost use Rattle.std.specs.Prelude.{IfOk, IfErr, OnOk};
 ghost use Rattle.std.specs.List.{list_all};
 ghost use Rattle.base64.specs.Engines.{standard};
@@ -78,19 +79,21 @@ fn decode_over(octets: &mut Vec<u8>, groups: &[u8]) -> Result<(), DecodeAllocErr
     Ok(())
 }
 
-/// The octets that whole groups decode to, in the memory of `spare`.
+/// The octets that whole groups decode to, in the memory of `spare`, which is taken.
 fn decoded(alloc: Global, spare: &mut Vec<u8>, groups: &[u8]) -> Result<Vec<u8>, DecodeAllocError>
     ensures ok { IfOk result (λ v. decode_of standard groups.now ≡ Ok v.items) }
     ensures octets { IfOk result (λ v. IsBytes v.items) }
     ensures exact { IfOk result (λ v. groups.now ≡ base64_of v.items) }
     ensures err { IfErr result (λ e. IsDecodeFailure standard groups.now e) }
+    ensures spare { length spare.new.items ≤ length spare.old.items }
 {
     // So that lines of few letters don't take the memory.
     if groups.is_empty() {
         return Ok(Vec::new(alloc));
     }
-    decode_over(spare, groups)?;
-    Ok(mem::replace(spare, Vec::new(alloc)))
+    let mut octets = mem::replace(spare, Vec::new(alloc));
+    decode_over(&mut octets, groups)?;
+    Ok(octets)
 }
 
 /// What a line yields, if `all` is the letters left over and then its own, and no group was padded.
@@ -100,9 +103,10 @@ fn groups_of_letters(
     all: &[u8],
     content: &[u8],
 ) -> Result<Letters, Refusal>
-    ensures { (letters : List ℕ) → list_all is_letter letters ≡ true
+    ensures line { (letters : List ℕ) → list_all is_letter letters ≡ true
         → all.now ≡ letters ++ content.now → AnswersLetters result
         (data_line (record { letters = letters; padded = false }) content.now) }
+    ensures spare { length spare.new.items ≤ length spare.old.items }
 {
     let (groups, rest) = all.split_at(4 * (all.len() / 4));
     match decoded(alloc, spare, groups) {
@@ -119,11 +123,11 @@ fn groups_of_letters(
     }
 }
 
-/// Puts the two lists, joined, in the place of what `all` holds.
+/// Adds the two lists, joined.
 fn join(all: &mut Vec<u8>, front: &[u8], back: &[u8]) -> Result<(), OutOfMemory>
+    requires { all.old.items ≡ [] }
     ensures { OnOk result (all.new.items ≡ front.now ++ back.now) }
 {
-    all.clear();
     all.reserve_exact(front.len().saturating_add(back.len()))?;
     all.extend_from_slice(front)?;
     all.extend_from_slice(back)?;
@@ -140,7 +144,8 @@ pub(crate) fn letters_of(
     pending: &Pending,
     content: &[u8],
 ) -> Result<Letters, Refusal>
-    ensures { AnswersLetters result (data_line (pending_of pending.now) content.now) }
+    ensures line { AnswersLetters result (data_line (pending_of pending.now) content.now) }
+    ensures spare { length spare.new.octets.items ≤ length spare.old.octets.items }
 {
     if pending.is_padded() {
         return Err(Refusal::Reason(refused(content)));
@@ -148,6 +153,10 @@ pub(crate) fn letters_of(
     if !pending.waits() {
         return groups_of_letters(alloc, &mut spare.octets, content, content);
     }
-    join(&mut spare.letters, pending.letters(), content)?;
-    groups_of_letters(alloc, &mut spare.octets, spare.letters.as_slice(), content)
+    let mut all = mem::replace(&mut spare.letters, Vec::new(alloc));
+    join(&mut all, pending.letters(), content)?;
+    let letters = groups_of_letters(alloc, &mut spare.octets, all.as_slice(), content);
+    all.clear();
+    spare.letters = all;
+    letters
 }

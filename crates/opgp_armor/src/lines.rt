@@ -165,7 +165,8 @@ fn data(
     pending: Pending,
     content: &[u8],
 ) -> Result<Reaction, Refusal>
-    ensures { IsAnswer result (on_letters label (data_line (pending_of pending) content.now)) }
+    ensures line { IsAnswer result (on_letters label (data_line (pending_of pending) content.now)) }
+    ensures spare { length spare.new.octets.items ≤ length spare.old.octets.items }
 {
     let Letters { pending, octets } = letters_of(alloc, spare, &pending, content)?;
     let event = if octets.is_empty() {
@@ -220,7 +221,8 @@ fn in_data(
     pending: Pending,
     content: &[u8],
 ) -> Result<Reaction, Refusal>
-    ensures { IsAnswer result (inside (Data label) (pending_of pending) content.now) }
+    ensures line { IsAnswer result (inside (Data label) (pending_of pending) content.now) }
+    ensures spare { length spare.new.octets.items ≤ length spare.old.octets.items }
 {
     if content.len() == 0 {
         return moved(Section::Data(label), pending);
@@ -295,8 +297,9 @@ pub(crate) fn answer_line(
     pending: Pending,
     line: &[u8],
 ) -> Result<Reaction, Refusal>
-    ensures { IsAnswer result
+    ensures line { IsAnswer result
         (step (record { most = limit; outside = outside }) (state_of section pending) line.now) }
+    ensures spare { length spare.new.octets.items ≤ length spare.old.octets.items }
 {
     if lies_outside(section, line) {
         return pass(limit, outside, section, pending, line);

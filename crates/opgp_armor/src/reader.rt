@@ -1,7 +1,7 @@
 //! A reader of armor that takes a text in pieces of any size.
 
-ghost use Rattle.std.specs.Prelude.{◌≡◌, ◌+◌, ◌-◌, ◌^◌, ◌<◌, ◌≤◌, ◌↔◌, ℕ, List, [], ◌++◌, true};
-ghost use Rattle.std.specs.Prelude.{false, is_some, length, take, Some, None, Ok, Err, IfOk, OnOk};
+ghost use Rattle.std.specs.Prelude.{◌≡◌, ◌+◌, ◌-◌, ◌*◌, ◌^◌, ◌<◌, ◌≤◌, ◌↔◌, ℕ, List, [], ◌++◌};
+ghost use Rattle.std.specs.Prelude.{true, false, is_some, length, take, Some, None, Ok, Err, IfOk, OnOk};
 ghost use Rattle.std.specs.Prelude.{OnErr, MatchOption, MatchResult};
 ghost use Rattle.opgp_armor.specs.Armored.{end_reason};
 ghost use Rattle.opgp_armor.specs.Events.{events_of, ends_in, is_open_behind, octets_held};
@@ -27,7 +27,7 @@ use std::mem;
 ///
 /// It keeps an unfinished line, at most three letters left over, and the event that is ready; and
 /// memory for the letters and the octets of one line, which the next ones use again
-/// ([`Dearmor::reuse`]).
+/// ([`Dearmor::reuse`]). Nothing but a vector that was given back lies in that memory.
 #[derive(Drop)]
 pub struct Dearmor {
     alloc: Global,
@@ -49,6 +49,7 @@ pub struct Dearmor {
     ghost short: { length buffer.items ≤ limit + 1 },
     ghost bounded: { octets_held buffer.items (pending_of pending).letters ready ≤ limit + 16 },
     ghost counted: { finished + length buffer.items ≤ given },
+    ghost spare_short: { length spare.octets.items ≤ 2 * limit },
 }
 
 /// Adds octets to the buffer until it holds `most`, and says how many were added.
@@ -179,7 +180,7 @@ impl Dearmor {
     ghost use Rattle.opgp_armor.specs.Fed.{Fed, KeepsFed, IsQuiet, AfterLine, SameReader};
     ghost use Rattle.opgp_armor.specs.Fed.{SaysTheSame};
     ghost use Rattle.opgp_armor.specs.Fed.{line_limit_of, is_ready, count_of, is_spent, has_ended};
-    ghost use Rattle.opgp_armor.specs.Fed.{rule_of, fault_of, held_of, spent_fault};
+    ghost use Rattle.opgp_armor.specs.Fed.{rule_of, fault_of, held_of, spare_of, spent_fault};
     ghost use Rattle.opgp_armor.specs.Rules.{line_rule};
 
     /// A reader that was given nothing. Lines have at most as many octets as the limits allow, and
@@ -195,6 +196,7 @@ impl Dearmor {
         ensures limits { line_limit_of result ≡ line_limit limits }
         ensures rule { rule_of result ≡ line_rule limits }
         ensures held { held_of result ≡ 0 }
+        ensures spare { spare_of result ≡ 0 }
     {
         Dearmor {
             alloc,
@@ -250,6 +252,8 @@ impl Dearmor {
         ensures rule { rule_of self.new ≡ rule_of self.old }
         ensures held { held_of self.new ≤ line_limit_of self.new + 16 }
         ensures shrinks { held_of self.new ≤ held_of self.old }
+        ensures spare { spare_of self.new ≤ 2 * line_limit_of self.new }
+        ensures spare_shrinks { spare_of self.new ≤ spare_of self.old }
     {
         self.ready.take()
     }
@@ -257,10 +261,11 @@ impl Dearmor {
     /// Takes back the vector of an event that was used up, so that octets of a later line are put
     /// in its memory; what it holds doesn't matter, and nothing that the reader says changes.
     ///
-    /// One vector is kept, and none whose capacity is more than twice the octets that a line may
-    /// have. Allocates nothing.
+    /// One vector is kept, with what it holds, and none whose capacity is more than twice the octets
+    /// that a line may have. Nothing else puts octets into spare memory. Allocates nothing.
     pub fn reuse(&mut self, octets: Vec<u8>)
-        ensures { SaysTheSame self.old self.new }
+        ensures same { SaysTheSame self.old self.new }
+        ensures spare { spare_of self.new ≤ 2 * line_limit_of self.new }
     {
         if octets.capacity() <= 2 * self.limit {
             self.spare.octets = octets;
@@ -277,6 +282,7 @@ impl Dearmor {
         ensures line { OnOk result (AfterLine self.old self.new
             (step (rule_of self.old) (state_of self.old.section self.old.pending) line.now)) }
         ensures free { OnErr result (self.new.ready ≡ None) }
+        ensures spare { spare_of self.new ≤ spare_of self.old }
     {
         match answer_line(
             self.alloc,
@@ -325,6 +331,7 @@ impl Dearmor {
             (step (rule_of self.old) (state_of self.old.section self.old.pending)
             self.old.buffer.items)) }
         ensures free { OnErr result (self.new.ready ≡ None) }
+        ensures spare { spare_of self.new ≤ spare_of self.old }
     {
         let mut line = mem::replace(&mut self.buffer, Vec::new(self.alloc));
         self.end_line(line.as_slice())?;
@@ -351,6 +358,7 @@ impl Dearmor {
             → (result ≡ Ok (length rest.now)) × (self.new.fault ≡ Some f)
             × (self.new.ready ≡ None) }
         ensures quiet { IfOk result (IsQuiet self.old rest.now) }
+        ensures spare { spare_of self.new ≤ spare_of self.old }
     {
         if self.fault.is_some() {
             self.given += rest.len() as u64;
@@ -383,6 +391,7 @@ impl Dearmor {
         ensures count { self.new.given ≡ given }
         ensures open { self.new.ended ≡ self.old.ended }
         ensures rule { rule_of self.new ≡ rule_of self.old }
+        ensures spare { spare_of self.new ≡ 0 }
     {
         self.buffer = Vec::new(self.alloc);
         self.spare = Spare::new(self.alloc);
@@ -416,6 +425,9 @@ impl Dearmor {
         ensures limits { line_limit_of self.new ≡ line_limit_of self.old }
         ensures rule { rule_of self.new ≡ rule_of self.old }
         ensures held { held_of self.new ≤ line_limit_of self.new + 16 }
+        ensures spare { spare_of self.new ≤ 2 * line_limit_of self.new }
+        // Nothing is put into spare memory.
+        ensures spare_shrinks { spare_of self.new ≤ spare_of self.old }
         ensures open { has_ended self.new ≡ false }
 
         // It takes no octet after the one that makes an event ready.
@@ -453,6 +465,7 @@ impl Dearmor {
         ensures free { OnErr result (self.new.ready ≡ None) }
         ensures faulty { (f : Fault) → self.old.fault ≡ Some f
             → (result ≡ Ok tt) × (self.new.fault ≡ Some f) × (self.new.ready ≡ None) }
+        ensures spare { spare_of self.new ≤ spare_of self.old }
     {
         self.ended = true;
         if self.fault.is_some() || self.buffer.is_empty() {
@@ -481,6 +494,9 @@ impl Dearmor {
         ensures limits { line_limit_of self.new ≡ line_limit_of self.old }
         ensures rule { rule_of self.new ≡ rule_of self.old }
         ensures held { held_of self.new ≤ line_limit_of self.new + 16 }
+        ensures spare { spare_of self.new ≤ 2 * line_limit_of self.new }
+        // Nothing is put into spare memory.
+        ensures spare_shrinks { spare_of self.new ≤ spare_of self.old }
     {
         if self.spent {
             self.ended = true;

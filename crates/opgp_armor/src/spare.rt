@@ -6,11 +6,13 @@ use std::alloc::Global;
 
 /// Memory that lines use in turn: for octets, and for the letters left over joined with a line's.
 ///
-/// What it holds means nothing.
+/// The octets are those of a vector that was given back; they mean nothing, and aren't cleared, so
+/// that the next line writes each of its octets once. No letters stay.
 #[derive(Drop)]
 pub(crate) struct Spare {
     pub(crate) octets: Vec<u8>,
     pub(crate) letters: Vec<u8>,
+    ghost empty: { letters.items ≡ [] },
 }
 
 impl Spare {

@@ -8,7 +8,7 @@ use Rattle.opgp_octets.specs.declared.signature_type.SignatureType.{SignatureTyp
 use Rattle.opgp_octets.specs.declared.signature_type.SignatureType.TheVariants as types
 use Rattle.opgp_hash.specs.SubjectValue.{one}
 use Rattle.opgp_hash.specs.declared.fingerprints.Fingerprint.{Fingerprint}
-use Rattle.opgp_ring.specs.Keyring.{CertificateValue}
+use Rattle.opgp_keyring.specs.Keyring.{CertificateValue}
 use Rattle.opgp_report.specs.First.{print_of}
 use Rattle.opgp_report.specs.Standing.{Standing, certificate_standing}
 use Rattle.opgp_report.specs.declared.verifier.Verdict.{Verdict}

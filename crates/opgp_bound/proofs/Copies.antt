@@ -15,7 +15,7 @@ use Rattle.opgp_hash.specs.SignedValue.{signed_of}
 use Rattle.opgp_hash.specs.SubjectValue.{SubjectValue, one}
 use Rattle.opgp_hash.specs.declared.fingerprints.Fingerprint.{Fingerprint}
 use Rattle.opgp_hash.specs.declared.site.Site.TheVariants.{Hung}
-use Rattle.opgp_ring.specs.Keyring.{CertificateValue, ComponentValue, KeyringValue}
+use Rattle.opgp_keyring.specs.Keyring.{CertificateValue, ComponentValue, KeyringValue}
 use Rattle.opgp_report.specs.First.{has_print, print_of}
 use Rattle.opgp_report.specs.Standing.{Standing, certificate_standing, is_signature, on_head}
 use Rattle.opgp_report.specs.declared.verifier.Verdict.{Verdict}

@@ -7,7 +7,7 @@ use Rattle.opgp_packet.specs.SignatureBody.{signature_at}
 use Rattle.opgp_hash.specs.SubjectValue.{SubjectValue, one}
 use Rattle.opgp_hash.specs.declared.fingerprints.Fingerprint.{Fingerprint}
 use Rattle.opgp_hash.specs.declared.site.Site.TheVariants.{Hung}
-use Rattle.opgp_ring.specs.Keyring.{CertificateValue, ComponentValue, KeyringValue}
+use Rattle.opgp_keyring.specs.Keyring.{CertificateValue, ComponentValue, KeyringValue}
 use Rattle.opgp_report.specs.First.{print_of}
 use Rattle.opgp_report.specs.Standing.{Standing, by_number, certificate_standing, component_standing, hang_standing, hangs_standing, hung_at, is_signature, on_head, signature_standing}
 use Rattle.opgp_report.specs.declared.verifier.Verdict.{Verdict}

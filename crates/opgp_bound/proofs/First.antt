@@ -1,7 +1,7 @@
 -- What stays of certificates, one after the other.
 use Rattle.std.proofs.Common.{◌≡◌, ◌∙◌, List, [], ◌∷◌, ◌++◌, drop, sym, ap, append_assoc, append-nil}
 use Rattle.opgp_hash.specs.declared.fingerprints.Fingerprint.{Fingerprint}
-use Rattle.opgp_ring.specs.Keyring.{CertificateValue}
+use Rattle.opgp_keyring.specs.Keyring.{CertificateValue}
 use Rattle.opgp_report.specs.declared.verifier.Verdict.{Verdict}
 use Rattle.opgp_valid.specs.declared.known_keys.Known.{Known}
 use Rattle.opgp_bound.specs.Bound.{bound_certificate, bound_certificates}

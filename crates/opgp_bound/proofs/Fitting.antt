@@ -9,7 +9,7 @@ use Rattle.opgp_octets.specs.declared.signature_type.SignatureType.TheVariants a
 use Rattle.opgp_frame.specs.Packet.{PacketValue}
 use Rattle.opgp_hash.specs.SubjectValue.{SubjectValue, one}
 use Rattle.opgp_hash.specs.declared.fingerprints.Fingerprint.{Fingerprint}
-use Rattle.opgp_ring.specs.Keyring.{CertificateValue}
+use Rattle.opgp_keyring.specs.Keyring.{CertificateValue}
 use Rattle.opgp_report.specs.First.{print_of}
 use Rattle.opgp_report.specs.Standing.{certificate_standing}
 use Rattle.opgp_valid.specs.Group.{binds, certifies, is_certification_on, is_direct, is_primary, is_the}

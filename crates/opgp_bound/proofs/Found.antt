@@ -5,7 +5,7 @@ use Rattle.std.proofs.lemmas.List.Elements.{All-cons, All-head, All-nil, All-tai
 use Rattle.opgp_frame.specs.Packet.{PacketValue}
 use Rattle.opgp_hash.specs.SubjectValue.{SubjectValue}
 use Rattle.opgp_hash.specs.declared.fingerprints.Fingerprint.{Fingerprint}
-use Rattle.opgp_ring.specs.Keyring.{ComponentValue, IsComponent, IsHung}
+use Rattle.opgp_keyring.specs.Keyring.{ComponentValue, IsComponent, IsHung}
 use Rattle.opgp_report.specs.Standing.{on_head}
 use Rattle.opgp_report.specs.declared.verifier.Verdict.{Verdict}
 use Rattle.opgp_valid.specs.Told.{first_verdict}

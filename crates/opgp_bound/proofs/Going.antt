@@ -34,7 +34,7 @@ one_life lasts [] m e = absurd (false≢true e)
 one_life lasts (t ∷ []) m e = All-cons (λ (l : Option Life). is_before (option_map (λ life. life.made) l) m ≡ true) (Some (life_by lasts t)) [] e (All-nil (λ (l : Option Life). is_before (option_map (λ life. life.made) l) m ≡ true))
 one_life lasts (t ∷ u ∷ ts) m e = absurd (false≢true e)
 
-not_true : (b : Bool) → not b ≡ false → b ≡ true
+pub not_true : (b : Bool) → not b ≡ false → b ≡ true
 not_true true e = refl
 not_true false e = absurd (true≢false e)
 

@@ -18,7 +18,7 @@ use Rattle.opgp_bound.specs.declared.role.Role.{Role}
 use Rattle.opgp_bound.specs.declared.role.Role.TheVariants.{Other}
 
 -- ---- the first verdicts
-dropped_first : (k : ℕ) (founds more : List Verdict) → k ≤ length founds → drop k (take k founds ++ more) ≡ more
+pub dropped_first : (k : ℕ) (founds more : List Verdict) → k ≤ length founds → drop k (take k founds ++ more) ≡ more
 dropped_first zero founds more l = refl
 dropped_first (suc k) [] more l = absurd (omega arith)
 dropped_first (suc k) (f ∷ founds) more l = dropped_first k founds more (omega arith)

@@ -16,7 +16,7 @@ use Rattle.opgp_hash.specs.Fingerprint.{print_octets, print_version}
 use Rattle.opgp_hash.specs.SubjectValue.{one}
 use Rattle.opgp_hash.specs.declared.fingerprints.Fingerprint.{Fingerprint}
 use Rattle.opgp_hash.specs.declared.fingerprints.Fingerprint.TheVariants.{Four, Six}
-use Rattle.opgp_ring.specs.Keyring.{CertificateValue, ComponentValue, KeyringValue}
+use Rattle.opgp_keyring.specs.Keyring.{CertificateValue, ComponentValue, KeyringValue}
 use Rattle.opgp_report.specs.First.{has_print, print_of}
 use Rattle.opgp_report.specs.Report.{certificate_keys, keys_in, subkey_bodies}
 use Rattle.opgp_report.specs.Signer.{signer_of}

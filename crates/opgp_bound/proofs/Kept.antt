@@ -4,7 +4,7 @@ use Rattle.std.proofs.lemmas.List.{take_rest}
 use Rattle.std.specs.List.{filter, flat_map}
 use Rattle.std.proofs.lemmas.List.Elements.{All-append, All-filter, All-head, All-map, All-nil, All-tail, All-weaker}
 use Rattle.opgp_frame.specs.Packet.{PacketValue}
-use Rattle.opgp_ring.specs.Keyring.{IsCertificate, IsComponent, IsHung, IsPrimary, certificate_packets, component_packets}
+use Rattle.opgp_keyring.specs.Keyring.{IsCertificate, IsComponent, IsHung, IsPrimary, certificate_packets, component_packets}
 use Rattle.opgp_bound.specs.Bound.{component_stays, kept, kept_certificate, kept_component, kept_components, left_behind, packets_of, revokes, role_stays}
 use Rattle.opgp_bound.specs.Judged.{IsJudgedComponent, JudgedComponentValue, JudgedValue}
 

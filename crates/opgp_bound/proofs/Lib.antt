@@ -11,6 +11,8 @@ pub mod Hanging
 pub mod Heard
 pub mod Issuing
 pub mod Kept
+pub mod Lasting
+pub mod Listed
 pub mod Matched
 pub mod Naming
 pub mod NewestFirst
@@ -18,11 +20,14 @@ pub mod NewestKept
 pub mod Outdated
 pub mod Placed
 pub mod Put
+pub mod Remaining
 pub mod Revoking
 pub mod Rivals
 pub mod Roles
 pub mod Rows
 pub mod Staying
+pub mod Throughout
 pub mod Unheard
+pub mod Unhung
 pub mod United
 pub mod Without

@@ -6,7 +6,7 @@ use Rattle.std.proofs.lemmas.Grind.{flat_map-append}
 use Rattle.opgp_frame.specs.Packet.{PacketValue}
 use Rattle.opgp_hash.specs.SubjectValue.{SubjectValue, one}
 use Rattle.opgp_hash.specs.declared.fingerprints.Fingerprint.{Fingerprint}
-use Rattle.opgp_ring.specs.Keyring.{CertificateValue, ComponentValue}
+use Rattle.opgp_keyring.specs.Keyring.{CertificateValue, ComponentValue}
 use Rattle.opgp_report.specs.First.{print_of}
 use Rattle.opgp_report.specs.Standing.{on_head}
 use Rattle.opgp_valid.specs.declared.known_keys.Known.{Known}

@@ -13,7 +13,7 @@ use Rattle.opgp_hash.specs.SignedValue.{signed_of}
 use Rattle.opgp_hash.specs.SubjectValue.{SubjectValue, one}
 use Rattle.opgp_hash.specs.declared.fingerprints.Fingerprint.{Fingerprint}
 use Rattle.opgp_hash.specs.declared.site.Site.TheVariants.{Embedded, Hung}
-use Rattle.opgp_ring.specs.Keyring.{CertificateValue, ComponentValue}
+use Rattle.opgp_keyring.specs.Keyring.{CertificateValue, ComponentValue}
 use Rattle.opgp_report.specs.Standing.{Standing, bodies_within, by_number, certificate_standing, component_standing, hang_standing, hangs_standing, hung_at, is_signature, nested_at, nested_standing, on_head, signature_standing, stands}
 use Rattle.opgp_report.specs.declared.place.Place.{Place}
 use Rattle.opgp_report.specs.declared.verifier.Verdict.{Verdict}
@@ -56,7 +56,7 @@ itself (Some n) = eq-eqb n n refl
 held : (o : Option ℕ) (n : ℕ) → (is_same_number o o && (n == n)) ≡ true
 held o n = and_from (is_same_number o o) (n == n) (itself o) (eq-eqb n n refl)
 
-last_at : (o : Option ℕ) (n i : ℕ) (life : Option Life) (ss : List Statement) → change_last (with_back (nested_at (hung_at 0 o n) i) life) (map (at o n) ss) ≡ map (at o n) (change_last (set_back life) ss)
+pub last_at : (o : Option ℕ) (n i : ℕ) (life : Option Life) (ss : List Statement) → change_last (with_back (nested_at (hung_at 0 o n) i) life) (map (at o n) ss) ≡ map (at o n) (change_last (set_back life) ss)
 last_at o n i life [] = refl
 last_at o n i life (s ∷ []) = ap (λ (t : Bool). (if t then at o n (set_back life s) else at o n s) ∷ []) (held o n)
 last_at o n i life (s ∷ r ∷ ss) = ap (λ (l : List Statement). at o n s ∷ l) (last_at o n i life (r ∷ ss))
@@ -66,15 +66,15 @@ last_at o n i life (s ∷ r ∷ ss) = ap (λ (l : List Statement). at o n s ∷ 
 abbrev pub AreBefore : ℕ → ℕ → List Statement → Type 0
 AreBefore r n ss = (p : Place) → IsFrom r n p → list_any (holds p) ss ≡ false
 
-nearer : (r n : ℕ) (p : Place) → IsFrom r (n + 1) p → IsFrom r n p
+pub nearer : (r n : ℕ) (p : Place) → IsFrom r (n + 1) p → IsFrom r n p
 nearer r n p (inl l) = inl l
 nearer r n p (inr l) = let h : n + 1 ≤ p.hang = l.1 in inr (l.0, omega arith)
 
-further : (r n : ℕ) (p : Place) → IsFrom (r + 1) 0 p → IsFrom r n p
+pub further : (r n : ℕ) (p : Place) → IsFrom (r + 1) 0 p → IsFrom r n p
 further r n p (inl l) = inl (omega arith)
 further r n p (inr l) = let h : r + 1 ≡ rank p.component = l.0 in inl (omega arith)
 
-away : (o : Option ℕ) (n : ℕ) (p : Place) → IsFrom (rank o) (n + 1) p → (ss : List Statement) → list_any (holds p) (map (at o n) ss) ≡ false
+pub away : (o : Option ℕ) (n : ℕ) (p : Place) → IsFrom (rank o) (n + 1) p → (ss : List Statement) → list_any (holds p) (map (at o n) ss) ≡ false
 away o n p far [] = refl
 away o n p far (s ∷ ss) = or_from _ _ (elsewhere o n p far) (away o n p far ss)
 
@@ -112,6 +112,25 @@ module _ {X Y : Type 0} (f : X → List Y) where
 abbrev pub start : Place
 start = hung_at 0 None 0
 
+-- a signature says the same at each place
+module _ (known : List Known) (policy : Policy) (print : Fingerprint) (revokers : List Fingerprint) (o : Option ℕ) (n : ℕ) (subject : SubjectValue) where
+  each_at : (w : SignatureValue) (by : Author) (lives : List (Option Life)) → map (statement_of known policy print revokers (hung_at 0 o n) subject w by) lives ≡ map (at o n) (map (statement_of known policy print revokers start subject w by) lives)
+  each_at w by [] = refl
+  each_at w by (l ∷ ls) = ap (λ (ss : List Statement). statement_of known policy print revokers (hung_at 0 o n) subject w by l ∷ ss) (each_at w by ls)
+
+  by_at : (w : SignatureValue) (by : Option Author) → stated_by known policy print revokers (hung_at 0 o n) subject w by ≡ map (at o n) (stated_by known policy print revokers start subject w by)
+  by_at w None = refl
+  by_at w (Some by) = each_at w by (lives_in w)
+
+  pub stated_at : (w : SignatureValue) → stated known policy print revokers (hung_at 0 o n) subject w ≡ map (at o n) (stated known policy print revokers start subject w)
+  stated_at w = go (is_some (signed_of w)) where
+    who : Option Author
+    who = author_of known policy print revokers (issuer known policy print w)
+
+    go : (t : Bool) → (if t then stated_by known policy print revokers (hung_at 0 o n) subject w who else []) ≡ map (at o n) (if t then stated_by known policy print revokers start subject w who else [])
+    go true = by_at w who
+    go false = refl
+
 module _ (known : List Known) (policy : Policy) (print : Fingerprint) (revokers : List Fingerprint) (v : Deciding) where
   abbrev pub row : Standing → Standing × Verdict
   row s = (s, decided v s)
@@ -148,28 +167,11 @@ module _ (known : List Known) (policy : Policy) (print : Fingerprint) (revokers 
     abbrev here : Place
     here = hung_at 0 o n
 
-    each_at : (w : SignatureValue) (by : Author) (lives : List (Option Life)) → map (statement_of known policy print revokers here subject w by) lives ≡ map (at o n) (map (statement_of known policy print revokers start subject w by) lives)
-    each_at w by [] = refl
-    each_at w by (l ∷ ls) = ap (λ (ss : List Statement). statement_of known policy print revokers here subject w by l ∷ ss) (each_at w by ls)
-
-    by_at : (w : SignatureValue) (by : Option Author) → stated_by known policy print revokers here subject w by ≡ map (at o n) (stated_by known policy print revokers start subject w by)
-    by_at w None = refl
-    by_at w (Some by) = each_at w by (lives_in w)
-
-    stated_at : (w : SignatureValue) → stated known policy print revokers here subject w ≡ map (at o n) (stated known policy print revokers start subject w)
-    stated_at w = go (is_some (signed_of w)) where
-      who : Option Author
-      who = author_of known policy print revokers (issuer known policy print w)
-
-      go : (t : Bool) → (if t then stated_by known policy print revokers here subject w who else []) ≡ map (at o n) (if t then stated_by known policy print revokers start subject w who else [])
-      go true = by_at w who
-      go false = refl
-
     one_at : (body : List ℕ) (found : Verdict) (r : Result SignatureValue BodyFault) → told_with known policy print revokers [] (stands Hung here subject body) found r ≡ map (at o n) (said_one subject found r)
     one_at body found (Err fault) = refl
     one_at body found (Ok w) = go (is_right Hung start subject found w) where
       go : (t : Bool) → (if t then told_by known policy print revokers (stands Hung here subject body) w [] else []) ≡ map (at o n) (if t then stated known policy print revokers start subject w else [])
-      go true = stated_at w
+      go true = stated_at known policy print revokers o n subject w
       go false = refl
 
     with_at : (i : ℕ) (body : List ℕ) (found : Verdict) (r : Result SignatureValue BodyFault) (ss : List Statement)

@@ -24,7 +24,7 @@ use Rattle.opgp_hash.specs.declared.fingerprints.Fingerprint.{Fingerprint}
 use Rattle.opgp_hash.specs.declared.site.Site.TheVariants.{Embedded, Hung}
 use Rattle.opgp_hash.specs.declared.why.Why.{Why}
 use Rattle.opgp_hash.specs.declared.why.Why.TheVariants.{Kind, Misplaced}
-use Rattle.opgp_ring.specs.Keyring.{CertificateValue, ComponentValue}
+use Rattle.opgp_keyring.specs.Keyring.{CertificateValue, ComponentValue}
 use Rattle.opgp_report.specs.First.{print_of}
 use Rattle.opgp_report.specs.Named.{named_of}
 use Rattle.opgp_report.specs.Standing.{bodies_within, is_signature, nested_at, on_head, stands}

@@ -17,7 +17,7 @@ use Rattle.opgp_hash.specs.SubjectValue.{SubjectValue, first_key, one}
 use Rattle.opgp_hash.specs.declared.fingerprints.Fingerprint.{Fingerprint}
 use Rattle.opgp_hash.specs.declared.fingerprints.Fingerprint.TheVariants.{Four}
 use Rattle.opgp_hash.specs.declared.site.Site.TheVariants.{Embedded, Hung}
-use Rattle.opgp_ring.specs.Keyring.{CertificateValue, ComponentValue}
+use Rattle.opgp_keyring.specs.Keyring.{CertificateValue, ComponentValue}
 use Rattle.opgp_report.specs.Named.{named_of}
 use Rattle.opgp_report.specs.Standing.{Standing, bodies_within, by_number, certificate_standing, component_standing, hang_standing, hangs_standing, hung_at, is_signature, nested_at, nested_standing, on_head, signature_standing, stands}
 use Rattle.opgp_report.specs.declared.place.Place.{Place}

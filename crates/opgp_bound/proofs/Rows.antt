@@ -5,7 +5,7 @@ use Rattle.opgp_frame.specs.Packet.{PacketValue}
 use Rattle.opgp_packet.specs.SignatureBody.{signature_at}
 use Rattle.opgp_hash.specs.SubjectValue.{SubjectValue, one}
 use Rattle.opgp_hash.specs.declared.fingerprints.Fingerprint.{Fingerprint}
-use Rattle.opgp_ring.specs.Keyring.{CertificateValue, ComponentValue, IsCertificate, IsKeyring, KeyringValue}
+use Rattle.opgp_keyring.specs.Keyring.{CertificateValue, ComponentValue, IsCertificate, IsKeyring, KeyringValue}
 use Rattle.opgp_report.specs.First.{print_of}
 use Rattle.opgp_report.specs.Standing.{bodies_within, by_number, certificate_standing, component_standing, hang_standing, hung_at, is_signature, nested_standing, on_head, signature_standing}
 use Rattle.opgp_report.specs.declared.place.Place.{Place}

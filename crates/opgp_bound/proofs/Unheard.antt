@@ -36,7 +36,7 @@ unsorted_revocation k types.KeyRevocation o at ss e = no_sort at ss o
 unsorted_revocation k types.SubkeyRevocation o at ss e = no_sort at ss o
 unsorted_revocation k other o at ss e = absurd (false≢true e)
 
-unsorted_certification : (t : SignatureType) (o : Option ℕ) (at : ℕ) (ss : List Statement) → revokes_certification t ≡ true → newest_made at ss o t ≡ None
+pub unsorted_certification : (t : SignatureType) (o : Option ℕ) (at : ℕ) (ss : List Statement) → revokes_certification t ≡ true → newest_made at ss o t ≡ None
 unsorted_certification types.CertificationRevocation o at ss e = no_sort at ss o
 unsorted_certification other o at ss e = absurd (false≢true e)
 

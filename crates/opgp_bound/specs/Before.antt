@@ -3,7 +3,7 @@ use Rattle.std.specs.Prelude.{◌≡◌, ℕ, Bool, ◌&&◌, List, [], length, 
 use Rattle.std.specs.Prelude.{slice_get}
 use Rattle.std.specs.List.{filter, flat_map, list_any}
 use Rattle.opgp_hash.specs.QuestionValue.{QuestionValue}
-use Rattle.opgp_ring.specs.Keyring.{CertificateValue, KeyringValue}
+use Rattle.opgp_keyring.specs.Keyring.{CertificateValue, KeyringValue}
 use Rattle.opgp_report.specs.Asked.{asked_by}
 use Rattle.opgp_report.specs.Standing.{Standing, certificate_standing, standing_in}
 use Rattle.opgp_report.specs.declared.verifier.Verdict.{Verdict}

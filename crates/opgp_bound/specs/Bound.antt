@@ -5,7 +5,7 @@ use Rattle.std.specs.List.{filter, flat_map, list_any}
 use Rattle.opgp_frame.specs.Packet.{PacketValue}
 use Rattle.opgp_hash.specs.SubjectValue.{one}
 use Rattle.opgp_hash.specs.declared.fingerprints.Fingerprint.{Fingerprint}
-use Rattle.opgp_ring.specs.Keyring.{CertificateValue, ComponentValue, KeyringValue}
+use Rattle.opgp_keyring.specs.Keyring.{CertificateValue, ComponentValue, KeyringValue}
 use Rattle.opgp_report.specs.First.{print_of}
 use Rattle.opgp_report.specs.declared.verifier.Verdict.{Verdict}
 use Rattle.opgp_valid.specs.KnownKeys.{known_in}

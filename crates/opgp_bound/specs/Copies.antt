@@ -4,7 +4,7 @@ use Rattle.opgp_hash.specs.SubjectValue.{SubjectValue}
 use Rattle.opgp_hash.specs.declared.site.Site.{Site}
 use Rattle.opgp_report.specs.Standing.{Standing, certificate_standing}
 use Rattle.opgp_report.specs.declared.verifier.Verdict.{Verdict}
-use Rattle.opgp_ring.specs.Keyring.{CertificateValue}
+use Rattle.opgp_keyring.specs.Keyring.{CertificateValue}
 use Rattle.opgp_valid.specs.Facts.{FactsValue}
 use Rattle.opgp_valid.specs.Judgement.{facts_by}
 use Rattle.opgp_valid.specs.declared.known_keys.Known.{Known}

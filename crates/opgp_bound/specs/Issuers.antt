@@ -11,7 +11,7 @@ use Rattle.opgp_frame.specs.Header.{is_type}
 use Rattle.opgp_packet.specs.SignatureBody.{SignatureValue, signature_at}
 use Rattle.opgp_hash.specs.Fingerprint.{print_octets, print_version}
 use Rattle.opgp_hash.specs.declared.fingerprints.Fingerprint.{Fingerprint}
-use Rattle.opgp_ring.specs.Keyring.{ComponentValue, KeyringValue}
+use Rattle.opgp_keyring.specs.Keyring.{ComponentValue, KeyringValue}
 use Rattle.opgp_report.specs.First.{first_by_print, print_of}
 use Rattle.opgp_report.specs.Standing.{Standing, standing_in}
 use Rattle.opgp_report.specs.declared.verifier.Verdict.{Verdict}

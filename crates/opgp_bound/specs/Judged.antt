@@ -4,7 +4,7 @@ use Rattle.opgp_frame.specs.Packet.{PacketValue}
 use Rattle.opgp_packet.specs.SignatureBody.{signature_at}
 use Rattle.opgp_hash.specs.SubjectValue.{SubjectValue, one}
 use Rattle.opgp_hash.specs.declared.fingerprints.Fingerprint.{Fingerprint}
-use Rattle.opgp_ring.specs.Keyring.{CertificateValue, ComponentValue, IsHead, IsHung}
+use Rattle.opgp_keyring.specs.Keyring.{CertificateValue, ComponentValue, IsHead, IsHung}
 use Rattle.opgp_report.specs.Standing.{bodies_within, is_signature, on_head}
 use Rattle.opgp_report.specs.declared.verifier.Verdict.{Verdict}
 use Rattle.opgp_valid.specs.Told.{first_verdict}

@@ -1,7 +1,7 @@
 //! Certificates of which only bound components stay.
 
 ghost use Rattle.std.specs.Prelude.{◌≡◌, IfOk, drop};
-ghost use Rattle.opgp_ring.specs.Keyring.{IsCertificate};
+ghost use Rattle.opgp_keyring.specs.Keyring.{IsCertificate};
 ghost use Rattle.opgp_report.specs.KeyIndex.{prints_shown};
 ghost use Rattle.opgp_valid.specs.KnownKeys.{knowns};
 ghost use Rattle.opgp_bound.specs.Bound.{bound_certificate, bound_keyring};
@@ -11,9 +11,9 @@ use crate::issuers::revocation_issuers;
 use crate::keeping::keep;
 use crate::role::Context;
 use opgp_hash::Subject;
+use opgp_keyring::{Certificate, Keyring};
 use opgp_octets::OutOfMemory;
 use opgp_report::{KeyIndex, Verdict, print_of};
-use opgp_ring::{Certificate, Keyring};
 use opgp_valid::KnownKeys;
 use std::alloc::Global;
 

@@ -3,7 +3,7 @@
 ghost use Rattle.std.specs.Prelude.{◌≡◌, ◌++◌, IfOk, OnOk};
 ghost use Rattle.opgp_octets.specs.SignatureType.{signature_type_of};
 ghost use Rattle.opgp_packet.specs.SigView.{sig_view_value};
-ghost use Rattle.opgp_ring.specs.Grouped.{component_of};
+ghost use Rattle.opgp_keyring.specs.Grouped.{component_of};
 ghost use Rattle.opgp_report.specs.KeyIndex.{prints_shown};
 ghost use Rattle.opgp_valid.specs.KnownKeys.{known_in, knowns};
 ghost use Rattle.opgp_valid.specs.Told.{first_verdict, rest_of};
@@ -14,10 +14,10 @@ ghost use Rattle.opgp_bound.specs.Role.{kind_in};
 
 use crate::role::kind_in;
 use opgp_hash::{CertificateHasher, Fingerprint};
+use opgp_keyring::{Component, Head, Keyring};
 use opgp_octets::{OutOfMemory, SignatureType};
 use opgp_packet::SigView;
 use opgp_report::{IssuerName, KeyIndex, Met, Verdict, Visitor, print_of, visit};
-use opgp_ring::{Component, Head, Keyring};
 use opgp_valid::KnownKeys;
 use std::alloc::Global;
 

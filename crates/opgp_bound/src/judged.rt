@@ -1,7 +1,7 @@
 //! The packets of a certificate, borrowed, and what each is there for.
 
 use crate::role::Role;
-use opgp_ring::Member;
+use opgp_keyring::Member;
 use std::marker::Model;
 
 /// A packet on a key or a component, and what it is there for.
@@ -12,7 +12,7 @@ pub(crate) struct Judged<'a> {
 }
 
 impl<'a> Model for Judged<'a> {
-    ghost use Rattle.opgp_ring.specs.Member.{member_packet};
+    ghost use Rattle.opgp_keyring.specs.Member.{member_packet};
     ghost use Rattle.opgp_bound.specs.Judged.{JudgedValue};
 
     ghost Value = { JudgedValue };
@@ -29,7 +29,7 @@ pub(crate) struct JudgedComponent<'a> {
 }
 
 impl<'a> Model for JudgedComponent<'a> {
-    ghost use Rattle.opgp_ring.specs.Member.{member_packet};
+    ghost use Rattle.opgp_keyring.specs.Member.{member_packet};
     ghost use Rattle.opgp_bound.specs.Judged.{JudgedComponentValue};
 
     ghost Value = { JudgedComponentValue };

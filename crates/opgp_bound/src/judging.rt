@@ -5,8 +5,8 @@ ghost use Rattle.opgp_packet.specs.Parsed.{body_octets};
 ghost use Rattle.opgp_packet.specs.SigView.{sig_view_octets};
 ghost use Rattle.opgp_hash.specs.Subject.{subject_value};
 ghost use Rattle.opgp_hash.specs.SubjectValue.{is_within};
-ghost use Rattle.opgp_ring.specs.Grouped.{component_of, components_left, hangs_left};
-ghost use Rattle.opgp_ring.specs.Member.{member_packet};
+ghost use Rattle.opgp_keyring.specs.Grouped.{component_of, components_left, hangs_left};
+ghost use Rattle.opgp_keyring.specs.Member.{member_packet};
 ghost use Rattle.opgp_report.specs.KeyIndex.{prints_shown};
 ghost use Rattle.opgp_report.specs.Standing.{on_head};
 ghost use Rattle.opgp_valid.specs.KnownKeys.{knowns};
@@ -20,10 +20,10 @@ use crate::issuers::is_issuer;
 use crate::judged::{Judged, JudgedComponent};
 use crate::role::{Context, Role};
 use opgp_hash::Subject;
+use opgp_keyring::{Component, Components, Content, Hangs, Head, Member};
 use opgp_octets::OutOfMemory;
 use opgp_packet::KeyView;
 use opgp_report::Verdict;
-use opgp_ring::{Component, Components, Content, Hangs, Head, Member};
 use std::alloc::Global;
 
 /// The verdicts behind this many.

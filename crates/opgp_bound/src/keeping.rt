@@ -3,9 +3,9 @@
 ghost use Rattle.std.specs.Prelude.{◌≡◌, ◌++◌, ◌∷◌, [], All, IfOk, OnOk};
 ghost use Rattle.std.specs.Prelude.{if◌then◌else◌};
 ghost use Rattle.std.specs.List.{filter, flat_map};
-ghost use Rattle.opgp_ring.specs.Keyring.{IsCertificate, IsHead, IsHung, IsPrimary};
-ghost use Rattle.opgp_ring.specs.Keyring.{certificate_packets, component_packets};
-ghost use Rattle.opgp_ring.specs.Member.{member_packet};
+ghost use Rattle.opgp_keyring.specs.Keyring.{IsCertificate, IsHead, IsHung, IsPrimary};
+ghost use Rattle.opgp_keyring.specs.Keyring.{certificate_packets, component_packets};
+ghost use Rattle.opgp_keyring.specs.Member.{member_packet};
 ghost use Rattle.opgp_bound.specs.Bound.{component_stays, is_bound, is_genuine, kept};
 ghost use Rattle.opgp_bound.specs.Bound.{kept_certificate, kept_component, kept_components};
 ghost use Rattle.opgp_bound.specs.Bound.{left_behind, packets_of, revokes, role_stays};
@@ -13,8 +13,8 @@ ghost use Rattle.opgp_bound.specs.Judged.{IsJudgedComponent};
 
 use crate::judged::{Judged, JudgedComponent};
 use crate::role::Role;
+use opgp_keyring::{Certificate, Member};
 use opgp_octets::OutOfMemory;
-use opgp_ring::{Certificate, Member};
 use std::alloc::Global;
 
 /// Whether it is a genuine self-signature.
@@ -182,6 +182,6 @@ pub(crate) fn keep(
     add_components(&mut chosen, components)?;
     // Called for its contract: what was added makes a certificate.
     let _packets = chosen.packets();
-    opgp_ring::laws::one_certificate();
+    opgp_keyring::laws::one_certificate();
     Ok(chosen)
 }

@@ -7,8 +7,8 @@ ghost use Rattle.opgp_octets.specs.declared.signature_type.SignatureType.{Signat
 ghost use Rattle.opgp_packet.specs.SignatureBody.{SignatureValue};
 ghost use Rattle.opgp_hash.specs.SubjectValue.{SubjectValue};
 ghost use Rattle.opgp_hash.specs.declared.fingerprints.Fingerprint.{Fingerprint};
-ghost use Rattle.opgp_ring.specs.Keyring.{CertificateValue, ComponentValue, IsKeyring};
-ghost use Rattle.opgp_ring.specs.Keyring.{KeyringValue};
+ghost use Rattle.opgp_keyring.specs.Keyring.{CertificateValue, ComponentValue, IsKeyring};
+ghost use Rattle.opgp_keyring.specs.Keyring.{KeyringValue};
 ghost use Rattle.opgp_report.specs.Standing.{certificate_standing};
 ghost use Rattle.opgp_report.specs.declared.verifier.Verdict.{Verdict};
 ghost use Rattle.opgp_merge.specs.Merged.{merged_of, same_head, same_primary};

@@ -6,9 +6,9 @@ ghost use Rattle.std.specs.List.{flat_map};
 ghost use Rattle.opgp_packet.specs.Parsed.{body_octets};
 ghost use Rattle.opgp_hash.specs.Subject.{subject_value};
 ghost use Rattle.opgp_hash.specs.SubjectValue.{is_within};
-ghost use Rattle.opgp_ring.specs.Grouped.{component_of, components_left, hangs_left};
-ghost use Rattle.opgp_ring.specs.Keyring.{IsCertificate, IsComponent, IsHung, certificate_packets};
-ghost use Rattle.opgp_ring.specs.Keyring.{component_packets};
+ghost use Rattle.opgp_keyring.specs.Grouped.{component_of, components_left, hangs_left};
+ghost use Rattle.opgp_keyring.specs.Keyring.{IsCertificate, IsComponent, IsHung, certificate_packets};
+ghost use Rattle.opgp_keyring.specs.Keyring.{component_packets};
 ghost use Rattle.opgp_report.specs.First.{print_of};
 ghost use Rattle.opgp_valid.specs.KnownKeys.{knowns};
 ghost use Rattle.opgp_bound.specs.Judged.{certificate_rows, component_rows, components_rows};
@@ -26,10 +26,10 @@ use crate::keeping::add_if;
 use crate::replaced::{Times, newest_stays};
 use crate::role::Context;
 use opgp_hash::Subject;
+use opgp_keyring::{Certificate, Component, Components, Hangs, Keyring};
 use opgp_octets::OutOfMemory;
 use opgp_packet::KeyView;
 use opgp_report::{KeyIndex, Verdict, print_of};
-use opgp_ring::{Certificate, Component, Components, Hangs, Keyring};
 use opgp_valid::{Certified, KnownKeys, Policy, Statement};
 use std::alloc::Global;
 
@@ -198,7 +198,7 @@ fn newest_certificate<'v>(
     )?;
     // Called for its contract: what was added makes a certificate.
     let _packets = chosen.packets();
-    opgp_ring::laws::one_certificate();
+    opgp_keyring::laws::one_certificate();
     Ok((chosen, rest))
 }
 

@@ -6,7 +6,7 @@ ghost use Rattle.opgp_packet.specs.Areas.{hashed_subs};
 ghost use Rattle.opgp_packet.specs.SigView.{sig_view_value};
 ghost use Rattle.opgp_packet.specs.SubView.{sub_shown};
 ghost use Rattle.opgp_packet.specs.Subs.{subs_to_come};
-ghost use Rattle.opgp_ring.specs.Member.{member_packet};
+ghost use Rattle.opgp_keyring.specs.Member.{member_packet};
 ghost use Rattle.opgp_valid.specs.Group.{binds, certifies, is_direct};
 ghost use Rattle.opgp_valid.specs.Speaking.{later, made_at};
 ghost use Rattle.opgp_valid.specs.Subpackets.{revoker_stated};
@@ -17,9 +17,9 @@ ghost use Rattle.opgp_bound.specs.Replacing.{time_of, times_on};
 
 use crate::judged::Judged;
 use crate::keeping::is_genuine;
+use opgp_keyring::{Content, Member};
 use opgp_octets::{SignatureType, SubpacketKind};
 use opgp_packet::{SigView, SubView, Subs};
-use opgp_ring::{Content, Member};
 use opgp_valid::subpackets::made_in;
 use opgp_valid::{Author, Statement};
 

@@ -6,7 +6,7 @@ ghost use Rattle.std.specs.List.{slice_get};
 ghost use Rattle.opgp_octets.specs.declared.fault.Fault.{Fault};
 ghost use Rattle.opgp_frame.specs.Packet.{PacketValue};
 ghost use Rattle.opgp_hash.specs.SignedValue.{SignedValue};
-ghost use Rattle.opgp_ring.specs.Signed.{signature_bodies};
+ghost use Rattle.opgp_keyring.specs.Signed.{signature_bodies};
 ghost use Rattle.opgp_codec.specs.declared.mode.Mode.{Mode};
 ghost use Rattle.opgp_tables.specs.DocumentJobs.{document_subpacket_bytes, document_subpacket_rows};
 ghost use Rattle.opgp_tables.specs.FaultRow.{fault_row};

@@ -3,9 +3,9 @@
 use opgp_codec::{EngineError, Out, ReadError, Watched, write_certificates};
 use opgp_explain::fields_of;
 use opgp_hash::reopen;
+use opgp_keyring::{BlockOf, Keyring};
 use opgp_octets::{Fault, Layer, Limits, Reason};
 use opgp_report::{LeftOctets, check};
-use opgp_ring::{BlockOf, Keyring};
 use opgp_stack::{Action, Choice, KeyName, Mode, Task, Top, run, write_listing, write_shown};
 use std::alloc::Global;
 
@@ -91,17 +91,14 @@ const ACTIONS: [Action<'static>; 23] = [
     Action::Octets {
         row: 0,
         top: Top::Ring,
-        explained: false,
     },
-    Action::Octets {
+    Action::Explain {
         row: 0,
         top: Top::Ring,
-        explained: true,
     },
     Action::Octets {
         row: 0,
         top: Top::Literal,
-        explained: false,
     },
     Action::OctetsAll,
     Action::Write { out: Out::Armor },

@@ -2,11 +2,13 @@
 
 use crate::lines;
 use opgp_bound::{keep_bound, keep_newest};
-use opgp_codec::{Mode, Out, Watched, read_packets, read_signatures};
+use opgp_codec::{Mode, Out, PacketsAnswer, Watched, read_packets, read_signatures};
 use opgp_frame::{Packet, Placed, write_packet};
+use opgp_keyring::{
+    BlockOf, Composed, Keyring, check_bodies, compose, compose_signed, end_fits, flatten,
+};
 use opgp_octets::{Limits, Malformed};
 use opgp_report::Verdict;
-use opgp_ring::{BlockOf, Keyring, check_bodies, compose, compose_signed, end_fits, flatten};
 use std::alloc::Global;
 
 /// Adds what a call makes of packets; None also where there is no call of the name.
@@ -35,14 +37,18 @@ fn limits() -> Limits {
 
 /// The blocks of octets.
 fn blocks_of(alloc: Global, octets: &[u8]) -> Option<Vec<BlockOf>> {
-    read_packets(alloc, &mut Watched::new(octets), Mode::Auto, &limits()).ok()
+    match read_packets(alloc, &mut Watched::new(octets), Mode::Auto, &limits()).ok()? {
+        PacketsAnswer::Packets(blocks) => Some(blocks),
+        PacketsAnswer::Refused(_) => None,
+    }
 }
 
 /// The keyring of octets.
 fn ring_of(alloc: Global, octets: &[u8]) -> Option<Keyring> {
-    compose(alloc, blocks_of(alloc, octets)?, &limits())
-        .ok()?
-        .ok()
+    match compose(alloc, blocks_of(alloc, octets)?, &limits()).ok()? {
+        Composed::Ring(ring) => Some(ring),
+        Composed::Refused(_) => None,
+    }
 }
 
 /// Nothing, if no body has a fault.

@@ -4,8 +4,8 @@ use Rattle.opgp_octets.specs.declared.limits.Limits.{Limits}
 use Rattle.opgp_frame.specs.Frames.{spelled}
 use Rattle.opgp_frame.specs.Packet.{packets_octets, spelling}
 use Rattle.opgp_frame.specs.declared.packet.Placed.{Placed}
-use Rattle.opgp_ring.specs.Composition.{Item, of_packet, packets_in}
-use Rattle.opgp_ring.specs.Keyring.{KeyringValue, flat}
+use Rattle.opgp_keyring.specs.Composition.{Item, of_packet, packets_in}
+use Rattle.opgp_keyring.specs.Keyring.{KeyringValue, flat}
 use Rattle.opgp_codec.specs.Keyrings.{ComposesTo, key_label}
 use Rattle.opgp_codec.specs.Reading.{TextBlock, Wanted, AreFramed, AnswerOf, at_length, at_armor, at_framing, at_top, Holds, blocks_octets, is_binary}
 use Rattle.opgp_codec.specs.declared.mode.Mode.{Mode}

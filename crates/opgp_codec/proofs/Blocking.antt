@@ -9,8 +9,8 @@ use Rattle.opgp_frame.specs.declared.packet.Placed.{Placed}
 use Rattle.opgp_frame.specs.Fed.{Fed, count_of, is_ready, packets_of}
 use Rattle.opgp_frame.specs.Fed.{KeepsFed as KeepsFedPackets}
 use Rattle.opgp_frame.specs.Frames.{Frames, IsFramingFault, Longest}
-use Rattle.opgp_ring.specs.Composition.{Item, of_label, of_packet, placed_in}
-use Rattle.opgp_ring.proofs.Feeding.{placed_in-append}
+use Rattle.opgp_keyring.specs.Composition.{Item, of_label, of_packet, placed_in}
+use Rattle.opgp_keyring.proofs.Feeding.{placed_in-append}
 use Rattle.opgp_codec.specs.declared.accepts.Accepts.{Accepts}
 use Rattle.opgp_codec.specs.declared.found.Found.{Found}
 use Rattle.opgp_codec.specs.declared.found.Found.TheVariants.{Lent, Nothing, Whole}

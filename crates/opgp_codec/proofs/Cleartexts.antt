@@ -9,8 +9,8 @@ use Rattle.opgp_armor.specs.Cuts.{is_plain}
 use Rattle.opgp_armor.specs.Rules.{line_rule}
 use Rattle.opgp_armor.specs.Text.{Line, lines, offset, onto}
 use Rattle.opgp_armor.proofs.Texts.{lines-cons, lines-feed, lines-nil}
-use Rattle.opgp_ring.specs.Composition.{Item, of_label, of_packet}
-use Rattle.opgp_ring.specs.Detached.{IsDetachedFaultAt}
+use Rattle.opgp_keyring.specs.Composition.{Item, of_label, of_packet}
+use Rattle.opgp_keyring.specs.Detached.{IsDetachedFaultAt}
 use Rattle.opgp_cleartext.proofs.Grammar.{offset-append}
 use Rattle.opgp_codec.specs.declared.mode.Mode.TheVariants.{Armor}
 use Rattle.opgp_codec.specs.Reading.{AnswerOf, at_length, at_armor, at_framing, at_top, FirstFault, TextBlock, too_long}

@@ -1,5 +1,5 @@
 -- What comes from a source, and goes through.
-use Rattle.std.proofs.Common.{◌≡◌, ◌⊎◌, ◌+◌, ◌-◌, ◌≤◌, ◌++◌, ℕ, List, [], length, take, drop, Option, None, Some, Result, Ok, Err, IfOk, inl, inr, refl, sym, ap, ◌∙◌, subst, arith, append_assoc, append-nil, length-append}
+use Rattle.std.proofs.Common.{◌≡◌, ◌⊎◌, ◌+◌, ◌-◌, ◌≤◌, ◌++◌, ℕ, List, [], length, take, drop, Option, None, Some, true, false, Result, Ok, Err, IfOk, inl, inr, refl, sym, ap, ◌∙◌, subst, arith, append_assoc, append-nil, length-append}
 use Rattle.std.specs.Io.KnownBytes.{Consumes, IsAtEnd}
 use Rattle.std.proofs.KnownBytes.{Consumes-trans}
 use Rattle.std.proofs.Math.Seq.{take-add}
@@ -9,12 +9,12 @@ use Rattle.std.specs.declared.vec.Vec.{Vec}
 use Rattle.opgp_octets.specs.Limits.{input_limit}
 use Rattle.opgp_octets.specs.Octets.{IsOctets}
 use Rattle.opgp_octets.specs.declared.limits.Limits.{Limits}
-use Rattle.opgp_ring.specs.Composition.{Item}
+use Rattle.opgp_keyring.specs.Composition.{Item}
 use Rattle.opgp_codec.specs.declared.accepts.Accepts.{Accepts}
 use Rattle.opgp_codec.specs.declared.incoming.Incoming.{Incoming}
 use Rattle.opgp_codec.specs.declared.items.Items.{Items}
 use Rattle.opgp_codec.specs.declared.mode.Mode.{Mode}
-use Rattle.opgp_codec.specs.Incoming.{Came, HasEnded, waiting_of}
+use Rattle.opgp_codec.specs.Incoming.{Came, HasEnded, IsLeftAlone, waiting_of}
 use Rattle.opgp_codec.specs.Accepts.{wanted_by}
 use Rattle.opgp_codec.specs.Items.{Fed, IsRest}
 use Rattle.opgp_codec.specs.declared.found.Opening.{Opening}
@@ -28,8 +28,8 @@ pub none_taken : (left : Option (List ℕ)) → Consumes left left []
 none_taken None = tt
 none_taken (Some octets) = refl
 
-pub came_none : (accepts : Accepts) (mode : Mode) (limits : Limits) (before : Option (List ℕ)) (r : Incoming) → waiting_of r ≡ [] → Fed accepts mode limits r.items [] [] → r.limit ≡ input_limit limits → r.count ≡ 0 → Came accepts mode limits before before r []
-came_none accepts mode limits before r none fed limit count =
+pub came_none : (accepts : Accepts) (mode : Mode) (limits : Limits) (before : Option (List ℕ)) (r : Incoming) → waiting_of r ≡ [] → Fed accepts mode limits r.items [] [] → r.limit ≡ input_limit limits → r.count ≡ 0 → r.ended ≡ false → Came accepts mode limits before before r []
+came_none accepts mode limits before r none fed limit count going =
     record {
       octets = [];
       each = subst IsOctets (sym none) (λ i. omega arith);
@@ -38,6 +38,7 @@ came_none accepts mode limits before r none fed limit count =
       limit = limit;
       count = count ∙ ap (λ (l : List ℕ). length l) (sym none);
       within = omega (arith, count);
+      over = λ h. cc;
     }
 
 -- of octets that wait some have gone through, or all
@@ -64,9 +65,9 @@ pub fresh_waits : {Z : Type 0} (v : Vec ℕ Z) (octets : List ℕ) (n : ℕ) →
 fresh_waits v octets n e = ap (λ (k : ℕ). take k (with_items v octets).items) (omega arith) ∙ ap (λ (l : List ℕ). take n l) (with_items_is v octets e)
 
 -- octets that waited have gone through
-pub came_through : (a b : Incoming) (gone : List ℕ) (found : List Item) → waiting_of a ≡ gone ++ waiting_of b → b.limit ≡ a.limit → b.count ≡ a.count → Steps a.items b.items gone found
+pub came_through : (a b : Incoming) (gone : List ℕ) (found : List Item) → waiting_of a ≡ gone ++ waiting_of b → b.limit ≡ a.limit → b.count ≡ a.count → b.ended ≡ a.ended → Steps a.items b.items gone found
     → (accepts : Accepts) (mode : Mode) (limits : Limits) (before now : Option (List ℕ)) (items : List Item) → Came accepts mode limits before now a items → Came accepts mode limits before now b (items ++ found)
-came_through a b gone found waits limit count steps accepts mode limits before now items c =
+came_through a b gone found waits limit count ended steps accepts mode limits before now items c =
     let same : c.octets ++ waiting_of a ≡ (c.octets ++ gone) ++ waiting_of b = ap (λ (l : List ℕ). c.octets ++ l) waits ∙ sym (append_assoc c.octets gone (waiting_of b)) in
     record {
       octets = c.octets ++ gone;
@@ -76,12 +77,17 @@ came_through a b gone found waits limit count steps accepts mode limits before n
       limit = limit ∙ c.limit;
       count = count ∙ c.count ∙ ap (λ (l : List ℕ). length l) same;
       within = omega (arith, limit, count, c.within);
+      over = λ h. has_still (c.over (sym ended ∙ h));
     }
+  where
+    has_still : HasEnded a now → HasEnded b now
+    has_still (inl x) = inl (omega (arith, x.0, limit, count), x.1)
+    has_still (inr x) = inr (omega (arith, x, limit, count))
 
 -- more octets wait
 pub came_more : (a b : Incoming) (piece : List ℕ) (before now after : Option (List ℕ)) (accepts : Accepts) (mode : Mode) (limits : Limits) (items : List Item) → waiting_of a ≡ [] → waiting_of b ≡ piece → b.items ≡ a.items → b.limit ≡ a.limit
-    → b.count ≡ a.count + length piece → b.count ≤ a.limit + 1 → IsOctets piece → Consumes now after piece → Came accepts mode limits before now a items → Came accepts mode limits before after b items
-came_more a b piece before now after accepts mode limits items none waits same limit count within each taken c =
+    → b.count ≡ a.count + length piece → b.count ≤ a.limit + 1 → IsOctets piece → Consumes now after piece → (b.ended ≡ true → HasEnded b after) → Came accepts mode limits before now a items → Came accepts mode limits before after b items
+came_more a b piece before now after accepts mode limits items none waits same limit count within each taken over c =
     let was : c.octets ++ waiting_of a ≡ c.octets = ap (λ (l : List ℕ). c.octets ++ l) none ∙ append-nil c.octets in
     let is : c.octets ++ waiting_of b ≡ c.octets ++ piece = ap (λ (l : List ℕ). c.octets ++ l) waits in
     record {
@@ -92,7 +98,20 @@ came_more a b piece before now after accepts mode limits items none waits same l
       limit = limit ∙ c.limit;
       count = omega (arith, count, c.count, ap (λ (l : List ℕ). length l) was, ap (λ (l : List ℕ). length l) is, length-append c.octets piece);
       within = omega (arith, limit, within);
+      over = over;
     }
+
+-- what was left alone is left alone further on
+pub alone_on : {R : Type 0} (a b c : Incoming) (x y z : R) → IsLeftAlone a b x y → IsLeftAlone b c y z → IsLeftAlone a c x z
+alone_on a b c x y z first next h =
+    let k = first h in
+    let m = next k.0 in (m.0, m.1 ∙ k.1)
+
+-- the same where what comes in between doesn't read
+pub alone_after : {R : Type 0} (a b d c : Incoming) (x y z : R) → IsLeftAlone a b x y → d.ended ≡ b.ended → IsLeftAlone d c y z → IsLeftAlone a c x z
+alone_after a b d c x y z first same next h =
+    let k = first h in
+    let m = next (same ∙ k.0) in (m.0, m.1 ∙ k.1)
 
 -- all that came
 pub came_all : {A : Type 0} (wanted : Wanted) (top : List Item → Outcome A → Type 0) (r : Incoming) (answer : Outcome A) (accepts : Accepts) (mode : Mode) (limits : Limits) (before now : Option (List ℕ)) (items : List Item) (c : Came accepts mode limits before now r items)

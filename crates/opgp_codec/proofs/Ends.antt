@@ -11,13 +11,13 @@ use Rattle.opgp_armor.specs.Armored.{Armored, Block}
 use Rattle.opgp_frame.specs.declared.packet.Placed.{Placed}
 use Rattle.opgp_frame.specs.Frames.{StandFrom, spelled}
 use Rattle.opgp_frame.specs.Packet.{spelling}
-use Rattle.opgp_ring.specs.Composition.{Item, of_packet}
-use Rattle.opgp_ring.specs.Detached.{IsDetachedFaultBy, IsDetachedOf}
-use Rattle.opgp_ring.specs.DetachedSignatures.{detached_packets}
-use Rattle.opgp_ring.specs.Signed.{IsSignedFaultBy, IsSignedOf, end_of, end_pos, last_of, told_end}
-use Rattle.opgp_ring.specs.SignedLiteral.{signed_packets}
-use Rattle.opgp_ring.specs.declared.detached_signatures.DetachedSignatures.{DetachedSignatures}
-use Rattle.opgp_ring.specs.declared.signed_literal.SignedLiteral.{SignedLiteral}
+use Rattle.opgp_keyring.specs.Composition.{Item, of_packet}
+use Rattle.opgp_keyring.specs.Detached.{IsDetachedFaultBy, IsDetachedOf}
+use Rattle.opgp_keyring.specs.DetachedSignatures.{detached_packets}
+use Rattle.opgp_keyring.specs.Signed.{IsSignedFaultBy, IsSignedOf, end_of, end_pos, last_of, told_end}
+use Rattle.opgp_keyring.specs.SignedLiteral.{signed_packets}
+use Rattle.opgp_keyring.specs.declared.detached_signatures.DetachedSignatures.{DetachedSignatures}
+use Rattle.opgp_keyring.specs.declared.signed_literal.SignedLiteral.{SignedLiteral}
 use Rattle.opgp_codec.specs.declared.mode.Mode.{Mode}
 use Rattle.opgp_codec.specs.Reading.{TextBlock, Wanted, AreFramed, Holds, armored_block, block_items, is_binary, shown}
 use Rattle.opgp_codec.specs.Labelled.{AreRead, from_label}

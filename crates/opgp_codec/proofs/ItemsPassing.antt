@@ -6,7 +6,7 @@ use Rattle.std.proofs.Math.Seq.{take-add}
 use Rattle.opgp_octets.specs.declared.limits.Limits.{Limits}
 use Rattle.opgp_armor.specs.declared.label.Label.{Label}
 use Rattle.opgp_armor.specs.declared.label.Label.TheVariants.{Message}
-use Rattle.opgp_ring.specs.Composition.{Item, placed_in}
+use Rattle.opgp_keyring.specs.Composition.{Item, placed_in}
 use Rattle.opgp_codec.specs.declared.accepts.Accepts.{Accepts}
 use Rattle.opgp_codec.specs.declared.found.Opening.{Opening}
 use Rattle.opgp_codec.specs.declared.blocks.Blocks.{Blocks}

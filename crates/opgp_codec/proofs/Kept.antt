@@ -2,7 +2,7 @@
 use Rattle.std.proofs.Common.{◌≡◌, ℕ, List, Ok, Err, ap}
 use Rattle.opgp_octets.specs.declared.fault.Fault.{Fault}
 use Rattle.opgp_octets.specs.declared.limits.Limits.{Limits}
-use Rattle.opgp_ring.specs.Composition.{Item}
+use Rattle.opgp_keyring.specs.Composition.{Item}
 use Rattle.opgp_codec.specs.declared.mode.Mode.{Mode}
 use Rattle.opgp_codec.specs.Reading.{AnswerOf, AreFramed, Outcome, TextBlock, Wanted, at_length, at_armor, at_framing, at_top, too_long}
 

@@ -1,10 +1,10 @@
 -- A keyring that has all parts that came is the one.
 use Rattle.std.proofs.Common.{◌≡◌, ◌∙◌, ℕ, List, Option, Ok, Err, sym, subst}
 use Rattle.opgp_octets.specs.declared.limits.Limits.{Limits}
-use Rattle.opgp_ring.specs.Composed.{PartValue, parts_of}
-use Rattle.opgp_ring.specs.Keyring.{KeyringValue}
-use Rattle.opgp_ring.specs.Parts.{AreParts}
-use Rattle.opgp_ring.proofs.Parts.{same_parts}
+use Rattle.opgp_keyring.specs.Composed.{PartValue, parts_of}
+use Rattle.opgp_keyring.specs.Keyring.{KeyringValue}
+use Rattle.opgp_keyring.specs.Parts.{AreParts}
+use Rattle.opgp_keyring.proofs.Parts.{same_parts}
 use Rattle.opgp_codec.specs.declared.mode.Mode.{Mode}
 use Rattle.opgp_codec.specs.declared.read_error.ReadError.{ReadError}
 use Rattle.opgp_codec.specs.declared.read_error.ReadError.TheVariants as read

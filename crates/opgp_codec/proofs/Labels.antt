@@ -1,11 +1,11 @@
 -- Labels and packets, in order.
 use Rattle.std.proofs.Common.{◌≡◌, ℕ, zero, suc, ◌+◌, ◌<◌, arith, get_or, set, append-nil, Bool, true, false, List, [], ◌∷◌, ◌++◌, length, map, refl, sym, ap, ◌∙◌, append_assoc}
 use Rattle.opgp_frame.specs.declared.packet.Placed.{Placed}
-use Rattle.opgp_ring.specs.declared.block_of.BlockOf.{BlockOf}
+use Rattle.opgp_keyring.specs.declared.block_of.BlockOf.{BlockOf}
 use Rattle.std.proofs.lemmas.List.{map-append}
 use Rattle.std.proofs.lemmas.List.Concat.{flat_map-append}
-use Rattle.opgp_ring.specs.Block.{block_items, items_of, placed_of}
-use Rattle.opgp_ring.specs.Composition.{Item, of_label, of_packet, placed_in}
+use Rattle.opgp_keyring.specs.Block.{block_items, items_of, placed_of}
+use Rattle.opgp_keyring.specs.Composition.{Item, of_label, of_packet, placed_in}
 use Rattle.opgp_codec.specs.Packets.{block_value, items_in}
 use Rattle.opgp_codec.specs.Labelled.{from_label}
 

@@ -6,7 +6,7 @@ use Rattle.opgp_octets.specs.declared.limits.Limits.{Limits}
 use Rattle.opgp_armor.specs.Rules.{line_rule}
 use Rattle.opgp_frame.specs.declared.packet.Placed.{Placed}
 use Rattle.opgp_codec.specs.declared.mode.Mode.{Mode}
-use Rattle.opgp_ring.specs.Composition.{Item}
+use Rattle.opgp_keyring.specs.Composition.{Item}
 use Rattle.opgp_codec.specs.Layers.{LayersAreOne}
 use Rattle.opgp_codec.specs.Reading.{TextBlock, Wanted, armored_block, block_items, is_binary, Holds, IsTextFault, AreFramed, FirstFault, Outcome, AnswerOf, at_length, at_armor, at_framing, at_top, IsOne}
 

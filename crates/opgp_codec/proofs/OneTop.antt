@@ -6,12 +6,12 @@ use Rattle.opgp_octets.specs.Limits.{malformed_of}
 use Rattle.opgp_octets.specs.declared.fault.Fault.{Fault}
 use Rattle.opgp_octets.specs.declared.limits.Limits.{Limits}
 use Rattle.opgp_frame.specs.declared.packet.Placed.{Placed}
-use Rattle.opgp_ring.specs.Bodies.{IsSound, IsFirstBodyFault}
-use Rattle.opgp_ring.specs.Composed.{IsKeyringOf, IsFault}
-use Rattle.opgp_ring.specs.Composition.{Item, of_label, of_packet, placed_in}
-use Rattle.opgp_ring.specs.Detached.{IsDetachedFault, IsDetachedOf}
-use Rattle.opgp_ring.specs.Keyring.{KeyringValue, IsKeyring, flat}
-use Rattle.opgp_ring.specs.Signed.{IsSignedFault, IsSignedOf}
+use Rattle.opgp_keyring.specs.Bodies.{IsSound, IsFirstBodyFault}
+use Rattle.opgp_keyring.specs.Composed.{IsKeyringOf, IsFault}
+use Rattle.opgp_keyring.specs.Composition.{Item, of_label, of_packet, placed_in}
+use Rattle.opgp_keyring.specs.Detached.{IsDetachedFault, IsDetachedOf}
+use Rattle.opgp_keyring.specs.Keyring.{KeyringValue, IsKeyring, flat}
+use Rattle.opgp_keyring.specs.Signed.{IsSignedFault, IsSignedOf}
 use Rattle.opgp_frame.specs.Packet.{PacketValue}
 use Rattle.opgp_codec.specs.Keyrings.{ComposesTo}
 use Rattle.opgp_codec.specs.Packets.{ArePackets, BlockValue, items_in}

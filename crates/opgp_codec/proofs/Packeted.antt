@@ -5,8 +5,8 @@ use Rattle.opgp_octets.specs.declared.fault.Fault.{Fault}
 use Rattle.opgp_octets.specs.declared.limits.Limits.{Limits}
 use Rattle.opgp_octets.specs.declared.malformed.Malformed.{Malformed}
 use Rattle.opgp_frame.specs.declared.packet.Placed.{Placed}
-use Rattle.opgp_ring.specs.Bodies.{IsFirstBodyFault, IsSound}
-use Rattle.opgp_ring.specs.Composition.{Item, of_label, of_packet, placed_in}
+use Rattle.opgp_keyring.specs.Bodies.{IsFirstBodyFault, IsSound}
+use Rattle.opgp_keyring.specs.Composition.{Item, of_label, of_packet, placed_in}
 use Rattle.opgp_codec.specs.declared.found.Opening.{Opening}
 use Rattle.opgp_codec.specs.declared.mode.Mode.{Mode}
 use Rattle.opgp_codec.specs.Found.{opened}

@@ -4,11 +4,11 @@ use Rattle.std.proofs.Math.Seq.{take-add}
 use Rattle.std.proofs.lemmas.List.{take-append-drop, take_rest}
 use Rattle.opgp_octets.specs.declared.limits.Limits.{Limits}
 use Rattle.opgp_frame.specs.declared.packet.Placed.{Placed}
-use Rattle.opgp_ring.specs.Composed.{PartValue}
-use Rattle.opgp_ring.specs.Composition.{Item, of_packet}
-use Rattle.opgp_ring.specs.Fed.{Fed as IsComposed}
-use Rattle.opgp_ring.specs.Fed.{KeepsFed}
-use Rattle.opgp_ring.specs.declared.composer.Composer.{Composer}
+use Rattle.opgp_keyring.specs.Composed.{PartValue}
+use Rattle.opgp_keyring.specs.Composition.{Item, of_packet}
+use Rattle.opgp_keyring.specs.Fed.{Fed as IsComposed}
+use Rattle.opgp_keyring.specs.Fed.{KeepsFed}
+use Rattle.opgp_keyring.specs.declared.composer.Composer.{Composer}
 use Rattle.opgp_codec.specs.declared.accepts.Accepts.TheVariants.{Keys}
 use Rattle.opgp_codec.specs.declared.found.Opening.{Opening}
 use Rattle.opgp_codec.specs.declared.items.Items.{Items}
@@ -21,11 +21,12 @@ use Rattle.opgp_armor.specs.Fed.{held_of as text_held, line_limit_of}
 use Rattle.opgp_frame.specs.declared.deframe.Deframe.{Deframe}
 use Rattle.opgp_frame.specs.Fed.{held_of as packet_held, limits_of}
 use Rattle.opgp_octets.specs.Limits.{body_limit, cert_limit, line_limit, pieces_limit}
-use Rattle.opgp_ring.specs.Composed.{IsFault, IsKeyringOf, parts_of}
-use Rattle.opgp_ring.specs.Fed.{held_of as part_held, is_ready}
-use Rattle.opgp_ring.specs.Keyring.{KeyringValue}
-use Rattle.opgp_ring.specs.State.{ready_octets, ready_parts}
-use Rattle.opgp_ring.specs.declared.ready.Ready.{Ready}
+use Rattle.opgp_keyring.specs.Composed.{IsFault, IsKeyringOf, parts_of}
+use Rattle.opgp_keyring.specs.Fed.{held_of as part_held, is_ready}
+use Rattle.opgp_keyring.proofs.Holding.{none_spare}
+use Rattle.opgp_keyring.specs.Keyring.{KeyringValue}
+use Rattle.opgp_keyring.specs.State.{ready_octets, ready_parts}
+use Rattle.opgp_keyring.specs.declared.ready.Ready.{Ready}
 use Rattle.opgp_codec.specs.declared.blocks.Blocks.{Blocks}
 use Rattle.opgp_codec.specs.declared.items.Front.{Front}
 use Rattle.opgp_codec.specs.declared.items.Front.TheVariants.{Undecided, Binary, Armored}
@@ -92,7 +93,7 @@ none_ready (Some r) is = cc
 part_short : (c : Composer) → is_ready c ≡ false → part_held c ≤ cert_limit c.limits
 part_short c free =
     let none : ready_octets c.ready ≡ 0 = none_ready c.ready free in
-    omega (arith, none, c.counted, c.short)
+    omega (arith, none, none_spare c, c.counted, c.short)
 
 front_short : (mode : Mode) (limits : Limits) (front : Front) (f : Blocks) (seen input : List ℕ) (items : List Item) → Passed Keys mode limits front f seen input items → (f.limits ≡ limits) × (front_held front ≤ line_limit limits + 16)
 front_short mode limits Undecided f seen input items x = (x.4.limits_kept, omega arith)

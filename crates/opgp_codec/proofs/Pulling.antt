@@ -7,7 +7,7 @@ use Rattle.opgp_codec.specs.declared.mode.Mode.{Mode}
 use Rattle.opgp_codec.specs.Pulled.{OfAll, OfInput, Pulls, ReadsAs, ReadsTo}
 use Rattle.opgp_codec.specs.declared.read_error.ReadError.{ReadError}
 use Rattle.opgp_codec.specs.declared.read_error.ReadError.TheVariants as read
-use Rattle.opgp_ring.specs.Composition.{Item}
+use Rattle.opgp_keyring.specs.Composition.{Item}
 use Rattle.opgp_codec.specs.Reading.{Wanted, Outcome, AnswerOf, at_length, at_armor, at_framing, at_top}
 
 pub octets_take : (n : ℕ) (o : List ℕ) → IsOctets o → IsOctets (take n o)

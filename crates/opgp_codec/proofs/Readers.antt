@@ -3,7 +3,7 @@ use Rattle.std.proofs.Common.{◌≡◌, ◌+◌, ◌-◌, ◌≤◌, ◌++◌, 
 use Rattle.std.proofs.Math.Seq.{take-add}
 use Rattle.std.proofs.lemmas.List.{take-append-drop, take_rest}
 use Rattle.opgp_octets.specs.declared.limits.Limits.{Limits}
-use Rattle.opgp_ring.specs.Composed.{PartValue}
+use Rattle.opgp_keyring.specs.Composed.{PartValue}
 use Rattle.opgp_codec.specs.declared.mode.Mode.{Mode}
 use Rattle.opgp_codec.specs.declared.parts.Parts.{Parts}
 use Rattle.opgp_armor.specs.Rules.{LineRule}
@@ -12,9 +12,9 @@ use Rattle.opgp_frame.specs.declared.packet.Placed.{Placed}
 use Rattle.opgp_octets.specs.Limits.{body_limit, line_limit, malformed_of, pieces_limit}
 use Rattle.opgp_octets.specs.declared.fault.Fault.{Fault}
 use Rattle.opgp_octets.specs.declared.malformed.Malformed.{Malformed}
-use Rattle.opgp_ring.specs.Composition.{Item, of_packet, placed_in}
-use Rattle.opgp_ring.specs.State.{ready_parts}
-use Rattle.opgp_ring.specs.declared.ready.Ready.{Ready}
+use Rattle.opgp_keyring.specs.Composition.{Item, of_packet, placed_in}
+use Rattle.opgp_keyring.specs.State.{ready_parts}
+use Rattle.opgp_keyring.specs.declared.ready.Ready.{Ready}
 use Rattle.opgp_codec.specs.declared.accepts.Accepts.TheVariants.{Any}
 use Rattle.opgp_codec.specs.declared.blocks.Blocks.{Blocks}
 use Rattle.opgp_codec.specs.declared.found.Opening.{Opening}

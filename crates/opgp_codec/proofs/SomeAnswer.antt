@@ -14,12 +14,12 @@ use Rattle.opgp_frame.specs.declared.packet.Placed.{Placed}
 use Rattle.opgp_frame.specs.Frames.{StandFrom}
 use Rattle.opgp_frame.specs.Packet.{PacketValue, spelling}
 use Rattle.opgp_codec.specs.declared.mode.Mode.{Mode}
-use Rattle.opgp_ring.specs.Composed.{HasOctets, IsKeyringOf, IsFault}
-use Rattle.opgp_ring.specs.Bodies.{IsSound, IsFirstBodyFault}
-use Rattle.opgp_ring.specs.Composition.{Item, of_label, of_packet, placed_in}
-use Rattle.opgp_ring.specs.Detached.{IsDetachedFault, IsDetachedOf}
-use Rattle.opgp_ring.specs.Keyring.{KeyringValue}
-use Rattle.opgp_ring.specs.Signed.{IsSignedFault, IsSignedOf}
+use Rattle.opgp_keyring.specs.Composed.{HasOctets, IsKeyringOf, IsFault}
+use Rattle.opgp_keyring.specs.Bodies.{IsSound, IsFirstBodyFault}
+use Rattle.opgp_keyring.specs.Composition.{Item, of_label, of_packet, placed_in}
+use Rattle.opgp_keyring.specs.Detached.{IsDetachedFault, IsDetachedOf}
+use Rattle.opgp_keyring.specs.Keyring.{KeyringValue}
+use Rattle.opgp_keyring.specs.Signed.{IsSignedFault, IsSignedOf}
 use Rattle.opgp_codec.specs.Keyrings.{ComposesTo, key_label}
 use Rattle.opgp_codec.specs.Packets.{ArePackets, BlockValue, any_label, items_in}
 use Rattle.opgp_codec.specs.Signatures.{AreDetachedSignatures, signature_label}

@@ -4,9 +4,9 @@ use Rattle.std.proofs.lemmas.List.Elements.{All-push}
 use Rattle.opgp_octets.specs.declared.fault.Fault.{Fault}
 use Rattle.opgp_octets.specs.declared.malformed.Malformed.{Malformed}
 use Rattle.opgp_frame.specs.declared.packet.Placed.{Placed}
-use Rattle.opgp_ring.specs.Bodies.{IsFirstBodyFault, IsPlacedFault, IsSound}
-use Rattle.opgp_ring.specs.Composition.{Item, of_label, of_packet, placed_in}
-use Rattle.opgp_ring.proofs.Feeding.{placed_in-append}
+use Rattle.opgp_keyring.specs.Bodies.{IsFirstBodyFault, IsPlacedFault, IsSound}
+use Rattle.opgp_keyring.specs.Composition.{Item, of_label, of_packet, placed_in}
+use Rattle.opgp_keyring.proofs.Feeding.{placed_in-append}
 use Rattle.opgp_codec.specs.declared.found.Opening.{Opening}
 use Rattle.opgp_codec.specs.Found.{opened}
 use Rattle.opgp_codec.specs.SoundPackets.{AreSoFar, passed_if}

@@ -14,7 +14,7 @@ use Rattle.opgp_armor.specs.Armored.{Armored, Block, IsArmorFault}
 use Rattle.opgp_armor.specs.Events.{AreInOrder, Event, Begin, Header, Octets, End, Built, absorb, built, event_octets, events_of, is_open_behind, open_block}
 use Rattle.opgp_armor.specs.Rules.{LineRule, line_rule}
 use Rattle.opgp_armor.specs.Fed.{Fed, KeepsFed, events_so_far, is_ready, has_ended, count_of, rule_of}
-use Rattle.opgp_ring.specs.Composition.{Item}
+use Rattle.opgp_keyring.specs.Composition.{Item}
 use Rattle.opgp_codec.specs.declared.accepts.Accepts.{Accepts}
 use Rattle.opgp_codec.specs.declared.found.Opening.{Opening}
 use Rattle.opgp_codec.specs.declared.blocks.Blocks.{Blocks}

@@ -10,7 +10,7 @@ use Rattle.opgp_frame.specs.declared.view.PlacedView.{PlacedView}
 use Rattle.opgp_frame.specs.Fed.{Fed, count_of}
 use Rattle.opgp_frame.specs.Frames.{Frames, IsFramingFault, Longest}
 use Rattle.opgp_frame.specs.View.{viewed}
-use Rattle.opgp_ring.specs.Composition.{Item, of_packet, placed_in}
+use Rattle.opgp_keyring.specs.Composition.{Item, of_packet, placed_in}
 use Rattle.opgp_codec.specs.declared.accepts.Accepts.{Accepts}
 use Rattle.opgp_codec.specs.declared.found.Opening.{Opening}
 use Rattle.opgp_codec.specs.declared.blocks.Blocks.{Blocks}

@@ -8,8 +8,8 @@ use Rattle.opgp_octets.specs.declared.outside.Outside.TheVariants as policy
 use Rattle.opgp_octets.specs.Limits.{body_limit, cert_limit, input_limit, line_limit, malformed_of}
 use Rattle.opgp_octets.specs.Limits.{outside_of, pieces_limit}
 use Rattle.opgp_frame.specs.Packet.{PacketValue}
-use Rattle.opgp_ring.specs.declared.detached_signatures.DetachedSignatures.{DetachedSignatures}
-use Rattle.opgp_ring.specs.DetachedSignatures.{detached_packets}
+use Rattle.opgp_keyring.specs.declared.detached_signatures.DetachedSignatures.{DetachedSignatures}
+use Rattle.opgp_keyring.specs.DetachedSignatures.{detached_packets}
 use Rattle.opgp_cleartext.specs.declared.cleartext.Cleartext.{Cleartext}
 use Rattle.opgp_cleartext.specs.Cleartext.{HasCleartext}
 use Rattle.opgp_cleartext.specs.Faults.{IsCleartextFault}

@@ -2,7 +2,7 @@
 use Rattle.std.specs.Prelude.{◌≡◌, ℕ, Bool, true, false, List, [], ◌∷◌, Option, Some, None}
 use Rattle.opgp_frame.specs.Spot.{LiesIn}
 use Rattle.opgp_frame.specs.declared.packet.Placed.{Placed}
-use Rattle.opgp_ring.specs.Composition.{Item, of_label}
+use Rattle.opgp_keyring.specs.Composition.{Item, of_label}
 use Rattle.opgp_codec.specs.declared.found.Found.{Found}
 use Rattle.opgp_codec.specs.declared.found.Found.TheVariants.{Lent, Nothing, Whole}
 use Rattle.opgp_codec.specs.declared.found.Opening.{Opening}

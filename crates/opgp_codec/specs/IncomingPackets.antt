@@ -4,7 +4,7 @@ use Rattle.std.specs.List.{flat_map}
 use Rattle.opgp_octets.specs.Limits.{malformed_of}
 use Rattle.opgp_octets.specs.declared.limits.Limits.{Limits}
 use Rattle.opgp_frame.specs.declared.packet.Placed.{Placed}
-use Rattle.opgp_ring.specs.Composition.{Item, placed_in}
+use Rattle.opgp_keyring.specs.Composition.{Item, placed_in}
 use Rattle.opgp_codec.specs.declared.accepts.Accepts.TheVariants.{Any}
 use Rattle.opgp_codec.specs.declared.incoming_packets.IncomingPackets.{IncomingPackets}
 use Rattle.opgp_codec.specs.declared.mode.Mode.{Mode}

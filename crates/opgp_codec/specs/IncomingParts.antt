@@ -1,12 +1,12 @@
 -- The parts of a keyring that comes from a source.
 use Rattle.std.specs.Prelude.{◌≡◌, ℕ, List, ◌++◌, Option, Ok, Err, Result}
 use Rattle.opgp_octets.specs.declared.limits.Limits.{Limits}
-use Rattle.opgp_ring.specs.Composed.{PartValue, parts_of}
-use Rattle.opgp_ring.specs.Composition.{Item}
-use Rattle.opgp_ring.specs.Fed.{Fed as IsComposed}
-use Rattle.opgp_ring.specs.Keyring.{KeyringValue}
-use Rattle.opgp_ring.specs.State.{ready_parts}
-use Rattle.opgp_ring.specs.declared.ready.Ready.{Ready}
+use Rattle.opgp_keyring.specs.Composed.{PartValue, parts_of}
+use Rattle.opgp_keyring.specs.Composition.{Item}
+use Rattle.opgp_keyring.specs.Fed.{Fed as IsComposed}
+use Rattle.opgp_keyring.specs.Keyring.{KeyringValue}
+use Rattle.opgp_keyring.specs.State.{ready_parts}
+use Rattle.opgp_keyring.specs.declared.ready.Ready.{Ready}
 use Rattle.opgp_codec.specs.declared.accepts.Accepts.TheVariants.{Keys}
 use Rattle.opgp_codec.specs.declared.incoming_parts.IncomingParts.{IncomingParts}
 use Rattle.opgp_codec.specs.declared.mode.Mode.{Mode}

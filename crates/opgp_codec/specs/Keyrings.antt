@@ -1,18 +1,14 @@
 -- The keyring of an input (RFC 9580, 10.1).
-use Rattle.std.specs.Prelude.{Bool, true, false, List, Option, Some, None, Result, Ok, Err}
+use Rattle.std.specs.Prelude.{Bool, true, false, List, Option, Some, None, Ok, Err}
 use Rattle.std.specs.Prelude.{MatchResult}
 use Rattle.opgp_octets.specs.declared.limits.Limits.{Limits}
 use Rattle.opgp_armor.specs.declared.label.Label.{Label}
 use Rattle.opgp_armor.specs.declared.label.Label.TheVariants as label
-use Rattle.opgp_ring.specs.Composed.{IsKeyringOf, IsFault}
-use Rattle.opgp_ring.specs.Composition.{Item}
-use Rattle.opgp_ring.specs.Keyring.{KeyringValue}
+use Rattle.opgp_keyring.specs.Composed.{IsKeyringOf, IsFault}
+use Rattle.opgp_keyring.specs.Composition.{Item}
+use Rattle.opgp_keyring.specs.Keyring.{KeyringValue}
 use Rattle.opgp_codec.specs.declared.answer.Answer.{Answer}
 use Rattle.opgp_codec.specs.declared.answer.Answer.TheVariants as answer
-use Rattle.opgp_codec.specs.declared.engine_error.EngineError.{EngineError}
-use Rattle.opgp_codec.specs.declared.engine_error.EngineError.TheVariants as engine
-use Rattle.opgp_codec.specs.declared.read_error.ReadError.{ReadError}
-use Rattle.opgp_codec.specs.declared.read_error.ReadError.TheVariants as read
 use Rattle.opgp_codec.specs.Reading.{Outcome}
 
 -- a block of public keys, or a binary one
@@ -29,10 +25,7 @@ abbrev pub ComposesTo : Limits → List Item → Outcome KeyringValue → Type 0
 ComposesTo limits items answer =
     MatchResult answer (IsKeyringOf limits items) (IsFault limits items)
 
--- a refusal is a result and not an error; nothing is written
-abbrev pub AnswersAs : (Result KeyringValue ReadError → Type 0) → Result Answer EngineError → Type 0
-AnswersAs reads (Ok (answer.Ring r)) = reads (Ok r)
-AnswersAs reads (Ok (answer.Refused fault)) = reads (Err (read.Refused fault))
-AnswersAs reads (Err engine.Read) = reads (Err read.Read)
-AnswersAs reads (Err engine.Write) = ⊥
-AnswersAs reads (Err engine.Memory) = reads (Err read.Memory)
+-- what an answer says
+abbrev pub keyring_told : Answer → Outcome KeyringValue
+keyring_told (answer.Ring r) = Ok r
+keyring_told (answer.Refused fault) = Err fault

@@ -1,7 +1,7 @@
 -- The labels and packets that an input has.
 use Rattle.std.specs.Prelude.{◌≡◌, ◌<◌, ◌^◌, List, [], ◌∷◌}
-use Rattle.opgp_ring.specs.Composition.{Item, of_label, of_packet}
-use Rattle.opgp_ring.specs.Signed.{end_pos}
+use Rattle.opgp_keyring.specs.Composition.{Item, of_label, of_packet}
+use Rattle.opgp_keyring.specs.Signed.{end_pos}
 
 -- what comes from the first label on
 abbrev pub from_label : List Item → List Item

@@ -6,7 +6,7 @@ use Rattle.opgp_octets.specs.declared.malformed.Malformed.{Malformed}
 use Rattle.opgp_octets.specs.Limits.{body_limit, line_limit, malformed_of, pieces_limit}
 use Rattle.opgp_frame.specs.declared.packet.Placed.{Placed}
 use Rattle.opgp_frame.specs.Fed.{held_of as packet_held}
-use Rattle.opgp_ring.specs.Composition.{Item, placed_in}
+use Rattle.opgp_keyring.specs.Composition.{Item, placed_in}
 use Rattle.opgp_codec.specs.declared.accepts.Accepts.TheVariants.{Any}
 use Rattle.opgp_codec.specs.declared.packet_reader.PacketReader.{PacketReader}
 use Rattle.opgp_codec.specs.declared.waiting_packets.WaitingPackets.{WaitingPackets}

@@ -5,10 +5,12 @@ use Rattle.opgp_octets.specs.declared.limits.Limits.{Limits}
 use Rattle.opgp_octets.specs.Limits.{malformed_of}
 use Rattle.opgp_armor.specs.declared.label.Label.{Label}
 use Rattle.opgp_frame.specs.declared.packet.Placed.{Placed}
-use Rattle.opgp_ring.specs.declared.block_of.BlockOf.{BlockOf}
-use Rattle.opgp_ring.specs.Bodies.{IsSound, IsFirstBodyFault}
-use Rattle.opgp_ring.specs.Composition.{Item, placed_in}
-use Rattle.opgp_ring.specs.Block.{items_of}
+use Rattle.opgp_keyring.specs.declared.block_of.BlockOf.{BlockOf}
+use Rattle.opgp_keyring.specs.Bodies.{IsSound, IsFirstBodyFault}
+use Rattle.opgp_keyring.specs.Composition.{Item, placed_in}
+use Rattle.opgp_keyring.specs.Block.{items_of}
+use Rattle.opgp_codec.specs.declared.answer.PacketsAnswer.{PacketsAnswer}
+use Rattle.opgp_codec.specs.declared.answer.PacketsAnswer.TheVariants as answer
 use Rattle.opgp_codec.specs.Labelled.{from_label}
 use Rattle.opgp_codec.specs.Reading.{Outcome, block_items}
 
@@ -43,3 +45,8 @@ abbrev pub ArePackets : Limits → List Item → Outcome (List BlockValue) → T
 ArePackets limits items (Ok blocks) =
     (items_in blocks ≡ items) × All (IsSound (malformed_of limits)) (placed_in items)
 ArePackets limits items (Err fault) = IsFirstBodyFault (malformed_of limits) (placed_in items) fault
+
+-- what an answer says
+abbrev pub packets_told : PacketsAnswer → Outcome (Vec BlockOf)
+packets_told (answer.Packets blocks) = Ok blocks
+packets_told (answer.Refused fault) = Err fault

@@ -1,8 +1,8 @@
 -- A keyring that is read in pieces, whose parts wait until they are taken.
 use Rattle.std.specs.Prelude.{◌≡◌, ◌≤◌, ℕ, List, Ok, Err, MatchResult}
 use Rattle.opgp_octets.specs.declared.limits.Limits.{Limits}
-use Rattle.opgp_ring.specs.Composed.{PartValue}
-use Rattle.opgp_ring.specs.Keyring.{KeyringValue}
+use Rattle.opgp_keyring.specs.Composed.{PartValue}
+use Rattle.opgp_keyring.specs.Keyring.{KeyringValue}
 use Rattle.opgp_codec.specs.declared.part_reader.PartReader.{PartReader}
 use Rattle.opgp_codec.specs.declared.waiting.Waiting.{Waiting}
 use Rattle.opgp_codec.specs.Keyrings.{ComposesTo, key_label}

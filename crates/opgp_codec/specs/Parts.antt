@@ -4,13 +4,13 @@ use Rattle.opgp_octets.specs.declared.limits.Limits.{Limits}
 use Rattle.opgp_octets.specs.Limits.{body_limit, cert_limit, line_limit, pieces_limit}
 use Rattle.opgp_armor.specs.Fed.{held_of as text_held}
 use Rattle.opgp_frame.specs.Fed.{held_of as packet_held}
-use Rattle.opgp_ring.specs.Composed.{PartValue, parts_of}
-use Rattle.opgp_ring.specs.Composition.{Item}
-use Rattle.opgp_ring.specs.Fed.{held_of as part_held}
-use Rattle.opgp_ring.specs.Fed.{Fed as IsComposed}
-use Rattle.opgp_ring.specs.Keyring.{KeyringValue}
-use Rattle.opgp_ring.specs.State.{part_of, ready_parts}
-use Rattle.opgp_ring.specs.declared.ready.Ready.{Ready}
+use Rattle.opgp_keyring.specs.Composed.{PartValue, parts_of}
+use Rattle.opgp_keyring.specs.Composition.{Item}
+use Rattle.opgp_keyring.specs.Fed.{held_of as part_held}
+use Rattle.opgp_keyring.specs.Fed.{Fed as IsComposed}
+use Rattle.opgp_keyring.specs.Keyring.{KeyringValue}
+use Rattle.opgp_keyring.specs.State.{part_of, ready_parts}
+use Rattle.opgp_keyring.specs.declared.ready.Ready.{Ready}
 use Rattle.opgp_codec.specs.declared.accepts.Accepts.TheVariants.{Keys}
 use Rattle.opgp_codec.specs.declared.items.Front.{Front}
 use Rattle.opgp_codec.specs.declared.items.Front.TheVariants.{Undecided, Binary, Armored}

@@ -5,6 +5,8 @@ use Rattle.std.specs.Io.KnownBytes.{Consumes, IsAtEnd}
 use Rattle.opgp_octets.specs.Limits.{input_limit}
 use Rattle.opgp_octets.specs.Octets.{IsOctets}
 use Rattle.opgp_octets.specs.declared.limits.Limits.{Limits}
+use Rattle.opgp_codec.specs.declared.engine_error.EngineError.{EngineError}
+use Rattle.opgp_codec.specs.declared.engine_error.EngineError.TheVariants as engine
 use Rattle.opgp_codec.specs.declared.read_error.ReadError.{ReadError}
 use Rattle.opgp_codec.specs.declared.read_error.ReadError.TheVariants as read
 use Rattle.opgp_codec.specs.Reading.{Outcome}
@@ -40,6 +42,20 @@ ReadsAs left failed old new limits answers (Err (read.Refused fault)) =
     OfAll left failed old new limits (λ octets. answers octets (Err fault))
 ReadsAs left failed old new limits answers (Err read.Read) = failed new ≡ true
 ReadsAs left failed old new limits answers (Err read.Memory) = failed new ≡ false
+
+-- the value, or the refusal as an error
+abbrev pub or_refused : {A : Type 0} → Outcome A → Result A ReadError
+or_refused (Ok value) = Ok value
+or_refused (Err fault) = Err (read.Refused fault)
+
+-- A refusal is a result and not an error; nothing is written. What an answer says is the value or
+-- the fault.
+abbrev pub AnswersAs : {A B : Type 0} → (B → Outcome A) → (Result A ReadError → Type 0)
+    → Result B EngineError → Type 0
+AnswersAs told reads (Ok answer) = reads (or_refused (told answer))
+AnswersAs told reads (Err engine.Read) = reads (Err read.Read)
+AnswersAs told reads (Err engine.Write) = ⊥
+AnswersAs told reads (Err engine.Memory) = reads (Err read.Memory)
 
 -- The result at the end of what came, unless memory ran out.
 abbrev pub ReadsTo : {A : Type 0} → Option (List ℕ) → Option (List ℕ) → Limits

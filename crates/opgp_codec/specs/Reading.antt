@@ -12,7 +12,7 @@ use Rattle.opgp_armor.specs.Rules.{line_rule}
 use Rattle.opgp_armor.specs.Armored.{Armored, Block, IsArmorFault}
 use Rattle.opgp_frame.specs.declared.packet.Placed.{Placed}
 use Rattle.opgp_frame.specs.Frames.{Frames, IsFramingFault}
-use Rattle.opgp_ring.specs.Composition.{Item, of_label, of_packet}
+use Rattle.opgp_keyring.specs.Composition.{Item, of_label, of_packet}
 use Rattle.opgp_codec.specs.declared.mode.Mode.{Mode}
 use Rattle.opgp_codec.specs.declared.mode.Mode.TheVariants.{Auto, Armor, Binary}
 

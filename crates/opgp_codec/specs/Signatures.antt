@@ -5,8 +5,8 @@ use Rattle.opgp_octets.specs.Limits.{malformed_of}
 use Rattle.opgp_armor.specs.declared.label.Label.{Label}
 use Rattle.opgp_armor.specs.declared.label.Label.TheVariants as label
 use Rattle.opgp_frame.specs.Packet.{PacketValue}
-use Rattle.opgp_ring.specs.Composition.{Item}
-use Rattle.opgp_ring.specs.Detached.{IsDetachedFault, IsDetachedOf}
+use Rattle.opgp_keyring.specs.Composition.{Item}
+use Rattle.opgp_keyring.specs.Detached.{IsDetachedFault, IsDetachedOf}
 use Rattle.opgp_codec.specs.Reading.{Outcome}
 
 -- a block of signatures, or a binary one

@@ -5,8 +5,11 @@ use Rattle.opgp_octets.specs.Limits.{malformed_of}
 use Rattle.opgp_armor.specs.declared.label.Label.{Label}
 use Rattle.opgp_armor.specs.declared.label.Label.TheVariants as label
 use Rattle.opgp_frame.specs.Packet.{PacketValue}
-use Rattle.opgp_ring.specs.Composition.{Item}
-use Rattle.opgp_ring.specs.Signed.{IsSignedFault, IsSignedOf}
+use Rattle.opgp_keyring.specs.Composition.{Item}
+use Rattle.opgp_keyring.specs.declared.signed_literal.SignedLiteral.{SignedLiteral}
+use Rattle.opgp_keyring.specs.Signed.{IsSignedFault, IsSignedOf}
+use Rattle.opgp_codec.specs.declared.answer.SignedAnswer.{SignedAnswer}
+use Rattle.opgp_codec.specs.declared.answer.SignedAnswer.TheVariants as answer
 use Rattle.opgp_codec.specs.Reading.{Outcome}
 
 -- a message's block, or a binary one
@@ -22,3 +25,8 @@ message_label (Some label.Signature) = false
 abbrev pub AreSigned : Limits → List Item → Outcome (List PacketValue) → Type 0
 AreSigned limits items (Ok ps) = IsSignedOf (malformed_of limits) items ps
 AreSigned limits items (Err f) = IsSignedFault (malformed_of limits) items f
+
+-- what an answer says
+abbrev pub signed_told : SignedAnswer → Outcome SignedLiteral
+signed_told (answer.Literal signed) = Ok signed
+signed_told (answer.Refused fault) = Err fault

@@ -3,7 +3,7 @@ use Rattle.std.specs.Prelude.{Bool, true, false, List, [], All, Option, Some, No
 use Rattle.opgp_octets.specs.declared.fault.Fault.{Fault}
 use Rattle.opgp_octets.specs.declared.malformed.Malformed.{Malformed}
 use Rattle.opgp_frame.specs.declared.packet.Placed.{Placed}
-use Rattle.opgp_ring.specs.Bodies.{IsSound, IsFirstBodyFault}
+use Rattle.opgp_keyring.specs.Bodies.{IsSound, IsFirstBodyFault}
 use Rattle.opgp_codec.specs.Reading.{Outcome}
 
 -- By the policy for malformed signatures no body has a fault, and the packets are kept; or this is

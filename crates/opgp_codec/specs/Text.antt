@@ -10,7 +10,7 @@ use Rattle.opgp_armor.specs.Events.{is_open_behind}
 use Rattle.opgp_armor.specs.Rules.{line_rule}
 use Rattle.opgp_armor.specs.Fed.{Fed, SaysTheSame, is_ready, has_ended, rule_of}
 use Rattle.opgp_armor.specs.Fed.{count_of as text_count}
-use Rattle.opgp_ring.specs.Composition.{Item}
+use Rattle.opgp_keyring.specs.Composition.{Item}
 use Rattle.opgp_codec.specs.declared.accepts.Accepts.{Accepts}
 use Rattle.opgp_codec.specs.declared.found.Opening.{Opening}
 use Rattle.opgp_codec.specs.declared.blocks.Blocks.{Blocks}

@@ -5,7 +5,7 @@ use Rattle.std.specs.Io.KnownBytes.{Appends}
 use Rattle.opgp_armor.specs.declared.label.Label.TheVariants.{PublicKeyBlock}
 use Rattle.opgp_armor.specs.Written.{armor_text}
 use Rattle.opgp_frame.specs.Packet.{PacketValue, packets_octets}
-use Rattle.opgp_ring.specs.Keyring.{CertificateValue, certificate_packets}
+use Rattle.opgp_keyring.specs.Keyring.{CertificateValue, certificate_packets}
 use Rattle.opgp_codec.specs.declared.out.Out.{Out}
 use Rattle.opgp_codec.specs.declared.out.Out.TheVariants.{Armor, Binary}
 use Rattle.opgp_io.specs.Stream.{AppendsPrefix}

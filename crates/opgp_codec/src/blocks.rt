@@ -8,7 +8,7 @@ ghost use Rattle.opgp_armor.specs.declared.label.Label.{Label};
 ghost use Rattle.opgp_frame.specs.Fed.{is_ready, limits_of};
 ghost use Rattle.opgp_frame.specs.declared.packet.Placed.{Placed};
 ghost use Rattle.opgp_octets.specs.declared.limits.Limits.{Limits};
-ghost use Rattle.opgp_ring.specs.Composition.{Item, of_packet};
+ghost use Rattle.opgp_keyring.specs.Composition.{Item, of_packet};
 ghost use Rattle.opgp_codec.specs.Accepts.{wanted_by};
 ghost use Rattle.opgp_codec.specs.Found.{IsFound, is_nothing, opened};
 ghost use Rattle.opgp_codec.specs.Reading.{TextBlock, AreFramed, FirstFault};

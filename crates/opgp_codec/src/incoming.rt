@@ -8,7 +8,7 @@ ghost use Rattle.opgp_octets.specs.Octets.{IsOctets};
 ghost use Rattle.opgp_octets.specs.declared.fault.Fault.{Fault};
 ghost use Rattle.opgp_octets.specs.declared.limits.Limits.{Limits};
 ghost use Rattle.opgp_frame.specs.declared.packet.Placed.{Placed};
-ghost use Rattle.opgp_ring.specs.Composition.{Item};
+ghost use Rattle.opgp_keyring.specs.Composition.{Item};
 ghost use Rattle.opgp_codec.specs.Accepts.{wanted_by};
 ghost use Rattle.opgp_codec.specs.Blocks.{viewed_in};
 ghost use Rattle.opgp_codec.specs.Found.{handed};
@@ -42,7 +42,8 @@ const PIECE: usize = 65_536;
 /// ```
 ///
 /// Nothing of the input is kept but its last piece, of at most 65,536 octets, and an unfinished
-/// line and packet.
+/// line and packet. Each read but the last brings at least one octet: so there are at most two more
+/// than the limit `input` has octets.
 #[derive(Drop)]
 pub(crate) struct Incoming {
     items: Items,
@@ -52,6 +53,8 @@ pub(crate) struct Incoming {
     lent: usize,
     count: u64,
     limit: u64,
+    // The last read brought nothing, or no more are made past the limit: the source isn't read again.
+    ended: bool,
     ghost small: { limit < 2 ^ 63 },
     ghost some: { length piece.items ≡ 65536 },
     ghost within: { filled ≤ length piece.items },
@@ -61,7 +64,7 @@ pub(crate) struct Incoming {
 
 impl Incoming {
     ghost use Rattle.opgp_codec.specs.Incoming.{Came, FoundIf, HasEnded, IsHere, IsThrough};
-    ghost use Rattle.opgp_codec.specs.Incoming.{left_in, lent_of, rest_left};
+    ghost use Rattle.opgp_codec.specs.Incoming.{IsLeftAlone, left_in, lent_of, rest_left};
     ghost use Rattle.opgp_codec.specs.Pulled.{OfInput};
 
     /// A reader to which nothing has come. Fails only when out of memory.
@@ -83,6 +86,7 @@ impl Incoming {
             lent: 0,
             count: 0,
             limit: limits.input(),
+            ended: false,
         })
     }
 
@@ -104,6 +108,8 @@ impl Incoming {
         ensures ended { result ≡ Ok false
             → IsThrough self.new × HasEnded self.new (R.left source.new) }
         ensures lessens { result ≡ Ok true → left_in self.new < left_in self.old }
+        ensures last { result ≡ Ok false → self.new.ended ≡ true }
+        ensures alone { IsLeftAlone self.old self.new source.old source.new }
         ensures sound { OnOk result (R.has_failed source.new ≡ false) }
         ensures read { result ≡ Err read.Read → R.has_failed source.new ≡ true }
         ensures memory { result ≡ Err read.Memory → R.has_failed source.new ≡ false }
@@ -133,6 +139,7 @@ impl Incoming {
         ensures none { result ≡ Ok false → rest_left self.new ≡ 0 }
         ensures count { self.new.count ≡ self.old.count }
         ensures limit { self.new.limit ≡ self.old.limit }
+        ensures same { self.new.ended ≡ self.old.ended }
         ensures memory { (e : ReadError) → result ≡ Err e → e ≡ read.Memory }
     {
         self.lent = self.at;
@@ -149,13 +156,15 @@ impl Incoming {
         }
     }
 
-    /// Reads the next piece. Whether there is one. The conditions are that the last one has gone
-    /// through, and that the source hasn't failed.
+    /// Reads the next piece. Whether there is one, which has at least one octet; else the source is
+    /// left alone from then on. The conditions are that the last one has gone through, and that the
+    /// source hasn't failed.
     #[inline(never)]
     fn pull<R: Source>(&mut self, source: &mut R) -> Result<bool, ReadError>
         requires sound { R.has_failed source.old ≡ false }
         requires through { IsThrough self.old }
         requires within { self.old.count ≤ self.old.limit + 1 }
+        requires over { self.old.ended ≡ true → HasEnded self.old (R.left source.old) }
         ensures came { OnOk result ((accepts : Accepts) (mode : Mode) (limits : Limits)
             (before : Option (List ℕ)) (items : List Item)
             → Came accepts mode limits before (R.left source.old) self.old items
@@ -163,14 +172,21 @@ impl Incoming {
         ensures ended { result ≡ Ok false
             → IsThrough self.new × HasEnded self.new (R.left source.new) }
         ensures lessens { result ≡ Ok true → left_in self.new < left_in self.old }
+        ensures brings { result ≡ Ok true → self.old.count < self.new.count }
+        ensures last { result ≡ Ok false → self.new.ended ≡ true }
+        ensures alone { IsLeftAlone self.old self.new source.old source.new }
         ensures within { self.new.count ≤ self.old.limit + 1 }
         ensures limit { self.new.limit ≡ self.old.limit }
         ensures sound { OnOk result (R.has_failed source.new ≡ false) }
         ensures read { (e : ReadError) → result ≡ Err e
             → (e ≡ read.Read) × (R.has_failed source.new ≡ true) }
     {
+        if self.ended {
+            return Ok(false);
+        }
         self.note(source);
         if self.count > self.limit {
+            self.ended = true;
             return Ok(false);
         }
         let most = self.limit + 1 - self.count;
@@ -182,6 +198,7 @@ impl Incoming {
         self.at = 0;
         self.lent = 0;
         self.count += n as u64;
+        self.ended = n == 0;
         Ok(n > 0)
     }
 

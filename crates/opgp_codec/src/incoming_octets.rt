@@ -62,6 +62,8 @@ impl IncomingOctets {
     /// or one octet past the limit `input` has come. The condition is that the source hasn't
     /// failed.
     ///
+    /// Each read but the last brings at least one octet, and none is made past the limit.
+    ///
     /// The error is `Read`: the source has failed. Nothing is known of the reader then.
     pub fn next<R: Source>(&mut self, source: &mut R) -> Result<bool, ReadError>
         requires { R.has_failed source.old ≡ false }
@@ -72,6 +74,9 @@ impl IncomingOctets {
         ensures none { result ≡ Ok false → piece_of self.new ≡ [] }
         ensures ended { result ≡ Ok false → HasNoMore self.new (R.left source.new) }
         ensures lessens { result ≡ Ok true → octets_left self.new < octets_left self.old }
+        ensures brings { result ≡ Ok true → self.old.count < self.new.count }
+        ensures past { self.old.limit < self.old.count
+            → (result ≡ Ok false) × (source.new ≡ source.old) }
         ensures sound { OnOk result (R.has_failed source.new ≡ false) }
         ensures read { (e : ReadError) → result ≡ Err e
             → (e ≡ read.Read) × (R.has_failed source.new ≡ true) }

@@ -5,9 +5,9 @@ ghost use Rattle.std.specs.Prelude.{Err, IfOk, Ok, OnOk};
 ghost use Rattle.opgp_octets.specs.declared.fault.Fault.{Fault};
 ghost use Rattle.opgp_octets.specs.declared.limits.Limits.{Limits};
 ghost use Rattle.opgp_frame.specs.declared.packet.Placed.{Placed};
-ghost use Rattle.opgp_ring.specs.Composition.{Item, of_packet, placed_in};
+ghost use Rattle.opgp_keyring.specs.Composition.{Item, of_packet, placed_in};
 ghost use Rattle.opgp_codec.specs.Blocks.{viewed_in};
-ghost use Rattle.opgp_codec.specs.Incoming.{left_in};
+ghost use Rattle.opgp_codec.specs.Incoming.{IsLeftAlone, left_in};
 ghost use Rattle.opgp_codec.specs.SoundPackets.{AreSoFar, passed_if};
 ghost use Rattle.opgp_codec.specs.declared.mode.Mode.{Mode};
 ghost use Rattle.opgp_codec.specs.declared.read_error.ReadError.TheVariants as read;
@@ -19,8 +19,8 @@ use crate::read_error::ReadError;
 use opgp_armor::laws::a_block_has_no_more_octets_than_the_text;
 use opgp_frame::PlacedView;
 use opgp_io::Source;
+use opgp_keyring::view_fault;
 use opgp_octets::{Fault, Limits, Malformed, OutOfMemory};
-use opgp_ring::view_fault;
 use std::alloc::Global;
 
 /// Reads the packets (RFC 9580, 4) of a source, and lends each as soon as it is complete and its
@@ -62,6 +62,8 @@ impl IncomingPackets {
     /// lends it. False: there is no more before the end, since the source has ended, or one octet
     /// past the limit `input` has come. The condition is that the source hasn't failed.
     ///
+    /// Each read but the last brings at least one octet, and none is made once it has returned false.
+    ///
     /// The errors are `Read`: the source has failed, and `Memory`. Nothing is known of the reader
     /// then.
     pub fn next<R: Source>(&mut self, source: &mut R) -> Result<bool, ReadError>
@@ -75,6 +77,8 @@ impl IncomingPackets {
             → PacketsCame mode limits before (R.left source.new) self.new (packets ++ found))) }
         ensures over { result ≡ Ok false → IsOver self.new (R.left source.new) }
         ensures lessens { result ≡ Ok true → left_in self.new.incoming < left_in self.old.incoming }
+        ensures last { result ≡ Ok false → self.new.incoming.ended ≡ true }
+        ensures alone { IsLeftAlone self.old.incoming self.new.incoming source.old source.new }
         ensures sound { OnOk result (R.has_failed source.new ≡ false) }
         ensures read { result ≡ Err read.Read → R.has_failed source.new ≡ true }
         ensures memory { result ≡ Err read.Memory → R.has_failed source.new ≡ false }

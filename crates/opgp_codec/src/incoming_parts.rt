@@ -4,11 +4,11 @@ ghost use Rattle.std.specs.Prelude.{◌≡◌, ◌<◌, ◌++◌, [], ℕ, List,
 ghost use Rattle.std.specs.Prelude.{Err, IfOk, IfSome, Ok, OnOk};
 ghost use Rattle.opgp_octets.specs.declared.fault.Fault.{Fault};
 ghost use Rattle.opgp_octets.specs.declared.limits.Limits.{Limits};
-ghost use Rattle.opgp_ring.specs.Composed.{PartValue};
-ghost use Rattle.opgp_ring.specs.Fed.{is_ready};
-ghost use Rattle.opgp_ring.specs.Parts.{AreParts};
-ghost use Rattle.opgp_ring.specs.State.{ready_parts};
-ghost use Rattle.opgp_codec.specs.Incoming.{left_in};
+ghost use Rattle.opgp_keyring.specs.Composed.{PartValue};
+ghost use Rattle.opgp_keyring.specs.Fed.{is_ready};
+ghost use Rattle.opgp_keyring.specs.Parts.{AreParts};
+ghost use Rattle.opgp_keyring.specs.State.{ready_parts};
+ghost use Rattle.opgp_codec.specs.Incoming.{IsLeftAlone, left_in};
 ghost use Rattle.opgp_codec.specs.declared.mode.Mode.{Mode};
 ghost use Rattle.opgp_codec.specs.declared.read_error.ReadError.TheVariants as read;
 
@@ -19,9 +19,9 @@ use crate::parts::{compose, open_block};
 use crate::read_error::ReadError;
 use opgp_armor::laws::a_block_has_no_more_octets_than_the_text;
 use opgp_io::Source;
+use opgp_keyring::laws::parts_taken_are_a_keyrings;
+use opgp_keyring::{Composer, Ready};
 use opgp_octets::{Limits, OutOfMemory};
-use opgp_ring::laws::parts_taken_are_a_keyrings;
-use opgp_ring::{Composer, Ready};
 use std::alloc::Global;
 
 /// Reads a keyring (RFC 9580, 10.1) from a source, and hands out the lead and each certificate as
@@ -62,6 +62,8 @@ impl IncomingParts {
     /// source has ended, or one octet past the limit `input` has come. The condition is that the
     /// source hasn't failed.
     ///
+    /// Each read but the last brings at least one octet, and none is made once it has returned None.
+    ///
     /// The errors are `Read`: the source has failed, and `Memory`. Nothing is known of the reader
     /// then.
     pub fn next<R: Source>(&mut self, source: &mut R) -> Result<Option<Ready>, ReadError>
@@ -80,6 +82,8 @@ impl IncomingParts {
         ensures over { IfOk result (λ r. r ≡ None → IsOver self.new (R.left source.new)) }
         ensures lessens { IfOk result (λ r. IfSome r (λ p.
             left_in self.new.incoming < left_in self.old.incoming)) }
+        ensures last { IfOk result (λ r. r ≡ None → self.new.incoming.ended ≡ true) }
+        ensures alone { IsLeftAlone self.old.incoming self.new.incoming source.old source.new }
         ensures sound { OnOk result (R.has_failed source.new ≡ false) }
         ensures read { result ≡ Err read.Read → R.has_failed source.new ≡ true }
         ensures memory { result ≡ Err read.Memory → R.has_failed source.new ≡ false }

@@ -4,7 +4,7 @@ ghost use Rattle.std.specs.Prelude.{◌≡◌, ◌<◌, ◌≤◌, ◌+◌, ◌-
 ghost use Rattle.std.specs.Prelude.{length, take, false, IfOk, IfSome, None, Option};
 ghost use Rattle.opgp_octets.specs.declared.limits.Limits.{Limits};
 ghost use Rattle.opgp_frame.specs.declared.packet.Placed.{Placed};
-ghost use Rattle.opgp_ring.specs.Composition.{Item, placed_in};
+ghost use Rattle.opgp_keyring.specs.Composition.{Item, placed_in};
 ghost use Rattle.opgp_codec.specs.Accepts.{wanted_by};
 ghost use Rattle.opgp_codec.specs.Found.{IsFound, handed};
 ghost use Rattle.opgp_codec.specs.Blocks.{Ends, FindsIn, Framed, has_begun, number_of, open_count};

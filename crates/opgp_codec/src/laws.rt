@@ -4,7 +4,7 @@ ghost use Rattle.std.specs.Prelude.{◌≡◌, ℕ, List, true, Ok};
 ghost use Rattle.opgp_frame.specs.Packet.{PacketValue, packets_octets};
 ghost use Rattle.opgp_octets.specs.Octets.{IsOctets};
 ghost use Rattle.opgp_octets.specs.declared.limits.Limits.{Limits};
-ghost use Rattle.opgp_ring.specs.Keyring.{KeyringValue, flat};
+ghost use Rattle.opgp_keyring.specs.Keyring.{KeyringValue, flat};
 ghost use Rattle.opgp_codec.specs.Keyrings.{ComposesTo, key_label};
 ghost use Rattle.opgp_codec.specs.Layers.{LayersAnswer, LayersAreOne};
 ghost use Rattle.opgp_codec.specs.Packets.{ArePackets, BlockValue, any_label};
@@ -16,7 +16,7 @@ ghost use Rattle.opgp_codec.specs.declared.mode.Mode.{Mode};
 
 use opgp_armor::laws as armor;
 use opgp_frame::laws as frame;
-use opgp_ring::laws as ring;
+use opgp_keyring::laws as ring;
 
 /// Octets are one list of blocks or of packets at most, or have one fault of these layers.
 fn layers_are_one()

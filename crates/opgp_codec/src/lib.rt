@@ -37,7 +37,7 @@ mod waiting_packets;
 mod writing;
 mod writing_keyring;
 
-pub use answer::Answer;
+pub use answer::{Answer, PacketsAnswer, SignedAnswer};
 pub use draft::Draft;
 pub use draft_error::DraftError;
 pub use engine_error::EngineError;

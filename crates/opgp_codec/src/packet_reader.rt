@@ -4,7 +4,7 @@ ghost use Rattle.std.specs.Prelude.{◌≡◌, ◌<◌, ◌≤◌, ◌+◌, ◌^
 ghost use Rattle.std.specs.Prelude.{OnOk, IfOk};
 ghost use Rattle.opgp_octets.specs.declared.limits.Limits.{Limits};
 ghost use Rattle.opgp_frame.specs.declared.packet.Placed.{Placed};
-ghost use Rattle.opgp_ring.specs.Composition.{Item, of_packet};
+ghost use Rattle.opgp_keyring.specs.Composition.{Item, of_packet};
 ghost use Rattle.opgp_codec.specs.Found.{IsFound};
 ghost use Rattle.opgp_codec.specs.Items.{Fed, octets_of};
 ghost use Rattle.opgp_codec.specs.PacketReader.{Ends, IsReading, IsSoFar, IsUsed, PacketUse, given};

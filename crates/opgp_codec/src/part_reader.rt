@@ -2,7 +2,7 @@
 
 ghost use Rattle.std.specs.Prelude.{◌≡◌, ◌<◌, ◌≤◌, ◌+◌, ◌^◌, ◌++◌, [], length, None, OnOk, IfOk};
 ghost use Rattle.opgp_octets.specs.declared.limits.Limits.{Limits};
-ghost use Rattle.opgp_ring.specs.State.{ready_parts};
+ghost use Rattle.opgp_keyring.specs.State.{ready_parts};
 ghost use Rattle.opgp_codec.specs.PartReader.{Ends, IsReading, IsUsed, Use, given, held_of};
 ghost use Rattle.opgp_codec.specs.PartReader.{most_held, octets_given, shown_count, taken_count};
 ghost use Rattle.opgp_codec.specs.PartReader.{taking, unused, waits};
@@ -10,8 +10,8 @@ ghost use Rattle.opgp_codec.specs.PartReader.{taking, unused, waits};
 use crate::mode::Mode;
 use crate::parts::Parts;
 use crate::waiting::{Waiting, counted};
+use opgp_keyring::Ready;
 use opgp_octets::{Fault, Limits, OutOfMemory};
-use opgp_ring::Ready;
 use std::alloc::Global;
 
 /// Reads a keyring (RFC 9580, 10.1) whose octets, armored or binary, come in pieces of any size, as

@@ -3,9 +3,9 @@
 ghost use Rattle.std.specs.Prelude.{◌≡◌, ◌<◌, ◌≤◌, ◌+◌, ◌-◌, ◌^◌, ◌%◌, ◌++◌, [], ℕ, List, length};
 ghost use Rattle.std.specs.Prelude.{map, false, IfOk, IfSome, None, OnErr, OnOk};
 ghost use Rattle.opgp_octets.specs.declared.limits.Limits.{Limits};
-ghost use Rattle.opgp_ring.specs.Composed.{PartValue};
-ghost use Rattle.opgp_ring.specs.Composition.{Item, of_packet, placed_in};
-ghost use Rattle.opgp_ring.specs.Fed.{KeepsFed, is_ready, limits_of};
+ghost use Rattle.opgp_keyring.specs.Composed.{PartValue};
+ghost use Rattle.opgp_keyring.specs.Composition.{Item, of_packet, placed_in};
+ghost use Rattle.opgp_keyring.specs.Fed.{KeepsFed, is_ready, limits_of};
 ghost use Rattle.opgp_codec.specs.Found.{opened};
 ghost use Rattle.opgp_codec.specs.Blocks.{viewed_in};
 ghost use Rattle.opgp_codec.specs.Items.{skipped_in};
@@ -17,8 +17,8 @@ use crate::items::Items;
 use crate::mode::Mode;
 use opgp_armor::laws::a_block_has_no_more_octets_than_the_text;
 use opgp_frame::PlacedView;
+use opgp_keyring::{Composer, Ready};
 use opgp_octets::{Fault, Limits, OutOfMemory};
-use opgp_ring::{Composer, Ready};
 use std::alloc::{AllocError, Global};
 
 /// Reads a keyring (RFC 9580, 10.1) whose octets, armored or binary, come in pieces of any size,

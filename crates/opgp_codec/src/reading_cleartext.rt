@@ -13,8 +13,8 @@ use crate::read_error::ReadError;
 use crate::reading_signatures::read_signatures;
 use opgp_cleartext::Cleartext;
 use opgp_io::Watched;
+use opgp_keyring::DetachedSignatures;
 use opgp_octets::{Fault, Layer, Limits, Outside, Reason};
-use opgp_ring::DetachedSignatures;
 use std::alloc::Global;
 
 /// The document and the signatures of a message in the cleartext signature framework (RFC 9580, 7),

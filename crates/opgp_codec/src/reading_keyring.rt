@@ -3,11 +3,11 @@
 ghost use Rattle.std.specs.Prelude.{◌≡◌, ℕ, List, Option, Err, OnOk, true, false};
 ghost use Rattle.opgp_octets.specs.declared.fault.Fault.{Fault};
 ghost use Rattle.opgp_octets.specs.declared.limits.Limits.{Limits};
-ghost use Rattle.opgp_ring.specs.Composed.{PartValue};
-ghost use Rattle.opgp_ring.specs.Parts.{HasParts};
+ghost use Rattle.opgp_keyring.specs.Composed.{PartValue};
+ghost use Rattle.opgp_keyring.specs.Parts.{HasParts};
 ghost use Rattle.opgp_codec.specs.IncomingParts.{IsOver, PartsCame};
-ghost use Rattle.opgp_codec.specs.Keyrings.{AnswersAs, ComposesTo, key_label};
-ghost use Rattle.opgp_codec.specs.Pulled.{ReadsAs, ReadsTo};
+ghost use Rattle.opgp_codec.specs.Keyrings.{ComposesTo, key_label, keyring_told};
+ghost use Rattle.opgp_codec.specs.Pulled.{AnswersAs, ReadsAs, ReadsTo};
 ghost use Rattle.opgp_codec.specs.Reading.{AnswerOf};
 ghost use Rattle.opgp_codec.specs.declared.mode.Mode.{Mode};
 ghost use Rattle.opgp_codec.specs.declared.read_error.ReadError.TheVariants as read;
@@ -18,8 +18,8 @@ use crate::incoming_parts::IncomingParts;
 use crate::mode::Mode;
 use crate::read_error::ReadError;
 use opgp_io::Source;
+use opgp_keyring::Keyring;
 use opgp_octets::Limits;
-use opgp_ring::Keyring;
 use std::alloc::Global;
 
 /// The keyring of all that a source gives (RFC 9580, 10.1), or the one fault of the lowest layer
@@ -36,7 +36,7 @@ pub fn read_keyring<R: Source>(
     limits: &Limits,
 ) -> Result<Answer, EngineError>
     requires { R.has_failed reader.old ≡ false }
-    ensures { AnswersAs (ReadsAs R.left R.has_failed reader.old reader.new limits.now
+    ensures { AnswersAs keyring_told (ReadsAs R.left R.has_failed reader.old reader.new limits.now
         (AnswerOf key_label (ComposesTo limits.now) mode limits.now)) result }
 {
     match keyring_of(alloc, reader, mode, *limits) {

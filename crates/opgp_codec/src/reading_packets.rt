@@ -4,17 +4,20 @@ ghost use Rattle.std.specs.Prelude.{◌≡◌, ◌++◌, ℕ, List, Option, OnOk
 ghost use Rattle.opgp_octets.specs.declared.limits.Limits.{Limits};
 ghost use Rattle.opgp_octets.specs.Limits.{malformed_of};
 ghost use Rattle.opgp_frame.specs.declared.packet.Placed.{Placed};
-ghost use Rattle.opgp_ring.specs.Composition.{Item, of_packet};
+ghost use Rattle.opgp_keyring.specs.Composition.{Item, of_packet};
 ghost use Rattle.opgp_codec.specs.Found.{handed, opened};
 ghost use Rattle.opgp_codec.specs.Incoming.{Came, HasEnded, IsHere, IsThrough, left_in};
 ghost use Rattle.opgp_codec.specs.Packets.{AreIn, ArePackets, any_label, block_values};
-ghost use Rattle.opgp_codec.specs.Pulled.{ReadsAs, ReadsTo};
+ghost use Rattle.opgp_codec.specs.Packets.{packets_told};
+ghost use Rattle.opgp_codec.specs.Pulled.{AnswersAs, ReadsAs, ReadsTo};
 ghost use Rattle.opgp_codec.specs.Reading.{AnswerOf, shown};
 ghost use Rattle.opgp_codec.specs.declared.accepts.Accepts.TheVariants.{Any};
 ghost use Rattle.opgp_codec.specs.declared.accepts.Accepts.{Accepts};
 ghost use Rattle.opgp_codec.specs.declared.mode.Mode.{Mode};
 
 use crate::accepts::Accepts;
+use crate::answer::PacketsAnswer;
+use crate::engine_error::EngineError;
 use crate::found::Opening;
 use crate::incoming::Incoming;
 use crate::mode::Mode;
@@ -22,8 +25,8 @@ use crate::read_error::ReadError;
 use opgp_armor::laws::a_block_has_no_more_octets_than_the_text;
 use opgp_frame::Placed;
 use opgp_io::Source;
+use opgp_keyring::{BlockOf, check_bodies_by};
 use opgp_octets::{Limits, Malformed, OutOfMemory};
-use opgp_ring::{BlockOf, check_bodies_by};
 use std::alloc::Global;
 
 /// The packets of all that a source gives (RFC 9580, 4), in their blocks, or the one fault of the
@@ -31,7 +34,29 @@ use std::alloc::Global;
 ///
 /// A block may have any of the four labels. No octet is read past the limit `input` but one, which
 /// shows that the input is too long. The condition is that the source hasn't failed.
+///
+/// The errors are `Read`, if the source has failed, and `Memory`.
 pub fn read_packets<R: Source>(
+    alloc: Global,
+    reader: &mut R,
+    mode: Mode,
+    limits: &Limits,
+) -> Result<PacketsAnswer, EngineError>
+    requires { R.has_failed reader.old ≡ false }
+    ensures { AnswersAs packets_told (ReadsAs R.left R.has_failed reader.old reader.new limits.now
+        (λ octets answer. AnswerOf any_label (ArePackets limits.now) mode limits.now octets
+        (shown block_values answer))) result }
+{
+    match packets_of(alloc, reader, mode, limits) {
+        Ok(blocks) => Ok(PacketsAnswer::Packets(blocks)),
+        Err(ReadError::Refused(fault)) => Ok(PacketsAnswer::Refused(fault)),
+        Err(ReadError::Read) => Err(EngineError::Read),
+        Err(ReadError::Memory) => Err(EngineError::Memory),
+    }
+}
+
+/// The blocks of all labels and packets that come.
+fn packets_of<R: Source>(
     alloc: Global,
     reader: &mut R,
     mode: Mode,

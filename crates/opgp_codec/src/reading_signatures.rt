@@ -5,9 +5,9 @@ ghost use Rattle.opgp_octets.specs.declared.limits.Limits.{Limits};
 ghost use Rattle.opgp_octets.specs.declared.malformed.Malformed.{Malformed};
 ghost use Rattle.opgp_octets.specs.Limits.{malformed_of};
 ghost use Rattle.opgp_frame.specs.declared.packet.Placed.{Placed};
-ghost use Rattle.opgp_ring.specs.Composition.{Item, of_packet};
-ghost use Rattle.opgp_ring.specs.DetachedGathering.{GathersDetached};
-ghost use Rattle.opgp_ring.specs.DetachedSignatures.{detached_packets};
+ghost use Rattle.opgp_keyring.specs.Composition.{Item, of_packet};
+ghost use Rattle.opgp_keyring.specs.DetachedGathering.{GathersDetached};
+ghost use Rattle.opgp_keyring.specs.DetachedSignatures.{detached_packets};
 ghost use Rattle.opgp_codec.specs.Found.{opened};
 ghost use Rattle.opgp_codec.specs.Incoming.{Came, HasEnded, IsHere, IsThrough, left_in};
 ghost use Rattle.opgp_codec.specs.Pulled.{ReadsAs, ReadsTo};
@@ -24,8 +24,8 @@ use crate::mode::Mode;
 use crate::read_error::ReadError;
 use opgp_armor::laws::a_block_has_no_more_octets_than_the_text;
 use opgp_io::Source;
+use opgp_keyring::{DetachedGathering, DetachedSignatures};
 use opgp_octets::{Limits, OutOfMemory};
-use opgp_ring::{DetachedGathering, DetachedSignatures};
 use std::alloc::Global;
 
 /// The detached signatures of all that a source gives (RFC 9580, 10.4), or the one fault of the

@@ -5,27 +5,29 @@ ghost use Rattle.opgp_octets.specs.declared.limits.Limits.{Limits};
 ghost use Rattle.opgp_octets.specs.declared.malformed.Malformed.{Malformed};
 ghost use Rattle.opgp_octets.specs.Limits.{malformed_of};
 ghost use Rattle.opgp_frame.specs.declared.packet.Placed.{Placed};
-ghost use Rattle.opgp_ring.specs.Composition.{Item, of_packet};
-ghost use Rattle.opgp_ring.specs.SignedGathering.{GathersSigned};
-ghost use Rattle.opgp_ring.specs.SignedLiteral.{signed_packets};
+ghost use Rattle.opgp_keyring.specs.Composition.{Item, of_packet};
+ghost use Rattle.opgp_keyring.specs.SignedGathering.{GathersSigned};
+ghost use Rattle.opgp_keyring.specs.SignedLiteral.{signed_packets};
 ghost use Rattle.opgp_codec.specs.Found.{opened};
 ghost use Rattle.opgp_codec.specs.Incoming.{Came, HasEnded, IsHere, IsThrough, left_in};
-ghost use Rattle.opgp_codec.specs.Pulled.{ReadsAs, ReadsTo};
+ghost use Rattle.opgp_codec.specs.Pulled.{AnswersAs, ReadsAs, ReadsTo};
 ghost use Rattle.opgp_codec.specs.Reading.{AnswerOf, shown};
-ghost use Rattle.opgp_codec.specs.Signed.{AreSigned, message_label};
+ghost use Rattle.opgp_codec.specs.Signed.{AreSigned, message_label, signed_told};
 ghost use Rattle.opgp_codec.specs.declared.accepts.Accepts.TheVariants.{Messages};
 ghost use Rattle.opgp_codec.specs.declared.accepts.Accepts.{Accepts};
 ghost use Rattle.opgp_codec.specs.declared.mode.Mode.{Mode};
 
 use crate::accepts::Accepts;
+use crate::answer::SignedAnswer;
+use crate::engine_error::EngineError;
 use crate::found::Opening;
 use crate::incoming::Incoming;
 use crate::mode::Mode;
 use crate::read_error::ReadError;
 use opgp_armor::laws::a_block_has_no_more_octets_than_the_text;
 use opgp_io::Source;
+use opgp_keyring::{SignedGathering, SignedLiteral};
 use opgp_octets::{Limits, OutOfMemory};
-use opgp_ring::{SignedGathering, SignedLiteral};
 use std::alloc::Global;
 
 /// The signed literal of all that a source gives (RFC 9580, 10.3), or the one fault of the lowest
@@ -33,7 +35,29 @@ use std::alloc::Global;
 ///
 /// An armored block must be a `MESSAGE`. No octet is read past the limit `input` but one, which
 /// shows that the input is too long. The condition is that the source hasn't failed.
+///
+/// The errors are `Read`, if the source has failed, and `Memory`.
 pub fn read_signed<R: Source>(
+    alloc: Global,
+    reader: &mut R,
+    mode: Mode,
+    limits: &Limits,
+) -> Result<SignedAnswer, EngineError>
+    requires { R.has_failed reader.old ≡ false }
+    ensures { AnswersAs signed_told (ReadsAs R.left R.has_failed reader.old reader.new limits.now
+        (λ octets answer. AnswerOf message_label (AreSigned limits.now) mode limits.now octets
+        (shown signed_packets answer))) result }
+{
+    match signed_of(alloc, reader, mode, limits) {
+        Ok(signed) => Ok(SignedAnswer::Literal(signed)),
+        Err(ReadError::Refused(fault)) => Ok(SignedAnswer::Refused(fault)),
+        Err(ReadError::Read) => Err(EngineError::Read),
+        Err(ReadError::Memory) => Err(EngineError::Memory),
+    }
+}
+
+/// The signed literal of all labels and packets that come.
+fn signed_of<R: Source>(
     alloc: Global,
     reader: &mut R,
     mode: Mode,

@@ -5,7 +5,7 @@ ghost use Rattle.std.specs.Prelude.{true, take, IfOk, IfSome, OnOk, Some, None};
 ghost use Rattle.opgp_octets.specs.declared.limits.Limits.{Limits};
 ghost use Rattle.opgp_armor.specs.declared.label.Label.TheVariants.{Message};
 ghost use Rattle.opgp_armor.specs.Events.{events_of};
-ghost use Rattle.opgp_ring.specs.Composition.{Item};
+ghost use Rattle.opgp_keyring.specs.Composition.{Item};
 
 use crate::blocks::Blocks;
 use crate::found::Opening;

@@ -2,8 +2,8 @@
 
 ghost use Rattle.std.specs.Prelude.{◌≡◌, ◌++◌, [], ℕ, List, if◌then◌else◌, true, false};
 ghost use Rattle.opgp_frame.specs.Packet.{packets_octets, spelling};
-ghost use Rattle.opgp_ring.specs.Member.{member_packet};
-ghost use Rattle.opgp_ring.specs.Packets.{packets_left};
+ghost use Rattle.opgp_keyring.specs.Member.{member_packet};
+ghost use Rattle.opgp_keyring.specs.Packets.{packets_left};
 ghost use Rattle.opgp_codec.specs.Via.{AddsVia, ExtendsVia};
 ghost use Rattle.opgp_io.specs.Added.{Adds};
 ghost use Rattle.opgp_io.specs.Held.{held_octets, pieces_octets};
@@ -11,7 +11,7 @@ ghost use Rattle.opgp_io.specs.Output.{sink_name, sink_of, state_of};
 
 use opgp_frame::Spelling;
 use opgp_io::{Armoring, Held, Output, Sink};
-use opgp_ring::{Member, Packets};
+use opgp_keyring::{Member, Packets};
 use std::io;
 
 /// Adds octets, as rows of armor if a block is open.

@@ -2,11 +2,11 @@
 
 ghost use Rattle.std.specs.Prelude.{◌≡◌, ◌+◌, ◌-◌, ◌^◌, ◌++◌, ◌∷◌, [], min, None, OnOk};
 ghost use Rattle.opgp_codec.specs.Used.{one_if};
-ghost use Rattle.opgp_ring.specs.State.{part_of, ready_parts};
+ghost use Rattle.opgp_keyring.specs.State.{part_of, ready_parts};
 ghost use Rattle.opgp_codec.specs.Waiting.{parts_in};
 
+use opgp_keyring::Ready;
 use opgp_octets::OutOfMemory;
-use opgp_ring::Ready;
 use std::alloc::Global;
 use std::collections::VecDeque;
 

@@ -11,7 +11,7 @@ use crate::out::Out;
 use crate::via::Payload;
 use opgp_armor::Label;
 use opgp_io::{Armoring, Buffer, Output, Sink};
-use opgp_ring::{Certificate, Packets};
+use opgp_keyring::{Certificate, Packets};
 use std::alloc::Global;
 use std::io;
 

@@ -1,8 +1,8 @@
 //! Writes a keyring into a sink.
 
 ghost use Rattle.std.specs.Prelude.{◌≡◌, false};
-ghost use Rattle.opgp_ring.specs.Keyring.{certificate_packets, flat};
-ghost use Rattle.opgp_ring.specs.Packets.{packets_left};
+ghost use Rattle.opgp_keyring.specs.Keyring.{certificate_packets, flat};
+ghost use Rattle.opgp_keyring.specs.Packets.{packets_left};
 ghost use Rattle.opgp_codec.specs.Writing.{certificates_text, packets_text};
 ghost use Rattle.opgp_codec.specs.Written.{IsWritten};
 
@@ -10,7 +10,7 @@ use crate::engine_error::EngineError;
 use crate::out::Out;
 use crate::writing::{Text, add_certificates, add_text, write};
 use opgp_io::{Output, Sink};
-use opgp_ring::{Certificate, Keyring, Packets};
+use opgp_keyring::{Certificate, Keyring, Packets};
 use std::alloc::Global;
 use std::io;
 

@@ -2,7 +2,7 @@
 use Rattle.std.proofs.Common.{◌≡◌, ◌∙◌, Bool, true, false, not, List, [], ◌∷◌, refl, sym, ap}
 use Rattle.std.specs.Prelude.{◌&&◌, ◌||◌}
 use Rattle.std.specs.List.{filter}
-use Rattle.opgp_ring.specs.Keyring.{KeyringValue}
+use Rattle.opgp_keyring.specs.Keyring.{KeyringValue}
 use Rattle.opgp_difference.specs.Difference.{applied, firsts, hangs_in, is_told, is_under, told}
 use Rattle.opgp_difference.specs.Entries.{Entry, Standing, is_in, standing_in}
 use Rattle.opgp_difference.proofs.Closed.{closed}

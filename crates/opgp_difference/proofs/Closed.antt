@@ -4,7 +4,7 @@ use Rattle.std.specs.Prelude.{◌||◌}
 use Rattle.opgp_octets.specs.declared.packet_type.PacketType.TheVariants as packet
 use Rattle.opgp_frame.specs.Header.{is_type}
 use Rattle.opgp_frame.specs.Packet.{PacketValue}
-use Rattle.opgp_ring.specs.Keyring.{CertificateValue, ComponentValue, KeyringValue}
+use Rattle.opgp_keyring.specs.Keyring.{CertificateValue, ComponentValue, KeyringValue}
 use Rattle.opgp_difference.specs.Entries.{Entry, Name, Standing, certificate_standing, component_standing, hang_standing, is_in, numbered, packet_name, place_of, same_entry, same_name, hangs_on, standing_in}
 use Rattle.opgp_difference.proofs.Members.{in_append}
 use Rattle.opgp_difference.proofs.Same.{entries_decide, false_true, right_true}

@@ -6,7 +6,7 @@ use Rattle.std.proofs.lemmas.List.{append-nil}
 use Rattle.opgp_octets.specs.declared.packet_type.PacketType.TheVariants as packet
 use Rattle.opgp_frame.specs.Header.{is_type}
 use Rattle.opgp_frame.specs.Packet.{PacketValue}
-use Rattle.opgp_ring.specs.Keyring.{ComponentValue, component_packets}
+use Rattle.opgp_keyring.specs.Keyring.{ComponentValue, component_packets}
 use Rattle.opgp_difference.specs.Entries.{Entry, Standing, hang_standing, hangs_on, place_of}
 use Rattle.opgp_difference.proofs.Same.{fails_by}
 

@@ -1,7 +1,7 @@
 -- What changed between two keyrings, as sets of entries.
 use Rattle.std.specs.Prelude.{Bool, true, false, ◌&&◌, ◌||◌, not, List, [], ◌∷◌, ◌++◌}
 use Rattle.std.specs.List.{filter}
-use Rattle.opgp_ring.specs.Keyring.{KeyringValue}
+use Rattle.opgp_keyring.specs.Keyring.{KeyringValue}
 use Rattle.opgp_difference.specs.Entries.{Entry, Standing, is_in, same_entry, standing_in}
 
 -- each entry once, where it first stands

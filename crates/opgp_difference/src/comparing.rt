@@ -5,8 +5,8 @@ ghost use Rattle.opgp_difference.specs.Difference.{told};
 
 use crate::place::PlacedPacket;
 use crate::telling::tell;
+use opgp_keyring::Keyring;
 use opgp_octets::OutOfMemory;
-use opgp_ring::Keyring;
 use std::alloc::Global;
 
 /// What changed between two keyrings, packet by packet.

@@ -7,8 +7,8 @@ ghost use Rattle.opgp_difference.specs.Tree.{HasEntries, node_of};
 use crate::place::PacketPlace;
 use crate::tree::{Tree, note};
 use crate::visiting::{Visitor, visit};
+use opgp_keyring::{Keyring, Member};
 use opgp_octets::OutOfMemory;
-use opgp_ring::{Keyring, Member};
 use std::alloc::Global;
 use std::collections::BTreeMap;
 

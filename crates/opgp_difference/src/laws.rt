@@ -1,7 +1,7 @@
 //! What the definitions imply.
 
 ghost use Rattle.std.specs.Prelude.{◌≡◌, []};
-ghost use Rattle.opgp_ring.specs.Keyring.{KeyringValue};
+ghost use Rattle.opgp_keyring.specs.Keyring.{KeyringValue};
 ghost use Rattle.opgp_difference.specs.Difference.{applied, told};
 ghost use Rattle.opgp_difference.specs.Entries.{Entry, is_in, standing_in};
 

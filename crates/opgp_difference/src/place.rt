@@ -1,9 +1,9 @@
 //! A packet of a keyring and its place.
 
 ghost use Rattle.std.specs.Prelude.{◌≡◌};
-ghost use Rattle.opgp_ring.specs.Member.{member_packet};
+ghost use Rattle.opgp_keyring.specs.Member.{member_packet};
 
-use opgp_ring::Member;
+use opgp_keyring::Member;
 use std::marker::Model;
 
 /// The place of a packet in a certificate of a keyring; all numbers count from 0.
@@ -27,7 +27,7 @@ pub struct PlacedPacket<'a> {
 }
 
 impl<'a> Model for PlacedPacket<'a> {
-    ghost use Rattle.opgp_ring.specs.Member.{member_packet};
+    ghost use Rattle.opgp_keyring.specs.Member.{member_packet};
     ghost use Rattle.opgp_difference.specs.Entries.{PlacedValue};
 
     ghost Value = { PlacedValue };

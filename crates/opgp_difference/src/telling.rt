@@ -10,8 +10,8 @@ use crate::growing::tree_of;
 use crate::place::{PacketPlace, PlacedPacket};
 use crate::tree::{Tree, find};
 use crate::visiting::{Visitor, visit};
+use opgp_keyring::{Keyring, Member};
 use opgp_octets::OutOfMemory;
-use opgp_ring::{Keyring, Member};
 use std::alloc::Global;
 use std::collections::BTreeSet;
 

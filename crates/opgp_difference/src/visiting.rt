@@ -3,16 +3,16 @@
 ghost use Rattle.std.specs.Prelude.{◌≡◌, ◌∷◌, ◌++◌, [], ◌<◌, ◌^◌, List, length, None, Some};
 ghost use Rattle.std.specs.Prelude.{IfOk, OnOk};
 ghost use Rattle.std.specs.List.{flat_map};
-ghost use Rattle.opgp_ring.specs.Grouped.{component_of, components_left, hangs_left};
-ghost use Rattle.opgp_ring.specs.Keyring.{component_packets};
-ghost use Rattle.opgp_ring.specs.Member.{member_packet};
+ghost use Rattle.opgp_keyring.specs.Grouped.{component_of, components_left, hangs_left};
+ghost use Rattle.opgp_keyring.specs.Keyring.{component_packets};
+ghost use Rattle.opgp_keyring.specs.Member.{member_packet};
 ghost use Rattle.opgp_difference.specs.Entries.{Entry, Standing, certificate_standing};
 ghost use Rattle.opgp_difference.specs.Entries.{component_standing, hang_standing, hangs_on, numbered};
 ghost use Rattle.opgp_difference.specs.Entries.{packet_name, standing_in};
 
 use crate::place::PacketPlace;
+use opgp_keyring::{Certificate, Component, Components, Hangs, Keyring, Member};
 use opgp_octets::{OutOfMemory, PacketType};
-use opgp_ring::{Certificate, Component, Components, Hangs, Keyring, Member};
 
 /// A visitor of the packets of a keyring's certificates, one after the other.
 pub(crate) trait Visitor<'a> {

@@ -1,6 +1,7 @@
 pub mod Closing
 pub mod Feeding
 pub mod Filling
+pub mod FirstPlaces
 pub mod Given
 pub mod OneAnswer
 pub mod OneDocument

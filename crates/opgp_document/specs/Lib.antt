@@ -6,7 +6,6 @@ pub mod HashedDocument
 pub mod OpenFault
 pub mod OwnOctets
 pub mod Place
-pub mod Sha1Hasher
 pub mod ShortTable
 pub mod SignatureHasher
 pub mod SignedDocument

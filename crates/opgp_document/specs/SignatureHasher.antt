@@ -6,7 +6,7 @@ use Rattle.sha2.specs.Hashers.{Holds224, Holds256, Holds384, Holds512}
 use Rattle.opgp_document.specs.DocumentHasher.{IsGiven}
 use Rattle.opgp_document.specs.HashedDocument.{IsDocumentKind}
 use Rattle.opgp_document.specs.OwnOctets.{closing}
-use Rattle.opgp_document.specs.Sha1Hasher.{HoldsSha1}
+use Rattle.opgp_hash.specs.Hasher.{HoldsSha1}
 use Rattle.opgp_hash.specs.QuestionValue.{is_hash}
 use Rattle.opgp_hash.specs.SignedValue.{SignedValue}
 use Rattle.opgp_document.specs.declared.signature_hasher.AlgorithmHasher.{AlgorithmHasher}

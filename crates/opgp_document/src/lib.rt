@@ -15,7 +15,6 @@ mod octets_as_text;
 mod open_fault;
 mod own_octets;
 mod place;
-mod sha1_hasher;
 mod short_table;
 mod signature_hasher;
 mod signed_document;

@@ -142,12 +142,8 @@ fn number_in(octets: &[u8]) -> Option<u64>
 {
     match octets {
         [a] => Some(u64::from(*a)),
-        [a, b] => Some(u64::from(*a) * 256 + u64::from(*b)),
-        [a, b, c, d] => {
-            let high = u64::from(*a) * 256 + u64::from(*b);
-            let low = u64::from(*c) * 256 + u64::from(*d);
-            Some(high * 65536 + low)
-        }
+        [a, b] => Some(u64::from(u16::from_be_bytes([*a, *b]))),
+        [a, b, c, d] => Some(u64::from(u32::from_be_bytes([*a, *b, *c, *d]))),
         _ => None,
     }
 }

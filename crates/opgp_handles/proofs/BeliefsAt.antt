@@ -5,7 +5,7 @@ use Rattle.std.specs.Global.{Vec}
 use Rattle.std.specs.Option.{option_map}
 use Rattle.std.specs.Prelude.{IfOk}
 use Rattle.opgp_packet.specs.SignatureBody.{SignatureValue}
-use Rattle.opgp_ring.specs.Keyring.{KeyringValue}
+use Rattle.opgp_keyring.specs.Keyring.{KeyringValue}
 use Rattle.opgp_valid.specs.Believed.{belief_of}
 use Rattle.opgp_valid.specs.declared.believing.Belief.{Belief}
 use Rattle.opgp_valid.specs.declared.judgement.KeyPlace.{KeyPlace}

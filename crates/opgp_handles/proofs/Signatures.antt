@@ -6,7 +6,7 @@ use Rattle.opgp_packet.specs.SignatureBody.{SignatureValue}
 use Rattle.opgp_packet.specs.declared.sig_view.SigView.{SigView}
 use Rattle.opgp_hash.specs.SignedValue.{SignedValue}
 use Rattle.opgp_document.specs.Answer.{asked_of}
-use Rattle.opgp_ring.specs.SignedLiteral.{IsReadAs}
+use Rattle.opgp_keyring.specs.SignedLiteral.{IsReadAs}
 use Rattle.opgp_tables.proofs.Documents.{read_is}
 use Rattle.opgp_handles.specs.Documents.{signed_at, signed_in, signed_read}
 use Rattle.opgp_handles.specs.Standings.{value_at, value_of, value_read}

@@ -1,7 +1,7 @@
 -- What makes a key not believed, as a row for other languages.
 use Rattle.std.specs.Prelude.{ℕ, Bool, true, false, List, map, replicate, Option, Some, None}
 use Rattle.std.specs.Option.{option_and_then, option_map, unwrap_or}
-use Rattle.opgp_ring.specs.Keyring.{KeyringValue}
+use Rattle.opgp_keyring.specs.Keyring.{KeyringValue}
 use Rattle.opgp_tables.specs.Room.{none}
 use Rattle.opgp_valid.specs.Judgement.{judgement_of}
 use Rattle.opgp_valid.specs.declared.cause.Cause.{Cause}

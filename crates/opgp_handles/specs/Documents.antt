@@ -10,9 +10,9 @@ use Rattle.opgp_hash.specs.SignedValue.{SignedValue, signed_of}
 use Rattle.opgp_document.specs.Answer.{IsAnswer}
 use Rattle.opgp_document.specs.OwnOctets.{closing}
 use Rattle.opgp_document.specs.SignedDocument.{AreAnswers, IsSignedBy}
-use Rattle.opgp_ring.specs.DetachedSignatures.{detached_packets}
-use Rattle.opgp_ring.specs.Keyring.{KeyringValue}
-use Rattle.opgp_ring.specs.Signed.{signature_bodies}
+use Rattle.opgp_keyring.specs.DetachedSignatures.{detached_packets}
+use Rattle.opgp_keyring.specs.Keyring.{KeyringValue}
+use Rattle.opgp_keyring.specs.Signed.{signature_bodies}
 use Rattle.opgp_codec.specs.Reading.{AnswerOf, Outcome}
 use Rattle.opgp_codec.specs.Signatures.{AreDetachedSignatures, signature_label}
 use Rattle.opgp_codec.specs.declared.mode.Mode.{Mode}

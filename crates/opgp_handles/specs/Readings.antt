@@ -2,8 +2,8 @@
 use Rattle.std.specs.Prelude.{◌≡◌, List, [], ◌∷◌, true, Ok, Err}
 use Rattle.opgp_octets.specs.declared.fault.Fault.{Fault}
 use Rattle.opgp_octets.specs.declared.limits.Limits.{Limits}
-use Rattle.opgp_ring.specs.Composed.{PartValue, parts_of}
-use Rattle.opgp_ring.specs.Parts.{AreParts}
+use Rattle.opgp_keyring.specs.Composed.{PartValue, parts_of}
+use Rattle.opgp_keyring.specs.Parts.{AreParts}
 use Rattle.opgp_codec.specs.declared.mode.Mode.TheVariants.{Auto}
 use Rattle.opgp_codec.specs.PartReader.{Ends, IsUsed, Use, waits}
 use Rattle.opgp_codec.specs.Waiting.{parts_in}

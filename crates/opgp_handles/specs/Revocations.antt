@@ -1,7 +1,7 @@
 -- The table of the revocations of primary keys: a row for each, in the order of the jobs.
 use Rattle.std.specs.Prelude.{List, length, map, replicate}
 use Rattle.opgp_hash.specs.Digest.{digest_octets}
-use Rattle.opgp_ring.specs.Keyring.{KeyringValue}
+use Rattle.opgp_keyring.specs.Keyring.{KeyringValue}
 use Rattle.opgp_tables.specs.Room.{padded}
 use Rattle.opgp_valid.specs.Listing.{revocations_in}
 use Rattle.opgp_valid.specs.declared.listing.Revoked.{Revoked}

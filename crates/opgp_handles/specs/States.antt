@@ -3,7 +3,7 @@
 use Rattle.std.specs.Prelude.{ℕ, ◌+◌, Bool, if◌then◌else◌, List, [], ◌∷◌, ◌++◌, length, map, drop}
 use Rattle.std.specs.Prelude.{Option, Some, None, is_some, replicate}
 use Rattle.std.specs.Option.{unwrap_or}
-use Rattle.opgp_ring.specs.Keyring.{CertificateValue, KeyringValue}
+use Rattle.opgp_keyring.specs.Keyring.{CertificateValue, KeyringValue}
 use Rattle.opgp_report.specs.Standing.{certificate_standing}
 use Rattle.opgp_report.specs.declared.verifier.Verdict.{Verdict}
 use Rattle.opgp_tables.specs.Room.{none}

@@ -20,9 +20,9 @@ use crate::signed_tables::signatures_in;
 use crate::slot::Signed;
 use crate::standings::{place_by, policy_by, verdicts_of};
 use crate::status::{CLOSED, LIMITS, MEMORY, NO_ROW};
+use opgp_keyring::Keyring;
 use opgp_octets::OutOfMemory;
 use opgp_packet::SigView;
-use opgp_ring::Keyring;
 use opgp_valid::{Belief, KeyPlace, Policy, believe_at};
 use std::alloc::Global;
 

@@ -1,7 +1,7 @@
 //! What the exported calls have in common.
 
 ghost use Rattle.std.specs.Prelude.{◌≡◌, ◌≢◌, ◌↔◌, ◌⊎◌, ◌<◌, length, IfOk, IfErr, Ok, Err};
-ghost use Rattle.opgp_ring.specs.Keyring.{flat};
+ghost use Rattle.opgp_keyring.specs.Keyring.{flat};
 ghost use Rattle.opgp_codec.specs.Writing.{packets_text};
 ghost use Rattle.opgp_tables.specs.GivenLimits.{MayBeGiven};
 ghost use Rattle.opgp_handles.specs.Calls.{AnswersBy, AreSized, IsFilled, IsShort, RefusesBy};
@@ -13,7 +13,7 @@ use crate::slot::Held;
 use crate::status::{DONE, LIMITS, MEMORY, REFUSED, ROOM};
 use crate::text::keyring_text;
 use opgp_codec::{Answer, Mode, Out, Watched, read_keyring};
-use opgp_ring::Keyring;
+use opgp_keyring::Keyring;
 use opgp_tables::{FaultRow, GivenLimits, fill};
 use std::alloc::Global;
 

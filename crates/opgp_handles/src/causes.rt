@@ -10,8 +10,8 @@ use crate::cause_row::CauseRow;
 use crate::ring::Ring;
 use crate::standings::{place_by, policy_by, verdicts_of};
 use crate::status::{CLOSED, DONE, LIMITS, MEMORY, NO_ROW};
+use opgp_keyring::Keyring;
 use opgp_octets::OutOfMemory;
-use opgp_ring::Keyring;
 use opgp_valid::{KeyPlace, Policy, judge};
 use std::alloc::Global;
 

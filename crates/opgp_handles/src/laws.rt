@@ -5,7 +5,7 @@ ghost use Rattle.std.specs.Prelude.{◌≡◌, ◌++◌, [], ℕ, List, false, m
 ghost use Rattle.opgp_document.specs.CanonicalText.{IsRead};
 ghost use Rattle.opgp_document.specs.Text.{ends_cr, to_text};
 ghost use Rattle.opgp_report.specs.Standing.{by_number};
-ghost use Rattle.opgp_ring.specs.Keyring.{KeyringValue};
+ghost use Rattle.opgp_keyring.specs.Keyring.{KeyringValue};
 ghost use Rattle.opgp_state.specs.KeyringStates.{keyring_states};
 ghost use Rattle.opgp_valid.specs.declared.policy.Policy.{Policy};
 ghost use Rattle.opgp_handles.specs.Standings.{verdict_by};

@@ -1,7 +1,7 @@
 //! Keyrings made of one that a handle holds, and kept in another handle.
 
 ghost use Rattle.std.specs.Prelude.{◌≡◌, ◌≢◌, ◌⊎◌, ◌++◌, true, Some, None, Ok, IfOk};
-ghost use Rattle.opgp_ring.specs.Keyring.{flat};
+ghost use Rattle.opgp_keyring.specs.Keyring.{flat};
 ghost use Rattle.opgp_merge.specs.Chosen.{chosen_keyring};
 ghost use Rattle.opgp_merge.specs.Picked.{picked_keyring};
 ghost use Rattle.opgp_handles.specs.Calls.{KeepsMade, made_by};
@@ -9,9 +9,9 @@ ghost use Rattle.opgp_handles.specs.Calls.{KeepsMade, made_by};
 use crate::ring::Ring;
 use crate::slot::Held;
 use crate::status::{CLOSED, DONE, MEMORY, NO_ROW};
+use opgp_keyring::{Keyring, join, normalise};
 use opgp_merge::{Choice, choose, merge, pick};
 use opgp_octets::OutOfMemory;
-use opgp_ring::{Keyring, join, normalise};
 use std::alloc::Global;
 
 /// Keeps a keyring that was made in a handle; what that held before is let go.

@@ -10,7 +10,7 @@ ghost use Rattle.opgp_codec.specs.PartReader.{Use, given, taking};
 ghost use Rattle.opgp_tables.specs.FaultRow.{fault_row};
 ghost use Rattle.opgp_octets.specs.declared.fault.Fault.{Fault};
 ghost use Rattle.opgp_octets.specs.declared.limits.Limits.{Limits};
-ghost use Rattle.opgp_ring.specs.Composed.{PartValue};
+ghost use Rattle.opgp_keyring.specs.Composed.{PartValue};
 
 use crate::reader::Reader;
 use crate::reading::{begin, end_input, push_piece, take_part};

@@ -9,8 +9,8 @@ ghost use Rattle.opgp_handles.specs.Revocations.{revocation_row, revocation_rows
 use crate::ring::Ring;
 use crate::status::{CLOSED, DONE, MEMORY, ROOM};
 use opgp_hash::Digest;
+use opgp_keyring::Keyring;
 use opgp_octets::OutOfMemory;
-use opgp_ring::Keyring;
 use opgp_tables::fill;
 use opgp_valid::{Revoked, list_revocations};
 use std::alloc::Global;

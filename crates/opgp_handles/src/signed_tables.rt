@@ -7,8 +7,8 @@ ghost use Rattle.opgp_hash.specs.SignedValue.{SignedValue};
 ghost use Rattle.opgp_document.specs.Answer.{asked_of};
 ghost use Rattle.opgp_document.specs.OwnOctets.{own_value};
 ghost use Rattle.opgp_document.specs.SignedDocument.{AreAnswers};
-ghost use Rattle.opgp_ring.specs.DetachedSignatures.{detached_packets};
-ghost use Rattle.opgp_ring.specs.Signed.{signature_bodies};
+ghost use Rattle.opgp_keyring.specs.DetachedSignatures.{detached_packets};
+ghost use Rattle.opgp_keyring.specs.Signed.{signature_bodies};
 ghost use Rattle.opgp_tables.specs.DocumentJobs.{document_job_bytes};
 ghost use Rattle.opgp_tables.specs.DocumentJobs.{document_subpacket_bytes};
 ghost use Rattle.opgp_tables.specs.DocumentJobs.{document_subpacket_rows};
@@ -21,9 +21,9 @@ use crate::sizes::Sizes;
 use crate::slot::Signed;
 use crate::status::{DONE, GOING, MEMORY, NO_ROW, ROOM};
 use opgp_document::{DocumentAnswers, OwnOctets};
+use opgp_keyring::{DetachedSignatures, Keyring};
 use opgp_octets::BodyFault;
 use opgp_packet::SigView;
-use opgp_ring::{DetachedSignatures, Keyring};
 use opgp_tables::{
     JobRow, SubpacketRow, TableSizes, document_job_sizes, document_subpacket_sizes,
     fill_document_jobs, fill_document_subpackets,

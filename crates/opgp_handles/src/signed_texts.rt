@@ -4,8 +4,8 @@ ghost use Rattle.std.specs.Prelude.{◌≡◌, ◌≢◌, ◌⊎◌, ◌<◌, �
 ghost use Rattle.std.specs.Prelude.{IfErr};
 ghost use Rattle.opgp_octets.specs.declared.fault.Fault.{Fault};
 ghost use Rattle.opgp_frame.specs.Packet.{PacketValue};
-ghost use Rattle.opgp_ring.specs.DetachedSignatures.{detached_packets};
-ghost use Rattle.opgp_ring.specs.Signed.{signature_bodies};
+ghost use Rattle.opgp_keyring.specs.DetachedSignatures.{detached_packets};
+ghost use Rattle.opgp_keyring.specs.Signed.{signature_bodies};
 ghost use Rattle.opgp_tables.specs.FaultRow.{fault_row};
 ghost use Rattle.opgp_tables.specs.GivenLimits.{MayBeGiven};
 ghost use Rattle.opgp_handles.specs.Calls.{IsFilled};
@@ -21,7 +21,7 @@ use crate::slot::Signed;
 use crate::status::{DONE, LIMITS, MEMORY, REFUSED, ROOM};
 use opgp_cleartext::Cleartext;
 use opgp_codec::{ReadError, read_cleartext};
-use opgp_ring::DetachedSignatures;
+use opgp_keyring::DetachedSignatures;
 use opgp_tables::{FaultRow, GivenLimits};
 use std::alloc::Global;
 

@@ -12,15 +12,15 @@ ghost use Rattle.opgp_tables.specs.Subpackets.{subpacket_bytes, subpacket_rows};
 ghost use Rattle.opgp_hash.specs.Hashed.{hashed};
 ghost use Rattle.opgp_hash.specs.QuestionValue.{QuestionValue};
 ghost use Rattle.opgp_report.specs.Asked.{asked_of, question_in};
-ghost use Rattle.opgp_ring.specs.Keyring.{KeyringValue};
+ghost use Rattle.opgp_keyring.specs.Keyring.{KeyringValue};
 ghost use Rattle.opgp_handles.specs.Calls.{AreSized, IsFilled, IsShort, PutsTables};
 
 use crate::calls::{put_both, put_octets};
 use crate::ring::Ring;
 use crate::sizes::Sizes;
 use crate::status::{CLOSED, DONE, MEMORY, NO_ROW, ROOM};
+use opgp_keyring::Keyring;
 use opgp_octets::OutOfMemory;
-use opgp_ring::Keyring;
 use opgp_tables::{
     HashedRow, JobRow, KeyRow, PacketRow, SubpacketRow, TableSizes, fill, fill_jobs, fill_packets,
     fill_subpackets, hashed_rows, job_sizes, key_sizes, keys, packet_sizes, row_octets,

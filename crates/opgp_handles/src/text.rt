@@ -1,11 +1,11 @@
 //! A keyring as octets in memory.
 
 ghost use Rattle.std.specs.Prelude.{◌≡◌, IfOk};
-ghost use Rattle.opgp_ring.specs.Keyring.{flat};
+ghost use Rattle.opgp_keyring.specs.Keyring.{flat};
 ghost use Rattle.opgp_codec.specs.Writing.{packets_text};
 
 use opgp_codec::{EngineError, Out, Watched, write_keyring};
-use opgp_ring::Keyring;
+use opgp_keyring::Keyring;
 use std::alloc::Global;
 
 /// A keyring's packets, in binary or as one block of armor. Fails only when out of memory.

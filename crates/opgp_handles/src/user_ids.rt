@@ -7,6 +7,8 @@ ghost use Rattle.opgp_handles.specs.UserIds.{address_in, facts_of, inside, is_ad
 ghost use Rattle.opgp_handles.specs.UserIds.{is_atom, behind_open, is_bracketed, is_dot_atom};
 ghost use Rattle.opgp_handles.specs.UserIds.{is_domain, is_special, is_split_at};
 
+use memchr::memchr;
+
 /// What the octets of a user ID say: for C `opgp_user_id_facts`.
 #[repr(C)]
 #[derive(Clone, Copy)]
@@ -50,17 +52,19 @@ fn is_utf8(octets: &[u8]) -> bool
 }
 
 /// The first place of an octet.
+#[tactic(auto, using(opgp_document::proofs::FirstPlaces::place_is))]
 fn place_of(octets: &[u8], wanted: u8) -> Option<usize>
     ensures { result ≡ position (λ c. c == wanted) octets.now }
 {
-    octets.iter().position(|c| *c == wanted)
+    memchr(wanted, octets)
 }
 
 /// Whether an octet is among others.
+#[tactic(auto, using(opgp_document::proofs::FirstPlaces::has_place))]
 fn has(octets: &[u8], wanted: u8) -> bool
     ensures { result ≡ list_any (λ c. c == wanted) octets.now }
 {
-    octets.iter().any(|c| *c == wanted)
+    memchr(wanted, octets).is_some()
 }
 
 /// Where the address of a user ID begins, and how many octets it has.

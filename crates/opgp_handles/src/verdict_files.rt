@@ -9,9 +9,9 @@ ghost use Rattle.opgp_handles.specs.Standings.{verdict_number};
 use crate::calls::put_octets;
 use crate::ring::Ring;
 use crate::status::{CLOSED, MEMORY, NO_ROW};
+use opgp_keyring::Keyring;
 use opgp_octets::OutOfMemory;
 use opgp_report::Verdict;
-use opgp_ring::Keyring;
 use opgp_state::read_verdicts;
 use std::alloc::Global;
 

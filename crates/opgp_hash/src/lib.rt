@@ -28,6 +28,7 @@ pub use certificate_hasher::CertificateHasher;
 pub use digesting::digest;
 pub use digests::Digest;
 pub use fingerprints::{Fingerprint, KeyId};
+pub use hashers::Sha1Hasher;
 pub use key_hash::{fingerprint, fingerprint_of_view, key_id};
 pub use question::Question;
 pub use reopening::reopen;

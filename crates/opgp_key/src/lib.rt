@@ -3,5 +3,6 @@
 #![tactic(auto)]
 
 pub use opgp_packet::{
-    Attribute, AttributeView, Key, KeyView, Literal, LiteralView, Material, MaterialView, UserId,
+    Attribute, AttributeSub, AttributeView, Key, KeyView, Literal, LiteralView, Material,
+    MaterialView, UserId, key_laws as laws,
 };

@@ -6,7 +6,7 @@ use Rattle.std.proofs.lemmas.List.Elements.{All-filter, All-head, All-tail, filt
 use Rattle.std.proofs.lemmas.List.{map-append}
 use Rattle.opgp_hash.specs.declared.fingerprints.Fingerprint.{Fingerprint}
 use Rattle.opgp_frame.specs.Packet.{PacketValue}
-use Rattle.opgp_ring.specs.Keyring.{CertificateValue, ComponentValue, IsHung, certificate_packets, component_packets}
+use Rattle.opgp_keyring.specs.Keyring.{CertificateValue, ComponentValue, IsHung, certificate_packets, component_packets}
 use Rattle.opgp_merge.specs.declared.choice.Choice.{Choice}
 use Rattle.opgp_merge.specs.Chosen.{chosen_certificate, chosen_component, component_stays, components_from, is_own, is_user_id, next_number, own_hangs, owner}
 

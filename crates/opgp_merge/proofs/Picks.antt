@@ -3,7 +3,7 @@ use Rattle.std.proofs.Common.{◌≡◌, ◌∙◌, ℕ, suc, ◌+◌, ◌<◌, 
 use Rattle.std.specs.List.{enumerate_from, filter}
 use Rattle.std.proofs.lemmas.List.{length-take-le, map-append, take_more}
 use Rattle.std.proofs.lemmas.List.Elements.{filter-append}
-use Rattle.opgp_ring.specs.Keyring.{CertificateValue}
+use Rattle.opgp_keyring.specs.Keyring.{CertificateValue}
 use Rattle.opgp_merge.specs.Picked.{is_picked, picked_of}
 
 -- one more has the next number

@@ -6,7 +6,7 @@ use Rattle.std.specs.Option.{option_to_list}
 use Rattle.std.proofs.lemmas.Bool.{ne_eqb}
 use Rattle.std.proofs.lemmas.List.Elements.{All-append, All-cons, All-head, All-map, All-nil, All-tail, All-weaker, filter-append}
 use Rattle.opgp_hash.specs.declared.fingerprints.Fingerprint.{Fingerprint}
-use Rattle.opgp_ring.specs.Keyring.{CertificateValue, ComponentValue, KeyringValue, IsCertificate, IsComponent, IsKeyring}
+use Rattle.opgp_keyring.specs.Keyring.{CertificateValue, ComponentValue, KeyringValue, IsCertificate, IsComponent, IsKeyring}
 use Rattle.opgp_merge.specs.Chosen.{chosen_certificate, chosen_component, chosen_keyring, component_stays, components_from, is_attribute, is_chosen, is_everything, is_user_id, next_number, owner, own_hangs}
 use Rattle.opgp_merge.specs.declared.choice.Choice.{Choice}
 use Rattle.opgp_merge.proofs.Components.{own_stay}

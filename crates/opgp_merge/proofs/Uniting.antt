@@ -8,7 +8,7 @@ use Rattle.std.proofs.lemmas.List.{map-append}
 use Rattle.std.proofs.lemmas.List.Elements.{All-push}
 use Rattle.std.proofs.lemmas.Slice.Eq.{bytes_eq-Decides}
 use Rattle.opgp_frame.specs.Packet.{PacketValue}
-use Rattle.opgp_ring.specs.Keyring.{CertificateValue, ComponentValue}
+use Rattle.opgp_keyring.specs.Keyring.{CertificateValue, ComponentValue}
 use Rattle.opgp_merge.specs.Merged.{firsts, like, same_packet, same_head, same_primary, united_components, united_certificate}
 use Rattle.opgp_merge.specs.Slots.{Name, same_name, same_by, packet_name, head_name, primary_name, added, stays, with_hangs, with_parts, joined_all, once_component, once_certificate}
 use Rattle.opgp_merge.proofs.Adding.{gathered}

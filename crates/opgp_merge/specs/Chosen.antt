@@ -11,8 +11,8 @@ use Rattle.opgp_hash.specs.declared.fingerprints.Fingerprint.{Fingerprint}
 use Rattle.opgp_report.specs.First.{has_id, has_print, print_of}
 use Rattle.opgp_report.specs.Named.{named_of}
 use Rattle.opgp_report.specs.Signer.{NameValue, by_id, by_print, unnamed}
-use Rattle.opgp_ring.specs.Composed.{PartValue, of_certificate, of_lead}
-use Rattle.opgp_ring.specs.Keyring.{CertificateValue, ComponentValue, KeyringValue}
+use Rattle.opgp_keyring.specs.Composed.{PartValue, of_certificate, of_lead}
+use Rattle.opgp_keyring.specs.Keyring.{CertificateValue, ComponentValue, KeyringValue}
 use Rattle.opgp_merge.specs.declared.choice.Choice.{Choice}
 
 -- ---- signatures

@@ -1,7 +1,7 @@
 -- Certificates that are picked of a keyring.
 use Rattle.std.specs.Prelude.{ℕ, Bool, not, ◌==◌, List, [], map, slice_get, unwrap_or}
 use Rattle.std.specs.List.{enumerate_from, filter}
-use Rattle.opgp_ring.specs.Keyring.{CertificateValue, KeyringValue}
+use Rattle.opgp_keyring.specs.Keyring.{CertificateValue, KeyringValue}
 
 -- the certificate of this number is picked: in its place is a number other than 0
 abbrev pub is_picked : List ℕ → ℕ → Bool

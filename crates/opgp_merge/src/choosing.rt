@@ -3,9 +3,9 @@
 ghost use Rattle.std.specs.Prelude.{◌≡◌, ◌+◌, ◌<◌, ◌^◌, ◌++◌, ◌∷◌, [], All, length, map, IfOk};
 ghost use Rattle.std.specs.Prelude.{OnOk, if◌then◌else◌};
 ghost use Rattle.std.specs.List.{flat_map};
-ghost use Rattle.opgp_ring.specs.Grouped.{component_of, components_left};
-ghost use Rattle.opgp_ring.specs.Keyring.{IsCertificate, IsComponent, certificate_packets};
-ghost use Rattle.opgp_ring.specs.Keyring.{component_packets};
+ghost use Rattle.opgp_keyring.specs.Grouped.{component_of, components_left};
+ghost use Rattle.opgp_keyring.specs.Keyring.{IsCertificate, IsComponent, certificate_packets};
+ghost use Rattle.opgp_keyring.specs.Keyring.{component_packets};
 ghost use Rattle.opgp_merge.specs.Chosen.{chosen_certificate, chosen_component, chosen_keyring};
 ghost use Rattle.opgp_merge.specs.Chosen.{component_stays, components_from, is_chosen};
 ghost use Rattle.opgp_merge.specs.Chosen.{next_number, owner};
@@ -13,8 +13,8 @@ ghost use Rattle.opgp_merge.specs.Chosen.{next_number, owner};
 use crate::choice::Choice;
 use crate::own::add_own;
 use opgp_hash::{Fingerprint, fingerprint_of_view};
+use opgp_keyring::{Certificate, Component, Components, Keyring};
 use opgp_octets::{OutOfMemory, PacketType};
-use opgp_ring::{Certificate, Component, Components, Keyring};
 use std::alloc::Global;
 
 /// The keyring of whose certificates the chosen parts stay, in their order and as they are framed.
@@ -50,7 +50,7 @@ pub fn choose_certificate(
     add_components(&mut chosen, certificate.components(), choice, own)?;
     // Called for its contract: what was added makes a certificate.
     let _packets = chosen.packets();
-    opgp_ring::laws::one_certificate();
+    opgp_keyring::laws::one_certificate();
     Ok(chosen)
 }
 

@@ -1,12 +1,12 @@
 //! Certificates of copies of borrowed packets.
 
 ghost use Rattle.std.specs.Prelude.{◌≡◌, ◌++◌, All, IfOk, OnOk};
-ghost use Rattle.opgp_ring.specs.Keyring.{IsCertificate, IsComponent, IsHung, certificate_packets};
-ghost use Rattle.opgp_ring.specs.Keyring.{component_packets};
+ghost use Rattle.opgp_keyring.specs.Keyring.{IsCertificate, IsComponent, IsHung, certificate_packets};
+ghost use Rattle.opgp_keyring.specs.Keyring.{component_packets};
 
 use crate::open::{OpenCertificate, OpenComponent, OpenPacket};
+use opgp_keyring::Certificate;
 use opgp_octets::OutOfMemory;
-use opgp_ring::Certificate;
 use std::alloc::Global;
 
 /// Certificates of copies of these packets. Fails only when out of memory.
@@ -29,7 +29,7 @@ fn close(alloc: Global, open: &OpenCertificate<'_>) -> Result<Certificate, OutOf
     requires { IsCertificate open.now }
     ensures { IfOk result (λ c. c ≡ open.now) }
 {
-    opgp_ring::laws::one_certificate();
+    opgp_keyring::laws::one_certificate();
     let mut closed = Certificate::new(alloc, open.primary.member)?;
     add_hangs(&mut closed, &open.hangs)?;
     for component in &open.components {

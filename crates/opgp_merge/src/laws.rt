@@ -3,7 +3,7 @@
 ghost use Rattle.std.specs.Prelude.{◌≡◌, ◌&&◌, ◌∷◌, [], not, true, ℕ, List, map, slice_get};
 ghost use Rattle.std.specs.List.{Contains, enumerate_from, filter};
 ghost use Rattle.std.specs.Option.{option_to_list};
-ghost use Rattle.opgp_ring.specs.Keyring.{ComponentValue, KeyringValue, IsKeyring};
+ghost use Rattle.opgp_keyring.specs.Keyring.{ComponentValue, KeyringValue, IsKeyring};
 ghost use Rattle.opgp_report.specs.Asked.{Asked, asked_of};
 ghost use Rattle.opgp_report.specs.Report.{keys_in};
 ghost use Rattle.opgp_merge.specs.Chosen.{chosen_keyring, components_from};

@@ -1,7 +1,7 @@
 //! Merging keyrings.
 
 ghost use Rattle.std.specs.Prelude.{◌≡◌, All, IfOk, map};
-ghost use Rattle.opgp_ring.specs.Keyring.{IsCertificate};
+ghost use Rattle.opgp_keyring.specs.Keyring.{IsCertificate};
 ghost use Rattle.opgp_merge.specs.Merged.{firsts, merged_of, same_packet, same_primary};
 ghost use Rattle.opgp_merge.specs.Merged.{united_certificate};
 ghost use Rattle.opgp_merge.specs.Slots.{joined_all, once_certificate, once_component};
@@ -10,8 +10,8 @@ use crate::closing::close_all;
 use crate::gathering::join;
 use crate::joining::Joining;
 use crate::open::{OpenCertificate, OpenComponent, OpenPacket, open_all};
+use opgp_keyring::{Certificate, Keyring};
 use opgp_octets::OutOfMemory;
-use opgp_ring::{Certificate, Keyring};
 use std::alloc::Global;
 
 /// The keyring with one certificate for each primary key, in the place of the first (RFC 9580,

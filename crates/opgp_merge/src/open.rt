@@ -1,10 +1,10 @@
 //! Certificates of borrowed packets, which are moved from one to another.
 
 ghost use Rattle.std.specs.Prelude.{◌≡◌, IfOk};
-ghost use Rattle.opgp_ring.specs.Grouped.{component_of, components_left, hangs_left};
+ghost use Rattle.opgp_keyring.specs.Grouped.{component_of, components_left, hangs_left};
 
+use opgp_keyring::{Certificate, Component, Components, Hangs, Member};
 use opgp_octets::OutOfMemory;
-use opgp_ring::{Certificate, Component, Components, Hangs, Member};
 use std::alloc::Global;
 use std::marker::Model;
 
@@ -16,7 +16,7 @@ pub(crate) struct OpenPacket<'a> {
 
 impl<'a> Model for OpenPacket<'a> {
     ghost use Rattle.opgp_frame.specs.Packet.{PacketValue};
-    ghost use Rattle.opgp_ring.specs.Member.{member_packet};
+    ghost use Rattle.opgp_keyring.specs.Member.{member_packet};
 
     ghost Value = { PacketValue };
 
@@ -31,7 +31,7 @@ pub(crate) struct OpenComponent<'a> {
 }
 
 impl<'a> Model for OpenComponent<'a> {
-    ghost use Rattle.opgp_ring.specs.Keyring.{ComponentValue};
+    ghost use Rattle.opgp_keyring.specs.Keyring.{ComponentValue};
 
     ghost Value = { ComponentValue };
 
@@ -47,7 +47,7 @@ pub(crate) struct OpenCertificate<'a> {
 }
 
 impl<'a> Model for OpenCertificate<'a> {
-    ghost use Rattle.opgp_ring.specs.Keyring.{CertificateValue};
+    ghost use Rattle.opgp_keyring.specs.Keyring.{CertificateValue};
 
     ghost Value = { CertificateValue };
 

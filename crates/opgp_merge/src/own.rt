@@ -5,16 +5,16 @@ ghost use Rattle.opgp_packet.specs.SignatureBody.{signature_at};
 ghost use Rattle.opgp_packet.specs.SigView.{sig_view_octets, sig_view_value};
 ghost use Rattle.opgp_report.specs.IssuerName.{name_value};
 ghost use Rattle.opgp_report.specs.Named.{named_of};
-ghost use Rattle.opgp_ring.specs.Grouped.{hangs_left};
-ghost use Rattle.opgp_ring.specs.Keyring.{IsHung, certificate_packets};
-ghost use Rattle.opgp_ring.specs.Member.{member_packet};
+ghost use Rattle.opgp_keyring.specs.Grouped.{hangs_left};
+ghost use Rattle.opgp_keyring.specs.Keyring.{IsHung, certificate_packets};
+ghost use Rattle.opgp_keyring.specs.Member.{member_packet};
 ghost use Rattle.opgp_merge.specs.Chosen.{is_name_of, is_own, names_key, own_hangs};
 
 use opgp_hash::{Fingerprint, KeyId};
+use opgp_keyring::{Certificate, Content, Hangs, Member};
 use opgp_octets::OutOfMemory;
 use opgp_packet::SigView;
 use opgp_report::{IssuerName, issuer_named};
-use opgp_ring::{Certificate, Content, Hangs, Member};
 
 /// Adds copies of these packets behind those that are there, but not of the signatures that don't
 /// name this key as their issuer, if there is one. Fails only when out of memory.

@@ -3,8 +3,8 @@
 ghost use Rattle.std.specs.Prelude.{◌≡◌, IfOk};
 ghost use Rattle.opgp_merge.specs.Picked.{is_picked, picked_keyring};
 
+use opgp_keyring::Keyring;
 use opgp_octets::OutOfMemory;
-use opgp_ring::Keyring;
 use std::alloc::Global;
 
 /// The keyring of the certificates that are picked, in their order: the one of number n, counted

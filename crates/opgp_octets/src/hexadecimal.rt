@@ -3,18 +3,14 @@
 ghost use Rattle.std.specs.Prelude.{◌≡◌, ◌*◌, length};
 ghost use Rattle.hex.specs.Hex.{encode_upper};
 
-/// Looking a digit up here is faster than making it upper-case after `hex`.
-const DIGITS: &[u8; 16] = b"0123456789ABCDEF";
-
 /// Writes the octets as upper-case digits, two an octet.
 pub fn write_digits(octets: &[u8], digits: &mut [u8])
     requires { length digits.old ≡ 2 * length octets.now }
     ensures { digits.new ≡ encode_upper octets.now }
 {
-    'octets: for i in 0..octets.len() {
-        let octet = octets[i];
-        digits[2 * i] = DIGITS[(octet >> 4) as usize];
-        digits[2 * i + 1] = DIGITS[(octet & 0x0f) as usize];
+    match hex::encode_to_slice(octets, &mut *digits) {
+        Ok(()) => digits.make_ascii_uppercase(),
+        Err(_) => unreachable!(),
     }
 }
 

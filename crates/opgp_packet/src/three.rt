@@ -9,7 +9,7 @@ ghost use Rattle.opgp_packet.specs.Three.{three_fields, three_in, ThreeLies, Thr
 ghost use Rattle.opgp_packet.specs.Three.{three_value};
 
 use crate::Cursor;
-use crate::parsed::{Body, Parsed};
+use crate::parsed::{Body, Octets, Parsed};
 use crate::signature_fields::old_material_at;
 use crate::signature_material::{MaterialPlaces, SignatureMaterialView};
 use crate::sub_meaning::KeyId8;
@@ -68,7 +68,7 @@ impl Body for ThreePlaces {
     }
 }
 
-impl<'a> Parsed<&'a [u8], ThreePlaces> {
+impl<B: Octets + Drop> Parsed<B, ThreePlaces> {
     /// Its type (RFC 9580, 5.2.1).
     pub fn kind(&self) -> u8
         ensures { result ≡ (three_value self.now).kind }
@@ -113,7 +113,21 @@ impl<'a> Parsed<&'a [u8], ThreePlaces> {
     {
         self.places.left
     }
+}
 
+impl Parsed<Vec<u8>, ThreePlaces> {
+    /// The algorithm-specific fields; the variant is that of its algorithm.
+    pub fn material(&self) -> SignatureMaterialView<'_>
+        ensures fields { material_fields result ≡ (three_value self.now).material }
+        ensures shape { shape result
+            ≡ shape_of (key_algorithm_of (three_value self.now).algorithm) }
+        ensures sizes { HasSizes result }
+    {
+        self.view().material()
+    }
+}
+
+impl<'a> Parsed<&'a [u8], ThreePlaces> {
     /// The algorithm-specific fields; the variant is that of its algorithm.
     pub fn material(&self) -> SignatureMaterialView<'a>
         ensures fields { material_fields result ≡ (three_value self.now).material }

@@ -4,7 +4,7 @@ use Rattle.std.specs.List.{flat_map}
 use Rattle.std.proofs.lemmas.List.{map-append}
 use Rattle.std.proofs.lemmas.List.Concat.{flat_map-append}
 use Rattle.opgp_hash.specs.declared.fingerprints.Fingerprint.{Fingerprint}
-use Rattle.opgp_ring.specs.Keyring.{CertificateValue, KeyringValue}
+use Rattle.opgp_keyring.specs.Keyring.{CertificateValue, KeyringValue}
 use Rattle.opgp_report.specs.declared.reporting.Reporting.{Reporting}
 use Rattle.opgp_report.specs.declared.row_maker.RowMaker.{RowMaker}
 use Rattle.opgp_report.specs.First.{print_of}

@@ -4,9 +4,9 @@ use Rattle.std.specs.List.{flat_map}
 use Rattle.std.specs.Option.{option_map}
 use Rattle.opgp_frame.specs.Reframed.{reframed}
 use Rattle.opgp_hash.specs.SubjectValue.{one}
-use Rattle.opgp_ring.specs.Joining.{nth_of}
-use Rattle.opgp_ring.specs.Keyring.{CertificateValue, ComponentValue, KeyringValue}
-use Rattle.opgp_ring.specs.Normal.{normal_certificate, normal_component, normal_of}
+use Rattle.opgp_keyring.specs.Joining.{nth_of}
+use Rattle.opgp_keyring.specs.Keyring.{CertificateValue, ComponentValue, KeyringValue}
+use Rattle.opgp_keyring.specs.Normal.{normal_certificate, normal_component, normal_of}
 use Rattle.opgp_report.specs.Asked.{asked_by, asked_of}
 use Rattle.opgp_report.specs.Report.{Says, certificate_keys, keys_in, report_of, row_of, subkey_bodies}
 use Rattle.opgp_report.specs.Standing.{Standing, by_number, certificate_standing, component_standing, hang_standing, hangs_standing, on_head, standing_in}

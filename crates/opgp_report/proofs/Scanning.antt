@@ -7,7 +7,7 @@ use Rattle.std.proofs.lemmas.List.Concat.{flat_map-append}
 use Rattle.std.proofs.lemmas.List.Elements.{All-head, All-tail}
 use Rattle.opgp_frame.specs.Packet.{PacketValue}
 use Rattle.opgp_hash.specs.SubjectValue.{SubjectValue, one}
-use Rattle.opgp_ring.specs.Keyring.{CertificateValue, ComponentValue, KeyringValue, IsComponent, IsCertificate, IsKeyring, IsHung, IsHead, IsFiller, IsPrimary, is_primary, is_hung, is_filler, component_packets, certificate_packets, flat}
+use Rattle.opgp_keyring.specs.Keyring.{CertificateValue, ComponentValue, KeyringValue, IsComponent, IsCertificate, IsKeyring, IsHung, IsHead, IsFiller, IsPrimary, is_primary, is_hung, is_filler, component_packets, certificate_packets, flat}
 use Rattle.opgp_report.specs.Asked.{Asked, asked_of}
 use Rattle.opgp_report.specs.Report.{certificate_keys, keys_in, subkey_bodies}
 use Rattle.opgp_report.specs.Standing.{is_key, on_head}

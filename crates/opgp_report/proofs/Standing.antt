@@ -8,7 +8,7 @@ use Rattle.std.proofs.lemmas.List.Elements.{All-head, All-tail, filter-append}
 use Rattle.opgp_frame.specs.Packet.{PacketValue}
 use Rattle.opgp_packet.specs.SignatureBody.{signature_at}
 use Rattle.opgp_hash.specs.SubjectValue.{SubjectValue, one}
-use Rattle.opgp_ring.specs.Keyring.{CertificateValue, ComponentValue, KeyringValue, IsCertificate, IsComponent, IsFiller, IsKeyring, certificate_packets, component_packets, flat}
+use Rattle.opgp_keyring.specs.Keyring.{CertificateValue, ComponentValue, KeyringValue, IsCertificate, IsComponent, IsFiller, IsKeyring, certificate_packets, component_packets, flat}
 use Rattle.opgp_report.specs.declared.place.Place.{Place}
 use Rattle.opgp_report.specs.Report.{Says, keys_in, report_of, row_of}
 use Rattle.opgp_report.specs.RowValue.{RowValue}

@@ -14,7 +14,7 @@ use Rattle.opgp_hash.specs.declared.question.Question.{Question}
 use Rattle.opgp_hash.specs.Question.{question_value}
 use Rattle.opgp_hash.specs.QuestionValue.{QuestionValue}
 use Rattle.opgp_hash.specs.SubjectValue.{SubjectValue}
-use Rattle.opgp_ring.specs.Keyring.{KeyringValue}
+use Rattle.opgp_keyring.specs.Keyring.{KeyringValue}
 use Rattle.opgp_report.specs.declared.finding.Finder.{Finder}
 use Rattle.opgp_report.specs.declared.met.Posed.{Posed}
 use Rattle.opgp_report.specs.declared.met.Posed.TheVariants as posed

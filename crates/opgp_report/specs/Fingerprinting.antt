@@ -1,6 +1,6 @@
 -- What is kept for the fingerprints of a report, and the rows that it shows.
 use Rattle.std.specs.Prelude.{◌≡◌, List, map}
-use Rattle.opgp_ring.specs.Keyring.{CertificateValue}
+use Rattle.opgp_keyring.specs.Keyring.{CertificateValue}
 use Rattle.opgp_report.specs.declared.fingerprinted.FingerprintedReport.{FingerprintedReport}
 use Rattle.opgp_report.specs.declared.fingerprinted.FingerprintedRow.{FingerprintedRow}
 use Rattle.opgp_report.specs.declared.fingerprinted.FingerprintedRows.{FingerprintedRows}

@@ -9,7 +9,7 @@ use Rattle.opgp_hash.specs.Digest.{digest_of}
 use Rattle.opgp_hash.specs.KeyId.{id_of}
 use Rattle.opgp_hash.specs.QuestionValue.{QuestionValue}
 use Rattle.opgp_frame.specs.Header.{is_type}
-use Rattle.opgp_ring.specs.Keyring.{CertificateValue, ComponentValue, KeyringValue}
+use Rattle.opgp_keyring.specs.Keyring.{CertificateValue, ComponentValue, KeyringValue}
 use Rattle.opgp_report.specs.declared.verifier.Verdict.{Verdict}
 use Rattle.opgp_report.specs.Asked.{PosedValue, posed_by}
 use Rattle.opgp_report.specs.First.{print_of}

@@ -1,7 +1,7 @@
 -- A report in the making: what is kept of the certificates that came.
 use Rattle.std.specs.Prelude.{◌≡◌, List, length, map}
 use Rattle.std.specs.List.{flat_map}
-use Rattle.opgp_ring.specs.Keyring.{CertificateValue}
+use Rattle.opgp_keyring.specs.Keyring.{CertificateValue}
 use Rattle.opgp_report.specs.declared.reporting.Reporting.{Reporting}
 use Rattle.opgp_report.specs.First.{print_of}
 use Rattle.opgp_report.specs.KeyIndex.{prints_shown}

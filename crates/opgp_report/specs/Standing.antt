@@ -21,7 +21,7 @@ use Rattle.opgp_hash.specs.declared.site.Site.TheVariants.{Hung, Embedded}
 use Rattle.opgp_hash.specs.SignedValue.{SignedValue, signed_of}
 use Rattle.opgp_hash.specs.SubjectValue.{SubjectValue, binary, one, two, on_user_id, on_attribute}
 use Rattle.opgp_frame.specs.Header.{is_type}
-use Rattle.opgp_ring.specs.Keyring.{CertificateValue, ComponentValue, KeyringValue}
+use Rattle.opgp_keyring.specs.Keyring.{CertificateValue, ComponentValue, KeyringValue}
 use Rattle.opgp_report.specs.declared.place.Place.{Place}
 use Rattle.opgp_report.specs.RowValue.{RowValue}
 

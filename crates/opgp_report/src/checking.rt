@@ -9,8 +9,8 @@ use crate::reporter::Reporter;
 use crate::signers::Signers;
 use crate::verifier::Verifier;
 use crate::walk::visit;
+use opgp_keyring::Keyring;
 use opgp_octets::OutOfMemory;
-use opgp_ring::Keyring;
 use std::alloc::Global;
 
 /// The report of a keyring: a row for each signature of a certificate, in order, and after each

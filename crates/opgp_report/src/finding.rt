@@ -10,7 +10,7 @@ ghost use Rattle.opgp_report.specs.Standing.{certificate_standing};
 use crate::met::{Met, Posed};
 use crate::walk::{Visitor, visit, visit_certificate};
 use opgp_hash::{CertificateHasher, Question};
-use opgp_ring::{Certificate, Keyring};
+use opgp_keyring::{Certificate, Keyring};
 
 /// Looks for the signature of a given number.
 #[derive(Clone, Copy)]

@@ -7,8 +7,8 @@ use crate::reporting::Reporting;
 use crate::row_maker::{RowMaker, sign_rows};
 use crate::signers::print_of;
 use opgp_hash::Fingerprint;
+use opgp_keyring::Certificate;
 use opgp_octets::OutOfMemory;
-use opgp_ring::Certificate;
 use std::alloc::Global;
 
 /// A report in the making, as [`Reporting`] makes it, whose rows have fingerprints too. It keeps 33
@@ -21,7 +21,7 @@ pub struct FingerprintedReporting {
 }
 
 impl FingerprintedReporting {
-    ghost use Rattle.opgp_ring.specs.Keyring.{CertificateValue, KeyringValue};
+    ghost use Rattle.opgp_keyring.specs.Keyring.{CertificateValue, KeyringValue};
     ghost use Rattle.opgp_report.specs.Fingerprinted.{fingerprinted_report_of};
     ghost use Rattle.opgp_report.specs.Fingerprinting.{ReportsPrints, fingerprinted_rows_of};
     ghost use Rattle.opgp_report.specs.Left.{says_left};

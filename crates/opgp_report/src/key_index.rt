@@ -14,8 +14,8 @@ ghost use Rattle.opgp_report.specs.First.{is_sized, first_or, HasFirsts, HasFirs
 use crate::issuer_name::IssuerName;
 use crate::signers::print_of;
 use opgp_hash::{Fingerprint, KeyId};
+use opgp_keyring::{Certificate, Components, Head};
 use opgp_octets::OutOfMemory;
-use opgp_ring::{Certificate, Components, Head};
 use std::alloc::Global;
 use std::collections::BTreeMap;
 
@@ -39,7 +39,7 @@ impl KeyIndex {
     ghost use Rattle.std.specs.Prelude.{length, map};
     ghost use Rattle.std.specs.List.{flat_map};
     ghost use Rattle.std.specs.Option.{option_map};
-    ghost use Rattle.opgp_ring.specs.Grouped.{components_left};
+    ghost use Rattle.opgp_keyring.specs.Grouped.{components_left};
     ghost use Rattle.opgp_report.specs.First.{print_of};
     ghost use Rattle.opgp_report.specs.IssuerName.{name_value};
     ghost use Rattle.opgp_report.specs.KeyIndex.{prints_shown};

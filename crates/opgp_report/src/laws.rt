@@ -2,9 +2,9 @@
 
 ghost use Rattle.std.specs.Prelude.{◌≡◌, ◌++◌, ℕ, filter, map, Some};
 ghost use Rattle.std.specs.List.{slice_get};
-ghost use Rattle.opgp_ring.specs.Joining.{nth_of};
-ghost use Rattle.opgp_ring.specs.Keyring.{CertificateValue, KeyringValue, IsKeyring, flat};
-ghost use Rattle.opgp_ring.specs.Normal.{normal_of};
+ghost use Rattle.opgp_keyring.specs.Joining.{nth_of};
+ghost use Rattle.opgp_keyring.specs.Keyring.{CertificateValue, KeyringValue, IsKeyring, flat};
+ghost use Rattle.opgp_keyring.specs.Normal.{normal_of};
 ghost use Rattle.opgp_report.specs.Asked.{asked_by, asked_of};
 ghost use Rattle.opgp_report.specs.Fingerprinted.{fingerprinted_report_of};
 ghost use Rattle.opgp_report.specs.Report.{Says, certificate_keys, keys_in, report_of};

@@ -9,8 +9,8 @@ use crate::row_maker::RowMaker;
 use crate::signers::print_of;
 use crate::walk::visit_certificate;
 use opgp_hash::Fingerprint;
+use opgp_keyring::Certificate;
 use opgp_octets::OutOfMemory;
-use opgp_ring::Certificate;
 use std::alloc::Global;
 
 /// A report in the making, with the verifier [`LeftOctets`](crate::LeftOctets), whose verdict
@@ -29,7 +29,7 @@ pub struct Reporting {
 }
 
 impl Reporting {
-    ghost use Rattle.opgp_ring.specs.Keyring.{CertificateValue, KeyringValue};
+    ghost use Rattle.opgp_keyring.specs.Keyring.{CertificateValue, KeyringValue};
     ghost use Rattle.opgp_report.specs.First.{print_of};
     ghost use Rattle.opgp_report.specs.Left.{says_left};
     ghost use Rattle.opgp_report.specs.Report.{report_of};

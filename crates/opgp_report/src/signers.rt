@@ -6,7 +6,7 @@ ghost use Rattle.std.specs.Option.{option_map};
 ghost use Rattle.opgp_hash.specs.KeyId.{id_of};
 ghost use Rattle.opgp_packet.specs.Parsed.{body_octets};
 ghost use Rattle.opgp_packet.specs.SigView.{sig_view_value};
-ghost use Rattle.opgp_ring.specs.Grouped.{components_left};
+ghost use Rattle.opgp_keyring.specs.Grouped.{components_left};
 ghost use Rattle.opgp_report.specs.First.{print_of};
 ghost use Rattle.opgp_report.specs.KeyIndex.{prints_shown};
 ghost use Rattle.opgp_report.specs.Report.{certificate_keys, keys_in, signer_in, subkey_bodies};
@@ -14,9 +14,9 @@ ghost use Rattle.opgp_report.specs.Report.{certificate_keys, keys_in, signer_in,
 use crate::key_index::KeyIndex;
 use crate::signing::signer;
 use opgp_hash::{Fingerprint, KeyId, fingerprint_of_view};
+use opgp_keyring::{Certificate, Components, Head, Keyring};
 use opgp_octets::OutOfMemory;
 use opgp_packet::{KeyView, SigView};
-use opgp_ring::{Certificate, Components, Head, Keyring};
 use std::alloc::Global;
 
 /// A key, with its key ID.

@@ -10,8 +10,8 @@ ghost use Rattle.opgp_packet.specs.Subs.{subs_to_come};
 ghost use Rattle.opgp_hash.specs.CertificateHasher.{hasher_subject};
 ghost use Rattle.opgp_hash.specs.Subject.{subject_value};
 ghost use Rattle.opgp_hash.specs.SubjectValue.{first_key, is_within};
-ghost use Rattle.opgp_ring.specs.Grouped.{component_of, components_left, hangs_left};
-ghost use Rattle.opgp_ring.specs.Keyring.{component_packets};
+ghost use Rattle.opgp_keyring.specs.Grouped.{component_of, components_left, hangs_left};
+ghost use Rattle.opgp_keyring.specs.Keyring.{component_packets};
 ghost use Rattle.opgp_report.specs.Asked.{IsMet};
 ghost use Rattle.opgp_report.specs.Standing.{Standing, bodies_within, by_number};
 ghost use Rattle.opgp_report.specs.Standing.{certificate_standing, component_standing};
@@ -22,9 +22,9 @@ ghost use Rattle.opgp_report.specs.Visitor.{Shown};
 use crate::met::{Met, read};
 use crate::place::Place;
 use opgp_hash::{CertificateHasher, Site, Subject};
+use opgp_keyring::{Certificate, Component, Components, Content, Hangs, Head, Keyring};
 use opgp_octets::{SignatureType, SubpacketKind};
 use opgp_packet::{KeyView, SigView, Subs};
-use opgp_ring::{Certificate, Component, Components, Content, Hangs, Head, Keyring};
 
 /// A visitor of the signatures of a keyring, one after the other.
 pub trait Visitor<'a> {

@@ -1,65 +1,15 @@
-//! Keyrings of OpenPGP public keys, composed from packets (RFC 9580, 10.1).
+//! Keyrings, their reports, and merging under one name: `opgp_keyring`, `opgp_report` and
+//! `opgp_merge` have them.
 #![tactic(auto)]
 
-mod block_of;
-mod certificate;
-mod checking;
-mod component;
-mod composer;
-mod composing;
-mod composing_signed;
-mod content;
-mod copying;
-mod detached_gathering;
-mod detached_packets;
-mod detached_signatures;
-mod ending;
-mod flattening;
-mod hangs;
-mod header;
-mod joining;
-mod keyring;
-pub mod laws;
-mod lead;
-mod lent;
-mod member;
-mod members;
-mod normalising;
-mod packed;
-mod packet_body;
-mod packets;
-mod ready;
-mod reframing;
-mod shape;
-mod signatures;
-mod signed_gathering;
-mod signed_literal;
-mod sorted;
-
-pub use block_of::BlockOf;
-pub use certificate::Certificate;
-pub use checking::{check_bodies, check_bodies_by, packet_fault, view_fault};
-pub use component::{Component, Components};
-pub use composer::Composer;
-pub use composing::compose;
-pub use composing_signed::{compose_signed, compose_signed_by};
-pub use content::Content;
-pub use detached_gathering::DetachedGathering;
-pub use detached_packets::DetachedPackets;
-pub use detached_signatures::DetachedSignatures;
-pub use ending::end_fits;
-pub use flattening::flatten;
-pub use hangs::Hangs;
-pub use joining::{join, nth};
-pub use keyring::Keyring;
-pub use lead::Lead;
-pub use lent::Head;
-pub use member::Member;
-pub use members::Members;
-pub use normalising::normalise;
-pub use packet_body::body_fault;
-pub use packets::Packets;
-pub use ready::Ready;
-pub use signatures::Signatures;
-pub use signed_gathering::SignedGathering;
-pub use signed_literal::SignedLiteral;
+pub use opgp_keyring::{
+    BlockOf, Certificate, Component, Components, Composed, Composer, Content, DetachedGathering,
+    DetachedPackets, DetachedSignatures, Hangs, Head, Keyring, Lead, Member, Members, Packets,
+    Ready, Signatures, SignedGathering, SignedLiteral, body_fault, check_bodies, check_bodies_by,
+    compose, compose_signed, compose_signed_by, end_fits, flatten, join, laws, normalise, nth,
+    packet_fault, view_fault,
+};
+pub use opgp_merge::{laws as merge_laws, merge};
+pub use opgp_report::{
+    Finding, Job, LeftOctets, Place, Report, Row, Verdict, Verifier, check, laws as report_laws,
+};

@@ -1,7 +1,7 @@
 -- How a run goes that writes bound parts.
 use Rattle.std.proofs.Common.{◌≡◌, ◌⊎◌, inl, inr, ℕ, Bool, List, ap, refl, Option, Result, Ok, Err}
 use Rattle.opgp_octets.specs.declared.fault.Fault.{Fault}
-use Rattle.opgp_ring.specs.Keyring.{KeyringValue, flat}
+use Rattle.opgp_keyring.specs.Keyring.{KeyringValue, flat}
 use Rattle.opgp_report.specs.declared.verifier.Verdict.{Verdict}
 use Rattle.opgp_merge.specs.Chosen.{chosen_keyring}
 use Rattle.opgp_merge.specs.Merged.{merged_of}

@@ -1,6 +1,6 @@
 -- How a run goes that writes what changed.
 use Rattle.std.proofs.Common.{◌≡◌, ℕ, Bool, List, refl, Option, Result, Ok, Err}
-use Rattle.opgp_ring.specs.Keyring.{KeyringValue}
+use Rattle.opgp_keyring.specs.Keyring.{KeyringValue}
 use Rattle.opgp_codec.specs.Keyrings.{ComposesTo, key_label}
 use Rattle.opgp_codec.specs.Pulled.{OfAll}
 use Rattle.opgp_codec.specs.Reading.{AnswerOf, Outcome}

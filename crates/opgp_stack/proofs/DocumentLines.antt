@@ -14,7 +14,7 @@ use Rattle.opgp_packet.proofs.GrammarLaws.{body_found}
 use Rattle.opgp_packet.proofs.SignatureLaws.{sig_only}
 use Rattle.opgp_hash.specs.SignedValue.{SignedValue}
 use Rattle.opgp_document.specs.Answer.{asked_of}
-use Rattle.opgp_ring.specs.SignedLiteral.{IsReadAs}
+use Rattle.opgp_keyring.specs.SignedLiteral.{IsReadAs}
 use Rattle.opgp_codec.specs.IncomingOctets.{OctetsCame, piece_of}
 use Rattle.opgp_codec.specs.Pulled.{OfAll, Pulls}
 use Rattle.opgp_codec.specs.declared.incoming_octets.IncomingOctets.{IncomingOctets}

@@ -8,8 +8,8 @@ use Rattle.opgp_frame.specs.Packet.{PacketValue}
 use Rattle.opgp_report.specs.Asked.{Asked, asked_by, asked_of, question_in}
 use Rattle.opgp_report.specs.Standing.{certificate_standing}
 use Rattle.opgp_report.proofs.Asking.{certificate_asked, certificate_asks, ring_asks}
-use Rattle.opgp_ring.specs.Composed.{PartValue, of_lead, of_certificate, lead_parts, parts_of}
-use Rattle.opgp_ring.specs.Keyring.{CertificateValue, KeyringValue}
+use Rattle.opgp_keyring.specs.Composed.{PartValue, of_lead, of_certificate, lead_parts, parts_of}
+use Rattle.opgp_keyring.specs.Keyring.{CertificateValue, KeyringValue}
 use Rattle.opgp_stack.specs.OnePart.{IsNth, IsRow, asked_among, certificates_in, found_question}
 
 pub get_front : {A : Type 0} (xs ys : List A) (n : ℕ) → n < length xs → slice_get (xs ++ ys) n ≡ slice_get xs n

@@ -3,8 +3,8 @@ use Rattle.std.proofs.Common.{◌≡◌, ◌∙◌, ℕ, true, false, List, Some
 use Rattle.opgp_octets.specs.Octets.{IsOctets}
 use Rattle.opgp_octets.specs.declared.limits.Limits.{Limits}
 use Rattle.opgp_frame.specs.Packet.{PacketValue}
-use Rattle.opgp_ring.specs.Composition.{Item}
-use Rattle.opgp_ring.specs.Keyring.{KeyringValue}
+use Rattle.opgp_keyring.specs.Composition.{Item}
+use Rattle.opgp_keyring.specs.Keyring.{KeyringValue}
 use Rattle.opgp_codec.specs.Keyrings.{ComposesTo, key_label}
 use Rattle.opgp_codec.specs.Packets.{ArePackets, BlockValue, any_label}
 use Rattle.opgp_codec.specs.Reading.{AnswerOf, Outcome, Wanted}
@@ -48,8 +48,10 @@ by_top P packets ring literal action.ListValues = ring _
 by_top P packets ring literal action.Check = ring _
 by_top P packets ring literal action.CheckFingerprints = ring _
 by_top P packets ring literal action.CheckPlaces = ring _
-by_top P packets ring literal (action.Octets row top.Ring explains) = ring _
-by_top P packets ring literal (action.Octets row top.Literal explains) = literal _
+by_top P packets ring literal (action.Octets row top.Ring) = ring _
+by_top P packets ring literal (action.Explain row top.Ring) = ring _
+by_top P packets ring literal (action.Octets row top.Literal) = literal _
+by_top P packets ring literal (action.Explain row top.Literal) = literal _
 by_top P packets ring literal action.OctetsAll = ring _
 by_top P packets ring literal (action.Write out) = ring _
 by_top P packets ring literal (action.WriteChosen out choice) = ring _

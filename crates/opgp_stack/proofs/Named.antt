@@ -5,8 +5,8 @@ use Rattle.std.proofs.lemmas.List.Concat.{flat_map-append}
 use Rattle.std.proofs.lemmas.List.Elements.{filter-append}
 use Rattle.opgp_frame.specs.Packet.{PacketValue}
 use Rattle.opgp_report.specs.Report.{certificate_keys}
-use Rattle.opgp_ring.specs.Composed.{PartValue, of_lead, of_certificate}
-use Rattle.opgp_ring.specs.Keyring.{CertificateValue, certificate_packets}
+use Rattle.opgp_keyring.specs.Composed.{PartValue, of_lead, of_certificate}
+use Rattle.opgp_keyring.specs.Keyring.{CertificateValue, certificate_packets}
 use Rattle.opgp_codec.specs.declared.out.Out.{Out}
 use Rattle.opgp_codec.specs.Writing.{certificates_text, packets_text}
 use Rattle.opgp_stack.specs.ByKey.{HasNamed}

@@ -6,10 +6,10 @@ use Rattle.opgp_frame.specs.Packet.{PacketValue, packets_octets, spelling}
 use Rattle.opgp_frame.specs.Reframed.{reframed}
 use Rattle.opgp_merge.specs.Chosen.{chosen_certificate, chosen_keyring, chosen_part}
 use Rattle.opgp_merge.specs.declared.choice.Choice.{Choice}
-use Rattle.opgp_ring.specs.Composed.{PartValue, of_lead, of_certificate, lead_parts, parts_of}
-use Rattle.opgp_ring.specs.Keyring.{CertificateValue, KeyringValue, certificate_packets, flat}
-use Rattle.opgp_ring.specs.Normal.{normal_certificate, normal_of}
-use Rattle.opgp_ring.specs.Parts.{normal_part, part_packets}
+use Rattle.opgp_keyring.specs.Composed.{PartValue, of_lead, of_certificate, lead_parts, parts_of}
+use Rattle.opgp_keyring.specs.Keyring.{CertificateValue, KeyringValue, certificate_packets, flat}
+use Rattle.opgp_keyring.specs.Normal.{normal_certificate, normal_of}
+use Rattle.opgp_keyring.specs.Parts.{normal_part, part_packets}
 use Rattle.opgp_codec.specs.declared.out.Out.{Out}
 use Rattle.opgp_codec.specs.Writing.{certificates_text, packets_text}
 use Rattle.opgp_stack.specs.Listing.{listing, packet_line}

@@ -2,9 +2,9 @@
 use denote.Ref.{Bor}
 use Rattle.std.proofs.Common.{◌≡◌, ◌∙◌, ℕ, Bool, List, map, Option, Some, None, true, false, refl, sym, ap, subst}
 use Rattle.std.specs.List.{flat_map}
-use Rattle.opgp_ring.specs.Composed.{parts_of}
-use Rattle.opgp_ring.specs.Keyring.{CertificateValue, KeyringValue, flat}
-use Rattle.opgp_ring.proofs.Parts.{same_parts}
+use Rattle.opgp_keyring.specs.Composed.{parts_of}
+use Rattle.opgp_keyring.specs.Keyring.{CertificateValue, KeyringValue, flat}
+use Rattle.opgp_keyring.proofs.Parts.{same_parts}
 use Rattle.opgp_merge.specs.Merged.{merged_of}
 use Rattle.opgp_report.specs.Asked.{asked_of}
 use Rattle.opgp_report.specs.Fingerprinted.{FingerprintedValue, fingerprinted_report_of}
@@ -59,8 +59,10 @@ makes_ring action.ListValues is task octets made h = h
 makes_ring action.Check is task octets made h = h
 makes_ring action.CheckFingerprints is task octets made h = h
 makes_ring action.CheckPlaces is task octets made h = h
-makes_ring (action.Octets row top.Ring explains) is task octets made h = h
-makes_ring (action.Octets row top.Literal explains) is task octets made h = absurd cc
+makes_ring (action.Octets row top.Ring) is task octets made h = h
+makes_ring (action.Explain row top.Ring) is task octets made h = h
+makes_ring (action.Octets row top.Literal) is task octets made h = absurd cc
+makes_ring (action.Explain row top.Literal) is task octets made h = absurd cc
 makes_ring action.OctetsAll is task octets made h = h
 makes_ring (action.Write out) is task octets made h = h
 makes_ring (action.WriteChosen out choice) is task octets made h = h
@@ -96,8 +98,10 @@ module _ {S : Type 0} (has : Draft S → List ℕ → Type 0) where
   text_made action.Check k r h = absurd h
   text_made action.CheckFingerprints k r h = absurd h
   text_made action.CheckPlaces k r h = absurd h
-  text_made (action.Octets row top.Ring explains) k r h = absurd h
-  text_made (action.Octets row top.Literal explains) k r h = absurd h
+  text_made (action.Octets row top.Ring) k r h = absurd h
+  text_made (action.Explain row top.Ring) k r h = absurd h
+  text_made (action.Octets row top.Literal) k r h = absurd h
+  text_made (action.Explain row top.Literal) k r h = absurd h
   text_made action.OctetsAll k r h = absurd h
   text_made (action.Split out (Some n)) k r h = absurd h
   text_made (action.SplitKeys out keys except) k r h = absurd h
@@ -122,8 +126,10 @@ module _ {S : Type 0} (has : Draft S → List ℕ → Type 0) where
   pub named_made_by : (a : Action) (k : NamedCertificates S) (found : Option ℕ) (r : KeyringValue) → FoundOf k found → HasMade has a (making.Named k) (parts_of r) → Finds a found k.draft r
   unfolding HasMade
   named_made_by (action.SplitKeys out keys except) k found r is h = names_made out keys except k found r is h
-  named_made_by (action.Octets row top.Ring explains) k found r is h = absurd h
-  named_made_by (action.Octets row top.Literal explains) k found r is h = absurd h
+  named_made_by (action.Octets row top.Ring) k found r is h = absurd h
+  named_made_by (action.Explain row top.Ring) k found r is h = absurd h
+  named_made_by (action.Octets row top.Literal) k found r is h = absurd h
+  named_made_by (action.Explain row top.Literal) k found r is h = absurd h
   named_made_by (action.Split out None) k found r is h = absurd h
   named_made_by (action.Split out (Some n)) k found r is h = absurd h
   named_made_by (action.Join out false) k found r is h = absurd h
@@ -135,8 +141,10 @@ module _ {S : Type 0} (has : Draft S → List ℕ → Type 0) where
   unfolding HasMade
   nth_made (action.Split out (Some n)) k r h = ap (one_text out) (sym (nth_of_ring n k.left k.found r h))
   nth_made (action.Split out None) k r h = absurd h
-  nth_made (action.Octets row top.Ring explains) k r h = absurd h
-  nth_made (action.Octets row top.Literal explains) k r h = absurd h
+  nth_made (action.Octets row top.Ring) k r h = absurd h
+  nth_made (action.Explain row top.Ring) k r h = absurd h
+  nth_made (action.Octets row top.Literal) k r h = absurd h
+  nth_made (action.Explain row top.Literal) k r h = absurd h
   nth_made (action.Join out false) k r h = absurd h
   nth_made (action.Join out true) k r h = absurd h
   nth_made other k r h = absurd h
@@ -147,8 +155,10 @@ module _ {S : Type 0} (has : Draft S → List ℕ → Type 0) where
   -- the row of a number
   row_made : (a : Action) (k : RowFound) (r : KeyringValue) → HasMade has a (making.Row k) (parts_of r) → question_made (explains_of a) (found_question k.found k.left) ≡ ring_made a r
   unfolding HasMade
-  row_made (action.Octets row top.Ring explains) k r h = ap (question_made explains) (sym (row_of_ring row k.left k.found r h))
-  row_made (action.Octets row top.Literal explains) k r h = absurd h
+  row_made (action.Octets row top.Ring) k r h = ap (question_made false) (sym (row_of_ring row k.left k.found r h))
+  row_made (action.Explain row top.Ring) k r h = ap (question_made true) (sym (row_of_ring row k.left k.found r h))
+  row_made (action.Octets row top.Literal) k r h = absurd h
+  row_made (action.Explain row top.Literal) k r h = absurd h
   row_made (action.Split out None) k r h = absurd h
   row_made (action.Split out (Some n)) k r h = absurd h
   row_made (action.Join out false) k r h = absurd h
@@ -163,8 +173,10 @@ module _ {S : Type 0} (has : Draft S → List ℕ → Type 0) where
       → Text (report_lines 0 (report_rows report)) ≡ ring_made a r
   unfolding HasMade
   report_made action.Check k report r by h = ap (λ (rows : List RowValue). Text (report_lines 0 rows)) (by r (subst (λ (cs : List CertificateValue). Reports k.rows cs) (ring_certificates r) h))
-  report_made (action.Octets row top.Ring explains) k report r by h = absurd h
-  report_made (action.Octets row top.Literal explains) k report r by h = absurd h
+  report_made (action.Octets row top.Ring) k report r by h = absurd h
+  report_made (action.Explain row top.Ring) k report r by h = absurd h
+  report_made (action.Octets row top.Literal) k report r by h = absurd h
+  report_made (action.Explain row top.Literal) k report r by h = absurd h
   report_made (action.Split out None) k report r by h = absurd h
   report_made (action.Split out (Some n)) k report r by h = absurd h
   report_made (action.Join out false) k report r by h = absurd h
@@ -175,8 +187,10 @@ module _ {S : Type 0} (has : Draft S → List ℕ → Type 0) where
       → HasMade has a (making.Fingerprinted k) (parts_of r) → Text (fingerprinted_lines 0 (fingerprinted_rows_of report)) ≡ ring_made a r
   unfolding HasMade
   fingerprinted_made action.CheckFingerprints k report r by h = ap (λ (rows : List FingerprintedValue). Text (fingerprinted_lines 0 rows)) (by r (subst (λ (cs : List CertificateValue). ReportsPrints k.rows cs) (ring_certificates r) h))
-  fingerprinted_made (action.Octets row top.Ring explains) k report r by h = absurd h
-  fingerprinted_made (action.Octets row top.Literal explains) k report r by h = absurd h
+  fingerprinted_made (action.Octets row top.Ring) k report r by h = absurd h
+  fingerprinted_made (action.Explain row top.Ring) k report r by h = absurd h
+  fingerprinted_made (action.Octets row top.Literal) k report r by h = absurd h
+  fingerprinted_made (action.Explain row top.Literal) k report r by h = absurd h
   fingerprinted_made (action.Split out None) k report r by h = absurd h
   fingerprinted_made (action.Split out (Some n)) k report r by h = absurd h
   fingerprinted_made (action.Join out false) k report r by h = absurd h
@@ -189,8 +203,10 @@ module _ {S : Type 0} (has : Draft S → List ℕ → Type 0) where
   placed_made action.CheckPlaces k report places r rows at h =
       ap (λ (l : List RowValue). Text (placed_lines 0 l places)) (rows r (subst (λ (cs : List CertificateValue). Reports k.checking.rows cs) (ring_certificates r) h.0))
       ∙ ap (λ (l : List RowPlace). Text (placed_lines 0 (report_of says_left r) l)) (at r h.1)
-  placed_made (action.Octets row top.Ring explains) k report places r rows at h = absurd h
-  placed_made (action.Octets row top.Literal explains) k report places r rows at h = absurd h
+  placed_made (action.Octets row top.Ring) k report places r rows at h = absurd h
+  placed_made (action.Explain row top.Ring) k report places r rows at h = absurd h
+  placed_made (action.Octets row top.Literal) k report places r rows at h = absurd h
+  placed_made (action.Explain row top.Literal) k report places r rows at h = absurd h
   placed_made (action.Split out None) k report places r rows at h = absurd h
   placed_made (action.Split out (Some n)) k report places r rows at h = absurd h
   placed_made (action.Join out false) k report places r rows at h = absurd h
@@ -201,8 +217,10 @@ module _ {S : Type 0} (has : Draft S → List ℕ → Type 0) where
   pub octets_made : (a : Action) (k : AllOctets S) (r : KeyringValue) → HasMade has a (making.AllOctets k) (parts_of r) → Drafts a k.draft r
   unfolding HasMade
   octets_made action.OctetsAll k r h = (octets_rows (asked_of r), subst (λ (cs : List CertificateValue). has k.draft (octets_rows (asked_among cs))) (ring_certificates r) h.text, refl)
-  octets_made (action.Octets row top.Ring explains) k r h = absurd h
-  octets_made (action.Octets row top.Literal explains) k r h = absurd h
+  octets_made (action.Octets row top.Ring) k r h = absurd h
+  octets_made (action.Explain row top.Ring) k r h = absurd h
+  octets_made (action.Octets row top.Literal) k r h = absurd h
+  octets_made (action.Explain row top.Literal) k r h = absurd h
   octets_made (action.Split out None) k r h = absurd h
   octets_made (action.Split out (Some n)) k r h = absurd h
   octets_made (action.Join out false) k r h = absurd h
@@ -214,8 +232,10 @@ module _ {S : Type 0} (has : Draft S → List ℕ → Type 0) where
   unfolding HasMade
   merged_made (action.Join out true) k r h = ap (λ (s : KeyringValue). Text (packets_text out (flat (merged_of s)))) (same_parts k r h)
   merged_made (action.Join out false) k r h = absurd h
-  merged_made (action.Octets row top.Ring explains) k r h = absurd h
-  merged_made (action.Octets row top.Literal explains) k r h = absurd h
+  merged_made (action.Octets row top.Ring) k r h = absurd h
+  merged_made (action.Explain row top.Ring) k r h = absurd h
+  merged_made (action.Octets row top.Literal) k r h = absurd h
+  merged_made (action.Explain row top.Literal) k r h = absurd h
   merged_made (action.Split out None) k r h = absurd h
   merged_made (action.Split out (Some n)) k r h = absurd h
   merged_made other k r h = absurd h

@@ -10,9 +10,9 @@ use Rattle.opgp_packet.specs.SigView.{sig_view_octets, sig_view_value}
 use Rattle.opgp_packet.specs.Three.{three_fields, three_value}
 use Rattle.opgp_packet.specs.declared.sig_view.SigView.{SigView}
 use Rattle.opgp_packet.specs.declared.sig_view.SigView.TheVariants.{Three, Four, Six, Other}
-use Rattle.opgp_ring.specs.Content.{IsKept, content_kind, content_octets}
-use Rattle.opgp_ring.specs.declared.content.Content.{Content}
-use Rattle.opgp_ring.specs.declared.content.Content.TheVariants as content
+use Rattle.opgp_keyring.specs.Content.{IsKept, content_kind, content_octets}
+use Rattle.opgp_keyring.specs.declared.content.Content.{Content}
+use Rattle.opgp_keyring.specs.declared.content.Content.TheVariants as content
 use Rattle.opgp_packet.proofs.GrammarLaws.{body_found}
 use Rattle.opgp_packet.proofs.SignatureLaws.{sig_only}
 use Rattle.opgp_stack.specs.Listing.{opaque_text, packet_line, read_text, signature_line, signature_text}

@@ -12,7 +12,7 @@ use Rattle.opgp_hash.specs.KeyId.{id_of}
 use Rattle.opgp_hash.specs.declared.fingerprints.Fingerprint.{Fingerprint}
 use Rattle.opgp_report.specs.First.{print_of}
 use Rattle.opgp_report.specs.Report.{certificate_keys}
-use Rattle.opgp_ring.specs.Keyring.{CertificateValue}
+use Rattle.opgp_keyring.specs.Keyring.{CertificateValue}
 use Rattle.opgp_stack.specs.KeyName.{has_key, has_one_of, is_any_named, is_named, missing_from, missing_in}
 use Rattle.opgp_stack.specs.WantedKeys.{AreNotes, is_among, keys_of, note_of}
 

@@ -1,7 +1,7 @@
 -- The bound parts of a keyring, as a run writes them.
 use Rattle.std.specs.Prelude.{◌≡◌, ◌⊎◌, ℕ, List, Option, Some, None, Ok, Err}
 use Rattle.opgp_report.specs.declared.verifier.Verdict.{Verdict}
-use Rattle.opgp_ring.specs.Keyring.{KeyringValue, flat}
+use Rattle.opgp_keyring.specs.Keyring.{KeyringValue, flat}
 use Rattle.opgp_merge.specs.Chosen.{chosen_keyring}
 use Rattle.opgp_merge.specs.Merged.{merged_of}
 use Rattle.opgp_bound.specs.Bound.{bound_keyring}

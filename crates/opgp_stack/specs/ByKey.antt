@@ -3,7 +3,7 @@
 use denote.Ref.{Bor}
 use Rattle.std.specs.Prelude.{ℕ, Bool, List}
 use Rattle.std.specs.BTreeMap.{BTreeMap}
-use Rattle.opgp_ring.specs.Keyring.{CertificateValue}
+use Rattle.opgp_keyring.specs.Keyring.{CertificateValue}
 use Rattle.opgp_codec.specs.declared.out.Out.{Out}
 use Rattle.opgp_codec.specs.Writing.{certificates_text}
 use Rattle.opgp_stack.specs.KeyName.{picked}

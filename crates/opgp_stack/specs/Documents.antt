@@ -22,7 +22,7 @@ use Rattle.opgp_document.specs.declared.signed_document.DocumentAnswers.{Documen
 use Rattle.opgp_report.specs.Left.{left_in, left_verdict}
 use Rattle.opgp_report.specs.RowValue.{asked_with}
 use Rattle.opgp_report.specs.Signer.{NameValue, by_print, by_id, unnamed, issuer_of}
-use Rattle.opgp_ring.specs.Signed.{signature_bodies}
+use Rattle.opgp_keyring.specs.Signed.{signature_bodies}
 use Rattle.opgp_codec.specs.Reading.{AnswerOf, Outcome, too_long}
 use Rattle.opgp_codec.specs.Signatures.{AreDetachedSignatures, signature_label}
 use Rattle.opgp_codec.specs.declared.mode.Mode.{Mode}

@@ -9,7 +9,7 @@ use Rattle.opgp_hash.specs.Asking.{ask_of}
 use Rattle.opgp_hash.specs.SubjectValue.{binary}
 use Rattle.opgp_packet.specs.LiteralBody.{literal}
 use Rattle.opgp_report.specs.Asked.{Asked}
-use Rattle.opgp_ring.specs.Signed.{literal_bodies, signature_bodies}
+use Rattle.opgp_keyring.specs.Signed.{literal_bodies, signature_bodies}
 use Rattle.opgp_packet.specs.SignatureBody.{SignatureValue, signature_at}
 
 -- the fourth field of a literal is its content (5.9)

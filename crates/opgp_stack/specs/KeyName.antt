@@ -8,7 +8,7 @@ use Rattle.opgp_hash.specs.Fingerprint.{print_octets}
 use Rattle.opgp_hash.specs.KeyId.{id_of}
 use Rattle.opgp_report.specs.First.{print_of}
 use Rattle.opgp_report.specs.Report.{certificate_keys}
-use Rattle.opgp_ring.specs.Keyring.{CertificateValue}
+use Rattle.opgp_keyring.specs.Keyring.{CertificateValue}
 use Rattle.opgp_stack.specs.declared.key_name.KeyName.{KeyName}
 use Rattle.opgp_stack.specs.declared.key_name.KeyName.TheVariants.{Id, Four, Six}
 

@@ -4,10 +4,10 @@ use Rattle.std.specs.Prelude.{◌≡◌, ℕ, Bool, true, false, List, [], map, 
 use Rattle.std.specs.Prelude.{MatchResult, Option, Some, None, Ok, Err}
 use Rattle.std.specs.List.{flat_map}
 use Rattle.opgp_octets.specs.declared.limits.Limits.{Limits}
-use Rattle.opgp_ring.specs.Composed.{PartValue, parts_of}
-use Rattle.opgp_ring.specs.Keyring.{KeyringValue, flat}
-use Rattle.opgp_ring.specs.Normal.{normal_of}
-use Rattle.opgp_ring.specs.Parts.{HasParts}
+use Rattle.opgp_keyring.specs.Composed.{PartValue, parts_of}
+use Rattle.opgp_keyring.specs.Keyring.{KeyringValue, flat}
+use Rattle.opgp_keyring.specs.Normal.{normal_of}
+use Rattle.opgp_keyring.specs.Parts.{HasParts}
 use Rattle.opgp_merge.specs.Chosen.{chosen_keyring}
 use Rattle.opgp_merge.specs.Merged.{merged_of}
 use Rattle.opgp_report.specs.Asked.{asked_of, question_in}
@@ -52,7 +52,8 @@ use Rattle.opgp_stack.specs.declared.task.Top.TheVariants as top
 abbrev pub is_of_parts : Action → Bool
 is_of_parts action.Show = false
 is_of_parts action.ShowValues = false
-is_of_parts (action.Octets row top.Literal explains) = false
+is_of_parts (action.Octets row top.Literal) = false
+is_of_parts (action.Explain row top.Literal) = false
 is_of_parts other = true
 
 -- ---- of the parts that came so far
@@ -79,7 +80,9 @@ HasMade has action.CheckFingerprints (making.Fingerprinted k) parts =
     ReportsPrints k.rows (certificates_in parts)
 HasMade has action.CheckPlaces (making.Placed k) parts =
     Reports k.checking.rows (certificates_in parts) × HasPlaces k.places parts
-HasMade has (action.Octets row top.Ring explains) (making.Row k) parts =
+HasMade has (action.Octets row top.Ring) (making.Row k) parts =
+    IsRow row k.left k.found (certificates_in parts)
+HasMade has (action.Explain row top.Ring) (making.Row k) parts =
     IsRow row k.left k.found (certificates_in parts)
 HasMade has action.OctetsAll (making.AllOctets k) parts =
     HasRows has k.rows k.draft (asked_among (certificates_in parts))
@@ -120,7 +123,7 @@ out_of other = outs.Binary
 
 -- whether the octets that a question hashes are explained
 abbrev pub explains_of : Action → Bool
-explains_of (action.Octets row top explains) = explains
+explains_of (action.Explain row top) = true
 explains_of other = false
 
 -- what an action makes of a keyring; nothing, where it makes something else
@@ -131,8 +134,10 @@ ring_made action.Check r = Text (report_lines 0 (report_of says_left r))
 ring_made action.CheckFingerprints r =
     Text (fingerprinted_lines 0 (fingerprinted_report_of says_left r))
 ring_made action.CheckPlaces r = Text (placed_lines 0 (report_of says_left r) (places_of r))
-ring_made (action.Octets row top.Ring explains) r =
-    question_made explains (question_in (slice_get (asked_of r) row))
+ring_made (action.Octets row top.Ring) r =
+    question_made false (question_in (slice_get (asked_of r) row))
+ring_made (action.Explain row top.Ring) r =
+    question_made true (question_in (slice_get (asked_of r) row))
 ring_made action.OctetsAll r = Text (octets_rows (asked_of r))
 ring_made (action.Write out) r = Text (packets_text out (flat r))
 ring_made (action.WriteChosen out choice) r =

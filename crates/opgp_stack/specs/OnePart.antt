@@ -3,8 +3,8 @@ use Rattle.std.specs.Prelude.{◌≡◌, ℕ, ◌+◌, ◌<◌, List, [], ◌∷
 use Rattle.std.specs.List.{slice_get}
 use Rattle.opgp_hash.specs.QuestionValue.{QuestionValue}
 use Rattle.opgp_report.specs.Asked.{Asked, asked_of, question_in}
-use Rattle.opgp_ring.specs.Composed.{PartValue, of_lead, of_certificate}
-use Rattle.opgp_ring.specs.Keyring.{CertificateValue, KeyringValue}
+use Rattle.opgp_keyring.specs.Composed.{PartValue, of_lead, of_certificate}
+use Rattle.opgp_keyring.specs.Keyring.{CertificateValue, KeyringValue}
 
 -- the certificates among parts
 abbrev pub certificates_in : List PartValue → List CertificateValue

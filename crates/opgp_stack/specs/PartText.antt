@@ -1,6 +1,6 @@
 -- What is written of each part of a keyring, by the kind of the text.
 use Rattle.std.specs.Prelude.{ℕ, List}
-use Rattle.opgp_ring.specs.Composed.{PartValue}
+use Rattle.opgp_keyring.specs.Composed.{PartValue}
 use Rattle.opgp_stack.specs.declared.part_text.PartText.{PartText}
 use Rattle.opgp_stack.specs.declared.part_text.PartText.TheVariants as texts
 use Rattle.opgp_stack.specs.Parts.{certificate_text, chosen_octets, normal_octets, part_lines}

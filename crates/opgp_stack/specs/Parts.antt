@@ -1,9 +1,9 @@
 -- What is written of each part of a keyring.
 use Rattle.std.specs.Prelude.{ℕ, List, []}
 use Rattle.opgp_frame.specs.Packet.{packets_octets}
-use Rattle.opgp_ring.specs.Composed.{PartValue, of_lead, of_certificate}
-use Rattle.opgp_ring.specs.Keyring.{certificate_packets}
-use Rattle.opgp_ring.specs.Parts.{normal_part, part_packets}
+use Rattle.opgp_keyring.specs.Composed.{PartValue, of_lead, of_certificate}
+use Rattle.opgp_keyring.specs.Keyring.{certificate_packets}
+use Rattle.opgp_keyring.specs.Parts.{normal_part, part_packets}
 use Rattle.opgp_merge.specs.Chosen.{chosen_part}
 use Rattle.opgp_merge.specs.declared.choice.Choice.{Choice}
 use Rattle.opgp_codec.specs.declared.out.Out.{Out}

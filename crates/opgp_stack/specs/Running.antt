@@ -11,9 +11,9 @@ use Rattle.opgp_report.specs.Asked.{asked_of, question_in}
 use Rattle.opgp_report.specs.Fingerprinted.{fingerprinted_report_of}
 use Rattle.opgp_report.specs.Left.{says_left}
 use Rattle.opgp_report.specs.Report.{report_of}
-use Rattle.opgp_ring.specs.Composition.{Item}
-use Rattle.opgp_ring.specs.Keyring.{KeyringValue, CertificateValue, certificate_packets, flat}
-use Rattle.opgp_ring.specs.Normal.{normal_of}
+use Rattle.opgp_keyring.specs.Composition.{Item}
+use Rattle.opgp_keyring.specs.Keyring.{KeyringValue, CertificateValue, certificate_packets, flat}
+use Rattle.opgp_keyring.specs.Normal.{normal_of}
 use Rattle.opgp_merge.specs.Chosen.{chosen_keyring}
 use Rattle.opgp_merge.specs.Merged.{merged_of}
 use Rattle.opgp_codec.specs.declared.draft_error.DraftError.{DraftError}
@@ -62,6 +62,11 @@ question_made false (Some q) = Text (hashed q)
 question_made true (Some q) = Text (explained q)
 question_made false None = NoSuchRow
 question_made true None = NoSuchRow
+
+-- the same of the signature of this number on the literal among packets
+abbrev pub message_made : Bool → ℕ → List PacketValue → Made
+message_made explains row packets =
+    question_made explains (question_in (slice_get (message_asked packets) row))
 
 -- one certificate, if there is one
 abbrev pub one_text : Out → Option CertificateValue → Made
@@ -112,10 +117,12 @@ MakesBy action.CheckFingerprints =
     OfRing (λ r. Text (fingerprinted_lines 0 (fingerprinted_report_of says_left r)))
 MakesBy action.CheckPlaces =
     OfRing (λ r. Text (placed_lines 0 (report_of says_left r) (places_of r)))
-MakesBy (action.Octets row top.Ring explains) =
-    OfRing (λ r. question_made explains (question_in (slice_get (asked_of r) row)))
-MakesBy (action.Octets row top.Literal explains) = OfLiteral (λ packets.
-    question_made explains (question_in (slice_get (message_asked packets) row)))
+MakesBy (action.Octets row top.Ring) =
+    OfRing (λ r. question_made false (question_in (slice_get (asked_of r) row)))
+MakesBy (action.Octets row top.Literal) = OfLiteral (message_made false row)
+MakesBy (action.Explain row top.Ring) =
+    OfRing (λ r. question_made true (question_in (slice_get (asked_of r) row)))
+MakesBy (action.Explain row top.Literal) = OfLiteral (message_made true row)
 MakesBy action.OctetsAll = OfRing (λ r. Text (octets_rows (asked_of r)))
 MakesBy (action.Write out) = OfRing (λ r. Text (packets_text out (flat r)))
 MakesBy (action.WriteChosen out choice) =

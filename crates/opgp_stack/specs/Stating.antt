@@ -2,7 +2,7 @@
 use Rattle.std.specs.Prelude.{◌≡◌, ℕ, ◌⊎◌, Bool, List, Option, Some, None}
 use Rattle.std.specs.Prelude.{Ok, Err}
 use Rattle.opgp_report.specs.declared.verifier.Verdict.{Verdict}
-use Rattle.opgp_ring.specs.Keyring.{KeyringValue}
+use Rattle.opgp_keyring.specs.Keyring.{KeyringValue}
 use Rattle.opgp_merge.specs.Merged.{merged_of}
 use Rattle.opgp_valid.specs.declared.policy.Policy.{Policy}
 use Rattle.opgp_state.specs.Claimed.{claims_of}

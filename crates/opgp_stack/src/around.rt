@@ -4,8 +4,8 @@ ghost use Rattle.std.specs.Prelude.{◌≡◌, false, map, option_map, Some};
 ghost use Rattle.std.specs.List.{slice_get};
 ghost use Rattle.opgp_hash.specs.SignedValue.{signed_of};
 ghost use Rattle.opgp_packet.specs.SigView.{sig_view_value};
-ghost use Rattle.opgp_ring.specs.DetachedSignatures.{detached_packets};
-ghost use Rattle.opgp_ring.specs.Signed.{signature_bodies};
+ghost use Rattle.opgp_keyring.specs.DetachedSignatures.{detached_packets};
+ghost use Rattle.opgp_keyring.specs.Signed.{signature_bodies};
 ghost use Rattle.opgp_stack.specs.Documents.{OfSignatures, around_of, around_made};
 ghost use Rattle.opgp_stack.specs.Documents.{read_shown, signed_in, signed_read};
 ghost use Rattle.opgp_stack.specs.Running.{IsMade, RunsOf};
@@ -16,9 +16,9 @@ use crate::running::end;
 use opgp_codec::{EngineError, Mode, read_signatures, write};
 use opgp_document::OwnOctets;
 use opgp_io::{Sink, Source};
+use opgp_keyring::DetachedSignatures;
 use opgp_octets::{BodyFault, Limits};
 use opgp_packet::SigView;
-use opgp_ring::DetachedSignatures;
 use std::alloc::Global;
 
 /// Which of the octets that a signature hashes beside its document (RFC 9580, 5.2.4).

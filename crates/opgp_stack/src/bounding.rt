@@ -12,10 +12,10 @@ use crate::running::{After, done, end};
 use opgp_bound::{keep_bound, keep_newest};
 use opgp_codec::{Answer, Mode, Out, read_keyring, write_keyring};
 use opgp_io::{Sink, Source};
+use opgp_keyring::Keyring;
 use opgp_merge::{Choice, choose, merge};
 use opgp_octets::{Limits, OutOfMemory};
 use opgp_report::Verdict;
-use opgp_ring::Keyring;
 use opgp_state::read_verdicts;
 use std::alloc::Global;
 

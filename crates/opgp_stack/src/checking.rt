@@ -1,16 +1,16 @@
 //! The report of a keyring, made as its certificates come.
 
 ghost use Rattle.std.specs.Prelude.{◌++◌, ◌∷◌, [], List, OnOk};
-ghost use Rattle.opgp_ring.specs.Composed.{PartValue};
-ghost use Rattle.opgp_ring.specs.Keyring.{KeyringValue};
-ghost use Rattle.opgp_ring.specs.State.{part_of};
+ghost use Rattle.opgp_keyring.specs.Composed.{PartValue};
+ghost use Rattle.opgp_keyring.specs.Keyring.{KeyringValue};
+ghost use Rattle.opgp_keyring.specs.State.{part_of};
 ghost use Rattle.opgp_report.specs.Reporting.{Reports};
 ghost use Rattle.opgp_stack.specs.OnePart.{certificates_in};
 ghost use Rattle.opgp_state.specs.Report.{HasReport};
 
+use opgp_keyring::Ready;
 use opgp_octets::OutOfMemory;
 use opgp_report::{Report, Reporting};
-use opgp_ring::Ready;
 use std::alloc::Global;
 use std::mem;
 

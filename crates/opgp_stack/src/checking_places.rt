@@ -1,9 +1,9 @@
 //! The report of a keyring with the places of its rows, made as its parts come.
 
 ghost use Rattle.std.specs.Prelude.{◌≡◌, ◌++◌, ◌∷◌, [], List, OnOk};
-ghost use Rattle.opgp_ring.specs.Composed.{PartValue, parts_of};
-ghost use Rattle.opgp_ring.specs.Keyring.{KeyringValue};
-ghost use Rattle.opgp_ring.specs.State.{part_of};
+ghost use Rattle.opgp_keyring.specs.Composed.{PartValue, parts_of};
+ghost use Rattle.opgp_keyring.specs.Keyring.{KeyringValue};
+ghost use Rattle.opgp_keyring.specs.State.{part_of};
 ghost use Rattle.opgp_report.specs.Reporting.{Reports};
 ghost use Rattle.opgp_stack.specs.OnePart.{certificates_in};
 ghost use Rattle.opgp_state.specs.Places.{places_of};
@@ -11,9 +11,9 @@ ghost use Rattle.opgp_state.specs.Placing.{HasPlaces};
 ghost use Rattle.opgp_state.specs.Report.{HasReport};
 
 use crate::checking::Checking;
+use opgp_keyring::Ready;
 use opgp_octets::OutOfMemory;
 use opgp_report::Report;
-use opgp_ring::Ready;
 use opgp_state::{Placing, RowPlace};
 use std::alloc::Global;
 use std::mem;

@@ -16,9 +16,9 @@ use opgp_codec::{Answer, EngineError, Mode, Text, read_keyring, write};
 use opgp_difference::{Difference, PacketPlace, PlacedPacket, compare};
 use opgp_hash::Fingerprint;
 use opgp_io::{Output, Sink, Source, Word};
+use opgp_keyring::Keyring;
 use opgp_octets::Limits;
 use opgp_report::print_of;
-use opgp_ring::Keyring;
 use std::alloc::Global;
 use std::io;
 

@@ -6,8 +6,8 @@ ghost use Rattle.opgp_document.specs.Answer.{asked_of};
 ghost use Rattle.opgp_document.specs.SignedDocument.{IsSignedBy};
 ghost use Rattle.opgp_hash.specs.SignedValue.{SignedValue};
 ghost use Rattle.opgp_codec.specs.Pulled.{OfAll};
-ghost use Rattle.opgp_ring.specs.DetachedSignatures.{detached_packets};
-ghost use Rattle.opgp_ring.specs.Signed.{signature_bodies};
+ghost use Rattle.opgp_keyring.specs.DetachedSignatures.{detached_packets};
+ghost use Rattle.opgp_keyring.specs.Signed.{signature_bodies};
 ghost use Rattle.opgp_stack.specs.Documents.{AnswersTo, OfDocument, digest_lines, read_shown};
 ghost use Rattle.opgp_stack.specs.Running.{IsMade, Made, ReadsFor, RunsOf};
 ghost use Rattle.opgp_stack.specs.declared.run_fault.RunFault.TheVariants as run;
@@ -19,9 +19,9 @@ use opgp_codec::{IncomingOctets, write};
 use opgp_document::{DocumentAnswers, DocumentWhy, MOST_SIGNATURES, OpenFault, SignedDocument};
 use opgp_hash::Digest;
 use opgp_io::{Sink, Source};
+use opgp_keyring::DetachedSignatures;
 use opgp_octets::{BodyFault, Limits};
 use opgp_packet::SigView;
-use opgp_ring::DetachedSignatures;
 use std::alloc::Global;
 
 /// Reads a document, and writes a line for each of the detached signatures over it, with what can

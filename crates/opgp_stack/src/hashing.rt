@@ -8,7 +8,7 @@ ghost use Rattle.opgp_explain.specs.Lines.{explained, field_line};
 ghost use Rattle.opgp_hash.specs.Hashed.{hashed};
 ghost use Rattle.opgp_hash.specs.Question.{question_value};
 ghost use Rattle.opgp_report.specs.Asked.{question_in};
-ghost use Rattle.opgp_ring.specs.SignedLiteral.{signed_packets};
+ghost use Rattle.opgp_keyring.specs.SignedLiteral.{signed_packets};
 ghost use Rattle.opgp_packet.specs.SignatureBody.{signature_at};
 ghost use Rattle.opgp_packet.specs.SigView.{sig_view_octets};
 ghost use Rattle.opgp_stack.specs.Hashing.{asked_about, content_in, message_asked};
@@ -20,8 +20,8 @@ use opgp_codec::{EngineError, Text, write};
 use opgp_explain::{Field, add_fields, fields_of};
 use opgp_hash::{Question, Subject, ask_view, write_octets};
 use opgp_io::{Output, Sink};
+use opgp_keyring::SignedLiteral;
 use opgp_packet::SigView;
-use opgp_ring::SignedLiteral;
 use std::alloc::Global;
 use std::io;
 

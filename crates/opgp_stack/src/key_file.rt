@@ -8,23 +8,19 @@ ghost use Rattle.opgp_stack.specs.KeyFile.{lines_behind, lines_in, names_key, tr
 ghost use Rattle.opgp_stack.specs.declared.key_name.KeyName.{KeyName};
 
 use crate::key_name::KeyName;
+use memchr::memchr;
 use opgp_octets::OutOfMemory;
 use std::alloc::Global;
 
 /// How many octets are in front of the first line feed.
+#[tactic(auto, using(opgp_document::proofs::FirstPlaces::place_or_len))]
 fn line_len(octets: &[u8]) -> usize
     ensures { result ≡ position_or_len is_line_end octets.now }
 {
-    let mut count = 0usize;
-    let mut rest = octets;
-    'octets: while let [octet, more @ ..] = rest {
-        if *octet == b'\n' {
-            return count;
-        }
-        count += 1;
-        rest = more;
+    match memchr(b'\n', octets) {
+        Some(at) => at,
+        None => octets.len(),
     }
-    count
 }
 
 /// The first line, and what is behind its line feed, if it has one.

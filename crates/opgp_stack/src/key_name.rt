@@ -5,15 +5,15 @@ ghost use Rattle.std.specs.List.{flat_map};
 ghost use Rattle.opgp_packet.specs.Parsed.{body_octets};
 ghost use Rattle.opgp_report.specs.First.{print_of};
 ghost use Rattle.opgp_report.specs.Report.{subkey_bodies};
-ghost use Rattle.opgp_ring.specs.Grouped.{components_left};
+ghost use Rattle.opgp_keyring.specs.Grouped.{components_left};
 ghost use Rattle.opgp_stack.specs.KeyName.{has_key, is_any_named, is_named};
 ghost use Rattle.opgp_stack.specs.KeyText.{IsKeyText};
 ghost use Rattle.opgp_stack.specs.declared.key_name.KeyName.{KeyName};
 
 use crate::key_text::{Digits, name_of};
 use opgp_hash::{Fingerprint, fingerprint_of_view};
+use opgp_keyring::{Certificate, Components, Head};
 use opgp_packet::KeyView;
-use opgp_ring::{Certificate, Components, Head};
 
 /// The name of a key: its key ID or its fingerprint (RFC 9580, 5.5.4).
 #[derive(Clone, Copy, Debug, PartialEq, Eq)]

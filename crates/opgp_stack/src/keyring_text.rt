@@ -3,14 +3,14 @@
 ghost use Rattle.std.specs.Prelude.{◌≡◌, ◌++◌, ◌∷◌, [], List, true, IfOk, IfSome, OnOk};
 ghost use Rattle.std.specs.List.{flat_map};
 ghost use Rattle.opgp_codec.specs.Draft.{DraftHas};
-ghost use Rattle.opgp_ring.specs.Composed.{PartValue};
-ghost use Rattle.opgp_ring.specs.State.{part_of};
+ghost use Rattle.opgp_keyring.specs.Composed.{PartValue};
+ghost use Rattle.opgp_keyring.specs.State.{part_of};
 ghost use Rattle.opgp_stack.specs.PartText.{text_of_part};
 
 use crate::part_text::PartText;
 use opgp_codec::{Draft, Spool};
+use opgp_keyring::Ready;
 use opgp_octets::OutOfMemory;
-use opgp_ring::Ready;
 use std::alloc::Global;
 
 /// What is written of the parts of a keyring that came so far, each in the same way. None is kept.

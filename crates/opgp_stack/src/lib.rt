@@ -55,9 +55,9 @@ pub use digesting::run_digests;
 pub use key_file::keys_in;
 pub use key_name::KeyName;
 pub use opgp_codec::{
-    Answer, Draft, DraftError, EngineError, Mode, NoSpool, Out, PacketsText, ReadError, Sink,
-    Source, Spool, Text, Watched, read_keyring, read_packets, read_signatures, read_signed, write,
-    write_certificate, write_certificates, write_keyring,
+    Answer, Draft, DraftError, EngineError, Mode, NoSpool, Out, PacketsAnswer, PacketsText,
+    ReadError, SignedAnswer, Sink, Source, Spool, Text, Watched, read_keyring, read_packets,
+    read_signatures, read_signed, write, write_certificate, write_certificates, write_keyring,
 };
 pub use opgp_merge::Choice;
 pub use opgp_valid::Policy;

@@ -6,8 +6,8 @@ ghost use Rattle.opgp_codec.specs.Writing.{octets_text, packets_text};
 ghost use Rattle.opgp_merge.specs.Merged.{merged_of};
 ghost use Rattle.opgp_report.specs.Fingerprinting.{fingerprinted_rows_of};
 ghost use Rattle.opgp_report.specs.Row.{report_rows};
-ghost use Rattle.opgp_ring.specs.Composed.{parts_of};
-ghost use Rattle.opgp_ring.specs.Keyring.{KeyringValue, flat};
+ghost use Rattle.opgp_keyring.specs.Composed.{parts_of};
+ghost use Rattle.opgp_keyring.specs.Keyring.{KeyringValue, flat};
 ghost use Rattle.opgp_stack.specs.Making.{HasMade, explains_of, out_of, ring_made};
 ghost use Rattle.opgp_stack.specs.OnePart.{found_question};
 ghost use Rattle.opgp_state.specs.Places.{placed_lines};
@@ -23,9 +23,9 @@ use crate::task::Action;
 use crate::writing_report::{write_fingerprinted_report, write_placed_report, write_report};
 use opgp_codec::{Draft, DraftError, EngineError, Out, Spool, write_certificate, write_keyring};
 use opgp_io::Sink;
+use opgp_keyring::{Certificate, Keyring};
 use opgp_merge::merge;
 use opgp_report::{FingerprintedReport, Report, question_at};
-use opgp_ring::{Certificate, Keyring};
 use opgp_state::RowPlace;
 use std::alloc::Global;
 
@@ -106,7 +106,7 @@ fn explains_of(action: Action<'_>) -> bool
     ensures { result ≡ explains_of action.entry }
 {
     match action {
-        Action::Octets { explained, .. } => explained,
+        Action::Explain { .. } => true,
         _ => false,
     }
 }

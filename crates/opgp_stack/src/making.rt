@@ -2,9 +2,9 @@
 
 ghost use Rattle.std.specs.Prelude.{◌≡◌, ◌++◌, ◌∷◌, [], List, true, IfOk, IfSome, OnOk};
 ghost use Rattle.opgp_codec.specs.Draft.{DraftHas};
-ghost use Rattle.opgp_ring.specs.Composed.{PartValue};
-ghost use Rattle.opgp_ring.specs.Parts.{AreParts, HasParts};
-ghost use Rattle.opgp_ring.specs.State.{part_of};
+ghost use Rattle.opgp_keyring.specs.Composed.{PartValue};
+ghost use Rattle.opgp_keyring.specs.Parts.{AreParts, HasParts};
+ghost use Rattle.opgp_keyring.specs.State.{part_of};
 ghost use Rattle.opgp_stack.specs.Making.{HasMade, HasTexts, is_of_parts};
 ghost use Rattle.opgp_stack.specs.declared.keyring_text.KeyringText.{KeyringText};
 ghost use Rattle.opgp_stack.specs.declared.making.Making.TheVariants as making;
@@ -21,8 +21,8 @@ use crate::part_text::PartText;
 use crate::row_found::RowFound;
 use crate::task::{Action, Top};
 use opgp_codec::Spool;
+use opgp_keyring::{Keyring, Ready};
 use opgp_octets::OutOfMemory;
-use opgp_ring::{Keyring, Ready};
 use std::alloc::Global;
 
 /// What an action makes of a keyring, of the parts that came so far.
@@ -85,8 +85,13 @@ impl<'a, S: Spool + Drop> Making<'a, S> {
             Action::Octets {
                 top: Top::Literal,
                 ..
+            }
+            | Action::Explain {
+                top: Top::Literal,
+                ..
             } => unreachable!(),
             Action::Octets { row, .. } => Ok(Making::Row(RowFound::new(alloc, row as usize))),
+            Action::Explain { row, .. } => Ok(Making::Row(RowFound::new(alloc, row as usize))),
             Action::OctetsAll => {
                 let octets = AllOctets::new(alloc, spool)?;
                 Ok(Making::AllOctets(octets))

@@ -2,9 +2,9 @@
 
 ghost use Rattle.std.specs.Prelude.{◌≡◌, ◌++◌, ◌∷◌, [], List, true, IfOk, IfSome, OnOk, map};
 ghost use Rattle.opgp_codec.specs.Draft.{DraftHas};
-ghost use Rattle.opgp_ring.specs.Composed.{PartValue};
-ghost use Rattle.opgp_ring.specs.Keyring.{CertificateValue};
-ghost use Rattle.opgp_ring.specs.State.{part_of};
+ghost use Rattle.opgp_keyring.specs.Composed.{PartValue};
+ghost use Rattle.opgp_keyring.specs.Keyring.{CertificateValue};
+ghost use Rattle.opgp_keyring.specs.State.{part_of};
 ghost use Rattle.opgp_stack.specs.ByKey.{HasNamed};
 ghost use Rattle.opgp_stack.specs.KeyName.{missing_in, name_octets};
 ghost use Rattle.opgp_stack.specs.OnePart.{certificates_in};
@@ -14,8 +14,8 @@ use crate::key_name::KeyName;
 use crate::part_text::{add_alone, given_back};
 use crate::wanted_keys::WantedKeys;
 use opgp_codec::{Draft, Out, Spool};
+use opgp_keyring::Ready;
 use opgp_octets::OutOfMemory;
-use opgp_ring::Ready;
 use std::alloc::Global;
 
 /// What is written of the certificates that came so far and have keys of some names, or of the

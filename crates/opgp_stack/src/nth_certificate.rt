@@ -1,12 +1,12 @@
 //! The certificate of a number, looked for among the parts of a keyring.
 
 ghost use Rattle.std.specs.Prelude.{◌≡◌, ◌++◌, ◌∷◌, [], ℕ, List, OnOk};
-ghost use Rattle.opgp_ring.specs.Composed.{PartValue};
-ghost use Rattle.opgp_ring.specs.State.{part_of};
+ghost use Rattle.opgp_keyring.specs.Composed.{PartValue};
+ghost use Rattle.opgp_keyring.specs.State.{part_of};
 ghost use Rattle.opgp_stack.specs.OnePart.{IsNth, certificates_in};
 
+use opgp_keyring::{Certificate, Ready};
 use opgp_octets::OutOfMemory;
-use opgp_ring::{Certificate, Ready};
 use std::mem;
 
 /// The certificate of a number, once it has come. No other is kept.

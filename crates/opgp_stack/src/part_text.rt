@@ -4,17 +4,17 @@ ghost use Rattle.std.specs.Prelude.{◌≡◌, ◌++◌, ℕ, List, Ok, Err, Som
 ghost use Rattle.opgp_codec.specs.Draft.{DraftHas};
 ghost use Rattle.opgp_codec.specs.Writing.{packets_text};
 ghost use Rattle.opgp_merge.specs.Chosen.{chosen_part};
-ghost use Rattle.opgp_ring.specs.Keyring.{certificate_packets};
-ghost use Rattle.opgp_ring.specs.State.{part_of};
+ghost use Rattle.opgp_keyring.specs.Keyring.{certificate_packets};
+ghost use Rattle.opgp_keyring.specs.State.{part_of};
 ghost use Rattle.opgp_stack.specs.PartText.{text_of_part};
 ghost use Rattle.opgp_stack.specs.Parts.{certificate_text, part_octets};
 
 use crate::valued_listing::ValuedListingText;
 use crate::writing_listing::ListingText;
 use opgp_codec::{Draft, Out, PacketsText, Spool};
+use opgp_keyring::{Certificate, Packets, Ready};
 use opgp_merge::{Choice, choose_certificate};
 use opgp_octets::OutOfMemory;
-use opgp_ring::{Certificate, Packets, Ready};
 use std::alloc::Global;
 
 /// What is written of each part of a keyring: its lead, and each certificate.

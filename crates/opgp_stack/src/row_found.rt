@@ -1,13 +1,13 @@
 //! The certificate that has the row of a number in a keyring's report, looked for among its parts.
 
 ghost use Rattle.std.specs.Prelude.{◌≡◌, ◌++◌, ◌∷◌, [], ℕ, List, OnOk};
-ghost use Rattle.opgp_ring.specs.Composed.{PartValue};
-ghost use Rattle.opgp_ring.specs.State.{part_of};
+ghost use Rattle.opgp_keyring.specs.Composed.{PartValue};
+ghost use Rattle.opgp_keyring.specs.State.{part_of};
 ghost use Rattle.opgp_stack.specs.OnePart.{IsRow, certificates_in};
 
+use opgp_keyring::{Keyring, Ready};
 use opgp_octets::OutOfMemory;
 use opgp_report::rows_left;
-use opgp_ring::{Keyring, Ready};
 use std::alloc::Global;
 use std::mem;
 

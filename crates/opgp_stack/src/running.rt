@@ -1,9 +1,9 @@
 //! Runs a task.
 
 ghost use Rattle.std.specs.Prelude.{◌≡◌, [], true, false, IfSome};
-ghost use Rattle.opgp_stack.specs.Running.{RunsAs, RunsSpooled, ended};
-ghost use Rattle.opgp_stack.specs.declared.task.Action.TheVariants as action;
-ghost use Rattle.opgp_stack.specs.declared.task.Top.TheVariants as tops;
+ghost use Rattle.opgp_keyring.specs.SignedLiteral.{signed_packets};
+ghost use Rattle.opgp_stack.specs.Running.{IsMade, OfLiteral, RunsAs, RunsOf, RunsSpooled};
+ghost use Rattle.opgp_stack.specs.Running.{ended, message_made};
 
 use crate::hashing::{question_of, write_question};
 use crate::made::write_draft;
@@ -12,8 +12,9 @@ use crate::packet_text::PacketText;
 use crate::run_fault::RunFault;
 use crate::showing_from::show;
 use crate::task::{Action, Task, Top};
-use opgp_codec::{EngineError, NoSpool, Out, Spool, read_signed};
+use opgp_codec::{EngineError, NoSpool, Out, SignedAnswer, Spool, read_signed};
 use opgp_io::{Sink, Source};
+use opgp_keyring::SignedLiteral;
 use std::alloc::Global;
 use std::mem;
 
@@ -127,10 +128,16 @@ fn run_and<R: Source, W: Sink, S: Spool + Drop>(
         Action::Octets {
             row,
             top: Top::Literal,
-            explained,
         } => {
             drop(spool);
-            write_message_octets(alloc, task, reader, writer, row, explained, after)
+            write_message_octets(alloc, task, reader, writer, row, false, after)
+        }
+        Action::Explain {
+            row,
+            top: Top::Literal,
+        } => {
+            drop(spool);
+            write_message_octets(alloc, task, reader, writer, row, true, after)
         }
         _ => {
             let made = make(alloc, task, spool, reader)?;
@@ -147,22 +154,38 @@ fn write_message_octets<R: Source, W: Sink>(
     reader: &mut R,
     writer: &mut W,
     row: u64,
-    explained: bool,
+    explains: bool,
     after: After,
 ) -> Result<(), RunFault>
     requires reader { R.has_failed reader.old ≡ false }
     requires writer { W.has_failed writer.old ≡ false }
-    requires action { task.now.action ≡ action.Octets row tops.Literal explained }
-    ensures { RunsAs R.left R.has_failed W.held W.has_failed task.now reader.old reader.new
-        writer.old writer.new result }
+    ensures { RunsOf R.left R.has_failed (IsMade W.held W.has_failed) task.now.limits
+        (OfLiteral (message_made explains row) task.now) reader.old reader.new writer.old writer.new
+        result }
 {
-    let message = read_signed(alloc, reader, task.mode, &task.limits)?;
-    let question = question_of(&message, row);
-    done(
-        write_question(alloc, question, explained, writer),
-        message,
-        after,
-    )
+    match read_signed(alloc, reader, task.mode, &task.limits) {
+        Ok(SignedAnswer::Literal(message)) => {
+            let written = write_question_of(alloc, &message, row, explains, writer);
+            done(written, message, after)
+        }
+        Ok(SignedAnswer::Refused(fault)) => Err(RunFault::Refused(fault)),
+        Err(error) => end(Err(error)),
+    }
+}
+
+/// Writes the octets that one signature on a literal hashes, or a line for each field of them.
+fn write_question_of<W: Sink>(
+    alloc: Global,
+    message: &SignedLiteral,
+    row: u64,
+    explains: bool,
+    writer: &mut W,
+) -> Result<(), RunFault>
+    requires { W.has_failed writer.old ≡ false }
+    ensures { IsMade W.held W.has_failed writer.old writer.new result
+        (message_made explains row (signed_packets message.now)) }
+{
+    write_question(alloc, question_of(message, row), explains, writer)
 }
 
 /// A run ends as its writing does.

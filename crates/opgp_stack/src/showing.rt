@@ -16,9 +16,9 @@ ghost use Rattle.opgp_io.specs.Output.{Extends, sink_of};
 
 use opgp_frame::{Form, Placed, PlacedView};
 use opgp_io::{Output, Sink, Word};
+use opgp_keyring::BlockOf;
 use opgp_octets::PacketType;
 use opgp_packet::{SigView, SubMeaning, SubView, Subs};
-use opgp_ring::BlockOf;
 use std::io;
 
 /// An area of a signature.

@@ -2,7 +2,7 @@
 
 ghost use Rattle.std.specs.Prelude.{◌≡◌, false};
 ghost use Rattle.opgp_io.specs.Output.{Extends, sink_of};
-ghost use Rattle.opgp_ring.specs.DetachedSignatures.{detached_left, detached_packets};
+ghost use Rattle.opgp_keyring.specs.DetachedSignatures.{detached_left, detached_packets};
 ghost use Rattle.opgp_stack.specs.Documents.{OfSignatures};
 ghost use Rattle.opgp_stack.specs.Running.{IsMade, Made, RunsOf};
 ghost use Rattle.opgp_stack.specs.ValuedListing.{valued_listing};
@@ -12,8 +12,8 @@ use crate::running::end;
 use crate::valued_listing::add_valued_line;
 use opgp_codec::{Mode, Text, read_signatures, write};
 use opgp_io::{Output, Sink, Source};
+use opgp_keyring::{DetachedPackets, DetachedSignatures};
 use opgp_octets::Limits;
-use opgp_ring::{DetachedPackets, DetachedSignatures};
 use std::alloc::Global;
 use std::io;
 

@@ -40,8 +40,13 @@ pub enum Action<'a> {
         row: u64,
         /// What the input is read as.
         top: Top,
-        /// Whether a line for each field of the octets is written, instead of the octets.
-        explained: bool,
+    },
+    /// A line for each field of the octets that one signature hashes.
+    Explain {
+        /// The number of the signature's row, from 0.
+        row: u64,
+        /// What the input is read as.
+        top: Top,
     },
     /// The octets that each signature of a certificate hashes, behind a line with its row's number
     /// and their length.

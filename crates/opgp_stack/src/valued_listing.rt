@@ -7,8 +7,8 @@ ghost use Rattle.opgp_packet.specs.SubView.{sub_shown};
 ghost use Rattle.opgp_packet.specs.Subs.{subs_to_come};
 ghost use Rattle.opgp_report.specs.IssuerName.{name_value};
 ghost use Rattle.opgp_report.specs.Signer.{first_some};
-ghost use Rattle.opgp_ring.specs.Member.{member_packet};
-ghost use Rattle.opgp_ring.specs.Packets.{packets_left};
+ghost use Rattle.opgp_keyring.specs.Member.{member_packet};
+ghost use Rattle.opgp_keyring.specs.Packets.{packets_left};
 ghost use Rattle.opgp_stack.specs.Listing.{signature_text, typed_start};
 ghost use Rattle.opgp_stack.specs.ValuedListing.{created_in, created_words, issuer_words};
 ghost use Rattle.opgp_stack.specs.ValuedListing.{valued_listing, valued_packet_line, value_words};
@@ -19,10 +19,10 @@ use crate::listing::{Behind, Role, add_content, add_dated_key, add_signature, ad
 use opgp_codec::Text;
 use opgp_hash::KeyId;
 use opgp_io::{Output, Sink, Word};
+use opgp_keyring::{Content, Member, Packets};
 use opgp_octets::SubpacketKind;
 use opgp_packet::{SigView, SubView, Subs};
 use opgp_report::{IssuerName, issuer_named};
-use opgp_ring::{Content, Member, Packets};
 use opgp_state::add_date_or_none;
 use std::io;
 

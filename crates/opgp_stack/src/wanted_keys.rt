@@ -7,14 +7,14 @@ ghost use Rattle.std.specs.Option.{unwrap_or};
 ghost use Rattle.std.specs.Str.{bytes_eq};
 ghost use Rattle.opgp_report.specs.First.{print_of};
 ghost use Rattle.opgp_report.specs.Report.{certificate_keys, subkey_bodies};
-ghost use Rattle.opgp_ring.specs.Grouped.{component_of, components_left};
+ghost use Rattle.opgp_keyring.specs.Grouped.{component_of, components_left};
 ghost use Rattle.opgp_stack.specs.WantedKeys.{AreNotes, note_of};
 ghost use Rattle.opgp_stack.specs.KeyName.{has_any, has_one_of, missing_from, name_octets};
 
 use crate::key_name::{KeyName, print_of};
 use opgp_hash::Fingerprint;
+use opgp_keyring::{Certificate, Component, Components, Head};
 use opgp_octets::OutOfMemory;
-use opgp_ring::{Certificate, Component, Components, Head};
 use std::alloc::Global;
 use std::collections::BTreeMap;
 

@@ -2,14 +2,14 @@
 
 ghost use Rattle.std.specs.Prelude.{◌≡◌, false};
 ghost use Rattle.opgp_codec.specs.Written.{IsWritten};
-ghost use Rattle.opgp_ring.specs.Keyring.{flat};
-ghost use Rattle.opgp_ring.specs.Packets.{packets_left};
+ghost use Rattle.opgp_keyring.specs.Keyring.{flat};
+ghost use Rattle.opgp_keyring.specs.Packets.{packets_left};
 ghost use Rattle.opgp_stack.specs.Listing.{listing};
 
 use crate::listing::add_listing;
 use opgp_codec::{EngineError, Text, write};
 use opgp_io::{Output, Sink};
-use opgp_ring::{Keyring, Packets};
+use opgp_keyring::{Keyring, Packets};
 use std::alloc::Global;
 use std::io;
 

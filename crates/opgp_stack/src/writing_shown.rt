@@ -8,7 +8,7 @@ ghost use Rattle.opgp_codec.specs.Written.{IsWritten};
 use crate::showing::add_shown;
 use opgp_codec::{EngineError, Text, write};
 use opgp_io::{Output, Sink};
-use opgp_ring::BlockOf;
+use opgp_keyring::BlockOf;
 use std::alloc::Global;
 use std::io;
 

@@ -13,7 +13,7 @@ use Rattle.opgp_report.specs.Left.{says_left}
 use Rattle.opgp_report.specs.Report.{report_of}
 use Rattle.opgp_report.specs.RowValue.{RowValue}
 use Rattle.opgp_report.specs.declared.verifier.Verdict.{Verdict}
-use Rattle.opgp_ring.specs.Keyring.{KeyringValue}
+use Rattle.opgp_keyring.specs.Keyring.{KeyringValue}
 use Rattle.opgp_state.specs.VerdictFile.{AreVerdictLines, HasVerdicts, head_line, keyring_digest}
 use Rattle.opgp_state.proofs.Lines.{lines_once}
 use Rattle.opgp_state.proofs.Verdicts.{same_behind}

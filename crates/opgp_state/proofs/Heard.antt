@@ -16,7 +16,7 @@ use Rattle.opgp_hash.specs.Fingerprint.{print_octets, print_version}
 use Rattle.opgp_hash.specs.SignedValue.{signed_of}
 use Rattle.opgp_hash.specs.declared.fingerprints.Fingerprint.{Fingerprint}
 use Rattle.opgp_hash.specs.declared.fingerprints.Fingerprint.TheVariants.{Four, Six}
-use Rattle.opgp_ring.specs.Keyring.{CertificateValue}
+use Rattle.opgp_keyring.specs.Keyring.{CertificateValue}
 use Rattle.opgp_report.specs.First.{has_id, has_print, print_of}
 use Rattle.opgp_report.specs.Signer.{NameValue, by_print, by_id, unnamed, issuer_of, named_in}
 use Rattle.opgp_report.specs.Standing.{Standing, certificate_standing}

@@ -8,9 +8,9 @@ use Rattle.std.proofs.lemmas.List.Concat.{flat_map-append}
 use Rattle.opgp_frame.specs.Packet.{PacketValue}
 use Rattle.opgp_packet.specs.SignatureBody.{signature_at}
 use Rattle.opgp_hash.specs.SubjectValue.{SubjectValue, one}
-use Rattle.opgp_ring.specs.Composed.{PartValue, of_certificate, of_lead, lead_parts, parts_of}
-use Rattle.opgp_ring.specs.Keyring.{CertificateValue, ComponentValue, KeyringValue, certificate_packets, component_packets}
-use Rattle.opgp_ring.specs.Parts.{part_packets}
+use Rattle.opgp_keyring.specs.Composed.{PartValue, of_certificate, of_lead, lead_parts, parts_of}
+use Rattle.opgp_keyring.specs.Keyring.{CertificateValue, ComponentValue, KeyringValue, certificate_packets, component_packets}
+use Rattle.opgp_keyring.specs.Parts.{part_packets}
 use Rattle.opgp_report.specs.Standing.{Standing, bodies_within, by_number, certificate_standing, component_standing, hang_standing, hangs_standing, hung_at, is_signature, nested_standing, on_head, signature_standing}
 use Rattle.opgp_report.specs.declared.place.Place.{Place}
 use Rattle.opgp_state.specs.Places.{certificate_places, is_user_id, packets_before, placed, places_of}

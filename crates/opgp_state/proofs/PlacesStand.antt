@@ -6,7 +6,7 @@ use Rattle.std.proofs.lemmas.List.{map-append}
 use Rattle.opgp_frame.specs.Packet.{PacketValue}
 use Rattle.opgp_packet.specs.SignatureBody.{signature_at}
 use Rattle.opgp_hash.specs.SubjectValue.{SubjectValue, one}
-use Rattle.opgp_ring.specs.Keyring.{CertificateValue, ComponentValue, KeyringValue, certificate_packets, component_packets, flat}
+use Rattle.opgp_keyring.specs.Keyring.{CertificateValue, ComponentValue, KeyringValue, certificate_packets, component_packets, flat}
 use Rattle.opgp_report.specs.Report.{Says, keys_in, report_of, row_of}
 use Rattle.opgp_report.specs.Standing.{Standing, bodies_within, by_number, certificate_standing, component_standing, hang_at, hang_standing, hangs_of, hangs_standing, hung_at, is_signature, nested_standing, on_head, signature_standing, standing_in}
 use Rattle.opgp_state.specs.Places.{certificate_places, packets_before, placed, places_of, start_of}

@@ -3,7 +3,7 @@ use Rattle.std.proofs.Common.{◌≡◌, ◌∙◌, ℕ, ◌+◌, Bool, true, Li
 use Rattle.std.specs.Fmt.{decimal}
 use Rattle.std.specs.Global.{Vec}
 use Rattle.std.proofs.lemmas.List.Concat.{flat_map-append}
-use Rattle.opgp_ring.specs.Keyring.{CertificateValue, ComponentValue}
+use Rattle.opgp_keyring.specs.Keyring.{CertificateValue, ComponentValue}
 use Rattle.opgp_valid.specs.declared.cause.Cause.{Cause}
 use Rattle.opgp_valid.specs.declared.state.KeyState.{KeyState}
 use Rattle.opgp_valid.specs.declared.states.PartState.{PartState}

@@ -5,7 +5,7 @@ use Rattle.opgp_report.specs.Report.{report_of}
 use Rattle.opgp_report.specs.RowValue.{FindingValue, RowValue, not_asked, asked_with}
 use Rattle.opgp_report.specs.declared.verifier.Verdict.{Verdict}
 use Rattle.opgp_report.specs.declared.verifier.Verdict.TheVariants.{Good, Bad, Undecided}
-use Rattle.opgp_ring.specs.Keyring.{KeyringValue}
+use Rattle.opgp_keyring.specs.Keyring.{KeyringValue}
 
 -- It is good, unless its digest is bad. One that isn't hashed where it is may revoke the primary
 -- key all the same (RFC 9580, 5.2.1.11); any other such one says nothing, whatever its verdict.

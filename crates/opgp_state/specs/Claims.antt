@@ -1,6 +1,6 @@
 -- Verdicts on a certificate's rows that serve as well as what its signatures claim.
 use Rattle.std.specs.Prelude.{◌≡◌, List, ◌++◌, map}
-use Rattle.opgp_ring.specs.Keyring.{CertificateValue}
+use Rattle.opgp_keyring.specs.Keyring.{CertificateValue}
 use Rattle.opgp_report.specs.Standing.{certificate_standing}
 use Rattle.opgp_report.specs.declared.verifier.Verdict.{Verdict}
 use Rattle.opgp_valid.specs.Judgement.{facts_by}

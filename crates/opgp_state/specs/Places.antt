@@ -7,8 +7,8 @@ use Rattle.std.specs.List.{flat_map}
 use Rattle.std.specs.Option.{option_and_then}
 use Rattle.opgp_octets.specs.declared.packet_type.PacketType.TheVariants as packet
 use Rattle.opgp_frame.specs.Header.{is_type}
-use Rattle.opgp_ring.specs.Keyring.{CertificateValue, ComponentValue, KeyringValue}
-use Rattle.opgp_ring.specs.Keyring.{certificate_packets, component_packets}
+use Rattle.opgp_keyring.specs.Keyring.{CertificateValue, ComponentValue, KeyringValue}
+use Rattle.opgp_keyring.specs.Keyring.{certificate_packets, component_packets}
 use Rattle.opgp_report.specs.RowValue.{RowValue}
 use Rattle.opgp_report.specs.Standing.{by_number, certificate_standing}
 use Rattle.opgp_report.specs.declared.place.Place.{Place}

@@ -2,10 +2,10 @@
 use Rattle.std.specs.Prelude.{◌≡◌, ⊤, ℕ, ◌+◌, if◌then◌else◌, List, [], ◌∷◌, ◌++◌, length, map}
 use Rattle.std.specs.Prelude.{Option, Some, None, Result, Ok, Err}
 use Rattle.std.specs.List.{flat_map}
-use Rattle.opgp_ring.specs.Composed.{PartValue, of_certificate, of_lead}
-use Rattle.opgp_ring.specs.Keyring.{CertificateValue, ComponentValue}
-use Rattle.opgp_ring.specs.Keyring.{certificate_packets, component_packets}
-use Rattle.opgp_ring.specs.Parts.{part_packets}
+use Rattle.opgp_keyring.specs.Composed.{PartValue, of_certificate, of_lead}
+use Rattle.opgp_keyring.specs.Keyring.{CertificateValue, ComponentValue}
+use Rattle.opgp_keyring.specs.Keyring.{certificate_packets, component_packets}
+use Rattle.opgp_keyring.specs.Parts.{part_packets}
 use Rattle.opgp_report.specs.Standing.{Standing, certificate_standing}
 use Rattle.opgp_state.specs.Places.{is_user_id, placed, start_of, user_id_of}
 use Rattle.opgp_state.specs.declared.place_maker.PlaceMaker.{PlaceMaker}

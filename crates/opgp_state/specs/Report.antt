@@ -7,7 +7,7 @@ use Rattle.opgp_hash.specs.Why.{why_text}
 use Rattle.opgp_hash.specs.Digest.{digest_octets}
 use Rattle.opgp_hash.specs.Fingerprint.{print_octets}
 use Rattle.opgp_hash.specs.declared.fingerprints.Fingerprint.{Fingerprint}
-use Rattle.opgp_ring.specs.Keyring.{KeyringValue}
+use Rattle.opgp_keyring.specs.Keyring.{KeyringValue}
 use Rattle.opgp_report.specs.Fingerprinted.{FingerprintedValue, fingerprinted_report_of}
 use Rattle.opgp_report.specs.Fingerprinting.{fingerprinted_rows_of}
 use Rattle.opgp_report.specs.Left.{says_left}

@@ -12,7 +12,7 @@ use Rattle.opgp_hash.specs.Fingerprint.{print_octets}
 use Rattle.opgp_io.specs.Texts.{escaped}
 use Rattle.opgp_report.specs.First.{print_of}
 use Rattle.opgp_report.specs.declared.verifier.Verdict.{Verdict}
-use Rattle.opgp_ring.specs.Keyring.{CertificateValue, ComponentValue, KeyringValue}
+use Rattle.opgp_keyring.specs.Keyring.{CertificateValue, ComponentValue, KeyringValue}
 use Rattle.opgp_valid.specs.Uses.{has_use}
 use Rattle.opgp_valid.specs.Why.{why_text}
 use Rattle.opgp_valid.specs.declared.cause.Cause.{Cause}

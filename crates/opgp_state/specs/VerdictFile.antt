@@ -15,7 +15,7 @@ use Rattle.opgp_report.specs.RowValue.{FindingValue, RowValue, not_asked, asked_
 use Rattle.opgp_report.specs.declared.verifier.Verdict.{Verdict}
 use Rattle.opgp_report.specs.declared.verifier.Verdict.TheVariants.{Good, Bad, Undecided}
 use Rattle.opgp_report.specs.Row.{row_value}
-use Rattle.opgp_ring.specs.Keyring.{KeyringValue, flat}
+use Rattle.opgp_keyring.specs.Keyring.{KeyringValue, flat}
 use Rattle.opgp_state.specs.Report.{fields_at, id_or_none, joined, row_fields, verdict_name}
 use Rattle.opgp_state.specs.declared.row_front.Front.{Front}
 use Rattle.opgp_state.specs.declared.row_front.Front.TheVariants as front

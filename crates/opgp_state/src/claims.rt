@@ -9,9 +9,9 @@ ghost use Rattle.opgp_state.specs.Claims.{SayTheSame};
 
 use crate::claiming::Claiming;
 use opgp_hash::Fingerprint;
+use opgp_keyring::{Certificate, Keyring};
 use opgp_octets::OutOfMemory;
 use opgp_report::{Verdict, print_of, visit, visit_certificate};
-use opgp_ring::{Certificate, Keyring};
 use std::alloc::Global;
 
 /// What the signatures of a keyring claim, a verdict for each row of its report: a signature is

@@ -2,12 +2,12 @@
 
 ghost use Rattle.std.specs.Prelude.{◌≡◌, ◌++◌, ℕ, List};
 ghost use Rattle.opgp_frame.specs.Packet.{packets_octets, spelling};
-ghost use Rattle.opgp_ring.specs.Member.{member_packet};
-ghost use Rattle.opgp_ring.specs.Packets.{packets_left};
+ghost use Rattle.opgp_keyring.specs.Member.{member_packet};
+ghost use Rattle.opgp_keyring.specs.Packets.{packets_left};
 ghost use Rattle.opgp_state.specs.VerdictFile.{keyring_digest};
 
 use opgp_frame::Spelling;
-use opgp_ring::{Keyring, Member, Packets};
+use opgp_keyring::{Keyring, Member, Packets};
 use sha2::{Digest, Sha256};
 
 /// Feeds the octets of a packet to a hasher.

@@ -14,9 +14,9 @@ ghost use Rattle.opgp_state.specs.KeyringStates.{keyring_causes, keyring_states,
 ghost use Rattle.opgp_state.specs.KeyringStates.{states_in};
 
 use crate::claims::own_claims;
+use opgp_keyring::{Certificate, Keyring};
 use opgp_octets::OutOfMemory;
 use opgp_report::Verdict;
-use opgp_ring::{Certificate, Keyring};
 use opgp_valid::{
     Cause, Certified, Facts, KnownKeys, PartState, Policy, part_causes, part_states,
     verdicts_behind,

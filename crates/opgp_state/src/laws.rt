@@ -5,7 +5,7 @@ ghost use Rattle.std.specs.Prelude.{◌≡◌, ◌<◌, ◌∷◌, ◌++◌, ℕ
 ghost use Rattle.std.specs.List.Sorted.{IsPermutation};
 ghost use Rattle.sha2.specs.Sha256.{sha256};
 ghost use Rattle.opgp_frame.specs.Packet.{packets_octets};
-ghost use Rattle.opgp_ring.specs.Keyring.{CertificateValue, KeyringValue, flat};
+ghost use Rattle.opgp_keyring.specs.Keyring.{CertificateValue, KeyringValue, flat};
 ghost use Rattle.opgp_report.specs.Report.{Says, report_of};
 ghost use Rattle.opgp_report.specs.Standing.{hang_at};
 ghost use Rattle.opgp_report.specs.declared.verifier.Verdict.{Verdict};

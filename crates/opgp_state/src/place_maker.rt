@@ -1,18 +1,18 @@
 //! The places of the signatures of one certificate among the packets of its keyring.
 
 ghost use Rattle.std.specs.Prelude.{◌≡◌, ◌+◌, ◌++◌, length, IfOk, OnOk};
-ghost use Rattle.opgp_ring.specs.Grouped.{component_of, components_left, hangs_left};
-ghost use Rattle.opgp_ring.specs.Keyring.{CertificateValue, component_packets};
-ghost use Rattle.opgp_ring.specs.Member.{members_left};
+ghost use Rattle.opgp_keyring.specs.Grouped.{component_of, components_left, hangs_left};
+ghost use Rattle.opgp_keyring.specs.Keyring.{CertificateValue, component_packets};
+ghost use Rattle.opgp_keyring.specs.Member.{members_left};
 ghost use Rattle.opgp_state.specs.Places.{is_user_id, placed};
 ghost use Rattle.opgp_state.specs.Placing.{AddsPlaces, HasHeads, IsHead, head_place};
 ghost use Rattle.opgp_state.specs.Placing.{heads_from, user_ids_behind};
 
 use crate::row_place::RowPlace;
 use opgp_hash::CertificateHasher;
+use opgp_keyring::{Certificate, Component, Components, Hangs, Members};
 use opgp_octets::{OutOfMemory, PacketType};
 use opgp_report::{Met, Place, Visitor};
-use opgp_ring::{Certificate, Component, Components, Hangs, Members};
 use std::alloc::{AllocError, Global};
 
 /// A sum of numbers of packets. No input has so many that it fails: the limit of its octets is

@@ -1,17 +1,17 @@
 //! The places of the rows of a keyring's report, found as its parts come.
 
 ghost use Rattle.std.specs.Prelude.{◌≡◌, ◌++◌, ◌∷◌, [], List, IfOk};
-ghost use Rattle.opgp_ring.specs.Composed.{PartValue, of_certificate, parts_of};
-ghost use Rattle.opgp_ring.specs.Keyring.{KeyringValue};
-ghost use Rattle.opgp_ring.specs.State.{part_of};
+ghost use Rattle.opgp_keyring.specs.Composed.{PartValue, of_certificate, parts_of};
+ghost use Rattle.opgp_keyring.specs.Keyring.{KeyringValue};
+ghost use Rattle.opgp_keyring.specs.State.{part_of};
 ghost use Rattle.opgp_state.specs.Places.{places_of};
 ghost use Rattle.opgp_state.specs.Placing.{HasPlaces};
 
 use crate::place_maker::{PlaceMaker, packets_behind};
 use crate::row_place::RowPlace;
+use opgp_keyring::{Certificate, Ready};
 use opgp_octets::OutOfMemory;
 use opgp_report::visit_certificate;
-use opgp_ring::{Certificate, Ready};
 use std::alloc::Global;
 
 /// The places of the rows of the parts of a keyring that came so far. No part is kept: it keeps 24

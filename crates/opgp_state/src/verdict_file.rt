@@ -10,9 +10,9 @@ use crate::keyring_digest::keyring_digest;
 use crate::row_front::{Front, front_of};
 use crate::verdict_lines::{ReadVerdict, behind, said};
 use opgp_io::Buffer;
+use opgp_keyring::Keyring;
 use opgp_octets::OutOfMemory;
 use opgp_report::{Finding, LeftOctets, Row, Verdict, check};
-use opgp_ring::Keyring;
 use std::alloc::Global;
 
 /// The verdict in the line of a row, where this is behind its front, and what is behind the line.

@@ -4,7 +4,7 @@ use Rattle.std.specs.Prelude.{take, drop, nat_le, if◌then◌else◌}
 use Rattle.std.specs.List.{flat_map}
 use Rattle.opgp_report.specs.Asked.{Asked, asked_by, asked_of}
 use Rattle.opgp_report.specs.Standing.{Standing}
-use Rattle.opgp_ring.specs.Keyring.{KeyringValue}
+use Rattle.opgp_keyring.specs.Keyring.{KeyringValue}
 use Rattle.opgp_tables.specs.declared.hashed_row.HashedRow.{HashedRow}
 use Rattle.opgp_tables.specs.declared.hashed_table.HashedTable.{HashedTable}
 use Rattle.opgp_tables.specs.HashedRows.{fitting, hashed_bytes, hashed_rows, octets_asked, rows_asked, some_of}
@@ -99,6 +99,39 @@ module _ (old : HashedTable) (a : Asked) (s : Standing) (is : asked_by s ≡ a) 
         → (all_rows ≡ rows ++ rows_asked (count - left) (length bytes) (some_of skip left room (map asked_by more)))
         × (all_bytes ≡ bytes ++ flat_map octets_asked (some_of skip left room (map asked_by more))) → AreAdded old (s ∷ more) all_rows all_bytes
     added more all_rows all_bytes h = (h.0 ∙ same_rows more, h.1 ∙ same_bytes more)
+
+-- none is asked for any more
+none_taken : (list : List Asked) → take 0 list ≡ []
+none_taken [] = refl
+none_taken (a ∷ list) = refl
+
+pub closed : (old : HashedTable) (s : Standing) (more : List Standing) (rows : List HashedRow) (bytes : List ℕ) → old.left ≡ 0 → rows ≡ old.rows.items → bytes ≡ old.bytes.items → AreAdded old (s ∷ more) rows bytes
+closed old s more rows bytes left r b =
+    let list : List Asked = drop old.skip (map asked_by (s ∷ more)) in
+    let none : fitting old.room (take old.left list) ≡ [] = ap (λ (n : ℕ). fitting old.room (take n list)) left ∙ ap (λ (l : List Asked). fitting old.room l) (none_taken list) in (
+      r ∙ sym (ap (λ (w : List Asked). old.rows.items ++ rows_asked (old.count - old.left) (length old.bytes.items) w) none ∙ append-nil old.rows.items),
+      b ∙ sym (ap (λ (w : List Asked). old.bytes.items ++ flat_map octets_asked w) none ∙ append-nil old.bytes.items),
+    )
+
+-- one that comes before those that are asked for is passed
+dropped : (n : ℕ) (a : Asked) (list : List Asked) → 0 < n → drop (n - 1) list ≡ drop n (a ∷ list)
+dropped zero a list p = absurd (omega (arith, p))
+dropped (suc k) a list p = ap (λ (n : ℕ). drop n list) (omega arith)
+
+moved : (old : HashedTable) (s : Standing) (more : List Standing) (rows : List HashedRow) (bytes : List ℕ) → 0 < old.skip
+    → (rows ≡ old.rows.items ++ rows_asked (old.count - old.left) (length old.bytes.items) (some_of (old.skip - 1) old.left old.room (map asked_by more)))
+    × (bytes ≡ old.bytes.items ++ flat_map octets_asked (some_of (old.skip - 1) old.left old.room (map asked_by more))) → AreAdded old (s ∷ more) rows bytes
+moved old s more rows bytes some h =
+    let e : drop (old.skip - 1) (map asked_by more) ≡ drop old.skip (map asked_by (s ∷ more)) = dropped old.skip (asked_by s) (map asked_by more) some in (
+      h.0 ∙ ap (λ (l : List Asked). old.rows.items ++ rows_asked (old.count - old.left) (length old.bytes.items) (fitting old.room (take old.left l))) e,
+      h.1 ∙ ap (λ (l : List Asked). old.bytes.items ++ flat_map octets_asked (fitting old.room (take old.left l))) e,
+    )
+
+pub passed : (old : HashedTable) (s : Standing) → 0 < old.skip → (more : List Standing) (end : Result HashedTable Halt)
+    → AddsHashed (record { skip = old.skip - 1; left = old.left; count = old.count; room = old.room; rows = old.rows; bytes = old.bytes; alloc = old.alloc; few = old.few }) more end → AddsHashed old (s ∷ more) end
+passed old s some more (Ok u) h = moved old s more u.rows.items u.bytes.items some h
+passed old s some more (Err (Full rows bytes)) h = moved old s more rows.items bytes.items some h
+passed old s some more (Err Memory) h = tt
 
 -- It is in the table then, whatever becomes of that.
 pub grown : (old new : HashedTable) (a : Asked) (s : Standing) → asked_by s ≡ a → old.skip ≡ 0 → 0 < old.left → nat_le (length (octets_asked a)) old.room ≡ true → new.skip ≡ 0 → new.left ≡ old.left - 1

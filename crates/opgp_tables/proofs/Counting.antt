@@ -4,7 +4,7 @@ use Rattle.std.specs.List.{flat_map}
 use Rattle.std.proofs.lemmas.List.{length-map}
 use Rattle.opgp_report.specs.Report.{keys_in}
 use Rattle.opgp_report.specs.Standing.{standing_in}
-use Rattle.opgp_ring.specs.Keyring.{KeyringValue, flat}
+use Rattle.opgp_keyring.specs.Keyring.{KeyringValue, flat}
 use Rattle.opgp_tables.specs.Jobs.{job_bytes, job_parts, job_rows, sizes_in}
 use Rattle.opgp_tables.specs.Keys.{key_rows}
 use Rattle.opgp_tables.specs.Packets.{packet_bytes, packet_rows, packet_shown, row_shown}

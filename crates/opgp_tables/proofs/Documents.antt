@@ -12,13 +12,13 @@ use Rattle.opgp_packet.specs.declared.sig_view.SigView.TheVariants.{Three, Four,
 use Rattle.opgp_packet.proofs.GrammarLaws.{body_found}
 use Rattle.opgp_packet.proofs.SignatureLaws.{sig_only}
 use Rattle.opgp_hash.specs.declared.fingerprints.Fingerprint.{Fingerprint}
-use Rattle.opgp_ring.specs.SignedLiteral.{IsReadAs}
+use Rattle.opgp_keyring.specs.SignedLiteral.{IsReadAs}
 use Rattle.opgp_report.specs.declared.place.Place.{Place}
 use Rattle.opgp_tables.specs.declared.job_row.JobRow.{JobRow}
 use Rattle.opgp_tables.specs.declared.subpacket_row.SubpacketRow.{SubpacketRow}
 use Rattle.opgp_tables.specs.declared.table_sizes.TableSizes.{TableSizes}
 use Rattle.opgp_tables.specs.DocumentJobs.{Answer, document_job_bytes, document_job_rows, document_jobs_from, document_row, document_subpacket_bytes, document_subpackets_from, document_subs, made_octets, made_read, read_shown, signature_place, sub_octets}
-use Rattle.opgp_ring.specs.Keyring.{KeyringValue}
+use Rattle.opgp_keyring.specs.Keyring.{KeyringValue}
 use Rattle.opgp_tables.specs.Filling.{Fills}
 use Rattle.opgp_tables.specs.Jobs.{issuer_in, parts_read, prints_in, signature_parts, sizes_in}
 use Rattle.opgp_tables.specs.Parts.{cuts}

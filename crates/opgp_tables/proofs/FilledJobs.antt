@@ -1,17 +1,26 @@
 -- A caller's table of jobs that is filled by visiting signatures.
-use Rattle.std.proofs.Common.{◌≡◌, ◌∙◌, ℕ, ◌+◌, ◌≤◌, List, [], ◌∷◌, ◌++◌, length, drop, Result, Ok, Err, refl, ap, subst, arith, length-append, append-nil, zero-add, inl, inr}
+use Rattle.std.proofs.Common.{◌≡◌, ◌∙◌, ℕ, ◌+◌, ◌≤◌, List, [], ◌∷◌, ◌++◌, length, map, get_or, drop, Option, Some, Result, Ok, Err, refl, sym, ap, subst, arith, length-append, append-nil, zero-add, inl, inr}
 use Rattle.std.proofs.lemmas.Bool.{cases_lt}
 use Rattle.std.specs.List.{flat_map}
+use denote.Bor.{Bor}
+use Rattle.opgp_octets.specs.declared.fault.BodyFault.{BodyFault}
+use Rattle.opgp_packet.specs.SignatureBody.{SignatureValue}
+use Rattle.opgp_packet.specs.SigView.{sig_view_value}
+use Rattle.opgp_packet.specs.declared.sig_view.SigView.{SigView}
 use Rattle.opgp_hash.specs.declared.fingerprints.Fingerprint.{Fingerprint}
+use Rattle.opgp_report.specs.Asked.{IsMet, PosedValue}
+use Rattle.opgp_report.specs.declared.place.Place.{Place}
+use Rattle.opgp_tables.specs.declared.job_row.Answered.{Answered}
 use Rattle.opgp_report.specs.KeyIndex.{prints_shown}
 use Rattle.opgp_report.specs.Standing.{Standing, standing_in}
-use Rattle.opgp_ring.specs.Keyring.{KeyringValue}
+use Rattle.opgp_keyring.specs.Keyring.{KeyringValue}
 use Rattle.opgp_tables.specs.declared.job_filler.JobFiller.{JobFiller}
 use Rattle.opgp_tables.specs.declared.job_row.JobRow.{JobRow}
 use Rattle.opgp_tables.specs.declared.table_sizes.TableSizes.{TableSizes}
 use Rattle.opgp_tables.specs.FilledJobs.{FillsJobs}
 use Rattle.opgp_tables.specs.Filling.{Fills}
-use Rattle.opgp_tables.specs.Jobs.{job_bytes, job_octets, job_row, job_rows, jobs_from, prints_in}
+use Rattle.opgp_tables.specs.Jobs.{answer_to, issuer_in, job_bytes, job_octets, job_row, job_rows, jobs_from, made_in, parts_read, prints_in, row_read, said_parts, signature_parts, signature_row}
+use Rattle.opgp_tables.specs.Parts.{two, values_of}
 use Rattle.opgp_tables.specs.declared.job_filler.NoRoom.{NoRoom}
 use Rattle.opgp_tables.proofs.Filling.{both, nothing}
 
@@ -24,6 +33,38 @@ put_both prints s more here mid there rows rows1 rows' bytes bytes1 bytes' f g =
     let h : Fills (jobs_from prints (here.bytes + length (job_octets s)) more) (flat_map job_octets more) mid there rows1 rows' bytes1 bytes' =
     subst (λ (at : ℕ). Fills (jobs_from prints at more) (flat_map job_octets more) mid there rows1 rows' bytes1 bytes') f.bytes_there g in
     both (job_row prints here.bytes s ∷ []) (jobs_from prints (here.bytes + length (job_octets s)) more) (job_octets s) (flat_map job_octets more) here mid there rows rows1 rows' bytes bytes1 bytes' f h
+
+-- an array of two is read at both places
+abbrev nowhere : Bor (List ℕ)
+nowhere = record { ref_ptr = (0, 0); now = [] }
+
+both_read : (r : List (Bor (List ℕ))) → (get_or r 0 nowhere).now ∷ (get_or r 1 nowhere).now ∷ [] ≡ get_or (map (λ (o : Bor (List ℕ)). o.now) r) 0 [] ∷ get_or (map (λ (o : Bor (List ℕ)). o.now) r) 1 [] ∷ []
+both_read [] = refl
+both_read (x ∷ []) = refl
+both_read (x ∷ y ∷ r) = refl
+
+two_read : (l : List (List ℕ)) → get_or (two l) 0 [] ∷ get_or (two l) 1 [] ∷ [] ≡ two l
+two_read [] = refl
+two_read (a ∷ []) = refl
+two_read (a ∷ b ∷ more) = refl
+
+-- the two parts and the name are what is said
+pub three_said : (v : SignatureValue) (r : List (Bor (List ℕ))) (o name : List ℕ) → map (λ (o : Bor (List ℕ)). o.now) r ≡ signature_parts v → name ≡ issuer_in v → o ≡ name
+    → (get_or r 0 (record { ref_ptr = (0, 0); now = [] })).now ∷ (get_or r 1 (record { ref_ptr = (0, 0); now = [] })).now ∷ o ∷ [] ≡ said_parts v
+three_said v r o name e f g =
+    let parts : (get_or r 0 nowhere).now ∷ (get_or r 1 nowhere).now ∷ [] ≡ signature_parts v =
+    both_read r ∙ ap (λ (l : List (List ℕ)). get_or l 0 [] ∷ get_or l 1 [] ∷ []) e ∙ two_read (values_of (made_in v)) in
+    ap (λ (l : List (List ℕ)). l ++ o ∷ []) parts ∙ ap (λ (n : List ℕ). signature_parts v ++ n ∷ []) (g ∙ f)
+
+-- a signature that is met
+pub row_met : (prints : List Fingerprint) (place : Place) (at : ℕ) (met : Option SigView) (view : SigView) (read : Result SignatureValue BodyFault) (posed : PosedValue) (answer : Answered)
+    → met ≡ Some view → IsMet met read → answer ≡ answer_to posed
+    → (signature_row prints place at (sig_view_value view) answer ≡ row_read prints place at read posed) × (flat_map (λ (o : List ℕ). o) (said_parts (sig_view_value view)) ≡ flat_map (λ (o : List ℕ). o) (parts_read read))
+row_met prints place at met view read posed answer is reads answered =
+    let e : read ≡ Ok (sig_view_value view) = subst (λ (m : Option SigView). IsMet m read) is reads in (
+      ap (λ (a : Answered). signature_row prints place at (sig_view_value view) a) answered ∙ sym (ap (λ (r : Result SignatureValue BodyFault). row_read prints place at r posed) e),
+      sym (ap (λ (r : Result SignatureValue BodyFault). flat_map (λ (o : List ℕ). o) (parts_read r)) e),
+    )
 
 pub job_step : {E : Type 0} (old new : JobFiller) (s : Standing) (more : List Standing) (row : JobRow) (octets : List ℕ)
     → row ≡ job_row (prints_shown old.names.now) old.here.bytes s → octets ≡ job_octets s

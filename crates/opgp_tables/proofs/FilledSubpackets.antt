@@ -1,18 +1,23 @@
 -- A caller's table of subpackets that is filled by visiting signatures.
-use Rattle.std.proofs.Common.{◌≡◌, ◌∙◌, ℕ, ◌+◌, ◌≤◌, List, [], ◌∷◌, ◌++◌, length, drop, Result, Ok, Err, refl, sym, ap, subst, arith, length-append, append-nil, zero-add, suc}
+use Rattle.std.proofs.Common.{◌≡◌, ◌∙◌, ℕ, ◌+◌, ◌≤◌, List, [], ◌∷◌, ◌++◌, length, drop, Option, Some, Result, Ok, Err, refl, sym, ap, subst, arith, length-append, append-nil, zero-add, suc}
 use Rattle.std.specs.List.{flat_map}
 use Rattle.opgp_packet.specs.Subpackets.{Sub}
 use Rattle.opgp_report.specs.declared.place.Place.{Place}
 use Rattle.opgp_report.specs.Standing.{Standing}
-use Rattle.opgp_ring.specs.Keyring.{KeyringValue}
+use Rattle.opgp_keyring.specs.Keyring.{KeyringValue}
 use Rattle.opgp_tables.specs.declared.subpacket_row.SubpacketRow.{SubpacketRow}
 use Rattle.opgp_tables.specs.declared.table_sizes.TableSizes.{TableSizes}
 use Rattle.opgp_tables.specs.Filling.{Fills}
 use Rattle.opgp_tables.specs.declared.job_filler.NoRoom.{NoRoom}
 use Rattle.opgp_tables.specs.declared.subpacket_filler.SubpacketFiller.{SubpacketFiller}
 use Rattle.opgp_tables.specs.FilledSubpackets.{FillsSubpackets}
-use Rattle.opgp_tables.specs.Subpackets.{area_octets, area_rows, areas_octets, areas_rows, rows_read, subpacket_bytes, subpacket_octets, subpacket_row, subpacket_rows, subpackets_from, subs_of}
-use Rattle.opgp_packet.specs.SignatureBody.{signature_at}
+use Rattle.opgp_tables.specs.Subpackets.{area_octets, area_rows, areas_octets, areas_rows, octets_read, rows_read, subpacket_bytes, subpacket_octets, subpacket_row, subpacket_rows, subpackets_from, subs_of, subs_read}
+use Rattle.opgp_octets.specs.declared.fault.BodyFault.{BodyFault}
+use Rattle.opgp_packet.specs.Areas.{hashed_subs, unhashed_subs}
+use Rattle.opgp_packet.specs.SignatureBody.{SignatureValue, signature_at}
+use Rattle.opgp_packet.specs.SigView.{sig_view_value}
+use Rattle.opgp_packet.specs.declared.sig_view.SigView.{SigView}
+use Rattle.opgp_report.specs.Asked.{IsMet}
 use Rattle.opgp_tables.proofs.FilledJobs.{both_within}
 use Rattle.opgp_tables.proofs.Filling.{both, nothing}
 
@@ -70,6 +75,29 @@ sub_step old new s more hashed unhashed e d o f m n r b (Err refusal) g =
     omega (arith, length-append (area_rows s.place 1 old.here.bytes hashed) (area_rows s.place 0 (old.here.bytes + length (area_octets hashed)) unhashed), area_many s.place 1 old.here.bytes hashed, area_many s.place 0 (old.here.bytes + length (area_octets hashed)) unhashed) in
     λ h i. g (omega (arith, h, m, f.rows_there, long, ap (λ l. length l) d, length-append hashed unhashed, length-append (subs_of s) (flat_map subs_of more)))
     (omega (arith, i, n, f.bytes_there, ap (λ l. length l) o, length-append (subpacket_octets s) (flat_map subpacket_octets more)))
+
+-- a signature that is met, with its two areas
+pub areas_met : (place : Place) (at : ℕ) (met : Option SigView) (view : SigView) (read : Result SignatureValue BodyFault) (hashed unhashed : List Sub) → met ≡ Some view → IsMet met read
+    → (hashed ≡ hashed_subs (sig_view_value view)) × (unhashed ≡ unhashed_subs (sig_view_value view))
+    → (rows_read place at read ≡ areas_rows place at hashed unhashed) × (subs_read read ≡ hashed ++ unhashed) × (octets_read read ≡ areas_octets hashed unhashed)
+areas_met place at met view read hashed unhashed is reads areas =
+    let v : SignatureValue = sig_view_value view in
+    let e : read ≡ Ok v = subst (λ (m : Option SigView). IsMet m read) is reads in (
+      ap (λ (r : Result SignatureValue BodyFault). rows_read place at r) e ∙ sym (ap (λ (l : List Sub). areas_rows place at l unhashed) areas.0 ∙ ap (λ (l : List Sub). areas_rows place at (hashed_subs v) l) areas.1),
+      ap (λ (r : Result SignatureValue BodyFault). subs_read r) e ∙ sym (ap (λ (l : List Sub). l ++ unhashed) areas.0 ∙ ap (λ (l : List Sub). hashed_subs v ++ l) areas.1),
+      ap (λ (r : Result SignatureValue BodyFault). octets_read r) e ∙ sym (ap (λ (l : List Sub). areas_octets l unhashed) areas.0 ∙ ap (λ (l : List Sub). areas_octets (hashed_subs v) l) areas.1),
+    )
+
+-- its rows are put where those of its areas are
+pub areas_fill : (place there_place : Place) (read : Result SignatureValue BodyFault) (view : SigView) (hashed unhashed : List Sub) (here there : TableSizes) (rows rows' : List SubpacketRow) (bytes bytes' : List ℕ)
+    → place ≡ there_place → read ≡ Ok (sig_view_value view) → (hashed ≡ hashed_subs (sig_view_value view)) × (unhashed ≡ unhashed_subs (sig_view_value view))
+    → Fills (areas_rows place here.bytes hashed unhashed) (areas_octets hashed unhashed) here there rows rows' bytes bytes'
+    → Fills (rows_read there_place here.bytes read) (octets_read read) here there rows rows' bytes bytes'
+areas_fill place there_place read view hashed unhashed here there rows rows' bytes bytes' p e areas f =
+    let a = areas_met place here.bytes (Some view) view read hashed unhashed refl e areas in
+    subst (λ (q : Place). Fills (rows_read q here.bytes read) (octets_read read) here there rows rows' bytes bytes') p
+    (subst (λ (l : List SubpacketRow). Fills l (octets_read read) here there rows rows' bytes bytes') (sym a.0)
+    (subst (λ (o : List ℕ). Fills (areas_rows place here.bytes hashed unhashed) o here there rows rows' bytes bytes') (sym a.2) f))
 
 pub all_put : (r : KeyringValue) (there : TableSizes) (rows rows' : List SubpacketRow) (bytes bytes' : List ℕ)
     → Fills (subpacket_rows r) (subpacket_bytes r) (record { rows = 0; bytes = 0 }) there rows rows' bytes bytes'

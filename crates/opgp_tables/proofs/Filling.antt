@@ -6,7 +6,7 @@ use Rattle.std.proofs.lemmas.List.{drop-drop, take-append-drop}
 use Rattle.std.proofs.Math.Seq.{drop-append-add, set-append_seam, split_at, take-append_seam}
 use borrow.Rule.Slice.PartMut.{put_mid}
 use Rattle.opgp_frame.specs.Packet.{PacketValue}
-use Rattle.opgp_ring.specs.Keyring.{CertificateValue, ComponentValue, certificate_packets, component_packets, KeyringValue}
+use Rattle.opgp_keyring.specs.Keyring.{CertificateValue, ComponentValue, certificate_packets, component_packets, KeyringValue}
 use Rattle.opgp_tables.specs.declared.packet_row.PacketRow.{PacketRow}
 use Rattle.opgp_tables.specs.declared.table_sizes.TableSizes.{TableSizes}
 use Rattle.opgp_tables.specs.Filling.{Fills, put}
@@ -207,13 +207,13 @@ keyring_all r mid there rows rows1 rows' bytes bytes1 bytes' f g =
     (all.rows_put ∙ ap (λ n. packet_rows r ++ drop n rows) (zero-add (length (packet_rows r))), all.bytes_put ∙ ap (λ n. packet_bytes r ++ drop n bytes) (zero-add (length (packet_bytes r))))
 
 -- an item alone
-pub item_fills : {A : Type 0} (x : A) (here : TableSizes) (rows rows' : List A) (bytes : List ℕ) → rows' ≡ put here.rows (x ∷ []) rows → here.rows ≤ length rows → here.bytes ≤ length bytes
-    → Fills {A = A} (x ∷ []) [] here (record { rows = here.rows + 1; bytes = here.bytes }) rows rows' bytes bytes
-item_fills x here rows rows' bytes e h k = record {
+pub item_fills : {A : Type 0} (x : A) (here there : TableSizes) (rows rows' : List A) (bytes : List ℕ) → rows' ≡ put here.rows (x ∷ []) rows → there.rows ≡ here.rows + 1 → there.bytes ≡ here.bytes
+    → here.rows ≤ length rows → here.bytes ≤ length bytes → Fills {A = A} (x ∷ []) [] here there rows rows' bytes bytes
+item_fills x here there rows rows' bytes e r b h k = record {
   rows_put = e;
   bytes_put = put_nothing here.bytes bytes;
-  rows_there = refl;
-  bytes_there = sym (add-zero here.bytes);
+  rows_there = r;
+  bytes_there = b ∙ sym (add-zero here.bytes);
   rows_here = h;
   bytes_here = k;
 }

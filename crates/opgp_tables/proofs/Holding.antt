@@ -9,7 +9,7 @@ use Rattle.opgp_packet.specs.SignatureBody.{SignatureValue, signature_at}
 use Rattle.opgp_packet.specs.Subpackets.{Sub}
 use Rattle.opgp_report.specs.declared.place.Place.{Place}
 use Rattle.opgp_report.specs.Standing.{Standing, standing_in}
-use Rattle.opgp_ring.specs.Keyring.{KeyringValue}
+use Rattle.opgp_keyring.specs.Keyring.{KeyringValue}
 use Rattle.opgp_tables.specs.declared.subpacket_row.SubpacketRow.{SubpacketRow}
 use Rattle.opgp_tables.specs.Subpackets.{area_octets, area_rows, areas_octets, areas_rows, octets_read, rows_read, sub_shown, subpacket_bytes, subpacket_octets, subpacket_row, subpacket_rows, subpacket_shown, subpackets_from, subs_of, subs_read}
 use Rattle.opgp_tables.proofs.Cutting.{here, next}

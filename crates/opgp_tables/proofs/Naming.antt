@@ -8,7 +8,7 @@ use Rattle.opgp_frame.specs.Header.{is_type}
 use Rattle.opgp_hash.specs.Fingerprint.{print_octets}
 use Rattle.opgp_report.specs.First.{print_of}
 use Rattle.opgp_report.specs.Report.{certificate_keys, keys_in, subkey_bodies}
-use Rattle.opgp_ring.specs.Keyring.{CertificateValue, ComponentValue, KeyringValue}
+use Rattle.opgp_keyring.specs.Keyring.{CertificateValue, ComponentValue, KeyringValue}
 use Rattle.opgp_tables.specs.declared.key_row.KeyRow.{KeyRow}
 use Rattle.opgp_tables.specs.Keys.{key_bytes, key_parts, key_row, key_rows, component_keys, component_material, components_keys, certificate_material, certificate_rows, certificates_rows, key_material}
 use Rattle.opgp_tables.specs.Parts.{cuts}

@@ -6,7 +6,7 @@ use Rattle.std.proofs.lemmas.List.{map-append}
 use Rattle.std.proofs.lemmas.Grind.{flat_map-append}
 use Rattle.std.proofs.Math.Seq.{drop-append_seam}
 use Rattle.opgp_frame.specs.Packet.{PacketValue}
-use Rattle.opgp_ring.specs.Keyring.{CertificateValue, ComponentValue, KeyringValue, certificate_packets, component_packets, flat}
+use Rattle.opgp_keyring.specs.Keyring.{CertificateValue, ComponentValue, KeyringValue, certificate_packets, component_packets, flat}
 use Rattle.opgp_tables.specs.declared.packet_row.PacketRow.{PacketRow}
 use Rattle.opgp_tables.specs.Packets.{bodies, packet_row, hangs_packets, component_rows, components_rows, certificate_rows, certificates_rows, packet_rows, packet_bytes, packet_shown, row_shown}
 use Rattle.opgp_tables.specs.Room.{none}

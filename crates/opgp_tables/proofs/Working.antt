@@ -8,7 +8,7 @@ use Rattle.opgp_packet.specs.SignatureBody.{SignatureValue, signature_at}
 use Rattle.opgp_hash.specs.declared.fingerprints.Fingerprint.{Fingerprint}
 use Rattle.opgp_hash.specs.declared.site.Site.{Site}
 use Rattle.opgp_hash.specs.SubjectValue.{SubjectValue}
-use Rattle.opgp_ring.specs.Keyring.{KeyringValue}
+use Rattle.opgp_keyring.specs.Keyring.{KeyringValue}
 use Rattle.opgp_report.specs.declared.place.Place.{Place}
 use Rattle.opgp_report.specs.Asked.{PosedValue, asked_by, asked_of, posed_by, posed_in, question_of}
 use Rattle.opgp_report.specs.Standing.{Standing, standing_in}

@@ -13,7 +13,7 @@ use Rattle.opgp_document.specs.DocumentWhy as document
 use Rattle.opgp_document.specs.declared.document_why.DocumentWhy.{DocumentWhy}
 use Rattle.opgp_document.specs.declared.document_why.DocumentWhy.TheVariants.{Kind}
 use Rattle.opgp_report.specs.declared.place.Place.{Place}
-use Rattle.opgp_ring.specs.Keyring.{KeyringValue}
+use Rattle.opgp_keyring.specs.Keyring.{KeyringValue}
 use Rattle.opgp_tables.specs.declared.job_row.Answered.{Answered}
 use Rattle.opgp_tables.specs.declared.job_row.JobRow.{JobRow}
 use Rattle.opgp_tables.specs.declared.subpacket_row.SubpacketRow.{SubpacketRow}

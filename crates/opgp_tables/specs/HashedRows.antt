@@ -6,7 +6,7 @@ use Rattle.std.specs.List.{flat_map}
 use Rattle.opgp_hash.specs.Hashed.{hashed}
 use Rattle.opgp_hash.specs.QuestionValue.{QuestionValue}
 use Rattle.opgp_report.specs.Asked.{Asked, asked_of}
-use Rattle.opgp_ring.specs.Keyring.{KeyringValue}
+use Rattle.opgp_keyring.specs.Keyring.{KeyringValue}
 use Rattle.opgp_tables.specs.declared.hashed_row.HashedRow.{HashedRow}
 
 -- what a signature hashes, if it is hashed

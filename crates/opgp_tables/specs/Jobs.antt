@@ -27,7 +27,7 @@ use Rattle.opgp_report.specs.Report.{keys_in}
 use Rattle.opgp_report.specs.Named.{named_of}
 use Rattle.opgp_report.specs.Signer.{NameValue, by_print, by_id, unnamed, signer_of}
 use Rattle.opgp_report.specs.Standing.{Standing, standing_in}
-use Rattle.opgp_ring.specs.Keyring.{KeyringValue}
+use Rattle.opgp_keyring.specs.Keyring.{KeyringValue}
 use Rattle.opgp_tables.specs.declared.job_row.Answered.{Answered}
 use Rattle.opgp_tables.specs.declared.job_row.JobRow.{JobRow}
 use Rattle.opgp_tables.specs.Parts.{number_at, two, values_of}

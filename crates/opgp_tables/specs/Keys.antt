@@ -11,7 +11,7 @@ use Rattle.opgp_frame.specs.Header.{is_type}
 use Rattle.opgp_hash.specs.Fingerprint.{print_octets, print_size}
 use Rattle.opgp_hash.specs.KeyId.{id_of}
 use Rattle.opgp_report.specs.First.{print_of}
-use Rattle.opgp_ring.specs.Keyring.{CertificateValue, ComponentValue, KeyringValue}
+use Rattle.opgp_keyring.specs.Keyring.{CertificateValue, ComponentValue, KeyringValue}
 use Rattle.opgp_tables.specs.declared.key_row.KeyRow.{KeyRow}
 use Rattle.opgp_tables.specs.Parts.{number_at, four, values_of}
 use Rattle.opgp_tables.specs.Room.{none, padded}

@@ -2,8 +2,8 @@
 use Rattle.std.specs.Prelude.{ℕ, ◌+◌, List, [], ◌∷◌, ◌++◌, length, replicate, take, drop}
 use Rattle.std.specs.List.{flat_map}
 use Rattle.opgp_frame.specs.Packet.{PacketValue}
-use Rattle.opgp_ring.specs.Keyring.{CertificateValue, ComponentValue, KeyringValue, flat}
-use Rattle.opgp_ring.specs.Keyring.{certificate_packets, component_packets}
+use Rattle.opgp_keyring.specs.Keyring.{CertificateValue, ComponentValue, KeyringValue, flat}
+use Rattle.opgp_keyring.specs.Keyring.{certificate_packets, component_packets}
 use Rattle.opgp_tables.specs.declared.packet_row.PacketRow.{PacketRow}
 use Rattle.opgp_tables.specs.Room.{none}
 

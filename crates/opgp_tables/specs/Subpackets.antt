@@ -13,7 +13,7 @@ use Rattle.opgp_packet.specs.Subpackets.{Sub}
 use Rattle.opgp_packet.specs.SubView.{is_critical, kind_shown}
 use Rattle.opgp_report.specs.declared.place.Place.{Place}
 use Rattle.opgp_report.specs.Standing.{Standing, standing_in}
-use Rattle.opgp_ring.specs.Keyring.{KeyringValue}
+use Rattle.opgp_keyring.specs.Keyring.{KeyringValue}
 use Rattle.opgp_tables.specs.declared.subpacket_row.SubpacketRow.{SubpacketRow}
 use Rattle.opgp_tables.specs.declared.subpacket_values.SubpacketValues.{SubpacketValues}
 use Rattle.opgp_tables.specs.Jobs.{or_none}

@@ -4,9 +4,9 @@ ghost use Rattle.std.specs.Prelude.{◌≡◌, ◌∷◌, [], ◌+◌, ◌<◌, 
 ghost use Rattle.std.specs.Prelude.{OnErr, OnOk};
 ghost use Rattle.opgp_packet.specs.SigView.{sig_view_value};
 ghost use Rattle.opgp_report.specs.KeyIndex.{prints_shown};
-ghost use Rattle.opgp_ring.specs.DetachedSignatures.{detached_packets};
-ghost use Rattle.opgp_ring.specs.Signed.{signature_bodies};
-ghost use Rattle.opgp_ring.specs.SignedLiteral.{signatures_left};
+ghost use Rattle.opgp_keyring.specs.DetachedSignatures.{detached_packets};
+ghost use Rattle.opgp_keyring.specs.Signed.{signature_bodies};
+ghost use Rattle.opgp_keyring.specs.SignedLiteral.{signatures_left};
 ghost use Rattle.opgp_tables.specs.DocumentJobs.{document_answer, document_job_bytes};
 ghost use Rattle.opgp_tables.specs.DocumentJobs.{document_job_rows, document_jobs_from};
 ghost use Rattle.opgp_tables.specs.DocumentJobs.{document_row, is_over_text, made_read};
@@ -17,17 +17,16 @@ ghost use Rattle.opgp_tables.specs.Jobs.{prints_in};
 ghost use Rattle.opgp_tables.specs.Sizes.{capped};
 
 use crate::job_counter::said_octets_in;
-use crate::job_filler::put_job;
+use crate::job_filler::{put_job, put_opaque};
 use crate::job_row::{Answered, JobRow};
-use crate::job_table::{digest_answer, opaque_row, stated_in, why_answer};
-use crate::putting::put_item;
+use crate::job_table::{digest_answer, stated_in, why_answer};
 use crate::table_sizes::TableSizes;
 use opgp_document::DocumentWhy;
 use opgp_hash::Digest;
+use opgp_keyring::{DetachedSignatures, Keyring, Signatures};
 use opgp_octets::{BodyFault, OutOfMemory, SignatureType};
 use opgp_packet::SigView;
 use opgp_report::{KeyIndex, Place, index_keys};
-use opgp_ring::{DetachedSignatures, Keyring, Signatures};
 use std::alloc::Global;
 
 /// The place of the signature of this number: it is in no certificate.
@@ -94,14 +93,7 @@ fn put_signature(
             let answered = document_answer(is_message, view, answer);
             put_job(names, rows, bytes, here, place, view, answered)
         }
-        Err(_) => {
-            let row = opaque_row(place, here.bytes);
-            put_item(rows, here.rows as usize, row);
-            TableSizes {
-                rows: here.rows + 1,
-                bytes: here.bytes,
-            }
-        }
+        Err(_) => put_opaque(rows, here, place),
     }
 }
 

@@ -2,9 +2,9 @@
 
 ghost use Rattle.std.specs.Prelude.{◌≡◌, ◌+◌, ◌≤◌, ◌++◌, drop, length};
 ghost use Rattle.std.specs.List.{flat_map};
-ghost use Rattle.opgp_ring.specs.DetachedSignatures.{detached_packets};
-ghost use Rattle.opgp_ring.specs.Signed.{signature_bodies};
-ghost use Rattle.opgp_ring.specs.SignedLiteral.{signatures_left};
+ghost use Rattle.opgp_keyring.specs.DetachedSignatures.{detached_packets};
+ghost use Rattle.opgp_keyring.specs.Signed.{signature_bodies};
+ghost use Rattle.opgp_keyring.specs.SignedLiteral.{signatures_left};
 ghost use Rattle.opgp_tables.specs.DocumentJobs.{document_subpacket_bytes};
 ghost use Rattle.opgp_tables.specs.DocumentJobs.{document_subpacket_rows, document_subs};
 ghost use Rattle.opgp_tables.specs.DocumentJobs.{read_shown, signature_place};
@@ -15,11 +15,11 @@ ghost use Rattle.opgp_tables.specs.Subpackets.{octets_read, rows_read, subs_read
 use crate::document_jobs::signature_place;
 use crate::subpacket_counter::SubpacketCounter;
 use crate::subpacket_row::SubpacketRow;
-use crate::subpacket_table::put_areas;
+use crate::subpacket_table::{areas_in, put_areas};
 use crate::table_sizes::TableSizes;
+use opgp_keyring::{DetachedSignatures, Signatures};
 use opgp_octets::BodyFault;
 use opgp_packet::SigView;
-use opgp_ring::{DetachedSignatures, Signatures};
 
 /// Puts the subpackets of the signature of this number, and says how many rows and octets there are
 /// then.
@@ -35,12 +35,15 @@ fn put_subpackets(
     ensures { Fills (rows_read (signature_place number) here.bytes (read_shown read.entry))
         (octets_read (read_shown read.entry)) here result rows.old rows.new bytes.old bytes.new }
 {
-    let (hashed, unhashed) = match read {
-        Ok(SigView::Four(view)) => (view.hashed(), view.unhashed()),
-        Ok(SigView::Six(view)) => (view.hashed(), view.unhashed()),
-        Ok(SigView::Three(_) | SigView::Other(_)) | Err(_) => return here,
+    let Ok(view) = read else {
+        return here;
     };
-    put_areas(rows, bytes, here, signature_place(number), hashed, unhashed)
+    match areas_in(view) {
+        Some((hashed, unhashed)) => {
+            put_areas(rows, bytes, here, signature_place(number), hashed, unhashed)
+        }
+        None => here,
+    }
 }
 
 /// Puts the subpackets of so many signatures at the front of two tables that have the room.
@@ -100,15 +103,8 @@ fn add_subpackets(counter: &mut SubpacketCounter, read: Result<SigView<'_>, Body
         ≡ capped (counter.old.sizes.bytes + length (octets_read (read_shown read.entry))) }
 {
     match read {
-        Ok(SigView::Four(view)) => {
-            counter.add_area(view.hashed());
-            counter.add_area(view.unhashed());
-        }
-        Ok(SigView::Six(view)) => {
-            counter.add_area(view.hashed());
-            counter.add_area(view.unhashed());
-        }
-        Ok(SigView::Three(_) | SigView::Other(_)) | Err(_) => counter.sizes.add(0, 0),
+        Ok(view) => counter.add_areas(view),
+        Err(_) => counter.sizes.add(0, 0),
     }
 }
 

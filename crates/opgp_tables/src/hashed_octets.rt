@@ -6,9 +6,9 @@ ghost use Rattle.opgp_hash.specs.Hashed.{hashed};
 ghost use Rattle.opgp_report.specs.Asked.{asked_of, question_in};
 
 use opgp_hash::write_octets;
+use opgp_keyring::Keyring;
 use opgp_octets::OutOfMemory;
 use opgp_report::question_at;
-use opgp_ring::Keyring;
 use std::alloc::Global;
 
 /// The octets that the signature of this row hashes (RFC 9580, 5.2.4), by its number in the table

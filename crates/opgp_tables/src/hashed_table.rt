@@ -54,9 +54,8 @@ impl HashedTable {
             → (self.old.room < length (hashed (question_value question.now)))
             × (self.new.rows.items ≡ self.old.rows.items)
             × (self.new.bytes.items ≡ self.old.bytes.items)) }
-        ensures skip { self.new.skip ≡ self.old.skip }
-        ensures left { self.new.left ≡ self.old.left }
-        ensures count { self.new.count ≡ self.old.count }
+        ensures kept { (self.new.skip ≡ self.old.skip) × (self.new.left ≡ self.old.left)
+            × (self.new.count ≡ self.old.count) }
     {
         let at = self.bytes.len();
         write_octets(question, &mut self.bytes)?;

@@ -7,9 +7,9 @@ ghost use Rattle.opgp_tables.specs.HashedTable.{AddsHashed};
 use crate::hashed_row::HashedRow;
 use crate::hashed_table::{Halt, HashedTable};
 use opgp_hash::CertificateHasher;
+use opgp_keyring::Keyring;
 use opgp_octets::OutOfMemory;
 use opgp_report::{Met, Posed, Visitor, visit};
-use opgp_ring::Keyring;
 use std::alloc::{AllocError, Global};
 
 impl<'a> Visitor<'a> for HashedTable {

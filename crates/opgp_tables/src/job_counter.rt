@@ -9,9 +9,9 @@ ghost use Rattle.opgp_tables.specs.Sizes.{CountsJobs, capped};
 use crate::job_table::{name_in, name_size, parts_of};
 use crate::table_sizes::TableSizes;
 use opgp_hash::CertificateHasher;
+use opgp_keyring::Keyring;
 use opgp_packet::SigView;
 use opgp_report::{Met, Visitor, visit};
-use opgp_ring::Keyring;
 use std::convert::Infallible;
 
 /// How many octets the row of a signature points into.

@@ -1,6 +1,6 @@
 //! A caller's table of jobs, in the making.
 
-ghost use Rattle.std.specs.Prelude.{◌≡◌, ◌∷◌, [], ◌+◌, ◌<◌, ◌≤◌, length};
+ghost use Rattle.std.specs.Prelude.{◌≡◌, ◌∷◌, [], ◌+◌, ◌<◌, ◌≤◌, length, MatchOption};
 ghost use Rattle.std.specs.List.{flat_map};
 ghost use Rattle.opgp_packet.specs.SigView.{sig_view_value};
 ghost use Rattle.opgp_report.specs.IssuerName.{name_value};
@@ -29,15 +29,34 @@ fn name_octets_of(name: &IssuerName) -> &[u8]
     }
 }
 
-/// Puts three pieces, one behind the other.
+/// Puts three pieces, one behind the other, and says where they end.
 #[tactic(auto, using(crate::proofs::Filling::three_put))]
-fn put_three(table: &mut [u8], at: usize, a: &[u8], b: &[u8], c: &[u8])
+fn put_three(table: &mut [u8], at: usize, a: &[u8], b: &[u8], c: &[u8]) -> usize
     requires { at + length (flat_map (λ o. o) (a.now ∷ b.now ∷ c.now ∷ [])) ≤ length table.old }
-    ensures { table.new ≡ put at (flat_map (λ o. o) (a.now ∷ b.now ∷ c.now ∷ [])) table.old }
+    ensures put { table.new ≡ put at (flat_map (λ o. o) (a.now ∷ b.now ∷ c.now ∷ [])) table.old }
+    ensures end { result ≡ at + length (flat_map (λ o. o) (a.now ∷ b.now ∷ c.now ∷ [])) }
 {
+    let second = at + a.len();
+    let third = second + b.len();
     put_octets(table, at, a);
-    put_octets(table, at + a.len(), b);
-    put_octets(table, at + a.len() + b.len(), c);
+    put_octets(table, second, b);
+    put_octets(table, third, c);
+    third + c.len()
+}
+
+/// Puts what the row of a signature points into, and says where it ends.
+fn put_said(bytes: &mut [u8], at: usize, view: SigView<'_>) -> usize
+    requires { at + length (flat_map (λ o. o) (said_parts (sig_view_value view)))
+        ≤ length bytes.old }
+    ensures put { bytes.new
+        ≡ put at (flat_map (λ o. o) (said_parts (sig_view_value view.entry))) bytes.old }
+    ensures end { result
+        ≡ at + length (flat_map (λ o. o) (said_parts (sig_view_value view.entry))) }
+{
+    let [first, second] = parts_of(view);
+    let name = name_in(view);
+    let third = name_octets_of(&name);
+    put_three(bytes, at, first, second, third)
 }
 
 /// Puts the row of a signature and what it points into, and says how many rows and octets there are
@@ -59,20 +78,26 @@ pub(crate) fn put_job(
         (flat_map (λ o. o) (said_parts (sig_view_value view.entry)))
         here result rows.old rows.new bytes.old bytes.new }
 {
-    let [first, second] = parts_of(view);
-    let name = name_in(view);
-    let third = name_octets_of(&name);
-    let at = here.bytes as usize;
-    put_three(bytes, at, first, second, third);
-    put_item(
-        rows,
-        here.rows as usize,
-        made_row(names, place, here.bytes, view, answer),
-    );
+    let end = put_said(bytes, here.bytes as usize, view);
+    let row = made_row(names, place, here.bytes, view, answer);
+    put_item(rows, here.rows as usize, row);
     TableSizes {
         rows: here.rows + 1,
-        bytes: (at + first.len() + second.len() + third.len()) as u64,
+        bytes: end as u64,
     }
+}
+
+/// Puts the row of octets that aren't a signature, and says how many rows and octets there are then.
+pub(crate) fn put_opaque(rows: &mut [JobRow], here: TableSizes, place: Place) -> TableSizes
+    requires { here.rows < length rows.old }
+    ensures put { rows.new ≡ put here.rows (opaque_row place here.bytes ∷ []) rows.old }
+    ensures rows { result.rows ≡ here.rows + 1 }
+    ensures bytes { result.bytes ≡ here.bytes }
+{
+    put_item(rows, here.rows as usize, opaque_row(place, here.bytes));
+    let mut behind = here;
+    behind.rows += 1;
+    behind
 }
 
 /// A caller's table of jobs, which is filled so far, and the index of the keyring's keys.
@@ -82,6 +107,23 @@ pub(crate) struct JobFiller<'n, 't> {
     pub(crate) rows: &'t mut [JobRow],
     pub(crate) bytes: &'t mut [u8],
     pub(crate) here: TableSizes,
+}
+
+impl JobFiller<'_, '_> {
+    /// How many octets there is room for, if there is room for a row.
+    fn room(&self) -> Option<u64>
+        ensures { MatchOption result
+            (self.now.here.rows < length self.now.rows.now
+            → self.now.here.bytes ≤ length self.now.bytes.now → ⊥)
+            (λ left. (self.now.here.rows < length self.now.rows.now)
+            × (self.now.here.bytes + left ≡ length self.now.bytes.now)) }
+    {
+        if self.here.rows < self.rows.len() as u64 {
+            (self.bytes.len() as u64).checked_sub(self.here.bytes)
+        } else {
+            None
+        }
+    }
 }
 
 /// There is too little room.
@@ -94,31 +136,20 @@ impl<'a> Visitor<'a> for JobFiller<'_, '_> {
     ghost becomes = { FillsJobs };
 
     fn meet(&mut self, hasher: &mut CertificateHasher<'a>, met: &Met<'a>) -> Result<(), NoRoom> {
-        let Some(left) = (self.bytes.len() as u64).checked_sub(self.here.bytes) else {
+        let Some(left) = self.room() else {
             return Err(NoRoom);
         };
-        if self.here.rows >= self.rows.len() as u64 {
-            return Err(NoRoom);
-        }
         match met.signature {
             Some(signature) => {
                 if said_octets_in(signature) > left {
                     return Err(NoRoom);
                 }
-                let posed = met.asked(hasher);
-                let answer = answer_to(hasher, posed);
+                let answer = answer_to(hasher, met);
                 self.here = put_job(
                     self.names, self.rows, self.bytes, self.here, met.place, signature, answer,
                 );
             }
-            None => {
-                put_item(
-                    self.rows,
-                    self.here.rows as usize,
-                    opaque_row(met.place, self.here.bytes),
-                );
-                self.here.rows += 1;
-            }
+            None => self.here = put_opaque(self.rows, self.here, met.place),
         }
         Ok(())
     }

@@ -1,11 +1,13 @@
 //! The table of a keyring's jobs.
 
-ghost use Rattle.std.specs.Prelude.{◌≡◌, ◌≤◌, ◌++◌, drop, length, map, IfOk, OnOk, OnErr};
+ghost use Rattle.std.specs.Prelude.{◌≡◌, ◌≤◌, ◌++◌, drop, length, map, Result, OnOk, OnErr};
+ghost use Rattle.opgp_octets.specs.declared.fault.BodyFault.{BodyFault};
+ghost use Rattle.opgp_packet.specs.SignatureBody.{SignatureValue};
 ghost use Rattle.opgp_packet.specs.SigView.{sig_view_value};
 ghost use Rattle.opgp_packet.specs.SubView.{sub_shown};
 ghost use Rattle.opgp_packet.specs.Subs.{subs_to_come};
 ghost use Rattle.opgp_hash.specs.CertificateHasher.{hasher_subject};
-ghost use Rattle.opgp_report.specs.Asked.{posed_value};
+ghost use Rattle.opgp_report.specs.Asked.{IsMet, posed_in};
 ghost use Rattle.opgp_report.specs.Left.{left_in};
 ghost use Rattle.opgp_report.specs.IssuerName.{name_value};
 ghost use Rattle.opgp_report.specs.KeyIndex.{prints_shown};
@@ -22,13 +24,13 @@ use crate::key_row::NONE;
 use crate::parts::signature_parts;
 use crate::table_sizes::TableSizes;
 use opgp_hash::{CertificateHasher, Digest, Fingerprint, KeyId, Why};
+use opgp_keyring::Keyring;
 use opgp_octets::{OutOfMemory, SubpacketKind};
 use opgp_packet::{SigView, SubView, Subs};
 use opgp_report::{
-    IssuerName, Job, KeyIndex, LeftOctets, Place, Posed, Verdict, Verifier, index_keys,
+    IssuerName, Job, KeyIndex, LeftOctets, Met, Place, Posed, Verdict, Verifier, index_keys,
     issuer_named, signer, visit,
 };
-use opgp_ring::Keyring;
 use std::alloc::Global;
 
 fn why_number(why: Why) -> u8
@@ -247,16 +249,18 @@ pub(crate) fn why_answer(number: u8) -> Answered
 
 /// The digest of a signature's question, and whether it differs from the left octets; or why it
 /// isn't hashed.
-pub(crate) fn answer_to(hasher: &mut CertificateHasher<'_>, posed: Posed<'_>) -> Answered
-    requires { IfOk (posed_value posed) (λ x. x.1.subject ≡ hasher_subject hasher.old) }
+pub(crate) fn answer_to<'a>(hasher: &mut CertificateHasher<'a>, met: &Met<'a>) -> Answered
     ensures subject { hasher_subject hasher.new ≡ hasher_subject hasher.old }
-    ensures value { result ≡ answer_to (posed_value posed.entry) }
+    ensures value { (read : Result SignatureValue BodyFault) → IsMet met.now.signature read
+        → result ≡ answer_to (posed_in met.now.site (hasher_subject hasher.old) read) }
 {
-    let (signature, question) = match posed {
-        Posed::Question(signature, question) => (signature, question),
-        Posed::Nothing(why) => return why_answer(why_number(why)),
-    };
-    digest_answer(signature, hasher.digest(&question))
+    let posed = met.asked(hasher);
+    match posed {
+        Posed::Question(signature, question) => {
+            digest_answer(signature, hasher.digest(&question))
+        }
+        Posed::Nothing(why) => why_answer(why_number(why)),
+    }
 }
 
 /// The row of a signature whose octets stand here.

@@ -3,16 +3,16 @@
 ghost use Rattle.std.specs.Prelude.{◌≡◌, ◌+◌, ◌∷◌, [], length};
 ghost use Rattle.std.specs.List.{flat_map};
 ghost use Rattle.opgp_packet.specs.Parsed.{body_octets};
-ghost use Rattle.opgp_ring.specs.Grouped.{component_of, components_left};
+ghost use Rattle.opgp_keyring.specs.Grouped.{component_of, components_left};
 ghost use Rattle.opgp_report.specs.Report.{certificate_keys, subkey_bodies};
 ghost use Rattle.opgp_tables.specs.Keys.{certificate_material, component_material, key_bytes};
 ghost use Rattle.opgp_tables.specs.Keys.{key_material, key_rows};
 ghost use Rattle.opgp_tables.specs.Sizes.{capped};
 
-use crate::parts::key_parts;
+use crate::parts::material_parts;
 use crate::table_sizes::TableSizes;
+use opgp_keyring::{Certificate, Component, Components, Head, Keyring};
 use opgp_packet::KeyView;
-use opgp_ring::{Certificate, Component, Components, Head, Keyring};
 
 /// How many octets four pieces have.
 #[tactic(auto, using(crate::proofs::Counting::four_parts))]
@@ -29,8 +29,7 @@ fn octets_in_four(a: &[u8], b: &[u8], c: &[u8], d: &[u8]) -> u64
 fn material_octets_in(key: KeyView<'_>) -> u64
     ensures { result ≡ capped (length (key_material (body_octets key.entry))) }
 {
-    opgp_packet::key_laws::written(&key);
-    let [a, b, c, d] = key_parts(key.material());
+    let [a, b, c, d] = material_parts(key);
     octets_in_four(a, b, c, d)
 }
 

@@ -3,20 +3,20 @@
 ghost use Rattle.std.specs.Prelude.{◌≡◌, ◌++◌, ◌∷◌, [], ◌+◌, ◌<◌, ◌^◌, length, map, OnOk, IfOk};
 ghost use Rattle.std.specs.List.{flat_map};
 ghost use Rattle.opgp_packet.specs.Parsed.{body_octets};
-ghost use Rattle.opgp_ring.specs.Grouped.{component_of, components_left};
-ghost use Rattle.opgp_ring.specs.Keyring.{component_packets};
+ghost use Rattle.opgp_keyring.specs.Grouped.{component_of, components_left};
+ghost use Rattle.opgp_keyring.specs.Keyring.{component_packets};
 ghost use Rattle.opgp_report.specs.First.{print_of};
 ghost use Rattle.opgp_tables.specs.Keys.{key_material, key_row, component_keys, component_material};
 ghost use Rattle.opgp_tables.specs.Keys.{components_keys, certificate_rows, certificate_material};
 ghost use Rattle.opgp_tables.specs.Keys.{certificates_rows, key_rows, key_bytes};
 
 use crate::key_row::{KeyRow, NONE, print_padded};
-use crate::parts::key_parts;
+use crate::parts::material_parts;
 use crate::table_sizes::TableSizes;
 use opgp_hash::{Fingerprint, KeyId, fingerprint_of_view};
+use opgp_keyring::{Certificate, Component, Components, Head, Keyring};
 use opgp_octets::OutOfMemory;
 use opgp_packet::KeyView;
-use opgp_ring::{Certificate, Component, Components, Head, Keyring};
 use std::alloc::Global;
 
 /// Adds four pieces. Fails only when out of memory.
@@ -28,8 +28,7 @@ fn add_four(bytes: &mut Vec<u8>, a: &[u8], b: &[u8], c: &[u8], d: &[u8]) -> Resu
     bytes.extend_from_slice(a)?;
     bytes.extend_from_slice(b)?;
     bytes.extend_from_slice(c)?;
-    bytes.extend_from_slice(d)?;
-    Ok(())
+    bytes.extend_from_slice(d)
 }
 
 /// The fingerprint of a key.
@@ -40,6 +39,43 @@ fn print_of(key: KeyView<'_>) -> Fingerprint
     let _body = key.body();
     let _version = key.version();
     fingerprint_of_view(key)
+}
+
+/// The row of a key whose material stands here.
+fn row_of(certificate: u64, component: u64, at: u64, key: KeyView<'_>) -> KeyRow
+    ensures { result ≡ key_row certificate component at (body_octets key.entry) }
+{
+    opgp_packet::key_laws::written(&key);
+    let [a, b, c, d] = material_parts(key);
+    let named = print_of(key);
+    let KeyId(key_id) = named.key_id();
+    KeyRow {
+        certificate,
+        component,
+        at,
+        sizes: [
+            a.len() as u64,
+            b.len() as u64,
+            c.len() as u64,
+            d.len() as u64,
+        ],
+        created: key.created(),
+        version: key.version(),
+        algorithm: key.algorithm(),
+        print_size: named.octets().len() as u8,
+        print: print_padded(named),
+        key_id,
+        reserved: [0; 9],
+    }
+}
+
+/// Adds a key's material. Fails only when out of memory.
+fn add_material(bytes: &mut Vec<u8>, key: KeyView<'_>) -> Result<(), OutOfMemory>
+    ensures { OnOk result
+        (bytes.new.items ≡ bytes.old.items ++ key_material (body_octets key.entry)) }
+{
+    let [a, b, c, d] = material_parts(key);
+    add_four(bytes, a, b, c, d)
 }
 
 /// Adds a key's row and its material. Fails only when out of memory.
@@ -55,33 +91,9 @@ fn add_key(
     ensures bytes { OnOk result
         (bytes.new.items ≡ bytes.old.items ++ key_material (body_octets key.entry)) }
 {
-    opgp_packet::key_laws::written(&key);
     let at = bytes.len() as u64;
-    let [a, b, c, d] = key_parts(key.material());
-    add_four(bytes, a, b, c, d)?;
-    let sizes = [
-        a.len() as u64,
-        b.len() as u64,
-        c.len() as u64,
-        d.len() as u64,
-    ];
-    let named = print_of(key);
-    let print_size = named.octets().len() as u8;
-    let print = print_padded(named);
-    let KeyId(key_id) = named.key_id();
-    rows.push(KeyRow {
-        certificate,
-        component,
-        at,
-        sizes,
-        created: key.created(),
-        version: key.version(),
-        algorithm: key.algorithm(),
-        print_size,
-        print,
-        key_id,
-        reserved: [0; 9],
-    })?;
+    add_material(bytes, key)?;
+    rows.push(row_of(certificate, component, at, key))?;
     Ok(())
 }
 

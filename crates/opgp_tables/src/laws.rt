@@ -10,7 +10,7 @@ ghost use Rattle.opgp_report.specs.Asked.{asked_of};
 ghost use Rattle.opgp_report.specs.First.{print_of};
 ghost use Rattle.opgp_report.specs.Report.{keys_in};
 ghost use Rattle.opgp_report.specs.Standing.{standing_in};
-ghost use Rattle.opgp_ring.specs.Keyring.{KeyringValue, flat};
+ghost use Rattle.opgp_keyring.specs.Keyring.{KeyringValue, flat};
 ghost use Rattle.opgp_packet.specs.SignatureBody.{signature_at};
 ghost use Rattle.opgp_tables.specs.DocumentJobs.{Answer, document_job_bytes, document_job_rows};
 ghost use Rattle.opgp_tables.specs.FaultRow.{fault_of, fault_row};

@@ -1,12 +1,12 @@
 //! The size of the table of a keyring's packets.
 
 ghost use Rattle.std.specs.Prelude.{◌≡◌, length};
-ghost use Rattle.opgp_ring.specs.Member.{members_left};
+ghost use Rattle.opgp_keyring.specs.Member.{members_left};
 ghost use Rattle.opgp_tables.specs.Packets.{bodies, packet_bytes, packet_rows};
 ghost use Rattle.opgp_tables.specs.Sizes.{capped};
 
 use crate::table_sizes::TableSizes;
-use opgp_ring::{Keyring, Members};
+use opgp_keyring::{Keyring, Members};
 
 /// How many octets the bodies of packets have.
 fn body_octets_in(mut members: Members<'_>) -> u64

@@ -2,9 +2,9 @@
 
 ghost use Rattle.std.specs.Prelude.{◌≡◌, ◌∷◌, ◌++◌, [], ◌+◌, ◌<◌, ◌≤◌, ◌^◌, drop, length};
 ghost use Rattle.std.specs.List.{flat_map};
-ghost use Rattle.opgp_ring.specs.Grouped.{component_of, components_left, hangs_left};
-ghost use Rattle.opgp_ring.specs.Keyring.{certificate_packets, component_packets, flat};
-ghost use Rattle.opgp_ring.specs.Member.{member_packet, members_left};
+ghost use Rattle.opgp_keyring.specs.Grouped.{component_of, components_left, hangs_left};
+ghost use Rattle.opgp_keyring.specs.Keyring.{certificate_packets, component_packets, flat};
+ghost use Rattle.opgp_keyring.specs.Member.{member_packet, members_left};
 ghost use Rattle.opgp_tables.specs.Filling.{Fills};
 ghost use Rattle.opgp_tables.specs.Packets.{bodies, packet_row, hangs_packets, component_rows};
 ghost use Rattle.opgp_tables.specs.Packets.{components_rows, certificate_rows, certificates_rows};
@@ -14,7 +14,7 @@ use crate::key_row::NONE;
 use crate::packet_row::PacketRow;
 use crate::putting::{put_item, put_octets};
 use crate::table_sizes::TableSizes;
-use opgp_ring::{Certificate, Component, Components, Hangs, Keyring, Member, Members};
+use opgp_keyring::{Certificate, Component, Components, Hangs, Keyring, Member, Members};
 
 /// Where a packet stands.
 #[derive(Clone, Copy)]

@@ -2,10 +2,12 @@
 
 ghost use Rattle.std.specs.Prelude.{◌≡◌, ◌++◌, ◌∷◌, [], map};
 ghost use Rattle.opgp_packet.specs.KeyMaterial as of_key;
+ghost use Rattle.opgp_packet.specs.Parsed.{body_octets};
 ghost use Rattle.opgp_packet.specs.SignatureMaterial as of_signature;
+ghost use Rattle.opgp_tables.specs.Keys.{key_parts};
 ghost use Rattle.opgp_tables.specs.Parts.{four, two, values_of};
 
-use opgp_packet::{MaterialView, SignatureMaterialView};
+use opgp_packet::{KeyView, MaterialView, SignatureMaterialView};
 
 /// The fields of a key's material; empty ones after them.
 pub(crate) fn key_parts<'a>(material: MaterialView<'a>) -> [&'a [u8]; 4]
@@ -25,6 +27,14 @@ pub(crate) fn key_parts<'a>(material: MaterialView<'a>) -> [&'a [u8]; 4]
         | MaterialView::Ed448(octets)
         | MaterialView::Opaque(octets) => [octets, &[], &[], &[]],
     }
+}
+
+/// The fields of a key's material, by its body.
+pub(crate) fn material_parts<'a>(key: KeyView<'a>) -> [&'a [u8]; 4]
+    ensures { map (λ o. o.now) result ≡ key_parts (body_octets key.entry) }
+{
+    opgp_packet::key_laws::written(&key);
+    key_parts(key.material())
 }
 
 /// The fields of what a signature's algorithm made; empty ones after them.

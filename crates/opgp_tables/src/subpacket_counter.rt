@@ -1,15 +1,18 @@
 //! The size of the table of the subpackets of a keyring's signatures.
 
-ghost use Rattle.std.specs.Prelude.{◌≡◌, ◌+◌, length};
+ghost use Rattle.std.specs.Prelude.{◌≡◌, ◌+◌, Ok, length};
+ghost use Rattle.opgp_packet.specs.SigView.{sig_view_value};
 ghost use Rattle.opgp_packet.specs.Subs.{subs_to_come};
 ghost use Rattle.opgp_tables.specs.Sizes.{CountsSubpackets, capped};
-ghost use Rattle.opgp_tables.specs.Subpackets.{area_octets, subpacket_bytes, subpacket_rows};
+ghost use Rattle.opgp_tables.specs.Subpackets.{area_octets, octets_read, subpacket_bytes};
+ghost use Rattle.opgp_tables.specs.Subpackets.{subpacket_rows, subs_read};
 
+use crate::subpacket_table::areas_in;
 use crate::table_sizes::TableSizes;
 use opgp_hash::CertificateHasher;
+use opgp_keyring::Keyring;
 use opgp_packet::{SigView, Subs};
 use opgp_report::{Met, Visitor, visit};
-use opgp_ring::Keyring;
 use std::convert::Infallible;
 
 /// Counts the subpackets of a keyring's signatures.
@@ -34,6 +37,22 @@ impl SubpacketCounter {
         }
         self.sizes.add(rows, bytes);
     }
+
+    /// Counts a signature's subpackets.
+    pub(crate) fn add_areas(&mut self, view: SigView<'_>)
+        ensures rows { self.new.sizes.rows ≡ capped (self.old.sizes.rows
+            + length (subs_read (Ok (sig_view_value view.entry)))) }
+        ensures bytes { self.new.sizes.bytes ≡ capped (self.old.sizes.bytes
+            + length (octets_read (Ok (sig_view_value view.entry)))) }
+    {
+        match areas_in(view) {
+            Some((hashed, unhashed)) => {
+                self.add_area(hashed);
+                self.add_area(unhashed);
+            }
+            None => self.sizes.add(0, 0),
+        }
+    }
 }
 
 impl<'a> Visitor<'a> for SubpacketCounter {
@@ -47,15 +66,8 @@ impl<'a> Visitor<'a> for SubpacketCounter {
         met: &Met<'a>,
     ) -> Result<(), Infallible> {
         match met.signature {
-            Some(SigView::Four(view)) => {
-                self.add_area(view.hashed());
-                self.add_area(view.unhashed());
-            }
-            Some(SigView::Six(view)) => {
-                self.add_area(view.hashed());
-                self.add_area(view.unhashed());
-            }
-            Some(SigView::Three(_) | SigView::Other(_)) | None => self.sizes.add(0, 0),
+            Some(view) => self.add_areas(view),
+            None => self.sizes.add(0, 0),
         }
         Ok(())
     }

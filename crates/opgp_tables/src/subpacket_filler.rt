@@ -9,12 +9,12 @@ ghost use Rattle.opgp_tables.specs.Subpackets.{area_octets, subpacket_bytes, sub
 use crate::job_filler::NoRoom;
 use crate::subpacket_counter::SubpacketCounter;
 use crate::subpacket_row::SubpacketRow;
-use crate::subpacket_table::put_areas;
+use crate::subpacket_table::{areas_in, put_areas};
 use crate::table_sizes::TableSizes;
 use opgp_hash::CertificateHasher;
-use opgp_packet::{SigView, Subs};
+use opgp_keyring::Keyring;
+use opgp_packet::Subs;
 use opgp_report::{Met, Visitor, visit};
-use opgp_ring::Keyring;
 
 /// How large the tables of two areas are.
 fn sizes_of(hashed: Subs<'_>, unhashed: Subs<'_>) -> TableSizes
@@ -56,10 +56,11 @@ impl<'a> Visitor<'a> for SubpacketFiller<'_> {
     ghost becomes = { FillsSubpackets };
 
     fn meet(&mut self, _hasher: &mut CertificateHasher<'a>, met: &Met<'a>) -> Result<(), NoRoom> {
-        let (hashed, unhashed) = match met.signature {
-            Some(SigView::Four(view)) => (view.hashed(), view.unhashed()),
-            Some(SigView::Six(view)) => (view.hashed(), view.unhashed()),
-            Some(SigView::Three(_) | SigView::Other(_)) | None => return Ok(()),
+        let Some(signature) = met.signature else {
+            return Ok(());
+        };
+        let Some((hashed, unhashed)) = areas_in(signature) else {
+            return Ok(());
         };
         let wanted = sizes_of(hashed, unhashed);
         if !has_room(

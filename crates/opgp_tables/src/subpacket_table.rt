@@ -1,6 +1,8 @@
 //! The table of the subpackets of a keyring's signatures.
 
-ghost use Rattle.std.specs.Prelude.{◌≡◌, ◌∷◌, [], ◌+◌, ◌<◌, ◌≤◌, ◌^◌, length};
+ghost use Rattle.std.specs.Prelude.{◌≡◌, ◌∷◌, [], ◌+◌, ◌<◌, ◌≤◌, ◌^◌, length, MatchOption};
+ghost use Rattle.opgp_packet.specs.Areas.{hashed_subs, unhashed_subs};
+ghost use Rattle.opgp_packet.specs.SigView.{sig_view_value};
 ghost use Rattle.opgp_packet.specs.Subs.{subs_to_come};
 ghost use Rattle.opgp_packet.specs.SubMeaning.{meaning_shown};
 ghost use Rattle.opgp_packet.specs.SubView.{sub_shown};
@@ -13,7 +15,7 @@ use crate::putting::{put_item, put_octets};
 use crate::subpacket_row::SubpacketRow;
 use crate::subpacket_values::SubpacketValues;
 use crate::table_sizes::TableSizes;
-use opgp_packet::{SubMeaning, SubView, Subs};
+use opgp_packet::{SigView, SubMeaning, SubView, Subs};
 use opgp_report::Place;
 
 fn meaning_number(meaning: SubMeaning<'_>) -> u8
@@ -106,6 +108,22 @@ fn put_area(
         reached = put_subpacket(rows, bytes, reached, place, is_hashed, subpacket);
     }
     reached
+}
+
+/// The subpackets of a signature's hashed and unhashed area (RFC 9580, 5.2.3); None for a version
+/// that has no areas.
+pub(crate) fn areas_in<'a>(view: SigView<'a>) -> Option<(Subs<'a>, Subs<'a>)>
+    ensures { MatchOption result
+        ((hashed_subs (sig_view_value view.entry) ≡ [])
+        × (unhashed_subs (sig_view_value view.entry) ≡ []))
+        (λ areas. (subs_to_come areas.0 ≡ hashed_subs (sig_view_value view.entry))
+        × (subs_to_come areas.1 ≡ unhashed_subs (sig_view_value view.entry))) }
+{
+    match view {
+        SigView::Four(four) => Some((four.hashed(), four.unhashed())),
+        SigView::Six(six) => Some((six.hashed(), six.unhashed())),
+        SigView::Three(_) | SigView::Other(_) => None,
+    }
 }
 
 /// Puts the subpackets of a signature's areas.

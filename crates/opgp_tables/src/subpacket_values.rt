@@ -28,7 +28,7 @@ impl SubpacketValues {
     {
         match fields {
             Some(fields) => formed(fields),
-            None => values(0, [0, 0], 0, 0),
+            None => values(0, 0, 0, 0, 0),
         }
     }
 }
@@ -39,17 +39,17 @@ fn formed(fields: SubFields<'_>) -> SubpacketValues
     ensures before { result.before ≤ 8 }
 {
     match fields {
-        SubFields::Number(n) => values(1, [n, 0], 4, 0),
-        SubFields::Octet(n) => values(2, [n as u32, 0], 1, 0),
-        SubFields::TwoOctets(a, b) => values(3, [a as u32, b as u32], 2, 0),
-        SubFields::EndedText(text) => values(4, [0, 0], 0, text.len()),
-        SubFields::Octets(octets) => values(5, [0, 0], 0, octets.len()),
+        SubFields::Number(n) => values(1, n, 0, 4, 0),
+        SubFields::Octet(n) => values(2, n as u32, 0, 1, 0),
+        SubFields::TwoOctets(a, b) => values(3, a as u32, b as u32, 2, 0),
+        SubFields::EndedText(text) => values(4, 0, 0, 0, text.len()),
+        SubFields::Octets(octets) => values(5, 0, 0, 0, octets.len()),
         SubFields::Revoker(class, algorithm, fingerprint) => {
-            values(6, [class as u32, algorithm as u32], 2, fingerprint.len())
+            values(6, class as u32, algorithm as u32, 2, fingerprint.len())
         }
         SubFields::KeyId(id) => {
             let octets: &[u8] = &id;
-            values(7, [0, 0], 0, octets.len())
+            values(7, 0, 0, 0, octets.len())
         }
         SubFields::Notation(flags, name, value) => SubpacketValues {
             form: 8,
@@ -57,30 +57,30 @@ fn formed(fields: SubFields<'_>) -> SubpacketValues
             before: 8,
             sizes: [name.len() as u64, value.len() as u64],
         },
-        SubFields::CodeAndText(code, text) => values(9, [code as u32, 0], 1, text.len()),
+        SubFields::CodeAndText(code, text) => values(9, code as u32, 0, 1, text.len()),
         SubFields::Target(algorithm, hash, digest) => {
-            values(10, [algorithm as u32, hash as u32], 2, digest.len())
+            values(10, algorithm as u32, hash as u32, 2, digest.len())
         }
-        SubFields::Signature(body) => values(11, [0, 0], 0, body.len()),
+        SubFields::Signature(body) => values(11, 0, 0, 0, body.len()),
         SubFields::Fingerprint(version, fingerprint) => {
-            values(12, [version as u32, 0], 1, fingerprint.len())
+            values(12, version as u32, 0, 1, fingerprint.len())
         }
-        SubFields::Pairs(pairs) => values(13, [0, 0], 0, pairs.len()),
+        SubFields::Pairs(pairs) => values(13, 0, 0, 0, pairs.len()),
     }
 }
 
 /// The values of a form that has one field of octets at most.
-fn values(form: u8, numbers: [u32; 2], before: u64, size: usize) -> SubpacketValues
+fn values(form: u8, first: u32, second: u32, before: u64, size: usize) -> SubpacketValues
     ensures { result ≡ record {
       form = form;
-      numbers = numbers;
+      numbers = first ∷ second ∷ [];
       before = before;
       sizes = size ∷ 0 ∷ [];
     } }
 {
     SubpacketValues {
         form,
-        numbers,
+        numbers: [first, second],
         before,
         sizes: [size as u64, 0],
     }

@@ -1,9 +1,9 @@
 //! How many allocations are made of packets, and how much room they take.
 
-use opgp_codec::{Mode, ReadError, Watched, read_packets};
+use opgp_codec::{EngineError, Mode, PacketsAnswer, Watched, read_packets};
 use opgp_frame::{Deframe, Form, Packet, Placed};
+use opgp_keyring::{Composer, Ready};
 use opgp_octets::Limits;
-use opgp_ring::{Composer, Ready};
 use std::alloc::Global;
 use std::test::Fail;
 
@@ -98,8 +98,10 @@ const NINE_BLOCKS: &[u8] = b"-----BEGIN PGP MESSAGE-----\n\n6AA=\n-----END PGP M
 fn nine_blocks_in_15_growths(rt: HostRuntime) {
     let mut source = Watched::new(NINE_BLOCKS);
     match read_packets(rt.alloc(), &mut source, Mode::Armor, &Limits::usual()) {
-        Ok(blocks) => assert!(rt; blocks.len() == 9),
-        Err(error) => assert!(rt; matches!(error, ReadError::Memory)),
+        Ok(answer) => {
+            assert!(rt; matches!(&answer, PacketsAnswer::Packets(blocks) if blocks.len() == 9))
+        }
+        Err(error) => assert!(rt; matches!(error, EngineError::Memory)),
     }
 }
 

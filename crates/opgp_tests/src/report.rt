@@ -5,9 +5,9 @@ ghost use Rattle.opgp_report.specs.declared.verifier.Verdict.TheVariants as verd
 use byteorder::{BigEndian, ByteOrder};
 use opgp_codec::{Answer, Mode, Watched, read_keyring};
 use opgp_hash::{Digest, digest};
+use opgp_keyring::Keyring;
 use opgp_octets::Limits;
 use opgp_report::{Finding, Job, Row, Verdict, Verifier, check, question_at};
-use opgp_ring::Keyring;
 use std::alloc::Global;
 use std::cell::Cell;
 use std::test::Fail;

@@ -5,13 +5,13 @@ use Rattle.std.specs.Prelude.{slice_get, option_and_then, option_map}
 use Rattle.std.specs.Str.{bytes_eq}
 use Rattle.std.specs.Str.Parse.{digits_value, without_leading_plus}
 use Rattle.clap.specs.Walk.{row_text}
-use Rattle.clap.specs.Words.{App, Row, Text, read_as}
+use Rattle.clap.specs.Words.{App, Row, Text, read_as, subcommand_of}
 use Rattle.opgp_octets.specs.declared.limits.Limits.{Limits}
 use Rattle.opgp_codec.specs.declared.mode.Mode.{Mode}
 use Rattle.opgp_codec.specs.declared.out.Out.{Out}
 use Rattle.opgp_stack.specs.declared.task.Action.{Action}
 use Rattle.opgp_stack.specs.declared.task.Action.TheVariants as action
-use Rattle.opgp_stack.specs.declared.task.Task.{Task}
+use Rattle.opgp_stack.specs.declared.task.Task.{Task as InputTask}
 use Rattle.opgp_stack.specs.KeyText.{IsKeyText}
 use Rattle.opgp_stack.specs.Time.{IsTime}
 use Rattle.opgp_stack.specs.declared.stating.StateTask.{StateTask}
@@ -20,9 +20,9 @@ use Rattle.opgp_stack.specs.declared.key_name.KeyName.{KeyName}
 use Rattle.opgp_stack.proofs.KeyTexts.{one_name}
 use Rattle.opgp_stack.proofs.Times.{one_time_said}
 use Rattle.opgp_stack.proofs.Zips.{zip_same}
-use Rattle.opgp_tool.specs.Saying.{SaysTask}
+use Rattle.opgp_tool.specs.Saying.{SaysRequest, SaysTask}
 use Rattle.opgp_tool.specs.declared.task.Hints.{Hints}
-use Rattle.opgp_tool.specs.Words.{AreNewest, AreVerdicts, Asked, AskedWork, Chosen, DocumentWork, HasKeys, HasLimits, HasNumber, HasNumbers, HasTime, IsAction, IsChosen, IsDocumentWork, IsGivenNumber, IsNumber, IsRequest, IsSplitWork, IsStatesWith, IsTask, IsWork, SplitWork, texts_of}
+use Rattle.opgp_tool.specs.Words.{AreNewest, AreVerdicts, Asked, AskedBeside, AskedWork, Chosen, DocumentWork, HasKeys, HasLimits, HasNumber, HasNumbers, HasTime, IsAction, IsBeside, IsChosen, IsDocumentWork, IsGivenNumber, IsNumber, IsRequest, IsSplitWork, IsStatesWith, IsTask, IsWork, SplitWork, texts_of}
 use Rattle.opgp_tool.specs.Words.{of_around, of_canonical, of_cleartext, of_difference, of_digests, of_document, of_keys, of_number, of_signatures, of_split, of_states, of_task, of_write}
 use Rattle.opgp_tool.proofs.Reading.{apart, not_both, other_apart, split_named, write_named}
 use Rattle.opgp_tool.proofs.SameLimits.{same_limits}
@@ -60,7 +60,8 @@ name_of action.ListValues = codes "list"
 name_of action.Check = codes "check"
 name_of action.CheckFingerprints = codes "check"
 name_of action.CheckPlaces = codes "check"
-name_of (action.Octets row top explains) = codes "octets"
+name_of (action.Octets row top) = codes "octets"
+name_of (action.Explain row top) = codes "octets"
 name_of action.OctetsAll = codes "octets"
 name_of (action.Write out) = codes "write"
 name_of (action.WriteChosen out choice) = codes "write"
@@ -77,7 +78,8 @@ named name options action.ListValues said = said.0
 named name options action.Check said = said.0
 named name options action.CheckFingerprints said = said.0
 named name options action.CheckPlaces said = said.0
-named name options (action.Octets row top explains) said = said.0
+named name options (action.Octets row top) said = said.0
+named name options (action.Explain row top) said = said.0
 named name options action.OctetsAll said = said.0
 named name options (action.Write out) said = absurd said
 named name options (action.WriteChosen out choice) said = absurd said
@@ -105,11 +107,17 @@ one_action name options action.Check action.CheckPlaces a b = absurd (cc (a.2, b
 one_action name options action.CheckPlaces action.Check a b = absurd (cc (a.2, b.2))
 one_action name options action.CheckFingerprints action.CheckPlaces a b = absurd (cc (a.1, b.1))
 one_action name options action.CheckPlaces action.CheckFingerprints a b = absurd (cc (a.1, b.1))
-one_action name options (action.Octets row top explains) (action.Octets more other also) a b =
-    let rows : row ≡ more = one_number options _ row more a.1 b.1 in cc (rows, a.2, b.2, a.4, b.4)
+one_action name options (action.Octets row top) (action.Octets more other) a b =
+    let rows : row ≡ more = one_number options _ row more a.1 b.1 in cc (rows, a.2, b.2)
+one_action name options (action.Explain row top) (action.Explain more other) a b =
+    let rows : row ≡ more = one_number options _ row more a.1 b.1 in cc (rows, a.2, b.2)
+one_action name options (action.Octets row top) (action.Explain more other) a b = absurd (cc (a.4, b.4))
+one_action name options (action.Explain row top) (action.Octets more other) a b = absurd (cc (a.4, b.4))
 one_action name options action.OctetsAll action.OctetsAll a b = refl
-one_action name options (action.Octets row top explains) action.OctetsAll a b = absurd (cc (a.3, b.1))
-one_action name options action.OctetsAll (action.Octets row top explains) a b = absurd (cc (a.1, b.3))
+one_action name options (action.Octets row top) action.OctetsAll a b = absurd (cc (a.3, b.1))
+one_action name options action.OctetsAll (action.Octets row top) a b = absurd (cc (a.1, b.3))
+one_action name options (action.Explain row top) action.OctetsAll a b = absurd (cc (a.3, b.1))
+one_action name options action.OctetsAll (action.Explain row top) a b = absurd (cc (a.1, b.3))
 one_action name options (action.Write out) y a b = absurd a
 one_action name options (action.WriteChosen out choice) y a b = absurd a
 one_action name options (action.Split out nth) y a b = absurd a
@@ -126,10 +134,10 @@ one_limits options a b m n = same_limits a b (one_number options _ _ _ m.line n.
     (one_number options _ _ _ m.input n.input) (one_number options _ _ _ m.pieces n.pieces)
     (m.outside ∙ sym n.outside) (m.malformed ∙ sym n.malformed)
 
-abbrev task_with : Mode → Limits → Action → Task
+abbrev task_with : Mode → Limits → Action → InputTask
 task_with mode limits action = record { mode = mode; limits = limits; action = action }
 
-one_said : (name : Text) (options : List Row) (a b : Task) → IsTask name options a
+one_said : (name : Text) (options : List Row) (a b : InputTask) → IsTask name options a
     → IsTask name options b → a ≡ b
 one_said name options a b m n =
     ap (λ (x : Mode). task_with x a.limits a.action) (m.mode ∙ sym n.mode)
@@ -181,7 +189,8 @@ of_no_task action.ListValues = refl
 of_no_task action.Check = refl
 of_no_task action.CheckFingerprints = refl
 of_no_task action.CheckPlaces = refl
-of_no_task (action.Octets row top explains) = refl
+of_no_task (action.Octets row top) = refl
+of_no_task (action.Explain row top) = refl
 of_no_task action.OctetsAll = refl
 of_no_task (action.Write out) = refl
 of_no_task (action.WriteChosen out choice) = refl
@@ -331,19 +340,35 @@ one_work name options (of_task a) (of_split y k v) m n = absurd (apart (sym (spl
 one_work name options (of_document x l w) (of_split y k v) m n = absurd (apart (sym (split_named name options y k v n) ∙ other_apart name options (of_document x l w) refl m))
 one_work name options (of_states a f) (of_split y k v) m n = absurd (apart (sym (split_named name options y k v n) ∙ other_apart name options (of_states a f) refl m))
 
-abbrev asked_with : AskedWork → Bool → Hints → Option Text → Asked
-asked_with work progress hints spool = record { work = work; progress = progress; hints = hints; spool = spool }
+abbrev beside_with : Bool → Hints → Option Text → AskedBeside
+beside_with progress hints spool = record { progress = progress; hints = hints; spool = spool }
 
-one_request : (name : Text) (options : List Row) (a b : Asked) → IsRequest name options a
-    → IsRequest name options b → a ≡ b
-one_request name options a b m n =
-    ap (λ (x : AskedWork). asked_with x a.progress a.hints a.spool) (one_work name options _ _ m.work n.work)
-    ∙ ap (λ (x : Bool). asked_with b.work x a.hints a.spool) (m.progress ∙ sym n.progress)
-    ∙ ap (λ (x : Hints). asked_with b.work b.progress x a.spool) (m.hints ∙ sym n.hints)
-    ∙ ap (asked_with b.work b.progress b.hints) (m.spool ∙ sym n.spool)
+one_beside : (options : List Row) (a b : AskedBeside) → IsBeside options a → IsBeside options b → a ≡ b
+one_beside options a b m n =
+    ap (λ (x : Bool). beside_with x a.hints a.spool) (m.progress ∙ sym n.progress)
+    ∙ ap (λ (x : Hints). beside_with b.progress x a.spool) (m.hints ∙ sym n.hints)
+    ∙ ap (beside_with b.progress b.hints) (m.spool ∙ sym n.spool)
 
-pub one_task : (program : App) (words : List Text) (a b : Asked) → SaysTask program words a
-    → SaysTask program words b → a ≡ b
-one_task program words a b m n =
+abbrev asked_with : AskedWork → AskedBeside → Asked
+asked_with work beside = record { work = work; beside = beside }
+
+-- what is said by the same name and options
+said_once : {A : Type 0} (Says : Text → List Row → A → Type 0) → ((name : Text) (options : List Row) (a b : A) → Says name options a → Says name options b → a ≡ b) → (program : App) (words : List Text) (a b : A)
+    → ((name : Text) × (options : List Row) × (subcommand_of program words ≡ Some (name, options)) × Says name options a)
+    → ((name : Text) × (options : List Row) × (subcommand_of program words ≡ Some (name, options)) × Says name options b) → a ≡ b
+said_once Says one program words a b m n =
     let same : (m.0, m.1) ≡ (n.0, n.1) = same_Some _ _ (sym m.2 ∙ n.2) in
-    one_request n.0 n.1 a b (subst (λ (p : Text × List Row). IsRequest p.0 p.1 a) same m.3) n.3
+    one n.0 n.1 a b (subst (λ (p : Text × List Row). Says p.0 p.1 a) same m.3) n.3
+
+pub one_task : (program : App) (words : List Text) (a b : AskedWork) → SaysTask program words a
+    → SaysTask program words b → a ≡ b
+one_task program words a b m n = said_once (λ name options work. IsWork name options work) one_work program words a b m n
+
+one_asked : (name : Text) (options : List Row) (a b : Asked) → IsRequest name options a → IsRequest name options b → a ≡ b
+one_asked name options a b m n =
+    ap (λ (x : AskedWork). asked_with x a.beside) (one_work name options _ _ m.work n.work)
+    ∙ ap (asked_with b.work) (one_beside options _ _ m.beside n.beside)
+
+pub one_request : (program : App) (words : List Text) (a b : Asked) → SaysRequest program words a
+    → SaysRequest program words b → a ≡ b
+one_request program words a b m n = said_once (λ name options asked. IsRequest name options asked) one_asked program words a b m n

@@ -5,7 +5,7 @@ use Rattle.std.specs.Prelude.{IfNone, IfOk, IfSome, option_map}
 use Rattle.clap.specs.Words.{App, Row, Text, subcommand_of, takes}
 use Rattle.opgp_tool.specs.Saying.{SaysNone}
 use Rattle.opgp_words.specs.Program.{IsProgram}
-use Rattle.opgp_tool.specs.Words.{Asked, IsRequest}
+use Rattle.opgp_tool.specs.Words.{AskedWork, IsWork}
 
 -- a name and its rows, from both apart
 pub both : {A : Type 0} (o : Option A) (f : A → Text) (g : A → List Row)
@@ -32,18 +32,23 @@ refused_or app words M made memory = go (takes app words) refl
     go : (b : Bool) → takes app words ≡ b
         → M ⊎ ((program : App) × IsProgram program × SaysNone program words)
     go true is = inl (memory is)
-    go false is = inr (app, made, λ taken request said. absurd (cc (is, taken)))
+    go false is = inr (app, made, λ taken work said. absurd (cc (is, taken)))
 
 -- words say only what their one command says
 pub none_said : (app : App) (words : List Text) (name : Text) (rows : List Row)
     → subcommand_of app words ≡ Some (name, rows)
-    → ((asked : Asked) → IsRequest name rows asked → ⊥) → SaysNone app words
-none_said app words name rows entered none taken request said =
+    → ((work : AskedWork) → IsWork name rows work → ⊥) → SaysNone app words
+none_said app words name rows entered none taken work said =
     let same : (said.0, said.1) ≡ (name, rows) = cc (said.2, entered) in
-    none request (subst (λ (p : Text × List Row). IsRequest p.0 p.1 request) same said.3)
+    none work (subst (λ (p : Text × List Row). IsWork p.0 p.1 work) same said.3)
 
 pub nothing_said : (app : App) (words : List Text) (o : Option (Text × List Row))
     → o ≡ subcommand_of app words → None ≡ option_map (λ (p : Text × List Row). p.1) o
     → SaysNone app words
-nothing_said app words None is none taken request said = absurd (cc (is, said.2))
-nothing_said app words (Some p) is none taken request said = absurd (cc none)
+nothing_said app words None is none taken work said = absurd (cc (is, said.2))
+nothing_said app words (Some p) is none taken work said = absurd (cc none)
+
+-- of two, the one that isn't ruled out
+pub other_one : {M N : Type 0} → (M → ⊥) → M ⊎ N → N
+other_one never (inl m) = absurd (never m)
+other_one never (inr n) = n

@@ -8,7 +8,7 @@ use Rattle.clap.specs.Words.{Row, Text, first_of, one_of}
 use Rattle.clap.specs.Matches.{ReadsOne}
 use Rattle.opgp_octets.specs.declared.limits.Limits.{Limits}
 use Rattle.opgp_codec.specs.declared.mode.Mode.{Mode}
-use Rattle.opgp_stack.specs.declared.task.Task.{Task}
+use Rattle.opgp_stack.specs.declared.task.Task.{Task as InputTask}
 use Rattle.opgp_stack.specs.declared.task.Action.{Action}
 use Rattle.opgp_stack.specs.declared.task.Action.TheVariants as action
 use Rattle.opgp_stack.specs.declared.task.Top.TheVariants as top
@@ -73,7 +73,8 @@ no_octets options one all action.ListValues said = absurd (apart (ap is_octets s
 no_octets options one all action.Check said = absurd (apart (ap is_octets said.0))
 no_octets options one all action.CheckFingerprints said = absurd (apart (ap is_octets said.0))
 no_octets options one all action.CheckPlaces said = absurd (apart (ap is_octets said.0))
-no_octets options one all (action.Octets row top explains) said = one row said.1 said.3
+no_octets options one all (action.Octets row top) said = one row said.1 said.3
+no_octets options one all (action.Explain row top) said = one row said.1 said.3
 no_octets options one all action.OctetsAll said = all said.1 said.2 said.3 said.4
 no_octets options one all (action.Write out) said = absurd said
 no_octets options one all (action.WriteChosen out choice) said = absurd said
@@ -94,7 +95,8 @@ no_check options prints places action.ListValues said = absurd (apart (ap is_che
 no_check options prints places action.Check said = absurd (cc (prints, said.1))
 no_check options prints places action.CheckFingerprints said = absurd (cc (places, said.2))
 no_check options prints places action.CheckPlaces said = absurd (cc (prints, said.1))
-no_check options prints places (action.Octets row top explains) said = absurd (apart (ap is_check said.0))
+no_check options prints places (action.Octets row top) said = absurd (apart (ap is_check said.0))
+no_check options prints places (action.Explain row top) said = absurd (apart (ap is_check said.0))
 no_check options prints places action.OctetsAll said = absurd (apart (ap is_check said.0))
 no_check options prints places (action.Write out) said = absurd said
 no_check options prints places (action.WriteChosen out choice) said = absurd said
@@ -116,7 +118,7 @@ no_digest options none of_canonical said = absurd (apart (ap is_digest said))
 no_digest options none (of_cleartext part) said = absurd (apart (ap is_digest said.0))
 
 -- what is no task, no document's work, no states and no difference is no work
-pub no_work : (name : Text) (options : List Row) → ((task : Task) → IsTask name options task → ⊥)
+pub no_work : (name : Text) (options : List Row) → ((task : InputTask) → IsTask name options task → ⊥)
     → ((mode : Mode) (limits : Limits) (work : DocumentWork) → IsDocument name options mode limits work → ⊥)
     → ((task : StateTask) (file : Option Text) → IsStates name options task file → ⊥)
     → ((mode : Mode) (limits : Limits) (old : Text) → IsDifference name options mode limits old → ⊥)
@@ -144,7 +146,8 @@ task_apart name options action.ListValues said = ap is_chooser said.0
 task_apart name options action.Check said = ap is_chooser said.0
 task_apart name options action.CheckFingerprints said = ap is_chooser said.0
 task_apart name options action.CheckPlaces said = ap is_chooser said.0
-task_apart name options (action.Octets row top explains) said = ap is_chooser said.0
+task_apart name options (action.Octets row top) said = ap is_chooser said.0
+task_apart name options (action.Explain row top) said = ap is_chooser said.0
 task_apart name options action.OctetsAll said = ap is_chooser said.0
 task_apart name options (action.Write out) said = absurd said
 task_apart name options (action.WriteChosen out choice) said = absurd said

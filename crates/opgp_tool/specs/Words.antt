@@ -23,7 +23,7 @@ use Rattle.opgp_stack.specs.declared.task.Top.{Top}
 use Rattle.opgp_stack.specs.declared.task.Top.TheVariants as top
 use Rattle.opgp_stack.specs.declared.task.Action.{Action}
 use Rattle.opgp_stack.specs.declared.task.Action.TheVariants as action
-use Rattle.opgp_stack.specs.declared.task.Task.{Task}
+use Rattle.opgp_stack.specs.declared.task.Task.{Task as InputTask}
 use Rattle.opgp_stack.specs.declared.bounding.BoundTask.{BoundTask}
 use Rattle.opgp_stack.specs.declared.stating.StateTask.{StateTask}
 use Rattle.opgp_valid.specs.declared.policy.Policy.{Policy}
@@ -34,14 +34,15 @@ use Rattle.opgp_stack.specs.declared.cleartext.CleartextPart.{CleartextPart}
 use Rattle.opgp_stack.specs.declared.cleartext.CleartextPart.TheVariants as part
 use Rattle.opgp_tool.specs.declared.task.Hints.{Hints}
 use Rattle.opgp_tool.specs.declared.task.Hints.TheVariants.{Auto, Always, Never}
+use Rattle.opgp_tool.specs.declared.task.Beside.{Beside}
 use Rattle.opgp_tool.specs.declared.task.Request.{Request}
 use Rattle.opgp_tool.specs.declared.document.DocumentAction.{DocumentAction}
 use Rattle.opgp_tool.specs.declared.document.DocumentAction.TheVariants as said
 use Rattle.opgp_tool.specs.declared.split.SplitAction.{SplitAction}
 use Rattle.opgp_tool.specs.declared.split.SplitAction.TheVariants as split
 use Rattle.opgp_tool.specs.declared.write.WriteTask.{WriteTask}
-use Rattle.opgp_tool.specs.declared.task.Work.{Work}
-use Rattle.opgp_tool.specs.declared.task.Work.TheVariants as work
+use Rattle.opgp_tool.specs.declared.task.Task.{Task}
+use Rattle.opgp_tool.specs.declared.task.Task.TheVariants as tasks
 
 -- the text is this number of 64 bits, in decimal digits, perhaps after a plus
 pub record IsNumber (text : Text) (n : ℕ) : Type 0 where
@@ -134,10 +135,14 @@ IsAction name options action.CheckFingerprints = (name ≡ codes "check")
 IsAction name options action.CheckPlaces = (name ≡ codes "check")
     × (is_given (first_of (codes "fingerprints") options) ≡ false)
     × (is_given (first_of (codes "places") options) ≡ true)
-IsAction name options (action.Octets row top explains) = (name ≡ codes "octets")
+IsAction name options (action.Octets row top) = (name ≡ codes "octets")
     × HasNumber options (codes "row") row × (top ≡ top_of (first_of (codes "of") options))
     × (is_given (first_of (codes "all") options) ≡ false)
-    × (explains ≡ is_given (first_of (codes "explain") options))
+    × (is_given (first_of (codes "explain") options) ≡ false)
+IsAction name options (action.Explain row top) = (name ≡ codes "octets")
+    × HasNumber options (codes "row") row × (top ≡ top_of (first_of (codes "of") options))
+    × (is_given (first_of (codes "all") options) ≡ false)
+    × (is_given (first_of (codes "explain") options) ≡ true)
 IsAction name options action.OctetsAll = (name ≡ codes "octets")
     × (is_given (first_of (codes "all") options) ≡ true)
     × (top_of (first_of (codes "of") options) ≡ top.Ring)
@@ -151,7 +156,7 @@ IsAction name options (action.Join out merge) = (name ≡ codes "join")
 IsAction name options other = ⊥
 
 -- the task of the command of this name with these options
-pub record IsTask (name : Text) (options : List Row) (task : Task) : Type 0 where
+pub record IsTask (name : Text) (options : List Row) (task : InputTask) : Type 0 where
   pub mode : task.mode ≡ mode_of (first_of (codes "mode") options)
   pub limits : HasLimits options task.limits
   pub action : IsAction name options task.action
@@ -319,7 +324,7 @@ pub record IsDifference (name : Text) (options : List Row) (mode : Mode) (limits
 -- written; or states, by the verdicts of a file, if there is one; or what changed from the keyring
 -- in a file
 pub data AskedWork : Type 0 where
-  of_task : Task → AskedWork
+  of_task : InputTask → AskedWork
   of_document : Mode → Limits → DocumentWork → AskedWork
   of_states : StateTask → Option Text → AskedWork
   of_difference : Mode → Limits → Text → AskedWork
@@ -360,13 +365,26 @@ shows Always is_terminal is_loss = true
 shows Never is_terminal is_loss = false
 shows Auto is_terminal is_loss = is_terminal || is_loss
 
--- what a command line asks for: its work, whether `--progress` is given, when a line for people
--- is written, and the directory of `--spool`, if it is given
-pub record Asked : Type 0 where
-  pub work : AskedWork
+-- what a command line asks for beside its task: whether `--progress` is given, when a line for
+-- people is written, and the directory of `--spool`, if it is given
+pub record AskedBeside : Type 0 where
   pub progress : Bool
   pub hints : Hints
   pub spool : Option Text
+
+abbrev pub nothing_asked : AskedBeside
+nothing_asked = record { progress = false; hints = Auto; spool = None }
+
+pub record IsBeside (options : List Row) (beside : AskedBeside) : Type 0 where
+  pub progress : beside.progress ≡ is_given (first_of (codes "progress") options)
+  pub hints : beside.hints ≡ hints_of (is_given (first_of (codes "quiet") options))
+      (first_of (codes "hints") options)
+  pub spool : beside.spool ≡ first_of (codes "spool") options
+
+-- what a command line asks for: the work of its task, and what is asked beside it
+pub record Asked : Type 0 where
+  pub work : AskedWork
+  pub beside : AskedBeside
 
 abbrev pub document_said : DocumentAction → DocumentWork
 document_said said.Signatures = of_signatures
@@ -390,27 +408,30 @@ split_said (split.Number out nth) = of_number out nth
 split_said (split.Keys out keys file except) =
     of_keys out keys.items (option_map (λ word. word.now) file) except
 
-abbrev pub work_said : Work → AskedWork
-work_said (work.Task task) = of_task task
-work_said (work.Document task) =
-    of_document task.mode task.limits (document_said task.action)
-work_said (work.States states) =
+abbrev pub work_said : Task → AskedWork
+work_said (tasks.Input input) = of_task input
+work_said (tasks.Document document) =
+    of_document document.mode document.limits (document_said document.action)
+work_said (tasks.States states) =
     of_states states.task (option_map (λ word. word.now) states.verdicts)
-work_said (work.Difference task) = of_difference task.mode task.limits task.old.now
-work_said (work.Write task) = of_write task.mode task.limits (chosen_said task)
-work_said (work.Split task) = of_split task.mode task.limits (split_said task.action)
+work_said (tasks.Difference difference) =
+    of_difference difference.mode difference.limits difference.old.now
+work_said (tasks.Write written) = of_write written.mode written.limits (chosen_said written)
+work_said (tasks.Split parted) = of_split parted.mode parted.limits (split_said parted.action)
+
+abbrev pub beside_said : Beside → AskedBeside
+beside_said beside = record {
+  progress = beside.progress;
+  hints = beside.hints;
+  spool = option_map (λ word. word.now) beside.spool;
+}
 
 abbrev pub asked_by : Request → Asked
 asked_by request = record {
-  work = work_said request.work;
-  progress = request.progress;
-  hints = request.hints;
-  spool = option_map (λ word. word.now) request.spool;
+  work = work_said request.task;
+  beside = beside_said request.beside;
 }
 
 pub record IsRequest (name : Text) (options : List Row) (asked : Asked) : Type 0 where
   pub work : IsWork name options asked.work
-  pub progress : asked.progress ≡ is_given (first_of (codes "progress") options)
-  pub hints : asked.hints ≡ hints_of (is_given (first_of (codes "quiet") options))
-      (first_of (codes "hints") options)
-  pub spool : asked.spool ≡ first_of (codes "spool") options
+  pub beside : IsBeside options asked.beside

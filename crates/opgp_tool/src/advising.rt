@@ -16,7 +16,7 @@ ghost use Rattle.opgp_tool.specs.Hint.{no_packet_advice, packet_advice, packet_h
 ghost use Rattle.opgp_tool.specs.Hint.{text_format_of, type_advice};
 
 use crate::hint::{Advice, Hint};
-use memchr::{memchr, memmem};
+use memchr::{memchr, memchr_iter, memmem};
 use opgp_octets::{Fault, Layer, Reason};
 use opgp_stack::{Mode, RunFault};
 
@@ -42,15 +42,19 @@ fn front_of(octets: &[u8], at: u64) -> &[u8]
     }
 }
 
+/// How many line feeds there are.
+fn line_feeds(octets: &[u8]) -> usize
+    ensures { result ≡ count_by (λ x. x == 10) octets.now }
+{
+    memchr_iter(b'\n', octets).count()
+}
+
 /// A hint about the line that has the octet at this place, if the place is among the first octets.
 fn about(octets: &[u8], at: u64, advice: Advice) -> Hint
     ensures { result ≡ about octets.now at advice }
 {
     if at < octets.len() as u64 {
-        let ends = octets[..at as usize]
-            .iter()
-            .filter(|x| **x == b'\n')
-            .count();
+        let ends = line_feeds(&octets[..at as usize]);
         Hint::Line(advice, 1 + ends as u64)
     } else {
         Hint::Plain(advice)

@@ -26,11 +26,11 @@ use document::{DocumentAction, DocumentTask};
 use ending::end_of;
 use foreign::foreign_kind;
 use hint::Hint;
+use opgp_keyring::Keyring;
 use opgp_octets::{Limits, write_hexadecimal};
-use opgp_ring::Keyring;
 use opgp_stack::{
     Action, Answer, Around, BoundTask, CleartextPart, EngineError, KeyName, Mode, NoSpool, Out,
-    RunFault, Source, StateTask, Task, Watched, keys_in, read_keyring, read_octets,
+    RunFault, Source, StateTask, Task as InputTask, Watched, keys_in, read_keyring, read_octets,
     read_signatures, run_around, run_bound, run_canonical, run_cleartext, run_difference,
     run_digests, run_last, run_signatures, run_spooled, run_states,
 };
@@ -42,7 +42,7 @@ use std::fs::File;
 use std::io::{IsTerminal, Stderr, Stdin, Write};
 use std::process::ExitCode;
 use std::{env, io, mem};
-use task::{Hints, NAME, Request, Usage, Work, task_of};
+use task::{Beside, Hints, NAME, Task, Usage, request_of};
 use write::WriteTask;
 
 /// The exit status of an invalid command line.
@@ -77,15 +77,8 @@ fn main(rt: HostRuntime) -> ExitCode {
 
 /// Runs what a command line asks for.
 fn run_words(rt: &HostRuntime, words: &[String]) -> u8 {
-    match task_of(rt.alloc(), words) {
-        Ok(request) => match &request.work {
-            Work::Task(task) => run_task(rt, &request, task),
-            Work::Document(task) => run_document(rt, &request, task),
-            Work::States(states) => list_states(rt, &request, states),
-            Work::Difference(task) => list_difference(rt, &request, task),
-            Work::Write(task) => run_write(rt, &request, task),
-            Work::Split(task) => run_split(rt, &request, task),
-        },
+    match request_of(rt.alloc(), words) {
+        Ok(request) => run_request(rt, &request.beside, &request.task),
         Err(Usage::Text(text)) => {
             let _ = eprint!(rt; "{text}");
             USAGE
@@ -94,11 +87,23 @@ fn run_words(rt: &HostRuntime, words: &[String]) -> u8 {
     }
 }
 
+/// Runs a task, with what is asked beside it.
+fn run_request(rt: &HostRuntime, beside: &Beside, task: &Task) -> u8 {
+    match task {
+        Task::Input(task) => run_task(rt, beside, task),
+        Task::Document(task) => run_document(rt, beside, task),
+        Task::States(states) => list_states(rt, beside, states),
+        Task::Difference(task) => list_difference(rt, beside, task),
+        Task::Write(task) => run_write(rt, beside, task),
+        Task::Split(task) => run_split(rt, beside, task),
+    }
+}
+
 /// Standard input, whose count is shown if that is asked for.
-fn input(rt: &HostRuntime, request: &Request) -> Progress<Watched<Stdin>, Stderr>
+fn input(rt: &HostRuntime, beside: &Beside) -> Progress<Watched<Stdin>, Stderr>
     ensures { watched_failed (read_of result) ≡ false }
 {
-    let shown = if request.progress {
+    let shown = if beside.progress {
         Some(rt.stderr())
     } else {
         None
@@ -107,10 +112,10 @@ fn input(rt: &HostRuntime, request: &Request) -> Progress<Watched<Stdin>, Stderr
 }
 
 /// Runs a task, from standard input to standard output.
-fn run_task(rt: &HostRuntime, request: &Request, task: &Task) -> u8 {
-    let mut reader = input(rt, request);
+fn run_task(rt: &HostRuntime, beside: &Beside, task: &InputTask) -> u8 {
+    let mut reader = input(rt, beside);
     let mut writer = Watched::new(rt.stdout());
-    let outcome = match request.spool {
+    let outcome = match beside.spool {
         None => run_last(rt.alloc(), task, &mut reader, &mut writer),
         Some(dir) => match open_spool(rt.alloc(), rt, dir) {
             Ok(spool) => run_spooled(rt.alloc(), task, spool, &mut reader, &mut writer),
@@ -118,30 +123,30 @@ fn run_task(rt: &HostRuntime, request: &Request, task: &Task) -> u8 {
         },
     };
     reader.end();
-    let status = finish(rt, request, task.mode, &outcome, &reader);
+    let status = finish(rt, beside, task.mode, &outcome, &reader);
     if status != FAILED {
         if let (Action::SplitKeys { keys, .. }, Err(RunFault::NoSuchKey(number))) = (
             task.action,
             outcome,
         ) {
-            name_missing(rt, request, keys.get(number));
+            name_missing(rt, beside, keys.get(number));
         }
     }
     status
 }
 
 /// Whether a line for people follows a fault.
-fn shows_hints(rt: &HostRuntime, request: &Request) -> bool {
-    request.hints.shows(rt.stderr().is_terminal(), false)
+fn shows_hints(rt: &HostRuntime, beside: &Beside) -> bool {
+    beside.hints.shows(rt.stderr().is_terminal(), false)
 }
 
 /// Says which key no certificate has.
-fn name_missing(rt: &HostRuntime, request: &Request, key: Option<&KeyName>) {
+fn name_missing(rt: &HostRuntime, beside: &Beside, key: Option<&KeyName>) {
     let octets = match key {
         Some(key) => key.octets(),
         None => return,
     };
-    if shows_hints(rt, request) && octets.len() <= 32 {
+    if shows_hints(rt, beside) && octets.len() <= 32 {
         let mut room = [0; 64];
         let digits = write_hexadecimal(octets, &mut room[..2 * octets.len()]);
         let _ = eprintln!(rt; "opgp: no certificate has the key {digits}");
@@ -149,35 +154,35 @@ fn name_missing(rt: &HostRuntime, request: &Request, key: Option<&KeyName>) {
 }
 
 /// Writes the keyring on standard input, or parts of it.
-fn run_write(rt: &HostRuntime, request: &Request, write: &WriteTask) -> u8 {
+fn run_write(rt: &HostRuntime, beside: &Beside, write: &WriteTask) -> u8 {
     let file = match write.verdicts {
         Some(file) => file,
-        None => return run_task(rt, request, &write.task()),
+        None => return run_task(rt, beside, &write.task()),
     };
-    match octets_beside(rt, request, file, &write.limits) {
-        Ok(octets) => write_bound(rt, request, &write.bound_task(), &octets),
+    match octets_beside(rt, beside, file, &write.limits) {
+        Ok(octets) => write_bound(rt, beside, &write.bound_task(), &octets),
         Err(status) => status,
     }
 }
 
 /// Writes what is bound of the keyring on standard input by the verdicts of this file.
-fn write_bound(rt: &HostRuntime, request: &Request, task: &BoundTask, file: &[u8]) -> u8 {
-    let mut reader = input(rt, request);
+fn write_bound(rt: &HostRuntime, beside: &Beside, task: &BoundTask, file: &[u8]) -> u8 {
+    let mut reader = input(rt, beside);
     let mut writer = Watched::new(rt.stdout());
     let outcome = run_bound(rt.alloc(), task, file, &mut reader, &mut writer);
     reader.end();
-    finish(rt, request, task.mode, &outcome, &reader)
+    finish(rt, beside, task.mode, &outcome, &reader)
 }
 
 /// Writes some of the certificates on standard input.
-fn run_split(rt: &HostRuntime, request: &Request, split: &SplitTask) -> u8 {
+fn run_split(rt: &HostRuntime, beside: &Beside, split: &SplitTask) -> u8 {
     match &split.action {
         SplitAction::Number { out, nth } => {
             let action = Action::Split {
                 out: *out,
                 nth: *nth,
             };
-            run_action(rt, request, split, action)
+            run_action(rt, beside, split, action)
         }
         SplitAction::Keys {
             out,
@@ -185,38 +190,38 @@ fn run_split(rt: &HostRuntime, request: &Request, split: &SplitTask) -> u8 {
             file,
             except,
         } => match file {
-            Some(file) => split_by_file(rt, request, split, *out, keys, file, *except),
-            None => split_by_keys(rt, request, split, *out, keys, *except),
+            Some(file) => split_by_file(rt, beside, split, *out, keys, file, *except),
+            None => split_by_keys(rt, beside, split, *out, keys, *except),
         },
     }
 }
 
 /// Runs an action on the certificates on standard input.
-fn run_action(rt: &HostRuntime, request: &Request, split: &SplitTask, action: Action) -> u8 {
-    let task = Task {
+fn run_action(rt: &HostRuntime, beside: &Beside, split: &SplitTask, action: Action) -> u8 {
+    let task = InputTask {
         mode: split.mode,
         limits: split.limits,
         action,
     };
-    run_task(rt, request, &task)
+    run_task(rt, beside, &task)
 }
 
 /// Writes the certificates on standard input that have one of these keys, or all but those.
 fn split_by_keys(
     rt: &HostRuntime,
-    request: &Request,
+    beside: &Beside,
     split: &SplitTask,
     out: Out,
     keys: &[KeyName],
     except: bool,
 ) -> u8 {
-    run_action(rt, request, split, Action::SplitKeys { out, keys, except })
+    run_action(rt, beside, split, Action::SplitKeys { out, keys, except })
 }
 
 /// The same, with the keys that a file names too.
 fn split_by_file(
     rt: &HostRuntime,
-    request: &Request,
+    beside: &Beside,
     split: &SplitTask,
     out: Out,
     keys: &[KeyName],
@@ -229,13 +234,13 @@ fn split_by_file(
     }
     let mut source = match open_beside(rt, file) {
         Ok(source) => source,
-        Err(_) => return unopened(rt, request, file),
+        Err(_) => return unopened(rt, beside, file),
     };
     let octets = match read_octets(rt.alloc(), &mut source, &within(split.limits, MOST_KEYS)) {
         Ok(octets) => octets,
         Err(error) => {
             let outcome = Err(RunFault::from(error));
-            return finish_beside(rt, request, &outcome, file, MOST_KEYS);
+            return finish_beside(rt, beside, &outcome, file, MOST_KEYS);
         }
     };
     let mut all = match keys_in(rt.alloc(), &octets) {
@@ -251,27 +256,27 @@ fn split_by_file(
         return USAGE;
     }
     match all.extend_from_slice(keys) {
-        Ok(()) => split_by_keys(rt, request, split, out, &all, except),
+        Ok(()) => split_by_keys(rt, beside, split, out, &all, except),
         Err(_) => end(rt, &Err(RunFault::Memory)),
     }
 }
 
 /// Makes what is asked of detached signatures and their document, to standard output.
-fn run_document(rt: &HostRuntime, request: &Request, task: &DocumentTask) -> u8 {
+fn run_document(rt: &HostRuntime, beside: &Beside, task: &DocumentTask) -> u8 {
     match task.action {
-        DocumentAction::Signatures => list_signatures(rt, request, task),
-        DocumentAction::Digests(file) => list_digests(rt, request, task, file),
+        DocumentAction::Signatures => list_signatures(rt, beside, task),
+        DocumentAction::Digests(file) => list_digests(rt, beside, task, file),
         DocumentAction::Around(file, row, part) => {
-            write_around(rt, request, task, file, row, part)
+            write_around(rt, beside, task, file, row, part)
         }
-        DocumentAction::Canonical => write_canonical(rt, request, task),
-        DocumentAction::Cleartext(part) => write_cleartext(rt, request, task, part),
+        DocumentAction::Canonical => write_canonical(rt, beside, task),
+        DocumentAction::Cleartext(part) => write_cleartext(rt, beside, task, part),
     }
 }
 
 /// Lists the signatures on standard input.
-fn list_signatures(rt: &HostRuntime, request: &Request, task: &DocumentTask) -> u8 {
-    let mut reader = input(rt, request);
+fn list_signatures(rt: &HostRuntime, beside: &Beside, task: &DocumentTask) -> u8 {
+    let mut reader = input(rt, beside);
     let mut writer = Watched::new(rt.stdout());
     let outcome = run_signatures(
         rt.alloc(),
@@ -281,27 +286,27 @@ fn list_signatures(rt: &HostRuntime, request: &Request, task: &DocumentTask) -> 
         &mut writer,
     );
     reader.end();
-    finish(rt, request, task.mode, &outcome, &reader)
+    finish(rt, beside, task.mode, &outcome, &reader)
 }
 
 /// Lists the signatures in a file, over the document on standard input.
-fn list_digests(rt: &HostRuntime, request: &Request, task: &DocumentTask, file: &str) -> u8 {
+fn list_digests(rt: &HostRuntime, beside: &Beside, task: &DocumentTask, file: &str) -> u8 {
     if is_input(file) {
         let _ = eprintln!(rt; "opgp: standard input is the document; the signatures are in a file");
         return USAGE;
     }
     let mut source = match open_beside(rt, file) {
         Ok(source) => source,
-        Err(_) => return unopened(rt, request, file),
+        Err(_) => return unopened(rt, beside, file),
     };
     let signatures = match read_signatures(rt.alloc(), &mut source, task.mode, &task.limits) {
         Ok(signatures) => signatures,
         Err(error) => {
             let outcome = Err(RunFault::from(error));
-            return finish(rt, request, task.mode, &outcome, &source);
+            return finish(rt, beside, task.mode, &outcome, &source);
         }
     };
-    let mut reader = input(rt, request);
+    let mut reader = input(rt, beside);
     let mut writer = Watched::new(rt.stdout());
     let outcome = run_digests(
         rt.alloc(),
@@ -311,13 +316,13 @@ fn list_digests(rt: &HostRuntime, request: &Request, task: &DocumentTask, file: 
         &mut writer,
     );
     reader.end();
-    finish_document(rt, request, task.mode, &outcome, &reader)
+    finish_document(rt, beside, task.mode, &outcome, &reader)
 }
 
 /// Writes what the signature of this number in a file hashes around its document.
 fn write_around(
     rt: &HostRuntime,
-    request: &Request,
+    beside: &Beside,
     task: &DocumentTask,
     file: &str,
     row: u64,
@@ -325,7 +330,7 @@ fn write_around(
 ) -> u8 {
     let mut source = match open_beside(rt, file) {
         Ok(source) => source,
-        Err(_) => return unopened(rt, request, file),
+        Err(_) => return unopened(rt, beside, file),
     };
     let mut writer = Watched::new(rt.stdout());
     let outcome = run_around(
@@ -337,15 +342,15 @@ fn write_around(
         &mut source,
         &mut writer,
     );
-    finish(rt, request, task.mode, &outcome, &source)
+    finish(rt, beside, task.mode, &outcome, &source)
 }
 
 /// Writes the canonical text of the document on standard input.
-fn write_canonical(rt: &HostRuntime, request: &Request, task: &DocumentTask) -> u8 {
-    let mut reader = input(rt, request);
+fn write_canonical(rt: &HostRuntime, beside: &Beside, task: &DocumentTask) -> u8 {
+    let mut reader = input(rt, beside);
     let mut writer = Watched::new(rt.stdout());
     let limits = &task.limits;
-    let outcome = match request.spool {
+    let outcome = match beside.spool {
         None => run_canonical(
             rt.alloc(),
             limits,
@@ -359,32 +364,32 @@ fn write_canonical(rt: &HostRuntime, request: &Request, task: &DocumentTask) -> 
         },
     };
     reader.end();
-    finish_document(rt, request, task.mode, &outcome, &reader)
+    finish_document(rt, beside, task.mode, &outcome, &reader)
 }
 
 /// Writes a part of the cleartext message on standard input.
 fn write_cleartext(
     rt: &HostRuntime,
-    request: &Request,
+    beside: &Beside,
     task: &DocumentTask,
     part: CleartextPart,
 ) -> u8 {
-    let mut reader = input(rt, request);
+    let mut reader = input(rt, beside);
     let mut writer = Watched::new(rt.stdout());
     let outcome = run_cleartext(rt.alloc(), &task.limits, part, &mut reader, &mut writer);
     reader.end();
-    finish(rt, request, Mode::Armor, &outcome, &reader)
+    finish(rt, beside, Mode::Armor, &outcome, &reader)
 }
 
 /// Lists how the parts of the keyring on standard input stand.
-fn list_states(rt: &HostRuntime, request: &Request, states: &StatesTask) -> u8 {
+fn list_states(rt: &HostRuntime, beside: &Beside, states: &StatesTask) -> u8 {
     let file = match states.verdicts {
         Some(file) => file,
-        None => return list_states_by(rt, request, &states.task, None),
+        None => return list_states_by(rt, beside, &states.task, None),
     };
     let task = &states.task;
-    match octets_beside(rt, request, file, &task.limits) {
-        Ok(octets) => list_states_by(rt, request, task, Some(&octets)),
+    match octets_beside(rt, beside, file, &task.limits) {
+        Ok(octets) => list_states_by(rt, beside, task, Some(&octets)),
         Err(status) => status,
     }
 }
@@ -393,7 +398,7 @@ fn list_states(rt: &HostRuntime, request: &Request, states: &StatesTask) -> u8 {
 /// is said why there are none.
 fn octets_beside(
     rt: &HostRuntime,
-    request: &Request,
+    beside: &Beside,
     file: &str,
     limits: &Limits,
 ) -> Result<Vec<u8>, u8> {
@@ -403,33 +408,28 @@ fn octets_beside(
     }
     let mut source = match open_beside(rt, file) {
         Ok(source) => source,
-        Err(_) => return Err(unopened(rt, request, file)),
+        Err(_) => return Err(unopened(rt, beside, file)),
     };
     match read_octets(rt.alloc(), &mut source, &within(*limits, MOST_VERDICTS)) {
         Ok(octets) => Ok(octets),
         Err(error) => {
             let outcome = Err(RunFault::from(error));
-            Err(finish_beside(rt, request, &outcome, file, MOST_VERDICTS))
+            Err(finish_beside(rt, beside, &outcome, file, MOST_VERDICTS))
         }
     }
 }
 
 /// Lists how the parts of the keyring on standard input stand, by the verdicts of this file.
-fn list_states_by(
-    rt: &HostRuntime,
-    request: &Request,
-    task: &StateTask,
-    file: Option<&[u8]>,
-) -> u8 {
-    let mut reader = input(rt, request);
+fn list_states_by(rt: &HostRuntime, beside: &Beside, task: &StateTask, file: Option<&[u8]>) -> u8 {
+    let mut reader = input(rt, beside);
     let mut writer = Watched::new(rt.stdout());
     let outcome = run_states(rt.alloc(), task, file, &mut reader, &mut writer);
     reader.end();
-    finish(rt, request, task.mode, &outcome, &reader)
+    finish(rt, beside, task.mode, &outcome, &reader)
 }
 
 /// Lists what changed from the keyring in a file to the one on standard input.
-fn list_difference(rt: &HostRuntime, request: &Request, task: &DifferenceTask) -> u8 {
+fn list_difference(rt: &HostRuntime, beside: &Beside, task: &DifferenceTask) -> u8 {
     let file = task.old;
     if is_input(file) {
         let _ = eprintln!(rt; "opgp: standard input is the new keyring; the old one is in a file");
@@ -437,15 +437,15 @@ fn list_difference(rt: &HostRuntime, request: &Request, task: &DifferenceTask) -
     }
     let mut source = match open_beside(rt, file) {
         Ok(source) => source,
-        Err(_) => return unopened(rt, request, file),
+        Err(_) => return unopened(rt, beside, file),
     };
     let outcome = match read_keyring(rt.alloc(), &mut source, task.mode, &task.limits) {
-        Ok(Answer::Ring(old)) => return list_difference_from(rt, request, task, old),
+        Ok(Answer::Ring(old)) => return list_difference_from(rt, beside, task, old),
         Ok(Answer::Refused(fault)) => Err(RunFault::Refused(fault)),
         Err(error) => Err(fault_of(error)),
     };
-    let status = finish(rt, request, task.mode, &outcome, &source);
-    if shows_hints(rt, request) {
+    let status = finish(rt, beside, task.mode, &outcome, &source);
+    if shows_hints(rt, beside) {
         say_of(rt, "this is of the old keyring, ", file, "");
     }
     status
@@ -464,11 +464,11 @@ fn fault_of(error: EngineError) -> RunFault {
 /// this one.
 fn list_difference_from(
     rt: &HostRuntime,
-    request: &Request,
+    beside: &Beside,
     task: &DifferenceTask,
     old: Keyring,
 ) -> u8 {
-    let mut reader = input(rt, request);
+    let mut reader = input(rt, beside);
     let mut writer = Watched::new(rt.stdout());
     let outcome = run_difference(
         rt.alloc(),
@@ -480,7 +480,7 @@ fn list_difference_from(
     );
     mem::forget(old);
     reader.end();
-    finish(rt, request, task.mode, &outcome, &reader)
+    finish(rt, beside, task.mode, &outcome, &reader)
 }
 
 /// Whether a file's name stands for standard input.
@@ -497,9 +497,9 @@ fn open_beside(rt: &HostRuntime, file: &str) -> io::Result<Progress<Watched<File
 }
 
 /// Says that a file can't be opened.
-fn unopened(rt: &HostRuntime, request: &Request, file: &str) -> u8 {
+fn unopened(rt: &HostRuntime, beside: &Beside, file: &str) -> u8 {
     let status = end(rt, &Err(RunFault::Read));
-    if shows_hints(rt, request) {
+    if shows_hints(rt, beside) {
         say_of(rt, "", file, " can't be opened");
     }
     status
@@ -557,13 +557,13 @@ fn within(limits: Limits, most: u64) -> Limits {
 /// octets at most.
 fn finish_beside(
     rt: &HostRuntime,
-    request: &Request,
+    beside: &Beside,
     outcome: &Result<(), RunFault>,
     file: &str,
     most: u64,
 ) -> u8 {
     let status = end(rt, outcome);
-    if shows_hints(rt, request) && status != FAILED {
+    if shows_hints(rt, beside) && status != FAILED {
         say_of_most(rt, file, most);
     }
     status
@@ -572,13 +572,13 @@ fn finish_beside(
 /// Prints the last lines of a run that read this.
 fn finish<R: Source, W: Write + Drop>(
     rt: &HostRuntime,
-    request: &Request,
+    beside: &Beside,
     mode: Mode,
     outcome: &Result<(), RunFault>,
     reader: &Progress<R, W>,
 ) -> u8 {
     let status = end(rt, outcome);
-    if status != FAILED && !matches!(request.hints, Hints::Never) {
+    if status != FAILED && !matches!(beside.hints, Hints::Never) {
         let beginning = reader.beginning();
         let hint = hint_of(
             mode,
@@ -588,7 +588,7 @@ fn finish<R: Source, W: Write + Drop>(
             reader.octets(),
             reader.skipped(),
         );
-        explain(rt, request, hint);
+        explain(rt, beside, hint);
     }
     status
 }
@@ -597,21 +597,21 @@ fn finish<R: Source, W: Write + Drop>(
 /// document: an empty one is one, too.
 fn finish_document<R: Source, W: Write + Drop>(
     rt: &HostRuntime,
-    request: &Request,
+    beside: &Beside,
     mode: Mode,
     outcome: &Result<(), RunFault>,
     document: &Progress<R, W>,
 ) -> u8 {
     match outcome {
         Ok(()) => end(rt, outcome),
-        Err(_) => finish(rt, request, mode, outcome, document),
+        Err(_) => finish(rt, beside, mode, outcome, document),
     }
 }
 
 /// Prints what is told of the input beside the fault, if there is something to tell.
-fn explain(rt: &HostRuntime, request: &Request, hint: Option<Hint>) {
+fn explain(rt: &HostRuntime, beside: &Beside, hint: Option<Hint>) {
     if let Some(hint) = hint {
-        if request
+        if beside
             .hints
             .shows(rt.stderr().is_terminal(), hint.is_loss())
         {

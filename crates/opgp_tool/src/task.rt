@@ -5,15 +5,16 @@ ghost use Rattle.std.specs.Prelude.{codes, map, option_map};
 ghost use Rattle.clap.specs.Words.{App, fault_of, first_of, found_of, kind_of, rows_of};
 ghost use Rattle.clap.specs.declared.error.kind.ErrorKind.TheVariants.{OutOfMemory};
 ghost use Rattle.opgp_stack.specs.declared.task.Action.{Action};
-ghost use Rattle.opgp_stack.specs.declared.task.Task.{Task};
+ghost use Rattle.opgp_stack.specs.declared.task.Task.{Task as InputTask};
 ghost use Rattle.opgp_octets.specs.declared.limits.Limits.{Limits};
 ghost use Rattle.opgp_tool.specs.Words.{mode_of, outside_of, malformed_of, out_of, top_of};
-ghost use Rattle.opgp_tool.specs.Words.{is_given, HasNumber, HasLimits, Asked, IsAction};
+ghost use Rattle.opgp_tool.specs.Words.{is_given, HasNumber, HasLimits, IsAction};
 ghost use Rattle.opgp_tool.specs.Words.{DocumentWork, IsDocument, IsGivenNumber, IsRequest, IsTask};
-ghost use Rattle.opgp_tool.specs.Words.{AskedWork, IsWork, asked_by, document_said, is_other};
-ghost use Rattle.opgp_tool.specs.Words.{hints_of, shows, work_said};
+ghost use Rattle.opgp_tool.specs.Words.{AskedWork, IsBeside, IsWork, asked_by, beside_said};
+ghost use Rattle.opgp_tool.specs.Words.{document_said, hints_of, is_other, nothing_asked, shows};
+ghost use Rattle.opgp_tool.specs.Words.{work_said};
 ghost use Rattle.opgp_codec.specs.declared.mode.Mode.{Mode};
-ghost use Rattle.opgp_tool.specs.Saying.{SaysNone, SaysTask};
+ghost use Rattle.opgp_tool.specs.Saying.{SaysBeside, SaysNone, SaysRequest, SaysTask};
 ghost use Rattle.opgp_words.specs.Program.{IsProgram};
 ghost use Rattle.opgp_tool.specs.declared.task.Usage.TheVariants.{Memory};
 
@@ -25,9 +26,9 @@ use crate::write::{WriteTask, write_from};
 use clap::error::ErrorKind;
 use clap::{ArgMatches, Error};
 use opgp_octets::{Limits, Malformed, OutOfMemory, Outside};
-use opgp_stack::{Action, KeyName, Mode, Out, Task, Top};
+use opgp_stack::{Action, KeyName, Mode, Out, Task as InputTask, Top};
 use opgp_words::program;
-use std::alloc::Global;
+use std::alloc::{AllocError, Global};
 use std::convert::AsStr;
 
 /// What the name of a key is.
@@ -37,17 +38,38 @@ pub const NAME: &str = "a fingerprint has 40 or 64 hexadecimal digits, a key ID 
 const TIME: &str = "a time is a number of seconds since 1970, or a UTC date until 2106, as \
 2026-11-20 or 2026-11-20T08:30:00Z";
 
-/// What a command line asks for.
+/// What a command line asks for: its task, and what else.
 #[derive(Drop)]
-pub struct Request<'a> {
+pub(crate) struct Request<'a> {
     /// What is to be made.
-    pub work: Work<'a>,
+    pub(crate) task: Task<'a>,
+    /// What is asked beside it.
+    pub(crate) beside: Beside<'a>,
+}
+
+/// What a command line asks for beside its task.
+#[derive(Clone, Copy, Debug)]
+pub struct Beside<'a> {
     /// Whether standard error shows how much was read.
     pub progress: bool,
     /// When a line for people is written.
     pub hints: Hints,
     /// The directory of the file in which the output is held; None: it is held in memory.
     pub spool: Option<&'a str>,
+}
+
+impl Beside<'_> {
+    /// Nothing is asked: what was read isn't shown, lines for people are written where standard
+    /// error is a terminal, and the output is held in memory.
+    pub fn nothing() -> Self
+        ensures { beside_said result ≡ nothing_asked }
+    {
+        Beside {
+            progress: false,
+            hints: Hints::Auto,
+            spool: None,
+        }
+    }
 }
 
 /// When standard error says what a refused input seems to be, and what to do.
@@ -76,9 +98,9 @@ impl Hints {
 
 /// What is to be made, and of what.
 #[derive(Drop)]
-pub enum Work<'a> {
-    /// What a task makes of standard input.
-    Task(Task<'a>),
+pub enum Task<'a> {
+    /// What is made of standard input: of packets, a keyring or a signed literal.
+    Input(InputTask<'a>),
     /// What is made of detached signatures and their document.
     Document(DocumentTask<'a>),
     /// How the parts of a keyring stand.
@@ -212,11 +234,10 @@ fn octets_of<'a>(matches: &ArgMatches) -> Option<Action<'a>>
     let top = top_of(matches);
     if !is_given(matches, "all") {
         let row = number_of(matches, "row")?;
-        let explained = is_given(matches, "explain");
-        return Some(Action::Octets {
-            row,
-            top,
-            explained,
+        return Some(if is_given(matches, "explain") {
+            Action::Explain { row, top }
+        } else {
+            Action::Octets { row, top }
         });
     }
     if word_of(matches, "row").is_some() || is_given(matches, "explain") {
@@ -276,14 +297,14 @@ fn action_of<'a>(name: &str, matches: &ArgMatches) -> Option<Action<'a>>
 }
 
 /// The task of a command of this name with these options.
-fn task_from<'a>(name: &str, matches: &ArgMatches) -> Option<Task<'a>>
+fn task_from<'a>(name: &str, matches: &ArgMatches) -> Option<InputTask<'a>>
     ensures some { IfSome result (IsTask name.now (rows_of (found_of matches.now))) }
-    ensures none { IfNone result ((task : Task)
+    ensures none { IfNone result ((task : InputTask)
         → IsTask name.now (rows_of (found_of matches.now)) task → ⊥) }
 {
     let limits = limits_of(matches)?;
     let action = action_of(name, matches)?;
-    Some(Task {
+    Some(InputTask {
         mode: mode_of(matches),
         limits,
         action,
@@ -307,19 +328,19 @@ fn document_from<'a>(name: &str, matches: &ArgMatches<'a>) -> Option<DocumentTas
 }
 
 /// What the command of this name with these options makes, if it is neither `write` nor `split`.
-fn other_from<'a>(name: &str, matches: &ArgMatches<'a>) -> Option<Work<'a>>
-    ensures some { IfSome result (λ work.
-        IsWork name.now (rows_of (found_of matches.now)) (work_said work)) }
+fn other_from<'a>(name: &str, matches: &ArgMatches<'a>) -> Option<Task<'a>>
+    ensures some { IfSome result (λ task.
+        IsWork name.now (rows_of (found_of matches.now)) (work_said task)) }
     ensures none { IfNone result ((work : AskedWork) → is_other work ≡ true
         → IsWork name.now (rows_of (found_of matches.now)) work → ⊥) }
 {
     match document_from(name, matches) {
-        Some(task) => Some(Work::Document(task)),
+        Some(task) => Some(Task::Document(task)),
         None => match states_from(name, matches) {
-            Some(states) => Some(Work::States(states)),
+            Some(states) => Some(Task::States(states)),
             None => match difference_from(name, matches) {
-                Some(task) => Some(Work::Difference(task)),
-                None => Some(Work::Task(task_from(name, matches)?)),
+                Some(task) => Some(Task::Difference(task)),
+                None => Some(Task::Input(task_from(name, matches)?)),
             },
         },
     }
@@ -330,19 +351,19 @@ fn work_from<'a>(
     alloc: Global,
     name: &str,
     matches: &ArgMatches<'a>,
-) -> Result<Option<Work<'a>>, OutOfMemory>
-    ensures some { IfOk result (λ found. IfSome found (λ work.
-        IsWork name.now (rows_of (found_of matches.now)) (work_said work))) }
+) -> Result<Option<Task<'a>>, OutOfMemory>
+    ensures some { IfOk result (λ found. IfSome found (λ task.
+        IsWork name.now (rows_of (found_of matches.now)) (work_said task))) }
     ensures none { IfOk result (λ found. IfNone found ((work : AskedWork)
         → IsWork name.now (rows_of (found_of matches.now)) work → ⊥)) }
 {
     match name {
         "write" => match write_from(alloc, matches)? {
-            Some(task) => Ok(Some(Work::Write(task))),
+            Some(task) => Ok(Some(Task::Write(task))),
             None => Ok(None),
         },
         "split" => match split_from(alloc, matches)? {
-            Some(task) => Ok(Some(Work::Split(task))),
+            Some(task) => Ok(Some(Task::Split(task))),
             None => Ok(None),
         },
         _ => Ok(other_from(name, matches)),
@@ -365,6 +386,17 @@ fn hints_of(matches: &ArgMatches) -> Hints
     }
 }
 
+/// What a command with these options asks for beside its task.
+fn beside_from<'a>(matches: &ArgMatches<'a>) -> Beside<'a>
+    ensures { IsBeside (rows_of (found_of matches.now)) (beside_said result) }
+{
+    Beside {
+        progress: is_given(matches, "progress"),
+        hints: hints_of(matches),
+        spool: word_of(matches, "spool"),
+    }
+}
+
 /// What a command of this name with these options asks for. Fails only when out of memory.
 fn request_from<'a>(
     alloc: Global,
@@ -373,15 +405,13 @@ fn request_from<'a>(
 ) -> Result<Option<Request<'a>>, OutOfMemory>
     ensures some { IfOk result (λ found. IfSome found (λ request.
         IsRequest name.now (rows_of (found_of matches.now)) (asked_by request))) }
-    ensures none { IfOk result (λ found. IfNone found ((asked : Asked)
-        → IsRequest name.now (rows_of (found_of matches.now)) asked → ⊥)) }
+    ensures none { IfOk result (λ found. IfNone found ((work : AskedWork)
+        → IsWork name.now (rows_of (found_of matches.now)) work → ⊥)) }
 {
     match work_from(alloc, name, matches)? {
-        Some(work) => Ok(Some(Request {
-            work,
-            progress: is_given(matches, "progress"),
-            hints: hints_of(matches),
-            spool: word_of(matches, "spool"),
+        Some(task) => Ok(Some(Request {
+            task,
+            beside: beside_from(matches),
         })),
         None => Ok(None),
     }
@@ -443,13 +473,17 @@ fn no_task(alloc: Global, matches: &ArgMatches) -> Usage {
     match matches.subcommand() {
         Some(("check", _)) => no_check(alloc),
         Some(("octets", options)) => no_octets(alloc, options),
-        Some(("digest", options)) => no_digest(alloc, options),
+        Some(("digest", _)) => no_digest(alloc),
         Some(("state", options)) => no_states(alloc, options),
-        Some(("diff", _)) => no_difference(alloc),
         Some(("write", options)) => no_write(alloc, options),
         Some(("split", options)) => no_split(alloc, options),
-        _ => with_advice(alloc, String::from_str(alloc, "error: no task is named")),
+        _ => no_name(alloc),
     }
+}
+
+/// What to print where nothing better can be said.
+fn no_name(alloc: Global) -> Usage {
+    with_advice(alloc, String::from_str(alloc, "error: no task is named"))
 }
 
 /// What to print where the options of `check` name no task: `clap` doesn't judge options that
@@ -474,32 +508,18 @@ fn no_octets(alloc: Global, options: &ArgMatches) -> Usage {
     with_advice(alloc, String::from_str(alloc, text))
 }
 
-/// What to print where the options of `digest` name no task: `clap` doesn't judge that an option is
-/// wanted, nor that one wants another.
-fn no_digest(alloc: Global, options: &ArgMatches) -> Usage {
-    let text = if word_of(options, "signatures").is_none() {
-        "error: the following required arguments were not provided:\n  --signatures <FILE>"
-    } else {
-        "error: the argument '--salt' wants '--octets <N>'"
-    };
+/// What to print where the options of `digest` name no task: `clap` doesn't judge that an option
+/// wants another.
+fn no_digest(alloc: Global) -> Usage {
+    let text = "error: the argument '--salt' wants '--octets <N>'";
     with_advice(alloc, String::from_str(alloc, text))
 }
 
-/// What to print where the options of `diff` name no task: `clap` doesn't judge that an option is
-/// wanted.
-fn no_difference(alloc: Global) -> Usage {
-    let text = "error: the following required arguments were not provided:\n  --old <FILE>";
-    with_advice(alloc, String::from_str(alloc, text))
-}
-
-/// What to print where the options of `state` name no task: `clap` judges neither that `--at` is
-/// wanted nor its text.
+/// What to print where the options of `state` name no task: `clap` doesn't judge the text of
+/// `--at`.
 fn no_states(alloc: Global, options: &ArgMatches) -> Usage {
     match word_of(options, "at") {
-        None => {
-            let text = "error: the following required arguments were not provided:\n  --at <TIME>";
-            with_advice(alloc, String::from_str(alloc, text))
-        }
+        None => no_name(alloc),
         Some(at) => no_time(alloc, at),
     }
 }
@@ -572,7 +592,7 @@ fn no_key(alloc: Global, options: &ArgMatches) -> Usage {
             }
         }
     }
-    with_advice(alloc, String::from_str(alloc, "error: no task is named"))
+    no_name(alloc)
 }
 
 /// The text, if there was memory for it, and where to read on.
@@ -587,13 +607,41 @@ fn with_advice(alloc: Global, text: Result<String, OutOfMemory>) -> Usage {
     }
 }
 
-/// What a command line asks for, whose first word is the program's own name.
+/// The task that a command line names, whose first word is the program's own name.
 ///
 /// The errors are the text of `clap`, also for help, and running out of memory.
-pub fn task_of<'a, S: AsStr>(alloc: Global, words: &'a [S]) -> Result<Request<'a>, Usage>
+pub fn task_of<'a, S: AsStr>(alloc: Global, words: &'a [S]) -> Result<Task<'a>, Usage>
+    ensures said { IfOk result (λ task. (program : App) × IsProgram program
+        × (fault_of program (map S.text words.entry.now) ≡ [])
+        × SaysTask program (map S.text words.entry.now) (work_said task)) }
+    ensures refused { IfErr result (λ usage. (usage ≡ Memory)
+        ⊎ ((program : App) × IsProgram program
+        × SaysNone program (map S.text words.entry.now))) }
+{
+    match request_of(alloc, words) {
+        Ok(request) => Ok(request.task),
+        Err(usage) => Err(usage),
+    }
+}
+
+/// What a command line asks for beside its task, whose first word is the program's own name;
+/// nothing, if it names no task. Fails only when out of memory.
+pub fn beside_of<'a, S: AsStr>(alloc: Global, words: &'a [S]) -> Result<Beside<'a>, OutOfMemory>
+    ensures { IfOk result (λ beside. (program : App) × IsProgram program
+        × SaysBeside program (map S.text words.entry.now) (beside_said beside)) }
+{
+    match request_of(alloc, words) {
+        Ok(request) => Ok(request.beside),
+        Err(Usage::Text(_)) => Ok(Beside::nothing()),
+        Err(Usage::Memory) => Err(AllocError),
+    }
+}
+
+/// Both at once: the words are read once.
+pub(crate) fn request_of<'a, S: AsStr>(alloc: Global, words: &'a [S]) -> Result<Request<'a>, Usage>
     ensures said { IfOk result (λ request. (program : App) × IsProgram program
         × (fault_of program (map S.text words.entry.now) ≡ [])
-        × SaysTask program (map S.text words.entry.now) (asked_by request)) }
+        × SaysRequest program (map S.text words.entry.now) (asked_by request)) }
     ensures refused { IfErr result (λ usage. (usage ≡ Memory)
         ⊎ ((program : App) × IsProgram program
         × SaysNone program (map S.text words.entry.now))) }

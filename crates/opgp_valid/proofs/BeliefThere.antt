@@ -4,7 +4,7 @@ use Rattle.std.specs.Option.{option_and_then}
 use Rattle.std.specs.Prelude.{slice_get}
 use Rattle.opgp_hash.specs.declared.fingerprints.Fingerprint.{Fingerprint}
 use Rattle.opgp_packet.specs.SignatureBody.{SignatureValue}
-use Rattle.opgp_ring.specs.Keyring.{CertificateValue, KeyringValue}
+use Rattle.opgp_keyring.specs.Keyring.{CertificateValue, KeyringValue}
 use Rattle.opgp_report.specs.declared.verifier.Verdict.{Verdict}
 use Rattle.opgp_valid.specs.Believed.{belief_of, believed_as, believed_by, believed_if, flaw_of, made_by, print_in}
 use Rattle.opgp_valid.specs.Judgement.{judgement_of}

@@ -1,7 +1,7 @@
 -- The judgement of a key that was found.
 use Rattle.std.proofs.Common.{◌≡◌, ◌∙◌, ℕ, Some, List, ap, sym}
 use Rattle.std.specs.List.{slice_get}
-use Rattle.opgp_ring.specs.Keyring.{CertificateValue, KeyringValue}
+use Rattle.opgp_keyring.specs.Keyring.{CertificateValue, KeyringValue}
 use Rattle.opgp_report.specs.declared.verifier.Verdict.{Verdict}
 use Rattle.opgp_valid.specs.Facts.{FactsValue}
 use Rattle.opgp_valid.specs.Judgement.{facts_by, judged, judged_in, judged_key, judgement_of, key_at, verdicts_from}

@@ -15,7 +15,7 @@ use Rattle.opgp_report.specs.Signer.{NameValue, by_print, by_id, unnamed, issuer
 use Rattle.opgp_report.specs.Standing.{Standing, certificate_standing}
 use Rattle.opgp_report.specs.declared.place.Place.{Place}
 use Rattle.opgp_report.specs.declared.verifier.Verdict.{Verdict}
-use Rattle.opgp_ring.specs.Keyring.{CertificateValue}
+use Rattle.opgp_keyring.specs.Keyring.{CertificateValue}
 use Rattle.opgp_valid.specs.Group.{is_the}
 use Rattle.opgp_valid.specs.Judgement.{facts_by}
 use Rattle.opgp_valid.specs.KnownKeys.{issuer_among}

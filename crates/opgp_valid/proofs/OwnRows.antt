@@ -18,7 +18,7 @@ use Rattle.opgp_octets.specs.declared.signature_type.SignatureType.{SignatureTyp
 use Rattle.opgp_octets.specs.declared.signature_type.SignatureType.TheVariants as types
 use Rattle.opgp_packet.specs.Areas.{hashed_subs, unhashed_subs}
 use Rattle.opgp_packet.specs.SignatureBody.{SignatureValue, signature_at}
-use Rattle.opgp_ring.specs.Keyring.{CertificateValue, ComponentValue}
+use Rattle.opgp_keyring.specs.Keyring.{CertificateValue, ComponentValue}
 use Rattle.opgp_report.specs.Standing.{Standing, bodies_within, by_number, certificate_standing, component_standing, hang_standing, hangs_standing, held_bodies, hung_at, is_binding, is_on_two, is_signature, nested_at, nested_standing, on_head, signature_standing, stands}
 use Rattle.opgp_report.specs.declared.place.Place.{Place}
 use Rattle.opgp_report.specs.declared.verifier.Verdict.{Verdict}

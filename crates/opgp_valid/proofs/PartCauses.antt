@@ -5,7 +5,7 @@ use Rattle.std.specs.Option.{option_map}
 use Rattle.opgp_octets.specs.declared.packet_type.PacketType.TheVariants as packet
 use Rattle.opgp_frame.specs.Header.{is_type}
 use Rattle.opgp_frame.specs.Packet.{PacketValue}
-use Rattle.opgp_ring.specs.Keyring.{ComponentValue}
+use Rattle.opgp_keyring.specs.Keyring.{ComponentValue}
 use Rattle.opgp_valid.specs.Cause.{cause_by, ends_it, expired_at, expired_by, expired_key, has_lack, is_lacking, is_so_at, lack_of, lacking_by, only_now, revoked_by, spot_of, time_of, unbound_at, unbound_by, unbound_key}
 use Rattle.opgp_valid.specs.KeyCauses.{AreEnoughFor, causes_from, expired_shared, part_cause, revoked_with, unbound_shared, unusable_cause}
 use Rattle.opgp_valid.specs.Facts.{FactsValue}

@@ -1,7 +1,7 @@
 -- What is said of one component, by the statements on it.
 use Rattle.std.proofs.Common.{◌≡◌, ◌∙◌, ℕ, ◌+◌, ◌≤◌, length, length-append, arith, ◌&&◌, ◌||◌, List, [], ◌∷◌, ◌++◌, append_assoc, Some, Bool, true, false, cond, refl, sym, ap}
 use Rattle.std.specs.List.{filter, flat_map, list_any}
-use Rattle.opgp_ring.specs.Keyring.{ComponentValue, component_packets}
+use Rattle.opgp_keyring.specs.Keyring.{ComponentValue, component_packets}
 use Rattle.opgp_valid.specs.Facts.{FactsValue}
 use Rattle.opgp_valid.specs.Group.{any, good, is_the, on_component, speaks}
 use Rattle.opgp_valid.specs.Judgement.{subkey_at}

@@ -2,7 +2,7 @@
 use Rattle.std.proofs.Common.{◌≡◌, ◌≤◌, ◌∙◌, ◌+◌, ◌-◌, ℕ, suc, List, [], ◌∷◌, length, take, drop, sym, ap, arith, None, Some, zero-add}
 use Rattle.std.proofs.lemmas.List.{drop-drop, length-append}
 use Rattle.std.specs.Prelude.{slice_get}
-use Rattle.opgp_ring.specs.Keyring.{CertificateValue}
+use Rattle.opgp_keyring.specs.Keyring.{CertificateValue}
 use Rattle.opgp_report.specs.Standing.{certificate_standing}
 use Rattle.opgp_report.specs.declared.verifier.Verdict.{Verdict}
 use Rattle.opgp_valid.specs.Judgement.{rows_in, verdicts_from}

@@ -11,7 +11,7 @@ use Rattle.opgp_packet.specs.Areas.{hashed_subs}
 use Rattle.opgp_packet.specs.SignatureBody.{SignatureValue}
 use Rattle.opgp_hash.specs.SignedValue.{signed_of}
 use Rattle.opgp_hash.specs.declared.fingerprints.Fingerprint.{Fingerprint}
-use Rattle.opgp_ring.specs.Keyring.{CertificateValue, ComponentValue, KeyringValue}
+use Rattle.opgp_keyring.specs.Keyring.{CertificateValue, ComponentValue, KeyringValue}
 use Rattle.opgp_report.specs.First.{print_of}
 use Rattle.opgp_report.specs.declared.verifier.Verdict.{Verdict}
 use Rattle.opgp_valid.specs.Judgement.{judgement_of}

@@ -2,7 +2,7 @@
 use Rattle.std.specs.Prelude.{◌≡◌, ℕ, ◌+◌, Bool, false, if◌then◌else◌, List, [], ◌∷◌}
 use Rattle.std.specs.Prelude.{Option, Some, None}
 use Rattle.std.specs.Option.{option_map}
-use Rattle.opgp_ring.specs.Keyring.{CertificateValue, ComponentValue}
+use Rattle.opgp_keyring.specs.Keyring.{CertificateValue, ComponentValue}
 use Rattle.opgp_valid.specs.Cause.{cause_by, cause_with, expired_at, expired_by, unbound_at}
 use Rattle.opgp_valid.specs.Facts.{FactsValue}
 use Rattle.opgp_valid.specs.Judgement.{subkey_at}

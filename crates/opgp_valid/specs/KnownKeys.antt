@@ -2,7 +2,7 @@
 use Rattle.std.specs.Prelude.{ℕ, List, map, Option, slice_get}
 use Rattle.std.specs.Option.{option_and_then}
 use Rattle.opgp_packet.specs.SignatureBody.{SignatureValue}
-use Rattle.opgp_ring.specs.Keyring.{KeyringValue}
+use Rattle.opgp_keyring.specs.Keyring.{KeyringValue}
 use Rattle.opgp_report.specs.First.{print_of}
 use Rattle.opgp_report.specs.Report.{keys_in}
 use Rattle.opgp_report.specs.Signer.{signer_of}

@@ -2,7 +2,7 @@
 use Rattle.std.specs.Prelude.{◌≡◌, ⊤, ℕ, List, [], ◌∷◌, ◌++◌, Option, Some, None, Result, Ok, Err}
 use Rattle.opgp_hash.specs.Digest.{digest_of}
 use Rattle.opgp_hash.specs.QuestionValue.{QuestionValue}
-use Rattle.opgp_ring.specs.Keyring.{KeyringValue}
+use Rattle.opgp_keyring.specs.Keyring.{KeyringValue}
 use Rattle.opgp_report.specs.Standing.{Standing, by_number, standing_in}
 use Rattle.opgp_valid.specs.Revocation.{revocation_of}
 use Rattle.opgp_valid.specs.declared.listing.Lister.{Lister}

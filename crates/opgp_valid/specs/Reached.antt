@@ -1,6 +1,6 @@
 -- How far a walk over the certificates of a keyring has come.
 use Rattle.std.specs.Prelude.{◌≡◌, ℕ, ◌+◌, List, slice_get}
-use Rattle.opgp_ring.specs.Keyring.{CertificateValue}
+use Rattle.opgp_keyring.specs.Keyring.{CertificateValue}
 use Rattle.opgp_report.specs.declared.verifier.Verdict.{Verdict}
 use Rattle.opgp_valid.specs.Judgement.{verdicts_from}
 use Rattle.opgp_valid.specs.declared.reached.Reached.{Reached}

@@ -14,7 +14,7 @@ use Rattle.opgp_hash.specs.SubjectValue.{SubjectValue, first_key, one}
 use Rattle.opgp_hash.specs.declared.question.Question.{Question}
 use Rattle.opgp_hash.specs.declared.site.Site.TheVariants.{Hung}
 use Rattle.opgp_hash.specs.declared.why.Why.{Why}
-use Rattle.opgp_ring.specs.Keyring.{KeyringValue}
+use Rattle.opgp_keyring.specs.Keyring.{KeyringValue}
 use Rattle.opgp_report.specs.Standing.{Standing, standing_in}
 use Rattle.opgp_report.specs.declared.place.Place.{Place}
 use Rattle.opgp_valid.specs.Told.{revokes_key, type_in}

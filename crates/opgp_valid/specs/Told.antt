@@ -21,7 +21,7 @@ use Rattle.opgp_hash.specs.declared.fingerprints.Fingerprint.{Fingerprint}
 use Rattle.opgp_hash.specs.declared.fingerprints.Fingerprint.TheVariants.{Four}
 use Rattle.opgp_hash.specs.declared.site.Site.{Site}
 use Rattle.opgp_hash.specs.declared.site.Site.TheVariants.{Hung}
-use Rattle.opgp_ring.specs.Keyring.{CertificateValue}
+use Rattle.opgp_keyring.specs.Keyring.{CertificateValue}
 use Rattle.opgp_report.specs.First.{first_by_print, has_print, print_of}
 use Rattle.opgp_report.specs.Standing.{Standing, certificate_standing}
 use Rattle.opgp_report.specs.declared.place.Place.{Place}

@@ -2,7 +2,7 @@
 
 ghost use Rattle.std.specs.Prelude.{◌≡◌, ◌≤◌, ◌⊎◌, ◌||◌, [], List, IfOk, IfSome, None, Some, map};
 ghost use Rattle.std.specs.Prelude.{slice_get};
-ghost use Rattle.opgp_ring.specs.Keyring.{CertificateValue, KeyringValue};
+ghost use Rattle.opgp_keyring.specs.Keyring.{CertificateValue, KeyringValue};
 ghost use Rattle.opgp_report.specs.declared.verifier.Verdict.{Verdict};
 ghost use Rattle.opgp_valid.specs.Judgement.{verdicts_from};
 ghost use Rattle.opgp_valid.specs.Reached.{IsReached};
@@ -22,10 +22,10 @@ use crate::reached::{Reached, first, go_on};
 use crate::statement::Life;
 use crate::subpackets::has_unfit;
 use opgp_hash::Fingerprint;
+use opgp_keyring::{Certificate, Head, Keyring};
 use opgp_octets::{OutOfMemory, SignatureType};
 use opgp_packet::SigView;
 use opgp_report::{Verdict, print_of};
-use opgp_ring::{Certificate, Head, Keyring};
 use std::alloc::Global;
 
 /// What is wrong with a signature over a document itself, whatever its key.

@@ -14,10 +14,10 @@ use crate::gathering::statements_of;
 use crate::known_keys::KnownKeys;
 use crate::policy::Policy;
 use crate::statement::Statement;
+use opgp_keyring::Certificate;
 use opgp_octets::OutOfMemory;
 use opgp_packet::KeyView;
 use opgp_report::{Verdict, print_of};
-use opgp_ring::Certificate;
 use std::alloc::Global;
 
 /// A certificate: its primary key, and what its signatures say.

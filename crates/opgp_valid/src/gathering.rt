@@ -27,10 +27,10 @@ use crate::subpackets::{
     uses_in_area,
 };
 use opgp_hash::{CertificateHasher, Subject};
+use opgp_keyring::Certificate;
 use opgp_octets::OutOfMemory;
 use opgp_packet::{SigView, Subs};
 use opgp_report::{KeyIndex, Met, Place, Verdict, Visitor, print_of, visit_certificate};
-use opgp_ring::Certificate;
 use std::alloc::Global;
 
 /// Adds what genuine signatures say, if it counts.

@@ -2,8 +2,8 @@
 
 ghost use Rattle.std.specs.Prelude.{◌≡◌, List, drop, length, IfOk, MatchOption, None, Some};
 ghost use Rattle.std.specs.Prelude.{slice_get};
-ghost use Rattle.opgp_ring.specs.Grouped.{component_of, components_left};
-ghost use Rattle.opgp_ring.specs.Keyring.{KeyringValue};
+ghost use Rattle.opgp_keyring.specs.Grouped.{component_of, components_left};
+ghost use Rattle.opgp_keyring.specs.Keyring.{KeyringValue};
 ghost use Rattle.opgp_report.specs.declared.verifier.Verdict.{Verdict};
 ghost use Rattle.opgp_report.specs.Standing.{certificate_standing};
 ghost use Rattle.std.specs.Option.{option_map};
@@ -15,9 +15,9 @@ use crate::certified::{Certified, created_of};
 use crate::facts::Key;
 use crate::known_keys::KnownKeys;
 use crate::policy::Policy;
+use opgp_keyring::{Certificate, Component, Components, Head, Keyring};
 use opgp_octets::OutOfMemory;
 use opgp_report::{Verdict, rows_left};
-use opgp_ring::{Certificate, Component, Components, Head, Keyring};
 use std::alloc::Global;
 
 /// Whether a key of a keyring is believed.

@@ -3,8 +3,8 @@
 ghost use Rattle.std.specs.Prelude.{◌≡◌, ◌++◌, ◌<◌, ◌^◌, if◌then◌else◌, false, length};
 ghost use Rattle.std.specs.Prelude.{IfOk, OnOk, Some};
 ghost use Rattle.std.specs.List.{flat_map};
-ghost use Rattle.opgp_ring.specs.Grouped.{component_of, components_left};
-ghost use Rattle.opgp_ring.specs.Keyring.{component_packets};
+ghost use Rattle.opgp_keyring.specs.Grouped.{component_of, components_left};
+ghost use Rattle.opgp_keyring.specs.Keyring.{component_packets};
 ghost use Rattle.opgp_valid.specs.Cause.{cause_by, expired_at, expired_key, unbound_at};
 ghost use Rattle.opgp_valid.specs.Cause.{unbound_key};
 ghost use Rattle.opgp_valid.specs.KeyCauses.{AreEnoughFor, IsShared, causes_from, causes_of};
@@ -27,8 +27,8 @@ use crate::state::{Revocation, first_revocation, unusable};
 use crate::states::{Primary, primary_of};
 use crate::walk::{Part, Walk};
 use crate::why::Why;
+use opgp_keyring::{Certificate, Component, Components, Head};
 use opgp_octets::OutOfMemory;
-use opgp_ring::{Certificate, Component, Components, Head};
 use std::alloc::Global;
 
 /// What is found of the primary key, and what makes it of no use, and its subkeys with it.

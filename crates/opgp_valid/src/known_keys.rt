@@ -4,17 +4,17 @@ ghost use Rattle.std.specs.Prelude.{◌≡◌, ◌++◌, ◌∷◌, [], map, IfO
 ghost use Rattle.std.specs.List.{flat_map};
 ghost use Rattle.opgp_packet.specs.Parsed.{body_octets};
 ghost use Rattle.opgp_packet.specs.SigView.{sig_view_value};
-ghost use Rattle.opgp_ring.specs.Grouped.{components_left};
+ghost use Rattle.opgp_keyring.specs.Grouped.{components_left};
 ghost use Rattle.opgp_report.specs.KeyIndex.{prints_shown};
 ghost use Rattle.opgp_report.specs.Report.{certificate_keys, subkey_bodies};
 
 use crate::certified::created_of;
 use crate::strength::{is_strong, least_digest};
 use opgp_hash::Fingerprint;
+use opgp_keyring::{Certificate, Components, Head, Keyring};
 use opgp_octets::OutOfMemory;
 use opgp_packet::{KeyView, SigView};
 use opgp_report::{KeyIndex, print_of, signer};
-use opgp_ring::{Certificate, Components, Head, Keyring};
 use std::alloc::Global;
 
 /// What is known of a key.

@@ -8,7 +8,7 @@ ghost use Rattle.opgp_hash.specs.declared.fingerprints.Fingerprint.{Fingerprint}
 ghost use Rattle.opgp_report.specs.Standing.{Standing};
 ghost use Rattle.opgp_report.specs.declared.verifier.Verdict.{Verdict};
 ghost use Rattle.opgp_report.specs.Standing.{certificate_standing};
-ghost use Rattle.opgp_ring.specs.Keyring.{CertificateValue};
+ghost use Rattle.opgp_keyring.specs.Keyring.{CertificateValue};
 ghost use Rattle.std.specs.Option.{option_map};
 ghost use Rattle.opgp_valid.specs.Cause.{cause_of};
 ghost use Rattle.opgp_valid.specs.Judgement.{facts_by};

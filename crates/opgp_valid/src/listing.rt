@@ -5,9 +5,9 @@ ghost use Rattle.opgp_valid.specs.Listing.{ListsRevocations, revocations_in};
 
 use crate::revocation::revocation_of;
 use opgp_hash::{CertificateHasher, Digest, digest};
+use opgp_keyring::Keyring;
 use opgp_octets::OutOfMemory;
 use opgp_report::{Met, Visitor, visit};
-use opgp_ring::Keyring;
 use std::alloc::{AllocError, Global};
 
 /// A revocation of a primary key, and the digest of what it hashes over that key alone.

@@ -16,10 +16,10 @@ use crate::context::{Context, is_print, parts_of};
 use crate::group::certifies;
 use crate::subpackets::revoker_stated;
 use opgp_hash::{CertificateHasher, Fingerprint};
+use opgp_keyring::Certificate;
 use opgp_octets::{OutOfMemory, SignatureType};
 use opgp_packet::{SigView, Subs};
 use opgp_report::{KeyIndex, Met, Verdict, Visitor, visit_certificate};
-use opgp_ring::Certificate;
 use std::alloc::Global;
 
 /// Adds the fingerprints that signatures name, where those may name revokers.

@@ -1,13 +1,13 @@
 //! A walk over the certificates of a keyring, with the verdicts on their rows.
 
 ghost use Rattle.std.specs.Prelude.{◌≡◌, ◌≤◌, ◌⊎◌, [], List};
-ghost use Rattle.opgp_ring.specs.Keyring.{CertificateValue};
+ghost use Rattle.opgp_keyring.specs.Keyring.{CertificateValue};
 ghost use Rattle.opgp_report.specs.declared.verifier.Verdict.{Verdict};
 ghost use Rattle.opgp_valid.specs.Reached.{IsReached};
 
 use crate::judgement::verdicts_behind;
+use opgp_keyring::Certificate;
 use opgp_report::Verdict;
-use opgp_ring::Certificate;
 
 /// The certificates that are left, the number of the first of them, and the verdicts on their rows.
 #[derive(Clone, Copy)]

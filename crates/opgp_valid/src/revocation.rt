@@ -12,9 +12,9 @@ ghost use Rattle.opgp_valid.specs.Revocation.{revocation_met};
 
 use crate::asking::{revokes_key, type_of};
 use opgp_hash::{CertificateHasher, Question, Site, Subject, ask_at};
+use opgp_keyring::Keyring;
 use opgp_packet::SigView;
 use opgp_report::{Met, Visitor, visit};
-use opgp_ring::Keyring;
 
 /// What a signature hashes over the primary key that a subject begins with, alone.
 fn alone_in<'a>(subject: Subject<'a>, signature: SigView<'a>) -> Option<Question<'a>>

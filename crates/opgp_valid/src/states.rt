@@ -2,8 +2,8 @@
 
 ghost use Rattle.std.specs.Prelude.{◌≡◌, ◌++◌, ◌<◌, ◌^◌, length, IfOk, OnOk, Some};
 ghost use Rattle.std.specs.List.{flat_map};
-ghost use Rattle.opgp_ring.specs.Grouped.{component_of, components_left};
-ghost use Rattle.opgp_ring.specs.Keyring.{component_packets};
+ghost use Rattle.opgp_keyring.specs.Grouped.{component_of, components_left};
+ghost use Rattle.opgp_keyring.specs.Keyring.{component_packets};
 ghost use Rattle.opgp_valid.specs.Facts.{facts_value};
 ghost use Rattle.opgp_valid.specs.Judgement.{subkey_at};
 ghost use Rattle.opgp_valid.specs.States.{IsOfPrimary, part_state, states_from, states_of};
@@ -19,8 +19,8 @@ use crate::state::{
     IdentityState, KeyState, Revocation, first_revocation, identity_state, state_with,
 };
 use crate::walk::{Part, Walk};
+use opgp_keyring::{Certificate, Component, Components, Head};
 use opgp_octets::OutOfMemory;
-use opgp_ring::{Certificate, Component, Components, Head};
 use std::alloc::Global;
 
 /// How a part of a certificate stands at a time.

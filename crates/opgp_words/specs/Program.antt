@@ -131,8 +131,12 @@ quiet_rule = flag_rule (codes "quiet")
 abbrev pub text_rule : Text → Rule
 text_rule name = valued_rule name parser.NonEmptyString
 
+-- the same, which must be given
+abbrev pub wanted_rule : Text → Rule
+wanted_rule name = record (text_rule name) { required = true }
+
 abbrev pub signatures_rule : Rule
-signatures_rule = text_rule (codes "signatures")
+signatures_rule = wanted_rule (codes "signatures")
 
 abbrev pub signature_rule : Rule
 signature_rule = number_rule (codes "octets")
@@ -142,6 +146,9 @@ salt_rule = flag_rule (codes "salt")
 
 abbrev pub at_rule : Rule
 at_rule = text_rule (codes "at")
+
+abbrev pub judged_at_rule : Rule
+judged_at_rule = wanted_rule (codes "at")
 
 abbrev pub verdicts_rule : Rule
 verdicts_rule = text_rule (codes "verdicts")
@@ -153,7 +160,7 @@ abbrev pub part_rule : Choice → Rule
 part_rule parts = choice_rule (codes "of") parts (codes "document")
 
 abbrev pub old_rule : Rule
-old_rule = text_rule (codes "old")
+old_rule = wanted_rule (codes "old")
 
 abbrev pub spool_rule : Rule
 spool_rule = text_rule (codes "spool")
@@ -254,7 +261,7 @@ listing_commands show list check state octets reliances tops =
     ∷ command_shape (codes "list") list (values_rule ∷ [])
     ∷ command_shape (codes "check") check (fingerprints_rule ∷ places_rule ∷ [])
     ∷ command_shape (codes "state") state
-    (at_rule ∷ policy_rule reliances ∷ verdicts_rule ∷ values_rule ∷ [])
+    (judged_at_rule ∷ policy_rule reliances ∷ verdicts_rule ∷ values_rule ∷ [])
     ∷ command_shape (codes "octets") octets
     (row_rule ∷ of_rule tops ∷ all_rule ∷ explain_rule ∷ []) ∷ []
 

@@ -8,6 +8,7 @@ ghost use Rattle.opgp_words.specs.Program.{malformed_rule, out_rule, of_rule, li
 ghost use Rattle.opgp_words.specs.Program.{AreWhens, bound_rule, hints_rule, newest_rule};
 ghost use Rattle.opgp_words.specs.Program.{nth_rule, flag_rule, merge_rule, key_rule, choice_rule};
 ghost use Rattle.opgp_words.specs.Program.{number_rule, valued_rule, text_rule, values_rule};
+ghost use Rattle.opgp_words.specs.Program.{judged_at_rule, wanted_rule};
 ghost use Rattle.opgp_words.specs.Program.{fingerprints_rule, places_rule, all_rule, explain_rule};
 ghost use Rattle.opgp_words.specs.Program.{with_limits};
 ghost use Rattle.opgp_words.specs.Program.{signatures_rule, signature_rule, salt_rule};
@@ -237,6 +238,14 @@ fn text_option<'a>(alloc: Global, name: &'a str, value: &'a str, help: &'a str) 
     valued_option(alloc, name, value, ValueParser::NonEmptyString, help)
 }
 
+/// The same, which must be given.
+fn wanted_option<'a>(alloc: Global, name: &'a str, value: &'a str, help: &'a str) -> Arg<'a>
+    ensures rule { rule_of result ≡ wanted_rule name.entry.now }
+    ensures own { result.global ≡ false }
+{
+    text_option(alloc, name, value, help).required(true)
+}
+
 /// An option with one value, which this parser checks, that may be given again and again.
 fn repeated_option<'a>(
     alloc: Global,
@@ -330,12 +339,12 @@ fn check_command<'a>(alloc: Global) -> Result<Command<'a>, OutOfMemory>
 fn state_command<'a>(alloc: Global) -> Result<Command<'a>, OutOfMemory>
     ensures { IfOk result (λ c. (reliances : Choice) × AreReliances reliances
         × IsCommand (codes "state")
-        (at_rule ∷ policy_rule reliances ∷ verdicts_rule ∷ values_rule ∷ []) c) }
+        (judged_at_rule ∷ policy_rule reliances ∷ verdicts_rule ∷ values_rule ∷ []) c) }
 {
     let about = "List how the keys and user IDs of a keyring stand at a time";
     let command = new_command(alloc, "state", about, STATE_HELP);
     let help = "The time, in seconds since 1970 or as a UTC date";
-    let command = with_option(command, text_option(alloc, "at", "TIME", help));
+    let command = with_option(command, wanted_option(alloc, "at", "TIME", help));
     let command = with_option(command, policy_option(alloc));
     let help = "The file of a verifier's verdicts on the signatures";
     let command = with_option(command, text_option(alloc, "verdicts", "FILE", help));
@@ -431,7 +440,7 @@ fn digest_command<'a>(alloc: Global) -> Result<Command<'a>, OutOfMemory>
     let about = "List the digests that signatures have of a document";
     let command = new_command(alloc, "digest", about, DIGEST_HELP);
     let help = "The file of the detached signatures";
-    let command = with_option(command, text_option(alloc, "signatures", "FILE", help));
+    let command = with_option(command, wanted_option(alloc, "signatures", "FILE", help));
     let help = "Write what the signature of this number hashes behind the document";
     let command = with_option(command, number_option(alloc, "octets", help));
     let help = "With --octets, write what it hashes in front of it";
@@ -453,7 +462,7 @@ fn diff_command<'a>(alloc: Global) -> Result<Command<'a>, OutOfMemory>
     let about = "List what changed from an old keyring";
     let command = new_command(alloc, "diff", about, DIFF_HELP);
     let help = "The file of the old keyring";
-    with_option(command, text_option(alloc, "old", "FILE", help))
+    with_option(command, wanted_option(alloc, "old", "FILE", help))
 }
 
 /// The program without its commands.

@@ -1,6 +1,6 @@
 use Rattle.std.proofs.Common.{◌∙◌, List, All, sym, subst}
 use Rattle.opgp_frame.specs.Packet.{PacketValue}
-use Rattle.opgp_ring.specs.Keyring.{ComponentValue, IsComponent, IsHung}
+use Rattle.opgp_keyring.specs.Keyring.{ComponentValue, IsComponent, IsHung}
 use Rattle.opgp_bound.specs.Judged.{IsJudgedComponent, JudgedComponentValue, JudgedValue}
 use Rattle.opgp_bound.proofs.Found.{components_stand, hangs_hung}
 use Rattle.opgp_bound.proofs.Kept.{Hung}

@@ -1,6 +1,6 @@
 use Rattle.std.proofs.Common.{◌∙◌, ◌++◌, ◌∷◌, [], List, All, ap, sym, subst}
 use Rattle.std.proofs.lemmas.List.Elements.{All-append, All-cons, All-nil}
-use Rattle.opgp_ring.specs.Keyring.{CertificateValue, IsCertificate}
+use Rattle.opgp_keyring.specs.Keyring.{CertificateValue, IsCertificate}
 use Rattle.opgp_report.specs.KeyIndex.{prints_shown}
 use Rattle.opgp_valid.specs.KnownKeys.{knowns}
 use Rattle.opgp_bound.proofs.First.{AreFirst, all_first, first_more}

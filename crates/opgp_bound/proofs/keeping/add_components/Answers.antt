@@ -1,5 +1,5 @@
 use Rattle.std.proofs.Common.{◌∙◌, ◌-◌, List, length, take, drop}
-use Rattle.opgp_ring.specs.Keyring.{certificate_packets}
+use Rattle.opgp_keyring.specs.Keyring.{certificate_packets}
 use Rattle.opgp_bound.specs.Judged.{IsJudgedComponent, JudgedComponentValue}
 use Rattle.opgp_bound.proofs.Kept.{components_more, first_rest, rest_are}
 use Rattle.opgp_bound.proofs.keeping.add_components.Goals as goal

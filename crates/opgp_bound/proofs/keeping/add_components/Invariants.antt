@@ -1,6 +1,6 @@
 use Rattle.std.proofs.Common.{◌≡◌, ◌++◌, All, length}
 use Rattle.std.specs.List.{flat_map}
-use Rattle.opgp_ring.specs.Keyring.{certificate_packets, component_packets}
+use Rattle.opgp_keyring.specs.Keyring.{certificate_packets, component_packets}
 use Rattle.opgp_bound.specs.Bound.{kept_components}
 use Rattle.opgp_bound.specs.Judged.{IsJudgedComponent}
 use Rattle.opgp_bound.proofs.keeping.add_components.Given as goal

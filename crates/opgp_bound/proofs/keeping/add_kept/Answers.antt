@@ -1,6 +1,6 @@
 use Rattle.std.proofs.Common.{◌∙◌, ◌-◌, ◌++◌, List, length, take, drop, ap}
 use Rattle.std.specs.Prelude.{if◌then◌else◌, [], ◌∷◌}
-use Rattle.opgp_ring.specs.Keyring.{certificate_packets}
+use Rattle.opgp_keyring.specs.Keyring.{certificate_packets}
 use Rattle.opgp_bound.specs.Bound.{role_stays}
 use Rattle.opgp_bound.specs.Judged.{JudgedValue}
 use Rattle.opgp_bound.proofs.Kept.{Hung, first_rest, packets_more, rest_are}

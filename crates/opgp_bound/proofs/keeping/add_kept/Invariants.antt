@@ -1,6 +1,6 @@
 use Rattle.std.proofs.Common.{◌≡◌, ◌++◌, All, length}
 use Rattle.std.specs.List.{filter}
-use Rattle.opgp_ring.specs.Keyring.{certificate_packets}
+use Rattle.opgp_keyring.specs.Keyring.{certificate_packets}
 use Rattle.opgp_bound.specs.Bound.{packets_of, role_stays}
 use Rattle.opgp_bound.proofs.Kept.{Hung}
 use Rattle.opgp_bound.proofs.keeping.add_kept.Given as goal

@@ -1,6 +1,6 @@
 use Rattle.std.proofs.Common.{ap}
-use Rattle.opgp_ring.specs.Keyring.{certificate_packets}
-use Rattle.opgp_ring.specs.Member.{member_packet}
+use Rattle.opgp_keyring.specs.Keyring.{certificate_packets}
+use Rattle.opgp_keyring.specs.Member.{member_packet}
 use Rattle.opgp_bound.specs.Bound.{kept_certificate}
 use Rattle.opgp_bound.proofs.Kept.{all_kept, certificate_is}
 use Rattle.opgp_bound.proofs.keeping.keep.Goals as goal

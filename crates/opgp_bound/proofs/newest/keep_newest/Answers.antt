@@ -1,6 +1,6 @@
 use Rattle.std.proofs.Common.{◌∙◌, ◌++◌, ◌∷◌, [], List, All, ap, sym, subst}
 use Rattle.std.proofs.lemmas.List.Elements.{All-append, All-cons, All-nil}
-use Rattle.opgp_ring.specs.Keyring.{CertificateValue, IsCertificate}
+use Rattle.opgp_keyring.specs.Keyring.{CertificateValue, IsCertificate}
 use Rattle.opgp_report.specs.declared.verifier.Verdict.{Verdict}
 use Rattle.opgp_valid.specs.KnownKeys.{knowns}
 use Rattle.opgp_bound.proofs.NewestFirst.{AreNewest, AreVerdicts, all_newest, all_verdicts, newest_more, verdicts_more}

@@ -1,6 +1,6 @@
 use Rattle.std.proofs.Common.{◌≡◌}
 use Rattle.std.specs.Prelude.{All}
-use Rattle.opgp_ring.specs.Keyring.{IsCertificate}
+use Rattle.opgp_keyring.specs.Keyring.{IsCertificate}
 use Rattle.opgp_valid.specs.KnownKeys.{knowns}
 use Rattle.opgp_bound.specs.Newest.{certificates_verdicts, newest_certificates}
 use Rattle.opgp_bound.proofs.NewestFirst.{AreNewest, AreVerdicts}

@@ -6,8 +6,8 @@ use Rattle.opgp_frame.specs.Packet.{PacketValue}
 use Rattle.opgp_packet.specs.Parsed.{body_octets}
 use Rattle.opgp_hash.specs.SubjectValue.{one}
 use Rattle.opgp_hash.specs.declared.fingerprints.Fingerprint.{Fingerprint}
-use Rattle.opgp_ring.specs.Grouped.{components_left, hangs_left}
-use Rattle.opgp_ring.specs.Keyring.{CertificateValue, ComponentValue, certificate_packets, component_packets}
+use Rattle.opgp_keyring.specs.Grouped.{components_left, hangs_left}
+use Rattle.opgp_keyring.specs.Keyring.{CertificateValue, ComponentValue, certificate_packets, component_packets}
 use Rattle.opgp_report.specs.First.{print_of}
 use Rattle.opgp_report.specs.declared.verifier.Verdict.{Verdict}
 use Rattle.opgp_valid.specs.Facts.{FactsValue}

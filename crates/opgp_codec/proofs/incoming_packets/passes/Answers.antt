@@ -1,7 +1,7 @@
 use Rattle.std.proofs.Common.{◌≡◌, ◌++◌, ◌∷◌, [], List, Some, sym, ap, ◌∙◌, append-nil, subst}
 use Rattle.opgp_frame.specs.declared.packet.Placed.{Placed}
 use Rattle.opgp_frame.specs.View.{viewed}
-use Rattle.opgp_ring.specs.Composition.{Item, of_packet, placed_in}
+use Rattle.opgp_keyring.specs.Composition.{Item, of_packet, placed_in}
 use Rattle.opgp_codec.specs.SoundPackets.{AreSoFar}
 use Rattle.opgp_codec.proofs.SoundSoFar.{so_far_fault, so_far_nil, so_far_none, so_far_packet, so_far_still}
 use Rattle.opgp_codec.proofs.incoming_packets.passes.Goals as goal

@@ -1,6 +1,6 @@
 use Rattle.std.proofs.Common.{◌≡◌, ◌++◌, [], List, None, map, refl, sym, ap, ◌∙◌, append_assoc, append-nil}
 use Rattle.opgp_frame.specs.declared.packet.Placed.{Placed}
-use Rattle.opgp_ring.specs.Composition.{of_packet}
+use Rattle.opgp_keyring.specs.Composition.{of_packet}
 use Rattle.opgp_codec.specs.PacketReader.{packets_in}
 use Rattle.opgp_codec.proofs.SoundSoFar.{passed_more, so_far_kept}
 use Rattle.opgp_codec.proofs.packet_reader.keep.Goals as goal

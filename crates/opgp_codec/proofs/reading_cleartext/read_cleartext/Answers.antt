@@ -2,7 +2,7 @@ use Rattle.std.proofs.Common.{◌≡◌, ◌∙◌, ℕ, ◌≤◌, List, Ok, Er
 use Rattle.std.proofs.lemmas.List.{length-drop}
 use Rattle.opgp_octets.specs.Limits.{line_limit}
 use Rattle.opgp_frame.specs.Packet.{PacketValue}
-use Rattle.opgp_ring.specs.DetachedSignatures.{detached_packets}
+use Rattle.opgp_keyring.specs.DetachedSignatures.{detached_packets}
 use Rattle.opgp_cleartext.specs.Cleartext.{HasCleartext}
 use Rattle.opgp_cleartext.specs.Faults.{IsCleartextFault}
 use Rattle.opgp_cleartext.specs.View.{document_of, place_of, rest_of}

@@ -1,6 +1,6 @@
 use Rattle.std.proofs.Common.{◌++◌, ◌∷◌, [], append-nil, subst, sym}
-use Rattle.opgp_ring.specs.Parts.{HasParts}
-use Rattle.opgp_ring.specs.State.{part_of}
+use Rattle.opgp_keyring.specs.Parts.{HasParts}
+use Rattle.opgp_keyring.specs.State.{part_of}
 use Rattle.opgp_codec.proofs.Keyringed.{error_at_end, keyring_at_end, parts_at_end}
 use Rattle.opgp_codec.proofs.reading_keyring.finish.Goals as goal
 

@@ -1,5 +1,5 @@
 use Rattle.std.proofs.Common.{[], ◌++◌, append-nil, subst, sym}
-use Rattle.opgp_ring.specs.Parts.{HasParts}
+use Rattle.opgp_keyring.specs.Parts.{HasParts}
 use Rattle.opgp_codec.proofs.reading_keyring.keep_all.Goals as goal
 
 pub each-preserved : goal.each-preserved

@@ -1,7 +1,7 @@
 use Rattle.std.proofs.Common.{◌≡◌, false, List, ℕ, Option}
 use Rattle.opgp_octets.specs.declared.limits.Limits.{Limits}
-use Rattle.opgp_ring.specs.Composed.{PartValue}
-use Rattle.opgp_ring.specs.Parts.{HasParts}
+use Rattle.opgp_keyring.specs.Composed.{PartValue}
+use Rattle.opgp_keyring.specs.Parts.{HasParts}
 use Rattle.opgp_codec.specs.Incoming.{left_in}
 use Rattle.opgp_codec.specs.IncomingParts.{PartsCame}
 use Rattle.opgp_codec.specs.declared.mode.Mode.{Mode}

@@ -1,5 +1,5 @@
 use Rattle.std.proofs.Common.{[], rules}
-use Rattle.opgp_ring.specs.Parts.{HasParts}
+use Rattle.opgp_keyring.specs.Parts.{HasParts}
 use Rattle.opgp_codec.specs.Keyrings.{ComposesTo, key_label}
 use Rattle.opgp_codec.specs.Reading.{AnswerOf}
 use Rattle.opgp_codec.proofs.Pulling.{reads_to}

@@ -1,7 +1,7 @@
 use Rattle.std.proofs.Common.{◌≡◌, ◌<◌, ◌-◌, ◌++◌, ◌∷◌, [], List, length, ap, sym, ◌∙◌, refl, arith}
 use Rattle.std.specs.Vec.{vec_len}
-use Rattle.opgp_ring.specs.declared.block_of.BlockOf.{BlockOf}
-use Rattle.opgp_ring.specs.Composition.{Item, of_packet}
+use Rattle.opgp_keyring.specs.declared.block_of.BlockOf.{BlockOf}
+use Rattle.opgp_keyring.specs.Composition.{Item, of_packet}
 use Rattle.opgp_codec.proofs.Labels.{pushed_last, some_label, no_label}
 use Rattle.opgp_codec.proofs.reading_packets.add_packet.Goals as goal
 

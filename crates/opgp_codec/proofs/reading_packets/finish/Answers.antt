@@ -2,9 +2,9 @@ use Rattle.std.proofs.Common.{List, All, Ok, Err, ◌∙◌, sym, ap, subst}
 use Rattle.opgp_octets.specs.Limits.{malformed_of}
 use Rattle.opgp_octets.specs.declared.malformed.Malformed.{Malformed}
 use Rattle.opgp_frame.specs.declared.packet.Placed.{Placed}
-use Rattle.opgp_ring.specs.Bodies.{IsSound, IsFirstBodyFault}
-use Rattle.opgp_ring.specs.Block.{placed_of}
-use Rattle.opgp_ring.specs.Composition.{placed_in}
+use Rattle.opgp_keyring.specs.Bodies.{IsSound, IsFirstBodyFault}
+use Rattle.opgp_keyring.specs.Block.{placed_of}
+use Rattle.opgp_keyring.specs.Composition.{placed_in}
 use Rattle.opgp_codec.specs.Packets.{ArePackets, any_label, block_values}
 use Rattle.opgp_codec.specs.declared.accepts.Accepts.TheVariants.{Any}
 use Rattle.opgp_codec.proofs.Coming.{of_input}

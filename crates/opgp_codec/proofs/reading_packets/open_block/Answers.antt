@@ -1,8 +1,8 @@
 use Rattle.std.proofs.Common.{◌++◌, ◌∷◌, [], List, ap, sym, ◌∙◌, map}
 use Rattle.opgp_frame.specs.declared.packet.Placed.{Placed}
-use Rattle.opgp_ring.specs.declared.block_of.BlockOf.{BlockOf}
-use Rattle.opgp_ring.specs.Block.{items_of}
-use Rattle.opgp_ring.specs.Composition.{Item, of_label, of_packet}
+use Rattle.opgp_keyring.specs.declared.block_of.BlockOf.{BlockOf}
+use Rattle.opgp_keyring.specs.Block.{items_of}
+use Rattle.opgp_keyring.specs.Composition.{Item, of_label, of_packet}
 use Rattle.opgp_codec.proofs.Labels.{from_label-label, items_push}
 use Rattle.opgp_codec.proofs.reading_packets.open_block.Goals as goal
 

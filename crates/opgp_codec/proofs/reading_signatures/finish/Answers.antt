@@ -1,6 +1,6 @@
 use Rattle.std.proofs.Common.{◌++◌, Ok, Err}
 use Rattle.opgp_octets.specs.Limits.{malformed_of}
-use Rattle.opgp_ring.specs.DetachedSignatures.{detached_packets}
+use Rattle.opgp_keyring.specs.DetachedSignatures.{detached_packets}
 use Rattle.opgp_codec.specs.Found.{opened}
 use Rattle.opgp_codec.specs.Signatures.{AreDetachedSignatures, signature_label}
 use Rattle.opgp_codec.specs.declared.accepts.Accepts.TheVariants.{Signatures}

@@ -1,9 +1,9 @@
 use Rattle.std.proofs.Common.{◌≡◌, ◌++◌, [], List, Ok, ap, sym, subst, append-nil, append_assoc, map, ◌∙◌}
 use Rattle.opgp_octets.specs.Limits.{malformed_of}
 use Rattle.opgp_octets.specs.declared.malformed.Malformed.{Malformed}
-use Rattle.opgp_ring.specs.Composition.{Item, of_packet}
-use Rattle.opgp_ring.specs.DetachedGathering.{GathersDetached}
-use Rattle.opgp_ring.specs.DetachedSignatures.{detached_packets}
+use Rattle.opgp_keyring.specs.Composition.{Item, of_packet}
+use Rattle.opgp_keyring.specs.DetachedGathering.{GathersDetached}
+use Rattle.opgp_keyring.specs.DetachedSignatures.{detached_packets}
 use Rattle.opgp_codec.specs.Found.{opened}
 use Rattle.opgp_codec.specs.Reading.{AnswerOf, shown}
 use Rattle.opgp_codec.specs.Signatures.{AreDetachedSignatures, signature_label}

@@ -1,7 +1,7 @@
 use Rattle.std.proofs.Common.{◌≡◌, false, List}
 use Rattle.opgp_octets.specs.Limits.{malformed_of}
-use Rattle.opgp_ring.specs.Composition.{Item}
-use Rattle.opgp_ring.specs.DetachedGathering.{GathersDetached}
+use Rattle.opgp_keyring.specs.Composition.{Item}
+use Rattle.opgp_keyring.specs.DetachedGathering.{GathersDetached}
 use Rattle.opgp_codec.specs.Incoming.{Came, left_in}
 use Rattle.opgp_codec.specs.declared.accepts.Accepts.TheVariants.{Signatures}
 use Rattle.opgp_codec.proofs.reading_signatures.read_signatures.Given as goal

@@ -1,6 +1,6 @@
 use Rattle.std.proofs.Common.{◌++◌, Ok, Err}
 use Rattle.opgp_octets.specs.Limits.{malformed_of}
-use Rattle.opgp_ring.specs.SignedLiteral.{signed_packets}
+use Rattle.opgp_keyring.specs.SignedLiteral.{signed_packets}
 use Rattle.opgp_codec.specs.Found.{opened}
 use Rattle.opgp_codec.specs.Signed.{AreSigned, message_label}
 use Rattle.opgp_codec.specs.declared.accepts.Accepts.TheVariants.{Messages}

@@ -1,7 +1,7 @@
 use Rattle.std.proofs.Common.{[], List, ℕ, ap, append-nil, refl, sym}
 use Rattle.opgp_frame.specs.Packet.{packets_octets, spelling}
-use Rattle.opgp_ring.specs.Member.{member_packet}
-use Rattle.opgp_ring.specs.Packets.{packets_left}
+use Rattle.opgp_keyring.specs.Member.{member_packet}
+use Rattle.opgp_keyring.specs.Packets.{packets_left}
 use Rattle.opgp_io.proofs.Rows.{broken_at}
 use Rattle.opgp_codec.proofs.Ways.{via_all_left, via_less_left, via_broken, via_broken_left, via_then}
 use Rattle.opgp_codec.proofs.via.add_packets.Goals as goal

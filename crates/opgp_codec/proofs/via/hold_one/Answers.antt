@@ -1,6 +1,6 @@
 use Rattle.std.proofs.Common.{◌∙◌, sym}
 use Rattle.opgp_frame.specs.Packet.{spelling}
-use Rattle.opgp_ring.specs.Member.{member_packet}
+use Rattle.opgp_keyring.specs.Member.{member_packet}
 use Rattle.opgp_codec.proofs.Ways.{held_bare}
 use Rattle.opgp_codec.proofs.via.hold_one.Goals as goal
 

@@ -1,5 +1,5 @@
 use Rattle.std.proofs.Common.{◌∙◌, refl}
-use Rattle.opgp_ring.specs.Keyring.{CertificateValue, certificate_packets}
+use Rattle.opgp_keyring.specs.Keyring.{CertificateValue, certificate_packets}
 use Rattle.opgp_io.specs.Added.{State}
 use Rattle.opgp_io.specs.Output.{state_of}
 use Rattle.opgp_codec.specs.Writing.{packets_text}

@@ -1,6 +1,6 @@
 use Rattle.std.proofs.Common.{[], ◌∷◌, ◌++◌, Some, None}
-use Rattle.opgp_ring.specs.Grouped.{component_of, hangs_left}
-use Rattle.opgp_ring.specs.Member.{member_packet}
+use Rattle.opgp_keyring.specs.Grouped.{component_of, hangs_left}
+use Rattle.opgp_keyring.specs.Member.{member_packet}
 use Rattle.opgp_difference.specs.Entries.{Entry, Standing, component_standing, hang_standing, hangs_on, numbered, packet_name, place_of}
 use Rattle.opgp_difference.proofs.Walking.{joined}
 use Rattle.opgp_difference.proofs.visiting.visit_component.Goals as goal

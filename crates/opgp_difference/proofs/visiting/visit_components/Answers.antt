@@ -1,7 +1,7 @@
 use Rattle.std.proofs.Common.{◌+◌, List, ◌++◌, length, ap}
 use Rattle.std.specs.List.{flat_map}
-use Rattle.opgp_ring.specs.Grouped.{component_of, components_left}
-use Rattle.opgp_ring.specs.Keyring.{ComponentValue, component_packets}
+use Rattle.opgp_keyring.specs.Grouped.{component_of, components_left}
+use Rattle.opgp_keyring.specs.Keyring.{ComponentValue, component_packets}
 use Rattle.opgp_difference.specs.Entries.{component_standing, numbered}
 use Rattle.opgp_difference.proofs.Walking.{components_count, more}
 use Rattle.opgp_difference.proofs.visiting.visit_components.Goals as goal

@@ -1,7 +1,7 @@
 use Rattle.std.proofs.Common.{◌+◌, ◌≤◌, List, length}
 use Rattle.std.specs.List.{flat_map}
-use Rattle.opgp_ring.specs.Grouped.{components_left}
-use Rattle.opgp_ring.specs.Keyring.{component_packets}
+use Rattle.opgp_keyring.specs.Grouped.{components_left}
+use Rattle.opgp_keyring.specs.Keyring.{component_packets}
 use Rattle.opgp_difference.specs.Entries.{Entry, Standing, component_standing, numbered}
 use Rattle.opgp_difference.proofs.Walking.{Walked}
 use Rattle.opgp_difference.proofs.visiting.visit_components.Given as goal

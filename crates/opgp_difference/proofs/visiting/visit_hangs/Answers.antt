@@ -1,7 +1,7 @@
 use Rattle.std.proofs.Common.{◌≡◌, ◌∙◌, ◌+◌, List, ◌∷◌, ◌++◌, length, sym, ap, subst, arith, append-nil}
 use Rattle.opgp_frame.specs.Packet.{PacketValue}
-use Rattle.opgp_ring.specs.Grouped.{hangs_left}
-use Rattle.opgp_ring.specs.Member.{member_packet}
+use Rattle.opgp_keyring.specs.Grouped.{hangs_left}
+use Rattle.opgp_keyring.specs.Member.{member_packet}
 use Rattle.opgp_difference.specs.Entries.{Standing, hang_standing, numbered}
 use Rattle.opgp_difference.proofs.Walking.{more, other_stands_not, signature_stands}
 use Rattle.opgp_difference.proofs.visiting.visit_hangs.Goals as goal

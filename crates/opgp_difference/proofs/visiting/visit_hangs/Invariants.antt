@@ -1,5 +1,5 @@
 use Rattle.std.proofs.Common.{◌≡◌, ◌+◌, List, length}
-use Rattle.opgp_ring.specs.Grouped.{hangs_left}
+use Rattle.opgp_keyring.specs.Grouped.{hangs_left}
 use Rattle.opgp_difference.specs.Entries.{Entry, Standing, hang_standing, numbered}
 use Rattle.opgp_difference.proofs.Walking.{Walked}
 use Rattle.opgp_difference.proofs.visiting.visit_hangs.Given as goal

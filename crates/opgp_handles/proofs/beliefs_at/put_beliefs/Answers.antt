@@ -5,8 +5,8 @@ use Rattle.opgp_octets.specs.declared.fault.BodyFault.{BodyFault}
 use Rattle.opgp_packet.specs.SignatureBody.{SignatureValue}
 use Rattle.opgp_packet.specs.SigView.{sig_view_value}
 use Rattle.opgp_packet.specs.declared.sig_view.SigView.{SigView}
-use Rattle.opgp_ring.specs.DetachedSignatures.{detached_packets}
-use Rattle.opgp_ring.specs.Signed.{signature_bodies}
+use Rattle.opgp_keyring.specs.DetachedSignatures.{detached_packets}
+use Rattle.opgp_keyring.specs.Signed.{signature_bodies}
 use Rattle.opgp_handles.specs.Calls.{IsFilled}
 use Rattle.opgp_handles.specs.Documents.{bodies_in, is_message}
 use Rattle.opgp_handles.specs.Standings.{believed_at, value_at, value_if, value_read}

@@ -1,7 +1,7 @@
 use Rattle.std.proofs.Common.{◌∙◌, ◌≤◌, List, Ok, length, subst, sym}
 use Rattle.opgp_frame.specs.Packet.{PacketValue}
-use Rattle.opgp_ring.specs.DetachedSignatures.{detached_packets}
-use Rattle.opgp_ring.specs.Signed.{signature_bodies}
+use Rattle.opgp_keyring.specs.DetachedSignatures.{detached_packets}
+use Rattle.opgp_keyring.specs.Signed.{signature_bodies}
 use Rattle.opgp_handles.specs.Documents.{SignaturesBy}
 use Rattle.opgp_handles.proofs.documents.document_open.Goals as goal
 

@@ -1,5 +1,5 @@
 use Rattle.std.proofs.Common.{List, append-nil, inl, inr, refl, subst}
-use Rattle.opgp_ring.specs.Composed.{PartValue}
+use Rattle.opgp_keyring.specs.Composed.{PartValue}
 use Rattle.opgp_handles.specs.Readings.{IsReading}
 use Rattle.opgp_handles.proofs.reading.take_part.Goals as goal
 

@@ -4,9 +4,9 @@ use Rattle.opgp_packet.specs.declared.sig_view.SigView.{SigView}
 use Rattle.opgp_hash.specs.SignedValue.{SignedValue}
 use Rattle.opgp_document.specs.SignedDocument.{IsSignedBy}
 use Rattle.opgp_document.proofs.Pairs.{as_long}
-use Rattle.opgp_ring.specs.DetachedSignatures.{detached_packets}
-use Rattle.opgp_ring.specs.Signed.{signature_bodies}
-use Rattle.opgp_ring.specs.SignedLiteral.{IsReadAs}
+use Rattle.opgp_keyring.specs.DetachedSignatures.{detached_packets}
+use Rattle.opgp_keyring.specs.Signed.{signature_bodies}
+use Rattle.opgp_keyring.specs.SignedLiteral.{IsReadAs}
 use Rattle.opgp_handles.proofs.Signatures.{all_asked}
 use Rattle.opgp_handles.proofs.signed.open.Goals as goal
 

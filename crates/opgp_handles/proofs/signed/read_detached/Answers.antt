@@ -1,6 +1,6 @@
 use Rattle.std.proofs.Common.{ℕ, List, Ok, Err, Bor, subst}
 use Rattle.opgp_frame.specs.Packet.{PacketValue}
-use Rattle.opgp_ring.specs.DetachedSignatures.{detached_packets}
+use Rattle.opgp_keyring.specs.DetachedSignatures.{detached_packets}
 use Rattle.opgp_codec.specs.Reading.{AnswerOf}
 use Rattle.opgp_codec.specs.Signatures.{AreDetachedSignatures, signature_label}
 use Rattle.opgp_handles.proofs.signed.read_detached.Goals as goal

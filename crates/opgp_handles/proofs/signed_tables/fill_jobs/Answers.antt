@@ -3,8 +3,8 @@ use Rattle.std.proofs.lemmas.List.{length-map}
 use Rattle.opgp_hash.specs.SignedValue.{SignedValue}
 use Rattle.opgp_document.specs.Answer.{IsAnswer}
 use Rattle.opgp_document.proofs.Pairs.{as_long}
-use Rattle.opgp_ring.specs.DetachedSignatures.{detached_packets}
-use Rattle.opgp_ring.specs.Signed.{signature_bodies}
+use Rattle.opgp_keyring.specs.DetachedSignatures.{detached_packets}
+use Rattle.opgp_keyring.specs.Signed.{signature_bodies}
 use Rattle.opgp_tables.specs.DocumentJobs.{Answer}
 use Rattle.opgp_handles.specs.Documents.{signed_at, signed_in}
 use Rattle.opgp_handles.proofs.signed_tables.fill_jobs.Goals as goal

@@ -4,8 +4,8 @@ use Rattle.opgp_packet.specs.declared.sig_view.SigView.{SigView}
 use Rattle.opgp_hash.specs.SignedValue.{SignedValue}
 use Rattle.opgp_document.specs.Answer.{asked_of}
 use Rattle.opgp_document.specs.OwnOctets.{own_value}
-use Rattle.opgp_ring.specs.DetachedSignatures.{detached_packets}
-use Rattle.opgp_ring.specs.Signed.{signature_bodies}
+use Rattle.opgp_keyring.specs.DetachedSignatures.{detached_packets}
+use Rattle.opgp_keyring.specs.Signed.{signature_bodies}
 use Rattle.opgp_handles.specs.Documents.{bodies_in, signed_by, signed_in}
 use Rattle.opgp_handles.proofs.Signatures.{all_asked}
 use Rattle.opgp_handles.proofs.signed_tables.put_row_side.Goals as goal

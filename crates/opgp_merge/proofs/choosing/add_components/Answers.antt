@@ -1,6 +1,6 @@
 use Rattle.std.proofs.Common.{◌∙◌, length}
-use Rattle.opgp_ring.specs.Grouped.{component_of, components_left}
-use Rattle.opgp_ring.specs.Keyring.{IsComponent, certificate_packets}
+use Rattle.opgp_keyring.specs.Grouped.{component_of, components_left}
+use Rattle.opgp_keyring.specs.Keyring.{IsComponent, certificate_packets}
 use Rattle.opgp_merge.proofs.Components.{component_more, counted, first_is, rest_are}
 use Rattle.opgp_merge.proofs.choosing.add_components.Goals as goal
 

@@ -1,7 +1,7 @@
 use Rattle.std.proofs.Common.{◌≡◌, ◌≤◌, ◌+◌, ◌++◌, All, length, map}
 use Rattle.std.specs.List.{flat_map}
-use Rattle.opgp_ring.specs.Grouped.{components_left}
-use Rattle.opgp_ring.specs.Keyring.{IsComponent, certificate_packets, component_packets}
+use Rattle.opgp_keyring.specs.Grouped.{components_left}
+use Rattle.opgp_keyring.specs.Keyring.{IsComponent, certificate_packets, component_packets}
 use Rattle.opgp_merge.specs.Chosen.{chosen_component, components_from}
 use Rattle.opgp_merge.proofs.choosing.add_components.Given as goal
 

@@ -1,4 +1,4 @@
-use Rattle.opgp_ring.specs.Keyring.{IsCertificate}
+use Rattle.opgp_keyring.specs.Keyring.{IsCertificate}
 use Rattle.opgp_merge.specs.Chosen.{chosen_certificate}
 use Rattle.opgp_merge.proofs.Uniting.{all_more, once_more}
 use Rattle.opgp_merge.proofs.choosing.choose.Goals as goal

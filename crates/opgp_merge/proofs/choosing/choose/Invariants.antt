@@ -1,6 +1,6 @@
 use Rattle.std.proofs.Common.{◌≡◌, map}
 use Rattle.std.specs.Prelude.{All}
-use Rattle.opgp_ring.specs.Keyring.{IsCertificate}
+use Rattle.opgp_keyring.specs.Keyring.{IsCertificate}
 use Rattle.opgp_merge.specs.Chosen.{chosen_certificate}
 use Rattle.opgp_merge.proofs.choosing.choose.Given as goal
 

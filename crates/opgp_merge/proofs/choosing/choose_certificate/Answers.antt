@@ -1,7 +1,7 @@
 use Rattle.std.proofs.Common.{ap}
-use Rattle.opgp_ring.specs.Grouped.{components_left, hangs_left}
-use Rattle.opgp_ring.specs.Keyring.{CertificateValue, certificate_packets}
-use Rattle.opgp_ring.specs.Member.{member_packet}
+use Rattle.opgp_keyring.specs.Grouped.{components_left, hangs_left}
+use Rattle.opgp_keyring.specs.Keyring.{CertificateValue, certificate_packets}
+use Rattle.opgp_keyring.specs.Member.{member_packet}
 use Rattle.opgp_merge.specs.Chosen.{chosen_certificate}
 use Rattle.opgp_merge.proofs.Components.{all_chosen, few}
 use Rattle.opgp_merge.proofs.Staying.{certificate_is}

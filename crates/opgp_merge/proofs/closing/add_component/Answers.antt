@@ -1,6 +1,6 @@
 use Rattle.std.proofs.Common.{List, All, sym, ap, subst, ◌∙◌}
 use Rattle.opgp_frame.specs.Packet.{PacketValue}
-use Rattle.opgp_ring.specs.Keyring.{ComponentValue, IsHung}
+use Rattle.opgp_keyring.specs.Keyring.{ComponentValue, IsHung}
 use Rattle.opgp_merge.proofs.closing.add_component.Goals as goal
 
 pub add_hangs-requires : goal.add_hangs-requires

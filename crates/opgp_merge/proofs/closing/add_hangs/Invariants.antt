@@ -1,5 +1,5 @@
 use Rattle.std.proofs.Common.{◌≡◌, ◌++◌, drop}
-use Rattle.opgp_ring.specs.Keyring.{certificate_packets}
+use Rattle.opgp_keyring.specs.Keyring.{certificate_packets}
 use Rattle.opgp_merge.proofs.closing.add_hangs.Given as goal
 
 abbrev pub invariant-loop-packet : goal.invariant-loop-packet

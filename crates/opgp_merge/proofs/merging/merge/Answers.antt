@@ -1,5 +1,5 @@
 use Rattle.std.proofs.Common.{◌≡◌, ◌∙◌, List, All, sym, ap, subst}
-use Rattle.opgp_ring.specs.Keyring.{CertificateValue, IsCertificate}
+use Rattle.opgp_keyring.specs.Keyring.{CertificateValue, IsCertificate}
 use Rattle.opgp_merge.proofs.Kept.{merged, merged_are_certificates}
 use Rattle.opgp_merge.proofs.merging.merge.Goals as goal
 

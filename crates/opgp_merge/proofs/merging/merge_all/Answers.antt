@@ -1,5 +1,5 @@
 use Rattle.std.proofs.Common.{◌≡◌, List, All, IfOk, map, sym, ap, subst, ◌∙◌}
-use Rattle.opgp_ring.specs.Keyring.{CertificateValue, IsCertificate}
+use Rattle.opgp_keyring.specs.Keyring.{CertificateValue, IsCertificate}
 use Rattle.opgp_merge.specs.Slots.{joined_all, once_certificate, primary_name, with_parts}
 use Rattle.opgp_merge.proofs.Kept.{merged, merged_are_certificates}
 use Rattle.opgp_merge.proofs.Uniting.{certificates_united}

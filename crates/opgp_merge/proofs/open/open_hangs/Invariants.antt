@@ -1,5 +1,5 @@
 use Rattle.std.proofs.Common.{◌≡◌, ◌++◌, length}
-use Rattle.opgp_ring.specs.Grouped.{hangs_left}
+use Rattle.opgp_keyring.specs.Grouped.{hangs_left}
 use Rattle.opgp_merge.proofs.open.open_hangs.Given as goal
 
 abbrev pub invariant-hangs : goal.invariant-hangs

@@ -1,7 +1,7 @@
 use Rattle.std.proofs.Common.{◌∙◌}
-use Rattle.opgp_ring.specs.Grouped.{hangs_left}
-use Rattle.opgp_ring.specs.Keyring.{IsHung, certificate_packets}
-use Rattle.opgp_ring.specs.Member.{member_packet}
+use Rattle.opgp_keyring.specs.Grouped.{hangs_left}
+use Rattle.opgp_keyring.specs.Keyring.{IsHung, certificate_packets}
+use Rattle.opgp_keyring.specs.Member.{member_packet}
 use Rattle.opgp_merge.proofs.Components.{first_is, own_more, rest_are}
 use Rattle.opgp_merge.proofs.own.add_own.Goals as goal
 

@@ -1,6 +1,6 @@
 use Rattle.std.proofs.Common.{◌≡◌, ◌++◌, All, length}
-use Rattle.opgp_ring.specs.Grouped.{hangs_left}
-use Rattle.opgp_ring.specs.Keyring.{IsHung, certificate_packets}
+use Rattle.opgp_keyring.specs.Grouped.{hangs_left}
+use Rattle.opgp_keyring.specs.Keyring.{IsHung, certificate_packets}
 use Rattle.opgp_merge.specs.Chosen.{own_hangs}
 use Rattle.opgp_merge.proofs.own.add_own.Given as goal
 

@@ -1,6 +1,6 @@
 use Rattle.std.proofs.Common.{◌∙◌, ◌∷◌, ◌++◌, [], All, List, ap, subst, sym}
 use Rattle.std.specs.Global.{Vec}
-use Rattle.opgp_ring.specs.Keyring.{CertificateValue, IsCertificate}
+use Rattle.opgp_keyring.specs.Keyring.{CertificateValue, IsCertificate}
 use Rattle.opgp_merge.proofs.Picks.{passes, picks}
 use Rattle.opgp_merge.proofs.Uniting.{all_more}
 use Rattle.opgp_merge.proofs.picking.pick.Goals.{then-is_picked+in_ok-copy+in_ok-push, else-is_picked}

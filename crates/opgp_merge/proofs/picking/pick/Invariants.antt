@@ -1,5 +1,5 @@
 use Rattle.std.proofs.Common.{◌≡◌, All, take}
-use Rattle.opgp_ring.specs.Keyring.{IsCertificate}
+use Rattle.opgp_keyring.specs.Keyring.{IsCertificate}
 use Rattle.opgp_merge.specs.Picked.{picked_of}
 use Rattle.opgp_merge.proofs.picking.pick.Given as goal
 

@@ -3,8 +3,8 @@ use Rattle.opgp_frame.specs.Packet.{PacketValue}
 use Rattle.opgp_packet.specs.Parsed.{body_octets}
 use Rattle.opgp_hash.specs.CertificateHasher.{hasher_subject}
 use Rattle.opgp_hash.specs.SubjectValue.{SubjectValue, one}
-use Rattle.opgp_ring.specs.Grouped.{components_left, hangs_left}
-use Rattle.opgp_ring.specs.Keyring.{CertificateValue, ComponentValue}
+use Rattle.opgp_keyring.specs.Grouped.{components_left, hangs_left}
+use Rattle.opgp_keyring.specs.Keyring.{CertificateValue, ComponentValue}
 use Rattle.opgp_report.specs.Standing.{Standing, by_number, certificate_standing, component_standing, hangs_standing}
 use Rattle.opgp_report.specs.Visitor.{Leaves, Shown}
 use Rattle.opgp_report.proofs.walk.visit_certificate.Goals as goal

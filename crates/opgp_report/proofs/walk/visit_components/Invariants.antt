@@ -3,8 +3,8 @@ use Rattle.std.specs.List.{flat_map}
 use Rattle.opgp_hash.specs.CertificateHasher.{hasher_subject}
 use Rattle.opgp_hash.specs.SubjectValue.{first_key}
 use Rattle.opgp_packet.specs.Parsed.{body_octets}
-use Rattle.opgp_ring.specs.Grouped.{components_left}
-use Rattle.opgp_ring.specs.Keyring.{component_packets}
+use Rattle.opgp_keyring.specs.Grouped.{components_left}
+use Rattle.opgp_keyring.specs.Keyring.{component_packets}
 use Rattle.opgp_report.specs.Standing.{by_number, component_standing}
 use Rattle.opgp_report.specs.Visitor.{Leaves}
 use Rattle.opgp_report.proofs.walk.visit_components.Given as goal

@@ -1,6 +1,6 @@
 use Rattle.std.proofs.Common.{◌≡◌, ◌+◌, length}
 use Rattle.opgp_hash.specs.CertificateHasher.{hasher_subject}
-use Rattle.opgp_ring.specs.Grouped.{hangs_left}
+use Rattle.opgp_keyring.specs.Grouped.{hangs_left}
 use Rattle.opgp_report.specs.Standing.{by_number, hang_standing, hangs_standing}
 use Rattle.opgp_report.specs.Visitor.{Leaves}
 use Rattle.opgp_report.proofs.walk.visit_hangs.Given as goal

@@ -1,7 +1,7 @@
 use Rattle.std.proofs.Common.{◌∙◌, ℕ, List, Some, Result, ap, sym, map, slice_get}
 use Rattle.opgp_octets.specs.declared.fault.BodyFault.{BodyFault}
 use Rattle.opgp_packet.specs.SignatureBody.{SignatureValue}
-use Rattle.opgp_ring.specs.SignedLiteral.{signatures_left}
+use Rattle.opgp_keyring.specs.SignedLiteral.{signatures_left}
 use Rattle.opgp_stack.specs.Documents.{signed_in, signed_read}
 use Rattle.opgp_stack.proofs.DocumentLines.{read_is}
 use Rattle.opgp_stack.proofs.around.read_at.Goals as goal

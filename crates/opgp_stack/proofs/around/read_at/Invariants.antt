@@ -1,7 +1,7 @@
 use Rattle.std.proofs.Common.{◌≡◌, length, map, slice_get}
-use Rattle.opgp_ring.specs.DetachedSignatures.{detached_packets}
-use Rattle.opgp_ring.specs.Signed.{signature_bodies}
-use Rattle.opgp_ring.specs.SignedLiteral.{signatures_left}
+use Rattle.opgp_keyring.specs.DetachedSignatures.{detached_packets}
+use Rattle.opgp_keyring.specs.Signed.{signature_bodies}
+use Rattle.opgp_keyring.specs.SignedLiteral.{signatures_left}
 use Rattle.opgp_stack.specs.Documents.{signed_in}
 use Rattle.opgp_stack.proofs.around.read_at.Given as goal
 

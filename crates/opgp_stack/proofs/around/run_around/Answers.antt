@@ -1,7 +1,7 @@
 use Rattle.std.proofs.Common.{ℕ, List, Err, Ok, refl}
 use Rattle.opgp_octets.specs.declared.limits.Limits.{Limits}
-use Rattle.opgp_ring.specs.DetachedSignatures.{detached_packets}
-use Rattle.opgp_ring.specs.declared.detached_signatures.DetachedSignatures.{DetachedSignatures}
+use Rattle.opgp_keyring.specs.DetachedSignatures.{detached_packets}
+use Rattle.opgp_keyring.specs.declared.detached_signatures.DetachedSignatures.{DetachedSignatures}
 use Rattle.opgp_codec.specs.Reading.{AnswerOf, Outcome, shown}
 use Rattle.opgp_codec.specs.Signatures.{AreDetachedSignatures, signature_label}
 use Rattle.opgp_codec.specs.declared.mode.Mode.{Mode}

@@ -1,5 +1,5 @@
 use Rattle.std.proofs.Common.{◌∙◌, inr, refl}
-use Rattle.opgp_ring.specs.Keyring.{KeyringValue, flat}
+use Rattle.opgp_keyring.specs.Keyring.{KeyringValue, flat}
 use Rattle.opgp_codec.specs.Writing.{packets_text}
 use Rattle.opgp_stack.specs.Running.{OtherVerdicts, Text}
 use Rattle.opgp_stack.proofs.Bounds.{bound_said}

@@ -2,7 +2,7 @@ use Rattle.std.proofs.Common.{◌∙◌, ◌++◌, List, ℕ, ap}
 use Rattle.std.specs.Global.{Vec}
 use Rattle.opgp_cleartext.specs.Cleartext.{joined, joined_canonically}
 use Rattle.opgp_cleartext.specs.View.{document_of, rest_of}
-use Rattle.opgp_ring.specs.DetachedSignatures.{detached_packets}
+use Rattle.opgp_keyring.specs.DetachedSignatures.{detached_packets}
 use Rattle.opgp_stack.specs.declared.cleartext.CleartextPart.TheVariants as part
 use Rattle.opgp_stack.proofs.CleartextParts.{part_is}
 use Rattle.opgp_stack.proofs.cleartext.part_of.Goals.{in-Document+in_ok-write_document-in-Document, in-Hashed+in_ok-write_hashed-in-Hashed, in-Signatures+in_ok-extend_from_slice-in-Signatures}

@@ -2,7 +2,7 @@ use Rattle.std.proofs.Common.{◌≡◌, ◌∙◌, ℕ, List, ◌++◌, Option,
 use Rattle.opgp_frame.specs.Packet.{PacketValue}
 use Rattle.opgp_hash.specs.declared.fingerprints.Fingerprint.{Fingerprint}
 use Rattle.opgp_io.proofs.Extended.{extends_stop, extends_then}
-use Rattle.opgp_ring.specs.Keyring.{KeyringValue}
+use Rattle.opgp_keyring.specs.Keyring.{KeyringValue}
 use Rattle.opgp_difference.specs.Entries.{PlacedValue}
 use Rattle.opgp_difference.specs.declared.place.PacketPlace.{PacketPlace}
 use Rattle.opgp_stack.specs.Differing.{changed_line, place_words, print_at, octets_of}

@@ -2,7 +2,7 @@ use Rattle.std.proofs.Common.{◌≡◌, ◌∙◌, ap}
 use Rattle.std.specs.Borrow.{Bor}
 use Rattle.opgp_io.specs.Added.{State}
 use Rattle.opgp_io.specs.Output.{state_of}
-use Rattle.opgp_ring.specs.Keyring.{KeyringValue}
+use Rattle.opgp_keyring.specs.Keyring.{KeyringValue}
 use Rattle.opgp_stack.specs.Differing.{changed_line}
 use Rattle.opgp_codec.proofs.Loops.{broken_of, more_of}
 use Rattle.opgp_stack.proofs.differing.add_changes.Goals as goal

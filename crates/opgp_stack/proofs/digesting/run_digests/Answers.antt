@@ -4,8 +4,8 @@ use Rattle.opgp_octets.specs.declared.fault.BodyFault.{BodyFault}
 use Rattle.opgp_packet.specs.SignatureBody.{SignatureValue}
 use Rattle.opgp_hash.specs.SignedValue.{SignedValue}
 use Rattle.opgp_document.specs.Answer.{IsAnswer, asked_of}
-use Rattle.opgp_ring.specs.DetachedSignatures.{detached_packets}
-use Rattle.opgp_ring.specs.Signed.{signature_bodies}
+use Rattle.opgp_keyring.specs.DetachedSignatures.{detached_packets}
+use Rattle.opgp_keyring.specs.Signed.{signature_bodies}
 use Rattle.opgp_stack.specs.Documents.{Answer, AnswersTo, digest_lines, read_shown}
 use Rattle.opgp_stack.specs.Running.{Refused, Text}
 use Rattle.opgp_stack.proofs.DocumentLines.{reads_asked, reads_long, reads_shown}

@@ -1,5 +1,5 @@
 use Rattle.std.proofs.Common.{◌≡◌, length, map, slice_get}
-use Rattle.opgp_ring.specs.SignedLiteral.{signatures_left, signed_packets}
+use Rattle.opgp_keyring.specs.SignedLiteral.{signatures_left, signed_packets}
 use Rattle.opgp_packet.specs.SignatureBody.{signature_at}
 use Rattle.opgp_stack.specs.Hashing.{asked_about, content_in, message_asked}
 use Rattle.opgp_stack.proofs.hashing.question_of.Given as goal

@@ -1,6 +1,6 @@
 use Rattle.std.proofs.Common.{ap, sym}
-use Rattle.opgp_ring.specs.Member.{member_packet}
-use Rattle.opgp_ring.specs.Packets.{packets_left}
+use Rattle.opgp_keyring.specs.Member.{member_packet}
+use Rattle.opgp_keyring.specs.Packets.{packets_left}
 use Rattle.opgp_io.proofs.Extended.{extends_all_left, extends_broken_left, extends_less_left, extends_nothing_left}
 use Rattle.opgp_stack.specs.Listing.{listing}
 use Rattle.opgp_stack.proofs.listing.add_listing.Goals as goal

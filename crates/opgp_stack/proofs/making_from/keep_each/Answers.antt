@@ -1,6 +1,6 @@
 use Rattle.std.proofs.Common.{◌≡◌, ◌++◌, ◌∷◌, [], Err, true, false, ap, append-nil, subst}
 use Rattle.std.specs.Prelude.{MatchResult}
-use Rattle.opgp_ring.specs.State.{part_of}
+use Rattle.opgp_keyring.specs.State.{part_of}
 use Rattle.opgp_codec.specs.Draft.{DraftHas}
 use Rattle.opgp_codec.specs.IncomingParts.{PartsCame}
 use Rattle.opgp_codec.specs.Reading.{Outcome}

@@ -1,6 +1,6 @@
 use Rattle.std.proofs.Common.{◌≡◌, false, ℕ, List, Option, []}
 use Rattle.opgp_octets.specs.declared.limits.Limits.{Limits}
-use Rattle.opgp_ring.specs.Composed.{PartValue}
+use Rattle.opgp_keyring.specs.Composed.{PartValue}
 use Rattle.opgp_codec.specs.declared.mode.Mode.{Mode}
 use Rattle.opgp_codec.specs.Draft.{DraftHas}
 use Rattle.opgp_codec.specs.Incoming.{left_in}

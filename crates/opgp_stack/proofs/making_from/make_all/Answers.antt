@@ -1,6 +1,6 @@
 use Rattle.std.proofs.Common.{◌≡◌, ◌++◌, ◌∷◌, [], true, false, sym, subst, append-nil}
 use Rattle.std.specs.Prelude.{MatchResult}
-use Rattle.opgp_ring.specs.State.{part_of}
+use Rattle.opgp_keyring.specs.State.{part_of}
 use Rattle.opgp_codec.specs.Draft.{DraftHas}
 use Rattle.opgp_codec.specs.IncomingParts.{IsKeyring}
 use Rattle.opgp_codec.specs.Pulled.{OfAll}

@@ -1,7 +1,10 @@
-use Rattle.std.proofs.Common.{Err, Ok, inl, inr, refl, rules}
+use Rattle.std.proofs.Common.{◌≡◌, Err, Ok, inl, inr, refl, rules, subst, sym}
 use Rattle.opgp_codec.specs.Draft.{DraftHas}
 use Rattle.opgp_stack.specs.Making.{IsMadeOf, ring_made}
-use Rattle.opgp_stack.specs.Running.{Refused, Text}
+use Rattle.opgp_stack.specs.Running.{IsMade, MakesBy, Refused, RunsOf, Text}
+use Rattle.opgp_stack.specs.declared.task.Action.{Action}
+use Rattle.opgp_stack.specs.declared.task.Action.TheVariants as action
+use Rattle.opgp_stack.specs.declared.task.Top.TheVariants as top
 use Rattle.opgp_stack.specs.Showing.{lines_of, packet_lines}
 use Rattle.opgp_stack.specs.Shown.{IsShownOf}
 use Rattle.opgp_stack.specs.Values.{valued_lines}
@@ -29,8 +32,17 @@ returns-in_ok-text-in-ShowValues g c =
     ran c.args.task.now (IsShownOf (DraftHas g.S.Spool.serves g.S.Spool.tells g.S.Spool.holds g.S.Spool.has_failed) Valued c.args.task.now) _ c.in-ShowValues.is (λ fault. inl (refl, refl)) _ _ _ c.in_ok-text-in-ShowValues.text
     (λ octets h. (Text (lines_of valued_lines h.0), (Ok h.0, h.1, refl), inr (c.write_draft-in-ShowValues.ensures _ h.2))) c.in_ok-text-in-ShowValues.ensures refl
 
-pub returns-in-Octets-default-Literal-default : goal.returns-in-Octets-default-Literal-default
-returns-in-Octets-default-Literal-default g c = spooled g.W.Sink.held g.W.Sink.has_failed c.args.task.now g.S.Spool.serves g.S.Spool.tells c.write_message_octets.ensures
+pub returns-in-Octets-default-Literal : goal.returns-in-Octets-default-Literal
+returns-in-Octets-default-Literal g c =
+    let is : c.args.task.now.action ≡ action.Octets c.in-Octets-default-Literal.row top.Literal = search rules in
+    spooled g.W.Sink.held g.W.Sink.has_failed c.args.task.now g.S.Spool.serves g.S.Spool.tells
+    (subst (λ (a : Action). RunsOf g.R.Source.left g.R.Source.has_failed (IsMade g.W.Sink.held g.W.Sink.has_failed) c.args.task.now.limits (MakesBy a c.args.task.now) c.args.reader.now c.write_message_octets.new.reader c.args.writer.now c.write_message_octets.new.writer c.write_message_octets.result) (sym is) c.write_message_octets.ensures)
+
+pub returns-in-Explain-default-Literal : goal.returns-in-Explain-default-Literal
+returns-in-Explain-default-Literal g c =
+    let is : c.args.task.now.action ≡ action.Explain c.in-Explain-default-Literal.row top.Literal = search rules in
+    spooled g.W.Sink.held g.W.Sink.has_failed c.args.task.now g.S.Spool.serves g.S.Spool.tells
+    (subst (λ (a : Action). RunsOf g.R.Source.left g.R.Source.has_failed (IsMade g.W.Sink.held g.W.Sink.has_failed) c.args.task.now.limits (MakesBy a c.args.task.now) c.args.reader.now c.write_message_octets-in-Explain-default-Literal.new.reader c.args.writer.now c.write_message_octets-in-Explain-default-Literal.new.writer c.write_message_octets-in-Explain-default-Literal.result) (sym is) c.write_message_octets-in-Explain-default-Literal.ensures)
 
 pub returns-in_err-made-in_default : goal.returns-in_err-made-in_default
 returns-in_err-made-in_default g c =

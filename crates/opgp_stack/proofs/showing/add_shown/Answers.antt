@@ -1,6 +1,6 @@
 use Rattle.std.proofs.Common.{◌∙◌, List, ℕ, refl, ◌+◌, sym, subst, take}
 use Rattle.std.proofs.lemmas.List.Folds.{flat_map-map}
-use Rattle.opgp_ring.specs.declared.block_of.BlockOf.{BlockOf}
+use Rattle.opgp_keyring.specs.declared.block_of.BlockOf.{BlockOf}
 use Rattle.opgp_io.specs.Added.{State, Adds, Writes}
 use Rattle.opgp_io.specs.Output.{state_of}
 use Rattle.opgp_codec.specs.Packets.{BlockValue, block_value}

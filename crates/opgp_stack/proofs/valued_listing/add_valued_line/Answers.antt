@@ -1,7 +1,7 @@
 use Rattle.std.proofs.Common.{◌≡◌, refl, sym}
-use Rattle.opgp_ring.specs.Member.{member_packet}
-use Rattle.opgp_ring.specs.declared.content.Content.{Content}
-use Rattle.opgp_ring.specs.declared.content.Content.TheVariants as content
+use Rattle.opgp_keyring.specs.Member.{member_packet}
+use Rattle.opgp_keyring.specs.declared.content.Content.{Content}
+use Rattle.opgp_keyring.specs.declared.content.Content.TheVariants as content
 use Rattle.opgp_io.proofs.Extended.{extends_same}
 use Rattle.opgp_stack.proofs.SoundLines.{IsOther, other_line, valued_view_line}
 use Rattle.opgp_stack.proofs.valued_listing.add_valued_line.Goals as goal

@@ -1,5 +1,5 @@
 use Rattle.std.proofs.Common.{ap}
-use Rattle.opgp_ring.specs.Packets.{packets_left}
+use Rattle.opgp_keyring.specs.Packets.{packets_left}
 use Rattle.opgp_io.proofs.Extended.{extends_all_left, extends_broken_left, extends_less_left, extends_nothing_left}
 use Rattle.opgp_stack.specs.ValuedListing.{valued_listing}
 use Rattle.opgp_stack.proofs.valued_listing.add_valued_listing.Goals as goal

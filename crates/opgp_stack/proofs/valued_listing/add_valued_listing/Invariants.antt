@@ -1,5 +1,5 @@
 use Rattle.std.proofs.Common.{length}
-use Rattle.opgp_ring.specs.Packets.{packets_left}
+use Rattle.opgp_keyring.specs.Packets.{packets_left}
 use Rattle.opgp_io.proofs.Extended.{ExtendsAllBut}
 use Rattle.opgp_stack.specs.ValuedListing.{valued_listing}
 use Rattle.opgp_stack.proofs.valued_listing.add_valued_listing.Given as goal

@@ -1,7 +1,7 @@
 use Rattle.std.proofs.Common.{◌≡◌, [], ◌∷◌, rules}
 use Rattle.opgp_packet.specs.Parsed.{body_octets}
 use Rattle.opgp_report.specs.Report.{subkey_bodies}
-use Rattle.opgp_ring.specs.Grouped.{component_of}
+use Rattle.opgp_keyring.specs.Grouped.{component_of}
 use Rattle.opgp_stack.proofs.Wanted.{subkey_noted}
 use Rattle.opgp_stack.proofs.wanted_keys.note_component.Goals as goal
 

@@ -2,7 +2,7 @@ use Rattle.std.proofs.Common.{◌≡◌, ℕ, ◌||◌, ◌++◌, List, length}
 use Rattle.std.specs.List.{flat_map, list_any}
 use Rattle.opgp_report.specs.First.{print_of}
 use Rattle.opgp_report.specs.Report.{subkey_bodies}
-use Rattle.opgp_ring.specs.Grouped.{components_left}
+use Rattle.opgp_keyring.specs.Grouped.{components_left}
 use Rattle.opgp_stack.specs.WantedKeys.{AreNotes}
 use Rattle.opgp_stack.specs.KeyName.{has_one_of}
 use Rattle.opgp_stack.proofs.wanted_keys.note_subkeys.Given as goal

@@ -1,6 +1,6 @@
 use Rattle.std.proofs.Common.{length}
 use Rattle.opgp_frame.specs.Packet.{packets_octets}
-use Rattle.opgp_ring.specs.Packets.{packets_left}
+use Rattle.opgp_keyring.specs.Packets.{packets_left}
 use Rattle.opgp_state.proofs.Fed.{FedAllBut}
 use Rattle.opgp_state.proofs.keyring_digest.feed_packets.Given as goal
 

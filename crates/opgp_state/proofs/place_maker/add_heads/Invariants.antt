@@ -1,5 +1,5 @@
 use Rattle.std.proofs.Common.{◌≡◌, ◌++◌, length}
-use Rattle.opgp_ring.specs.Grouped.{components_left}
+use Rattle.opgp_keyring.specs.Grouped.{components_left}
 use Rattle.opgp_state.specs.Placing.{heads_from}
 use Rattle.opgp_state.proofs.place_maker.add_heads.Given as goal
 

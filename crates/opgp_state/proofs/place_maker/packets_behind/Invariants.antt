@@ -1,5 +1,5 @@
 use Rattle.std.proofs.Common.{◌≡◌, ◌+◌, length}
-use Rattle.opgp_ring.specs.Member.{members_left}
+use Rattle.opgp_keyring.specs.Member.{members_left}
 use Rattle.opgp_state.proofs.place_maker.packets_behind.Given as goal
 
 abbrev pub invariant-packets : goal.invariant-packets

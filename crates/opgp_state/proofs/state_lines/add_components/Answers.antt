@@ -1,6 +1,6 @@
 use Rattle.std.proofs.Common.{◌+◌, arith}
 use Rattle.std.proofs.lemmas.List.{nil_from_length}
-use Rattle.opgp_ring.specs.Grouped.{component_of, components_left}
+use Rattle.opgp_keyring.specs.Grouped.{component_of, components_left}
 use Rattle.opgp_io.proofs.Extended.{extends_all_left, extends_broken_left, extends_less_left, extends_nothing_left}
 use Rattle.opgp_state.specs.StateLines.{component_lines}
 use Rattle.opgp_state.proofs.StateTexts.{next_component, states_gone}

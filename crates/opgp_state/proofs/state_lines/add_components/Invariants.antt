@@ -1,5 +1,5 @@
 use Rattle.std.proofs.Common.{◌≡◌, ◌+◌, length}
-use Rattle.opgp_ring.specs.Grouped.{components_left}
+use Rattle.opgp_keyring.specs.Grouped.{components_left}
 use Rattle.opgp_io.proofs.Extended.{ExtendsAllBut}
 use Rattle.opgp_state.specs.StateLines.{component_lines}
 use Rattle.opgp_state.proofs.state_lines.add_components.Given as goal

@@ -2,7 +2,7 @@ use Rattle.std.proofs.Common.{rules, arith, ◌≡◌, ◌∷◌, ℕ, List, len
 use Rattle.std.proofs.lemmas.List.{drop_more}
 use Rattle.opgp_packet.specs.SignatureBody.{signature_at}
 use Rattle.opgp_report.specs.KeyIndex.{prints_shown}
-use Rattle.opgp_ring.specs.SignedLiteral.{signatures_left}
+use Rattle.opgp_keyring.specs.SignedLiteral.{signatures_left}
 use Rattle.opgp_tables.specs.DocumentJobs.{document_job_bytes, document_jobs_from, read_shown}
 use Rattle.opgp_tables.proofs.Documents.{all_put, jobs_end, jobs_step, made_many, read_is}
 use Rattle.opgp_tables.proofs.document_jobs.put_signatures.Goals as goal

@@ -1,6 +1,6 @@
 use Rattle.std.proofs.Common.{◌≡◌, ◌+◌, ◌≤◌, ℕ, List, length, drop}
 use Rattle.opgp_report.specs.KeyIndex.{prints_shown}
-use Rattle.opgp_ring.specs.SignedLiteral.{signatures_left}
+use Rattle.opgp_keyring.specs.SignedLiteral.{signatures_left}
 use Rattle.opgp_tables.specs.declared.job_row.JobRow.{JobRow}
 use Rattle.opgp_tables.specs.declared.table_sizes.TableSizes.{TableSizes}
 use Rattle.opgp_tables.specs.DocumentJobs.{document_job_bytes, document_jobs_from}

@@ -1,6 +1,6 @@
 use Rattle.std.proofs.Common.{arith, ◌≡◌, ◌∷◌, ℕ, List, length, ap}
 use Rattle.opgp_packet.specs.SignatureBody.{signature_at}
-use Rattle.opgp_ring.specs.SignedLiteral.{signatures_left}
+use Rattle.opgp_keyring.specs.SignedLiteral.{signatures_left}
 use Rattle.opgp_tables.specs.DocumentJobs.{read_shown}
 use Rattle.opgp_tables.proofs.Documents.{made_many, read_is}
 use Rattle.opgp_tables.proofs.document_jobs.sizes_of.Goals as goal

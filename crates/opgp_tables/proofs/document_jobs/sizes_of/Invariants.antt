@@ -1,5 +1,5 @@
 use Rattle.std.proofs.Common.{◌≡◌, ◌+◌, ◌≤◌, length}
-use Rattle.opgp_ring.specs.SignedLiteral.{signatures_left}
+use Rattle.opgp_keyring.specs.SignedLiteral.{signatures_left}
 use Rattle.opgp_tables.specs.DocumentJobs.{document_job_bytes}
 use Rattle.opgp_tables.specs.Sizes.{capped}
 use Rattle.opgp_tables.proofs.document_jobs.sizes_of.Given as goal

@@ -1,7 +1,7 @@
 use Rattle.std.proofs.Common.{◌∙◌, ap, sym, List, ℕ, length}
 use Rattle.std.specs.List.{flat_map}
-use Rattle.opgp_ring.specs.DetachedSignatures.{detached_packets}
-use Rattle.opgp_ring.specs.Signed.{signature_bodies}
+use Rattle.opgp_keyring.specs.DetachedSignatures.{detached_packets}
+use Rattle.opgp_keyring.specs.Signed.{signature_bodies}
 use Rattle.opgp_tables.specs.DocumentJobs.{document_subs}
 use Rattle.opgp_tables.specs.Sizes.{capped}
 use Rattle.opgp_tables.proofs.Documents.{subs_many}

@@ -1,6 +1,6 @@
 use Rattle.std.proofs.Common.{rules, arith, ◌≡◌, ◌∷◌, ℕ, List}
 use Rattle.opgp_packet.specs.SignatureBody.{signature_at}
-use Rattle.opgp_ring.specs.SignedLiteral.{signatures_left}
+use Rattle.opgp_keyring.specs.SignedLiteral.{signatures_left}
 use Rattle.opgp_tables.specs.DocumentJobs.{document_subpacket_bytes, document_subpacket_rows, read_shown, signature_place}
 use Rattle.opgp_tables.proofs.Documents.{all_put, read_is, read_many, sub_octets_many, subs_end, subs_left_many, subs_step}
 use Rattle.opgp_tables.proofs.document_subpackets.put_all.Goals as goal

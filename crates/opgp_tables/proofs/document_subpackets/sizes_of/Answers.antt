@@ -1,6 +1,6 @@
 use Rattle.std.proofs.Common.{arith, ◌≡◌, ◌∷◌, ℕ, List}
 use Rattle.opgp_packet.specs.SignatureBody.{signature_at}
-use Rattle.opgp_ring.specs.SignedLiteral.{signatures_left}
+use Rattle.opgp_keyring.specs.SignedLiteral.{signatures_left}
 use Rattle.opgp_tables.specs.DocumentJobs.{read_shown}
 use Rattle.opgp_tables.proofs.Documents.{read_is, sub_octets_many, subs_left_many}
 use Rattle.opgp_tables.proofs.document_subpackets.sizes_of.Goals as goal

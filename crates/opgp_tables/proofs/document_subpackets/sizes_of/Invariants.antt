@@ -1,6 +1,6 @@
 use Rattle.std.proofs.Common.{◌≡◌, ◌+◌, ◌≤◌, length}
 use Rattle.std.specs.List.{flat_map}
-use Rattle.opgp_ring.specs.SignedLiteral.{signatures_left}
+use Rattle.opgp_keyring.specs.SignedLiteral.{signatures_left}
 use Rattle.opgp_tables.specs.DocumentJobs.{document_subpacket_bytes, document_subs}
 use Rattle.opgp_tables.specs.Sizes.{capped}
 use Rattle.opgp_tables.proofs.document_subpackets.sizes_of.Given as goal

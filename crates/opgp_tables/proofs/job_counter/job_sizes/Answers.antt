@@ -1,7 +1,7 @@
 use Rattle.std.proofs.Common.{◌≡◌, ◌∙◌, ◌+◌, List, [], ◌++◌, Ok, arith, length, ap, sym, append-nil, zero-add}
 use Rattle.std.specs.List.{flat_map}
 use Rattle.opgp_report.specs.Standing.{Standing, standing_in}
-use Rattle.opgp_ring.specs.Keyring.{KeyringValue}
+use Rattle.opgp_keyring.specs.Keyring.{KeyringValue}
 use Rattle.opgp_tables.specs.declared.job_counter.JobCounter.{JobCounter}
 use Rattle.opgp_tables.specs.Jobs.{job_octets}
 use Rattle.opgp_tables.specs.Sizes.{capped}

@@ -5,7 +5,7 @@ use Rattle.opgp_tables.specs.declared.job_filler.NoRoom.{NoRoom}
 use Rattle.opgp_tables.specs.FilledJobs.{FillsJobs}
 use Rattle.opgp_report.specs.KeyIndex.{prints_shown}
 use Rattle.opgp_report.specs.Standing.{Standing, standing_in}
-use Rattle.opgp_ring.specs.Keyring.{KeyringValue}
+use Rattle.opgp_keyring.specs.Keyring.{KeyringValue}
 use Rattle.opgp_tables.specs.declared.job_filler.JobFiller.{JobFiller}
 use Rattle.opgp_tables.specs.Jobs.{job_octets}
 use Rattle.opgp_tables.proofs.Counting.{jobs_many}

@@ -1,6 +1,6 @@
 use Rattle.std.proofs.Common.{◌≡◌, ◌+◌, ◌≤◌, length}
 use Rattle.std.specs.List.{flat_map}
-use Rattle.opgp_ring.specs.Grouped.{components_left}
+use Rattle.opgp_keyring.specs.Grouped.{components_left}
 use Rattle.opgp_report.specs.Report.{subkey_bodies}
 use Rattle.opgp_tables.specs.Keys.{component_material}
 use Rattle.opgp_tables.specs.Sizes.{capped}

@@ -1,7 +1,7 @@
 use Rattle.std.proofs.Common.{◌≡◌, ◌+◌, ◌≤◌, ◌++◌, length}
 use Rattle.std.specs.List.{flat_map}
-use Rattle.opgp_ring.specs.Grouped.{components_left}
-use Rattle.opgp_ring.specs.Keyring.{component_packets}
+use Rattle.opgp_keyring.specs.Grouped.{components_left}
+use Rattle.opgp_keyring.specs.Keyring.{component_packets}
 use Rattle.opgp_tables.specs.Keys.{component_material, components_keys}
 use Rattle.opgp_tables.proofs.key_table.add_components.Given as goal
 

@@ -1,5 +1,5 @@
 use Rattle.std.proofs.Common.{◌≡◌, ◌+◌, ◌≤◌, length}
-use Rattle.opgp_ring.specs.Member.{members_left}
+use Rattle.opgp_keyring.specs.Member.{members_left}
 use Rattle.opgp_tables.specs.Packets.{bodies}
 use Rattle.opgp_tables.specs.Sizes.{capped}
 use Rattle.opgp_tables.proofs.packet_counter.body_octets_in.Given as goal

@@ -1,6 +1,6 @@
 use Rattle.std.proofs.Common.{◌≡◌, ◌+◌, ◌≤◌, length}
 use Rattle.std.specs.List.{flat_map}
-use Rattle.opgp_ring.specs.Keyring.{certificate_packets, flat}
+use Rattle.opgp_keyring.specs.Keyring.{certificate_packets, flat}
 use Rattle.opgp_tables.specs.Packets.{bodies}
 use Rattle.opgp_tables.specs.Sizes.{capped}
 use Rattle.opgp_tables.proofs.packet_counter.packet_sizes.Given as goal

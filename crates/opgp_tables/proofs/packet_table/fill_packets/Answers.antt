@@ -1,7 +1,7 @@
 use Rattle.std.proofs.Common.{◌≡◌, rules, arith, ap, length, length-append}
 use Rattle.std.specs.List.{flat_map}
-use Rattle.opgp_ring.specs.Keyring.{certificate_packets}
-use Rattle.opgp_ring.specs.Member.{members_left}
+use Rattle.opgp_keyring.specs.Keyring.{certificate_packets}
+use Rattle.opgp_keyring.specs.Member.{members_left}
 use Rattle.opgp_tables.specs.Room.{none}
 use Rattle.opgp_tables.proofs.Counting.{packets_many}
 use Rattle.opgp_tables.proofs.Filling.{hangs_many, keyring_all}

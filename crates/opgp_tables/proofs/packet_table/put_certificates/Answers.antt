@@ -1,9 +1,27 @@
 use Rattle.std.proofs.Common.{◌≡◌, ◌∙◌, ◌∷◌, ◌<◌, rules, arith, ap, length, sym, List}
 use Rattle.std.specs.List.{between}
 use Rattle.std.proofs.lemmas.Slice.{first_rest}
-use Rattle.opgp_ring.specs.Keyring.{CertificateValue, certificate_packets}
+use Rattle.opgp_keyring.specs.Keyring.{CertificateValue, certificate_packets}
 use Rattle.opgp_tables.proofs.Filling.{certificate_many, certificates_end, certificates_step, empty, piece_bodies, pieces}
 use Rattle.opgp_tables.proofs.packet_table.put_certificates.Goals as goal
+
+pub put_certificate-reached-requires-clause-rows : goal.put_certificate-reached-requires-clause-rows
+put_certificate-reached-requires-clause-rows c =
+    let rest : List CertificateValue = c.certificates.rest.now in
+    let first : CertificateValue = c.certificate-item.result in
+    let more : List CertificateValue = between 1 (length rest) rest in
+    let some : 0 < length rest = omega (arith, c.in-len1-up.len_at_least) in
+    let e : rest ≡ first ∷ more = first_rest rest first some ∙ ap (λ k. k ∷ more) (sym c.certificate-item.is) in
+    omega (arith, pieces certificate_packets first rest more e, c.certificates.invariant.rows_room)
+
+pub put_certificate-reached-requires-clause-bytes : goal.put_certificate-reached-requires-clause-bytes
+put_certificate-reached-requires-clause-bytes c =
+    let rest : List CertificateValue = c.certificates.rest.now in
+    let first : CertificateValue = c.certificate-item.result in
+    let more : List CertificateValue = between 1 (length rest) rest in
+    let some : 0 < length rest = omega (arith, c.in-len1-up.len_at_least) in
+    let e : rest ≡ first ∷ more = first_rest rest first some ∙ ap (λ k. k ∷ more) (sym c.certificate-item.is) in
+    omega (arith, piece_bodies certificate_packets first rest more e, c.certificates.invariant.bytes_room)
 
 pub certificates-preserved : goal.certificates-preserved
 certificates-preserved c =

@@ -1,6 +1,6 @@
 use Rattle.std.proofs.Common.{◌≡◌, ◌+◌, ◌≤◌, ℕ, List, length}
 use Rattle.std.specs.List.{flat_map}
-use Rattle.opgp_ring.specs.Keyring.{certificate_packets}
+use Rattle.opgp_keyring.specs.Keyring.{certificate_packets}
 use Rattle.opgp_tables.specs.declared.packet_row.PacketRow.{PacketRow}
 use Rattle.opgp_tables.specs.declared.table_sizes.TableSizes.{TableSizes}
 use Rattle.opgp_tables.specs.Filling.{Fills}

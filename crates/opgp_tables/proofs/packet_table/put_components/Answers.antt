@@ -1,8 +1,30 @@
 use Rattle.std.proofs.Common.{rules, arith}
-use Rattle.opgp_ring.specs.Grouped.{component_of, components_left}
-use Rattle.opgp_ring.specs.Keyring.{component_packets}
+use Rattle.opgp_keyring.specs.Grouped.{component_of, components_left}
+use Rattle.opgp_keyring.specs.Keyring.{component_packets}
 use Rattle.opgp_tables.proofs.Filling.{component_many, components_end, components_step, piece_bodies, pieces}
 use Rattle.opgp_tables.proofs.packet_table.put_components.Goals as goal
+
+pub put_component-reached-requires-clause-few : goal.put_component-reached-requires-clause-few
+put_component-reached-requires-clause-few c = omega (
+  arith,
+  c.requires.few,
+  c.components.invariant.count,
+  pieces component_packets (component_of c.in-Some.component) (components_left c.components.components) (components_left c.next.new.self) c.in-Some.ensures,
+)
+
+pub put_component-reached-requires-clause-rows : goal.put_component-reached-requires-clause-rows
+put_component-reached-requires-clause-rows c = omega (
+  arith,
+  c.components.invariant.rows_room,
+  pieces component_packets (component_of c.in-Some.component) (components_left c.components.components) (components_left c.next.new.self) c.in-Some.ensures,
+)
+
+pub put_component-reached-requires-clause-bytes : goal.put_component-reached-requires-clause-bytes
+put_component-reached-requires-clause-bytes c = omega (
+  arith,
+  c.components.invariant.bytes_room,
+  piece_bodies component_packets (component_of c.in-Some.component) (components_left c.components.components) (components_left c.next.new.self) c.in-Some.ensures,
+)
 
 pub components-preserved : goal.components-preserved
 components-preserved c = record {

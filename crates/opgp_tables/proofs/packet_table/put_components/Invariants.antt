@@ -1,7 +1,7 @@
 use Rattle.std.proofs.Common.{◌+◌, ◌≤◌, ℕ, List, length}
 use Rattle.std.specs.List.{flat_map}
-use Rattle.opgp_ring.specs.Grouped.{components_left}
-use Rattle.opgp_ring.specs.Keyring.{component_packets}
+use Rattle.opgp_keyring.specs.Grouped.{components_left}
+use Rattle.opgp_keyring.specs.Keyring.{component_packets}
 use Rattle.opgp_tables.specs.declared.packet_row.PacketRow.{PacketRow}
 use Rattle.opgp_tables.specs.declared.table_sizes.TableSizes.{TableSizes}
 use Rattle.opgp_tables.specs.Filling.{Fills}

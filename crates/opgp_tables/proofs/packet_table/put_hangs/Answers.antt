@@ -1,8 +1,14 @@
-use Rattle.std.proofs.Common.{rules, arith}
-use Rattle.opgp_ring.specs.Grouped.{hangs_left}
-use Rattle.opgp_ring.specs.Member.{member_packet}
+use Rattle.std.proofs.Common.{rules, arith, ap, length}
+use Rattle.opgp_keyring.specs.Grouped.{hangs_left}
+use Rattle.opgp_keyring.specs.Member.{member_packet}
 use Rattle.opgp_tables.proofs.Filling.{hangs_end, hangs_step, pieces}
 use Rattle.opgp_tables.proofs.packet_table.put_hangs.Goals as goal
+
+pub put_member-reached-requires-clause-rows : goal.put_member-reached-requires-clause-rows
+put_member-reached-requires-clause-rows c = omega (arith, c.hangs.invariant.rows_room, ap (λ l. length l) c.in-Some.ensures)
+
+pub put_member-reached-requires-clause-bytes : goal.put_member-reached-requires-clause-bytes
+put_member-reached-requires-clause-bytes c = omega (arith, c.hangs.invariant.bytes_room, pieces (λ p. p.body) (member_packet c.in-Some.member) (hangs_left c.hangs.hangs) (hangs_left c.next.new.self) c.in-Some.ensures)
 
 pub hangs-preserved : goal.hangs-preserved
 hangs-preserved c = record {

@@ -1,8 +1,14 @@
-use Rattle.std.proofs.Common.{rules, arith}
-use Rattle.opgp_ring.specs.Member.{member_packet, members_left}
+use Rattle.std.proofs.Common.{rules, arith, ap, length}
+use Rattle.opgp_keyring.specs.Member.{member_packet, members_left}
 use Rattle.opgp_tables.specs.Room.{none}
 use Rattle.opgp_tables.proofs.Filling.{hangs_end, hangs_step, pieces}
 use Rattle.opgp_tables.proofs.packet_table.put_lead.Goals as goal
+
+pub put_member-reached-requires-clause-rows : goal.put_member-reached-requires-clause-rows
+put_member-reached-requires-clause-rows c = omega (arith, c.lead.invariant.rows_room, ap (λ l. length l) c.in-Some.ensures)
+
+pub put_member-reached-requires-clause-bytes : goal.put_member-reached-requires-clause-bytes
+put_member-reached-requires-clause-bytes c = omega (arith, c.lead.invariant.bytes_room, pieces (λ p. p.body) (member_packet c.in-Some.member) (members_left c.lead.lead) (members_left c.next.new.self) c.in-Some.ensures)
 
 pub lead-preserved : goal.lead-preserved
 lead-preserved c = record {

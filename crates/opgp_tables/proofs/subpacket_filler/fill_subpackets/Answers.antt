@@ -2,7 +2,7 @@ use Rattle.std.proofs.Common.{rules, ◌≡◌, ◌∙◌, Ok, [], List, arith, 
 use Rattle.std.specs.List.{flat_map}
 use borrow.Rule.Slice.Relend.{set_name}
 use Rattle.opgp_report.specs.Standing.{Standing, standing_in}
-use Rattle.opgp_ring.specs.Keyring.{KeyringValue}
+use Rattle.opgp_keyring.specs.Keyring.{KeyringValue}
 use Rattle.opgp_tables.specs.declared.job_filler.NoRoom.{NoRoom}
 use Rattle.opgp_tables.specs.declared.subpacket_filler.SubpacketFiller.{SubpacketFiller}
 use Rattle.opgp_tables.specs.FilledSubpackets.{FillsSubpackets}

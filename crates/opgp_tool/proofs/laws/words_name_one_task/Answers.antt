@@ -1,5 +1,5 @@
-use Rattle.opgp_tool.proofs.OneTask.{one_task}
+use Rattle.opgp_tool.proofs.OneTask.{one_request, one_task}
 use Rattle.opgp_tool.proofs.laws.words_name_one_task.Goals as goal
 
 pub returns : goal.returns
-returns c = one_task
+returns c = record { task = one_task; request = one_request }

@@ -1,6 +1,6 @@
 use Rattle.std.proofs.Common.{◌≡◌, ◌∙◌, List, [], ◌∷◌, ◌++◌, ap, append_assoc, map, subst, sym}
 use Rattle.opgp_packet.specs.SigView.{sig_view_value}
-use Rattle.opgp_ring.specs.Keyring.{CertificateValue}
+use Rattle.opgp_keyring.specs.Keyring.{CertificateValue}
 use Rattle.opgp_valid.specs.Believed.{belief_of}
 use Rattle.opgp_valid.specs.Reached.{IsReached}
 use Rattle.opgp_valid.specs.declared.believing.Belief.{Belief}

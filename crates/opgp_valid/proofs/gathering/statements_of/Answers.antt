@@ -4,7 +4,7 @@ use Rattle.std.specs.List.{fold, list_any}
 use Rattle.opgp_report.specs.First.{print_of}
 use Rattle.opgp_report.specs.Standing.{Standing, certificate_standing}
 use Rattle.opgp_report.specs.declared.verifier.Verdict.{Verdict}
-use Rattle.opgp_ring.specs.Keyring.{CertificateValue}
+use Rattle.opgp_keyring.specs.Keyring.{CertificateValue}
 use Rattle.opgp_valid.specs.KnownKeys.{knowns}
 use Rattle.opgp_valid.specs.Told.{revokers_of, told, with_revocations, with_verdicts}
 use Rattle.opgp_valid.specs.declared.known_keys.Known.{Known}

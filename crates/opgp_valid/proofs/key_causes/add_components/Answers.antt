@@ -1,4 +1,4 @@
-use Rattle.opgp_ring.specs.Grouped.{component_of, components_left}
+use Rattle.opgp_keyring.specs.Grouped.{component_of, components_left}
 use Rattle.opgp_valid.specs.Facts.{facts_value}
 use Rattle.opgp_valid.proofs.PartCauses.{added}
 use Rattle.opgp_valid.proofs.Parts.{counted}

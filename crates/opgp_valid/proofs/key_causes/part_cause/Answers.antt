@@ -1,7 +1,7 @@
 use Rattle.std.proofs.Common.{◌∙◌, ap}
 use Rattle.opgp_frame.specs.Packet.{PacketValue}
 use Rattle.opgp_packet.specs.Parsed.{body_octets}
-use Rattle.opgp_ring.specs.Grouped.{component_of}
+use Rattle.opgp_keyring.specs.Grouped.{component_of}
 use Rattle.opgp_valid.specs.Facts.{facts_value}
 use Rattle.opgp_valid.proofs.PartCauses.{subkey_there}
 use Rattle.opgp_valid.proofs.key_causes.part_cause.Goals as goal

@@ -5,4 +5,4 @@ use Rattle.opgp_words.proofs.command.diff_command.Goals as goal
 
 pub returns : goal.returns
 returns c = behind c.new_command-command.result c.with_option.result (codes "diff") [] _ old_rule
-    c.text_option.ensures.rule c.new_command-command.ensures c.with_option.ensures
+    c.wanted_option.ensures.rule c.new_command-command.ensures c.with_option.ensures

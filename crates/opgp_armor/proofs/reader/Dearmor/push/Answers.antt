@@ -10,4 +10,4 @@ pub parts-preserved : goal.parts-preserved
 parts-preserved c =
     let e = c.in-Ok.ensures in
     pushed_more c.args.self.now c.parts.self c.part.new.self c.args.piece.now c.parts.taken c.in-Ok.n c.parts.invariant e.moves.0 e.moves.1 e.count e.spent e.«open» e.rule e.fed
-    (λ f is. let s = e.faulty f is in (s.1, s.2)) e.quiet
+    (λ f is. let s = e.faulty f is in (s.1, s.2)) e.quiet e.spare

@@ -1,6 +1,6 @@
 use Rattle.std.proofs.Common.{List, All, sym, subst}
 use Rattle.opgp_frame.specs.Packet.{PacketValue}
-use Rattle.opgp_ring.specs.Keyring.{IsHung}
+use Rattle.opgp_keyring.specs.Keyring.{IsHung}
 use Rattle.opgp_bound.proofs.role.Context.add_newest_component.Goals as goal
 
 pub add_newest_hangs-requires-clause-hung : goal.add_newest_hangs-requires-clause-hung

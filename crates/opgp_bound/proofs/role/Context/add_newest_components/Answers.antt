@@ -2,8 +2,8 @@ use Rattle.std.proofs.Common.{◌∙◌, ◌++◌, ℕ, List, Option, ap}
 use Rattle.opgp_octets.specs.declared.signature_type.SignatureType.{SignatureType}
 use Rattle.opgp_frame.specs.Packet.{PacketValue}
 use Rattle.opgp_packet.specs.Parsed.{body_octets}
-use Rattle.opgp_ring.specs.Grouped.{component_of, components_left}
-use Rattle.opgp_ring.specs.Keyring.{ComponentValue, IsComponent, certificate_packets, component_packets}
+use Rattle.opgp_keyring.specs.Grouped.{component_of, components_left}
+use Rattle.opgp_keyring.specs.Keyring.{ComponentValue, IsComponent, certificate_packets, component_packets}
 use Rattle.opgp_report.specs.declared.verifier.Verdict.{Verdict}
 use Rattle.opgp_valid.proofs.Parts.{counted}
 use Rattle.opgp_valid.specs.KnownKeys.{knowns}

@@ -1,8 +1,8 @@
 use Rattle.std.proofs.Common.{◌≡◌, ◌+◌, ◌≤◌, ◌++◌, All, drop, length}
 use Rattle.std.specs.List.{flat_map}
 use Rattle.opgp_packet.specs.Parsed.{body_octets}
-use Rattle.opgp_ring.specs.Grouped.{components_left}
-use Rattle.opgp_ring.specs.Keyring.{IsComponent, certificate_packets, component_packets}
+use Rattle.opgp_keyring.specs.Grouped.{components_left}
+use Rattle.opgp_keyring.specs.Keyring.{IsComponent, certificate_packets, component_packets}
 use Rattle.opgp_valid.specs.KnownKeys.{knowns}
 use Rattle.opgp_bound.specs.Judged.{components_rows}
 use Rattle.opgp_bound.specs.Newest.{newest_components, newest_components_rows}

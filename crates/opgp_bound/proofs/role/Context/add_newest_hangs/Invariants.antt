@@ -1,7 +1,7 @@
 use Rattle.std.proofs.Common.{◌≡◌, ◌++◌, All, drop, length}
 use Rattle.opgp_hash.specs.Subject.{subject_value}
-use Rattle.opgp_ring.specs.Grouped.{hangs_left}
-use Rattle.opgp_ring.specs.Keyring.{IsHung, certificate_packets}
+use Rattle.opgp_keyring.specs.Grouped.{hangs_left}
+use Rattle.opgp_keyring.specs.Keyring.{IsHung, certificate_packets}
 use Rattle.opgp_valid.specs.KnownKeys.{knowns}
 use Rattle.opgp_bound.specs.Judged.{rows_on}
 use Rattle.opgp_bound.specs.Newest.{newest_hangs, newest_rows}

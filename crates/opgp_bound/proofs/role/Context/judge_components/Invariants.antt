@@ -1,6 +1,6 @@
 use Rattle.std.proofs.Common.{◌≡◌, ◌++◌, drop, length}
 use Rattle.opgp_packet.specs.Parsed.{body_octets}
-use Rattle.opgp_ring.specs.Grouped.{components_left}
+use Rattle.opgp_keyring.specs.Grouped.{components_left}
 use Rattle.opgp_report.specs.KeyIndex.{prints_shown}
 use Rattle.opgp_valid.specs.KnownKeys.{knowns}
 use Rattle.opgp_bound.specs.Judged.{components_rows, judged_components}

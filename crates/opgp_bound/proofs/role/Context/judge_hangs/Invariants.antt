@@ -1,6 +1,6 @@
 use Rattle.std.proofs.Common.{◌≡◌, ◌++◌, drop, length}
 use Rattle.opgp_hash.specs.Subject.{subject_value}
-use Rattle.opgp_ring.specs.Grouped.{hangs_left}
+use Rattle.opgp_keyring.specs.Grouped.{hangs_left}
 use Rattle.opgp_valid.specs.KnownKeys.{knowns}
 use Rattle.opgp_bound.specs.Judged.{judged_hangs, rows_on}
 use Rattle.opgp_bound.proofs.role.Context.judge_hangs.Given as goal

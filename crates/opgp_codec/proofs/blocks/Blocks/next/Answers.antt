@@ -1,5 +1,5 @@
 use Rattle.std.proofs.Common.{◌++◌, List, map, refl, sym, ap, subst, append_assoc, Option}
-use Rattle.opgp_ring.specs.Composition.{Item, of_packet}
+use Rattle.opgp_keyring.specs.Composition.{Item, of_packet}
 use Rattle.opgp_codec.specs.declared.found.Opening.{Opening}
 use Rattle.opgp_codec.specs.Found.{opened}
 use Rattle.opgp_codec.specs.Blocks.{Framed}

@@ -12,11 +12,11 @@ returns-in-Ok-Some-clause-came c =
     let r = rw c.in-Ok-Some.field-0-is at c.in-Ok-Some.ensures.fed in
     let size : length (take (a.filled - a.at) (drop a.at octets)) ≤ a.filled - a.at = omega arith in
     let within : n ≤ length (take (a.filled - a.at) (drop a.at octets)) = rw c.in-Ok-Some.field-0-is at c.in-Ok-Some.ensures.within in
-    (r.0, subst (λ (o : List ℕ). FindsIn (Some n) c.step.new.self.framer (octets_of c.step.new.self.front (take (a.filled - a.at) (drop a.at o))) r.0) c.deref.ensures.value r.1, came_through a _ (take n (take (a.filled - a.at) (drop a.at octets))) r.0 (rest_behind a.piece.items octets a.at a.filled n c.deref.ensures.value (omega (arith, within, size))) refl refl r.2)
+    (r.0, subst (λ (o : List ℕ). FindsIn (Some n) c.step.new.self.framer (octets_of c.step.new.self.front (take (a.filled - a.at) (drop a.at o))) r.0) c.deref.ensures.value r.1, came_through a _ (take n (take (a.filled - a.at) (drop a.at octets))) r.0 (rest_behind a.piece.items octets a.at a.filled n c.deref.ensures.value (omega (arith, within, size))) refl refl refl r.2)
 
 pub returns-in-Ok-None-clause-came : goal.returns-in-Ok-None-clause-came
 returns-in-Ok-None-clause-came c =
     let a = c.args.self.now in
     let octets = c.deref.result.now in
     let r = rw c.in-Ok-None.field-0-is at c.in-Ok-None.ensures.fed in
-    (r.0, r.1, came_through a _ (take (a.filled - a.at) (drop a.at octets)) r.0 (rest_none a.piece.items octets a.at a.filled c.deref.ensures.value) refl refl r.2)
+    (r.0, r.1, came_through a _ (take (a.filled - a.at) (drop a.at octets)) r.0 (rest_none a.piece.items octets a.at a.filled c.deref.ensures.value) refl refl refl r.2)

@@ -1,6 +1,6 @@
 use Rattle.std.proofs.Common.{[], refl}
 use Rattle.std.proofs.lemmas.List.Elements.{All-nil}
-use Rattle.opgp_ring.specs.Bodies.{IsSound}
+use Rattle.opgp_keyring.specs.Bodies.{IsSound}
 use Rattle.opgp_codec.proofs.incoming_packets.IncomingPackets.new.Goals as goal
 
 pub returns : goal.returns

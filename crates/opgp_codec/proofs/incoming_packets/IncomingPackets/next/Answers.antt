@@ -1,8 +1,9 @@
 use Rattle.std.proofs.Common.{◌≡◌, ◌∙◌, ◌++◌, [], List, Ok, refl, ap, sym, arith, append-nil, subst, not}
 use Rattle.opgp_frame.specs.declared.packet.Placed.{Placed}
-use Rattle.opgp_ring.specs.Composition.{Item, placed_in}
+use Rattle.opgp_keyring.specs.Composition.{Item, placed_in}
 use Rattle.opgp_codec.specs.SoundPackets.{AreSoFar}
 use Rattle.opgp_codec.specs.declared.accepts.Accepts.TheVariants.{Any}
+use Rattle.opgp_codec.proofs.Coming.{alone_on}
 use Rattle.opgp_codec.proofs.SoundSoFar.{passed_more, so_far_behind, so_far_nil}
 use Rattle.opgp_codec.proofs.incoming_packets.IncomingPackets.next.Goals as goal
 use Rattle.opgp_codec.proofs.incoming_packets.IncomingPackets.next.Goals.{else-is_none-via-then-is_none+else-passes, else-is_none-via-else-is_none}
@@ -38,6 +39,10 @@ steps-preserved g c =
       left = elim c.else-is_none.branch [
         | else-is_none-via-then-is_none+else-passes w ↦ rw w.self-is (omega (arith, c.in_ok-step.ensures.lessens (ap Ok c.if-branch.true), c.steps.invariant.left))
         | else-is_none-via-else-is_none w ↦ rw w.self-is (omega (arith, c.in_ok-step.ensures.lessens (ap Ok c.if-branch.true), c.steps.invariant.left))
+      ];
+      alone = elim c.else-is_none.branch [
+        | else-is_none-via-then-is_none+else-passes w ↦ rw w.self-is (alone_on c.args.self.now.incoming c.steps.self.incoming c.step.new.self c.args.source.now c.steps.source c.step.new.source c.steps.invariant.alone c.in_ok-step.ensures.alone)
+        | else-is_none-via-else-is_none w ↦ rw w.self-is (alone_on c.args.self.now.incoming c.steps.self.incoming c.step.new.self c.args.source.now c.steps.source c.step.new.source c.steps.invariant.alone c.in_ok-step.ensures.alone)
       ];
       came = λ mode limits before packets p0.
           let p = c.steps.invariant.came mode limits before packets p0 in

@@ -2,7 +2,7 @@ use Rattle.std.proofs.Common.{◌≡◌, ◌≤◌, false, List, Option, ℕ}
 use Rattle.opgp_octets.specs.declared.limits.Limits.{Limits}
 use Rattle.opgp_frame.specs.declared.packet.Placed.{Placed}
 use Rattle.opgp_codec.specs.declared.mode.Mode.{Mode}
-use Rattle.opgp_codec.specs.Incoming.{left_in}
+use Rattle.opgp_codec.specs.Incoming.{IsLeftAlone, left_in}
 use Rattle.opgp_codec.specs.IncomingPackets.{PacketsCame}
 use Rattle.opgp_codec.proofs.incoming_packets.IncomingPackets.next.Given as goal
 
@@ -12,6 +12,7 @@ invariant-steps g l = record {
   sound : g.R.Source.has_failed l.source ≡ false;
   left : left_in l.self.incoming ≤ left_in l.fn.self.incoming;
   came : (mode : Mode) (limits : Limits) (before : Option (List ℕ)) (packets : List Placed) → PacketsCame mode limits before (g.R.Source.left l.fn.source) l.fn.self packets → PacketsCame mode limits before (g.R.Source.left l.source) l.self packets;
+  alone : IsLeftAlone l.fn.self.incoming l.self.incoming l.fn.source l.source;
 }
 
 abbrev pub decreases-steps : goal.decreases-steps

@@ -1,5 +1,5 @@
 use Rattle.std.proofs.Common.{◌++◌, Ok, Err, append-nil, subst}
-use Rattle.opgp_ring.specs.Fed.{Fed}
+use Rattle.opgp_keyring.specs.Fed.{Fed}
 use Rattle.opgp_codec.specs.Found.{opened}
 use Rattle.opgp_codec.specs.Keyrings.{ComposesTo, key_label}
 use Rattle.opgp_codec.specs.declared.accepts.Accepts.TheVariants.{Keys}

@@ -1,9 +1,10 @@
 use Rattle.std.proofs.Common.{◌≡◌, ◌∙◌, ◌++◌, ◌∷◌, [], List, Ok, ap, sym, arith, append-nil, subst}
-use Rattle.opgp_ring.specs.Composition.{Item}
-use Rattle.opgp_ring.specs.Fed.{Fed}
-use Rattle.opgp_ring.specs.Composed.{PartValue}
-use Rattle.opgp_ring.specs.State.{part_of}
+use Rattle.opgp_keyring.specs.Composition.{Item}
+use Rattle.opgp_keyring.specs.Fed.{Fed}
+use Rattle.opgp_keyring.specs.Composed.{PartValue}
+use Rattle.opgp_keyring.specs.State.{part_of}
 use Rattle.opgp_codec.specs.declared.accepts.Accepts.TheVariants.{Keys}
+use Rattle.opgp_codec.proofs.Coming.{alone_on}
 use Rattle.opgp_codec.proofs.Parting.{composed_found}
 use Rattle.opgp_codec.proofs.incoming_parts.IncomingParts.next.Goals as goal
 
@@ -29,6 +30,7 @@ steps-preserved g c =
     record {
       sound = c.in_ok-step.ensures.sound;
       left = omega (arith, c.in_ok-step.ensures.lessens (ap Ok c.if-branch.true), c.steps.invariant.left);
+      alone = alone_on c.args.self.now.incoming c.steps.self.incoming c.step.new.self c.args.source.now c.steps.source c.step.new.source c.steps.invariant.alone c.in_ok-step.ensures.alone;
       came = λ mode limits before parts p0.
           let p = c.steps.invariant.came mode limits before parts p0 in
           record { items = p.items ++ s.0; came = s.2 Keys mode limits before p.items p.came; composed = subst (Fed limits c.take.new.self _) (append-nil parts) (composed limits p.items parts p.composed) };

@@ -1,6 +1,6 @@
 use Rattle.std.proofs.Common.{List, append-nil, subst}
-use Rattle.opgp_ring.specs.Composition.{Item}
-use Rattle.opgp_ring.specs.Fed.{Fed}
+use Rattle.opgp_keyring.specs.Composition.{Item}
+use Rattle.opgp_keyring.specs.Fed.{Fed}
 use Rattle.opgp_codec.proofs.incoming_parts.IncomingParts.reuse.Goals as goal
 
 pub returns-clause-came : goal.returns-clause-came

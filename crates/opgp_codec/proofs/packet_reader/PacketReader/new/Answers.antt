@@ -1,6 +1,6 @@
 use Rattle.std.proofs.Common.{[], refl, sym}
 use Rattle.std.proofs.lemmas.List.Elements.{All-nil}
-use Rattle.opgp_ring.specs.Bodies.{IsSound}
+use Rattle.opgp_keyring.specs.Bodies.{IsSound}
 use Rattle.opgp_codec.proofs.Readers.{packets_held}
 use Rattle.opgp_codec.proofs.packet_reader.PacketReader.new.Goals as goal
 

@@ -1,6 +1,6 @@
 use Rattle.std.proofs.Common.{◌++◌, ◌∷◌, ◌∙◌, [], List, ap, sym, append_assoc, append-nil}
-use Rattle.opgp_ring.specs.Composed.{PartValue}
-use Rattle.opgp_ring.specs.State.{part_of}
+use Rattle.opgp_keyring.specs.Composed.{PartValue}
+use Rattle.opgp_keyring.specs.State.{part_of}
 use Rattle.opgp_codec.specs.PartReader.{taking, waits}
 use Rattle.opgp_codec.proofs.part_reader.PartReader.finish.Goals as goal
 

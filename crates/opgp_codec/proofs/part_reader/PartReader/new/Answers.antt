@@ -1,5 +1,5 @@
 use Rattle.std.proofs.Common.{[], List, refl, sym, subst}
-use Rattle.opgp_ring.specs.Composed.{PartValue}
+use Rattle.opgp_keyring.specs.Composed.{PartValue}
 use Rattle.opgp_codec.specs.Parts.{IsUsed}
 use Rattle.opgp_codec.proofs.Readers.{Using}
 use Rattle.opgp_codec.proofs.part_reader.PartReader.new.Goals as goal

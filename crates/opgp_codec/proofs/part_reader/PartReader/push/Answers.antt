@@ -1,7 +1,7 @@
 use Rattle.std.proofs.Common.{◌≡◌, ◌-◌, ◌≤◌, ◌++◌, ◌∷◌, ℕ, List, [], length, take, drop, sym, ap, subst, ◌∙◌, arith, append_assoc, append-nil, length-take-le}
 use Rattle.opgp_octets.specs.declared.limits.Limits.{Limits}
-use Rattle.opgp_ring.specs.Composed.{PartValue}
-use Rattle.opgp_ring.specs.State.{part_of}
+use Rattle.opgp_keyring.specs.Composed.{PartValue}
+use Rattle.opgp_keyring.specs.State.{part_of}
 use Rattle.opgp_codec.specs.PartReader.{given, most_held, waits}
 use Rattle.opgp_codec.specs.Parts.{held_of}
 use Rattle.opgp_codec.proofs.Stepping.{fits}

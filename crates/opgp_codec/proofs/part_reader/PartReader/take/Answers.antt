@@ -1,6 +1,6 @@
 use Rattle.std.proofs.Common.{◌++◌, List, refl, sym, ap, ◌∙◌, append_assoc}
-use Rattle.opgp_ring.specs.Composed.{PartValue}
-use Rattle.opgp_ring.specs.State.{ready_parts}
+use Rattle.opgp_keyring.specs.Composed.{PartValue}
+use Rattle.opgp_keyring.specs.State.{ready_parts}
 use Rattle.opgp_codec.specs.PartReader.{taking}
 use Rattle.opgp_codec.specs.Waiting.{parts_in}
 use Rattle.opgp_codec.specs.Used.{one_if}

@@ -1,5 +1,5 @@
 use Rattle.std.proofs.Common.{◌≡◌, ◌+◌, ◌-◌, ◌<◌, ◌≤◌, ◌∷◌, ℕ, List, [], length, take, drop, ap, subst, arith, length-take-le}
-use Rattle.opgp_ring.specs.State.{part_of}
+use Rattle.opgp_keyring.specs.State.{part_of}
 use Rattle.opgp_codec.specs.Items.{left_of}
 use Rattle.opgp_codec.specs.Parts.{given}
 use Rattle.opgp_codec.proofs.Stepping.{fits, rest_length}

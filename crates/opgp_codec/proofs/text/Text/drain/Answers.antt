@@ -1,5 +1,5 @@
 use Rattle.std.proofs.Common.{◌++◌, List, append-nil, subst, ap, ◌∙◌}
-use Rattle.opgp_ring.specs.Composition.{Item}
+use Rattle.opgp_keyring.specs.Composition.{Item}
 use Rattle.opgp_codec.specs.Text.{Through, lent_octets}
 use Rattle.opgp_codec.proofs.Blocking.{finds_not}
 use Rattle.opgp_codec.proofs.text.Text.drain.Goals as goal

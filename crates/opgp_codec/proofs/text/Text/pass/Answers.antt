@@ -2,7 +2,7 @@ use Rattle.std.proofs.Common.{◌++◌, [], List, drop, refl, sym, ap, subst, ma
 use Rattle.std.proofs.lemmas.List.{map-append}
 use Rattle.std.proofs.Math.ListN.{drop_of_length-le}
 use Rattle.opgp_armor.specs.Events.{Begin, End}
-use Rattle.opgp_ring.specs.Composition.{Item}
+use Rattle.opgp_keyring.specs.Composition.{Item}
 use Rattle.opgp_codec.specs.Found.{IsFound, opened}
 use Rattle.opgp_codec.specs.Blocks.{Finds, Framed}
 use Rattle.opgp_codec.specs.Reading.{TextBlock, armored_block}

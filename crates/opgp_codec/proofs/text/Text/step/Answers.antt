@@ -1,7 +1,7 @@
 use Rattle.std.proofs.Common.{◌≡◌, ◌++◌, ◌+◌, ◌-◌, ◌≤◌, ℕ, List, [], length, take, drop, sym, ap, subst, refl, ◌∙◌, arith, append_assoc, append-nil}
 use Rattle.std.proofs.Math.Seq.{take-add}
 use Rattle.std.proofs.lemmas.List.{length-drop, take_all, take_rest}
-use Rattle.opgp_ring.specs.Composition.{Item}
+use Rattle.opgp_keyring.specs.Composition.{Item}
 use Rattle.opgp_codec.specs.Text.{Through, lent_octets}
 use Rattle.opgp_codec.proofs.Blocking.{finds_not, finds_so}
 use Rattle.opgp_codec.proofs.text.Text.step.Goals as goal

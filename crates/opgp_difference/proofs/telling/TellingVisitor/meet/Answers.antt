@@ -1,7 +1,7 @@
 use Rattle.std.proofs.Common.{◌≡◌, ◌∙◌, Bool, true, false, cond, not, [], ◌∷◌, ◌++◌, refl, sym, ap, subst}
 use Rattle.std.specs.BTreeSet.{contains_by}
 use Rattle.std.specs.Bool.{OnFalse}
-use Rattle.opgp_ring.specs.Member.{member_packet}
+use Rattle.opgp_keyring.specs.Member.{member_packet}
 use Rattle.opgp_difference.specs.Entries.{Name, PlacedValue, packet_name, stands_at}
 use Rattle.opgp_difference.specs.Telling.{HasTold}
 use Rattle.opgp_difference.specs.Tree.{key_cmp}

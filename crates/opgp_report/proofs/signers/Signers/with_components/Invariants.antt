@@ -1,6 +1,6 @@
 use Rattle.std.proofs.Common.{◌≡◌, ◌++◌, length}
 use Rattle.std.specs.List.{flat_map}
-use Rattle.opgp_ring.specs.Grouped.{components_left}
+use Rattle.opgp_keyring.specs.Grouped.{components_left}
 use Rattle.opgp_report.specs.Report.{subkey_bodies}
 use Rattle.opgp_report.specs.Signers.{signers_keys}
 use Rattle.opgp_report.proofs.signers.Signers.with_components.Given as goal

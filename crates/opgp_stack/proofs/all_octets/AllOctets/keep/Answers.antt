@@ -1,7 +1,7 @@
 use Rattle.std.proofs.Common.{◌++◌, List, subst, sym}
 use Rattle.opgp_codec.specs.Draft.{DraftHas}
 use Rattle.opgp_report.specs.Asked.{Asked, asked_of}
-use Rattle.opgp_ring.specs.Keyring.{CertificateValue, KeyringValue}
+use Rattle.opgp_keyring.specs.Keyring.{CertificateValue, KeyringValue}
 use Rattle.opgp_stack.specs.AllOctets.{HasRows}
 use Rattle.opgp_stack.specs.OnePart.{asked_among, certificates_in}
 use Rattle.opgp_stack.proofs.Looking.{all_pushed, lead_push}

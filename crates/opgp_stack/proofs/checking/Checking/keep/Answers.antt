@@ -1,6 +1,6 @@
 use Rattle.std.proofs.Common.{List, [], ◌∷◌, ◌++◌, sym, subst}
-use Rattle.opgp_ring.specs.Composed.{of_certificate}
-use Rattle.opgp_ring.specs.Keyring.{CertificateValue}
+use Rattle.opgp_keyring.specs.Composed.{of_certificate}
+use Rattle.opgp_keyring.specs.Keyring.{CertificateValue}
 use Rattle.opgp_report.specs.Reporting.{Reports}
 use Rattle.opgp_report.specs.declared.reporting.Reporting.{Reporting}
 use Rattle.opgp_stack.specs.OnePart.{certificates_in}

@@ -1,7 +1,7 @@
 use Rattle.std.proofs.Common.{◌≡◌, length}
 use Rattle.std.specs.List.{flat_map}
 use Rattle.opgp_report.specs.Report.{subkey_bodies}
-use Rattle.opgp_ring.specs.Grouped.{components_left}
+use Rattle.opgp_keyring.specs.Grouped.{components_left}
 use Rattle.opgp_stack.specs.KeyName.{is_any_named, name_octets}
 use Rattle.opgp_stack.proofs.key_name.KeyName.is_on.Given as goal
 

@@ -2,7 +2,7 @@ use Rattle.std.proofs.Common.{List, ℕ, subst}
 use Rattle.std.specs.List.{flat_map}
 use Rattle.std.proofs.lemmas.Result.{on_ok_weaker}
 use Rattle.opgp_codec.specs.Draft.{DraftHas}
-use Rattle.opgp_ring.specs.State.{part_of}
+use Rattle.opgp_keyring.specs.State.{part_of}
 use Rattle.opgp_stack.specs.PartText.{text_of_part}
 use Rattle.opgp_stack.proofs.PartTexts.{text_push}
 use Rattle.opgp_stack.proofs.keyring_text.KeyringText.keep.Goals as goal

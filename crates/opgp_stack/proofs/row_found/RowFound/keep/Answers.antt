@@ -1,5 +1,5 @@
 use Rattle.std.proofs.Common.{Some, ap, sym, ◌∙◌}
-use Rattle.opgp_ring.specs.Keyring.{KeyringValue}
+use Rattle.opgp_keyring.specs.Keyring.{KeyringValue}
 use Rattle.opgp_stack.proofs.Looking.{row_here, row_lead, row_passed, row_still}
 use Rattle.opgp_stack.proofs.row_found.RowFound.keep.Goals as goal
 

@@ -1,6 +1,6 @@
 use Rattle.std.proofs.Common.{◌∙◌, ◌++◌, List, Option, ap}
 use Rattle.std.specs.List.{flat_map}
-use Rattle.opgp_ring.specs.Keyring.{CertificateValue}
+use Rattle.opgp_keyring.specs.Keyring.{CertificateValue}
 use Rattle.opgp_valid.specs.KnownKeys.{known_in, knowns}
 use Rattle.opgp_valid.specs.declared.cause.Cause.{Cause}
 use Rattle.opgp_valid.specs.declared.known_keys.Known.{Known}

@@ -1,5 +1,5 @@
 use Rattle.std.proofs.Common.{◌∙◌, ◌++◌, List, Option, ap}
-use Rattle.opgp_ring.specs.Keyring.{CertificateValue}
+use Rattle.opgp_keyring.specs.Keyring.{CertificateValue}
 use Rattle.opgp_valid.specs.KnownKeys.{knowns}
 use Rattle.opgp_valid.specs.declared.cause.Cause.{Cause}
 use Rattle.opgp_valid.specs.declared.known_keys.Known.{Known}

@@ -1,7 +1,7 @@
 use Rattle.std.proofs.Common.{◌∙◌, ◌+◌, ◌++◌, ℕ, List, [], Ok, ap, append-nil, length, map, subst}
 use Rattle.std.specs.declared.alloc.AllocError.{AllocError}
 use Rattle.opgp_frame.specs.Packet.{PacketValue}
-use Rattle.opgp_ring.specs.Keyring.{CertificateValue}
+use Rattle.opgp_keyring.specs.Keyring.{CertificateValue}
 use Rattle.opgp_report.specs.Standing.{Standing, certificate_standing}
 use Rattle.opgp_state.specs.Places.{placed}
 use Rattle.opgp_state.specs.Placing.{AddsPlaces}

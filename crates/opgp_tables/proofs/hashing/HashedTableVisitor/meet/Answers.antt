@@ -7,8 +7,22 @@ use Rattle.opgp_hash.specs.Question.{question_value}
 use Rattle.opgp_report.specs.Asked.{asked_by}
 use Rattle.opgp_report.specs.Standing.{Standing, stands}
 use Rattle.opgp_tables.specs.declared.hashed_table.HashedTable.{HashedTable}
-use Rattle.opgp_tables.proofs.Collecting.{grown, stopped}
+use Rattle.opgp_tables.proofs.Collecting.{closed, grown, passed, stopped}
 use Rattle.opgp_tables.proofs.hashing.HashedTableVisitor.meet.Goals as goal
+
+-- one that comes before those that are asked for
+pub returns-then-self-gt0-clause-shown : goal.returns-then-self-gt0-clause-shown
+returns-then-self-gt0-clause-shown c body reads = passed c.args.self.now (stands c.args.met.now.site c.args.met.now.place (hasher_subject c.args.hasher.now) body) c.if-self-gt0.true
+
+-- none is asked for any more
+pub returns-then-self-eq0-clause-shown : goal.returns-then-self-eq0-clause-shown
+returns-then-self-eq0-clause-shown c body reads more =
+    let old : HashedTable = c.args.self.now in
+    rw c.halt.ensures (closed old (stands c.args.met.now.site c.args.met.now.place (hasher_subject c.args.hasher.now) body) more old.rows.items old.bytes.items c.if-self-eq0.true refl refl)
+
+-- nothing is said where memory runs out
+pub returns-in-Err-clause-shown : goal.returns-in-Err-clause-shown
+returns-in-Err-clause-shown c body reads more = tt
 
 -- one that isn't hashed gets no row, and needs no room
 pub returns-in_default-clause-shown : goal.returns-in_default-clause-shown
@@ -32,7 +46,7 @@ returns-in-Ok-true-clause-shown c body reads more end =
     let kept = c.in-Ok-true.ensures in
     let done = kept.done c.in-Ok-true.field-0-test in
     let fit = le-leb (length (hashed q)) c.args.self.now.room done.0 in
-    grown c.args.self.now c.add.new.self (Ok q) s is first some fit (kept.skip ∙ first) kept.left kept.count done.1 done.2 done.3 more end
+    grown c.args.self.now c.add.new.self (Ok q) s is first some fit (kept.kept.0 ∙ first) kept.kept.1 kept.kept.2 done.1 done.2 done.3 more end
 
 -- or there is no room for it
 pub returns-in-Ok-false-clause-shown : goal.returns-in-Ok-false-clause-shown

@@ -1,6 +1,6 @@
 use Rattle.std.proofs.Common.{◌≡◌, ◌++◌, length, map}
 use Rattle.std.specs.List.{flat_map}
-use Rattle.opgp_ring.specs.Grouped.{components_left}
+use Rattle.opgp_keyring.specs.Grouped.{components_left}
 use Rattle.opgp_report.specs.Report.{subkey_bodies}
 use Rattle.opgp_valid.specs.KnownKeys.{known_of, knowns}
 use Rattle.opgp_valid.proofs.known_keys.KnownKeys.with_components.Given as goal

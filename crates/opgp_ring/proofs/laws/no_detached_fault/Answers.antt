@@ -1,5 +1,0 @@
-use Rattle.opgp_ring.proofs.DetachedLaws.{no_detached_fault as never}
-use Rattle.opgp_ring.proofs.laws.no_detached_fault.Goals as goal
-
-pub returns : goal.returns
-returns c = never

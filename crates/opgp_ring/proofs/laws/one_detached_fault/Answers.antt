@@ -1,5 +1,0 @@
-use Rattle.opgp_ring.proofs.DetachedLaws.{one_detached_fault as unique}
-use Rattle.opgp_ring.proofs.laws.one_detached_fault.Goals as goal
-
-pub returns : goal.returns
-returns c = λ policy. unique policy c.one_body_fault.ensures

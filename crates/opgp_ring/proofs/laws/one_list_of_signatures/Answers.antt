@@ -1,5 +1,0 @@
-use Rattle.std.proofs.Common.{sym, ◌∙◌}
-use Rattle.opgp_ring.proofs.laws.one_list_of_signatures.Goals as goal
-
-pub returns : goal.returns
-returns c policy items ps qs k l = k.flat ∙ sym l.flat

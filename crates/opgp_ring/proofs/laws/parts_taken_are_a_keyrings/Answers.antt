@@ -1,5 +1,0 @@
-use Rattle.opgp_ring.proofs.Gathered.{are_parts}
-use Rattle.opgp_ring.proofs.laws.parts_taken_are_a_keyrings.Goals as goal
-
-pub returns : goal.returns
-returns c = are_parts

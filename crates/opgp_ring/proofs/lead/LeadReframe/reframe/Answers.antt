@@ -1,5 +1,0 @@
-use Rattle.opgp_ring.proofs.Normalised.{fillers_normal}
-use Rattle.opgp_ring.proofs.lead.LeadReframe.reframe.Goals as goal
-
-pub invariant_of-self : goal.invariant_of-self
-invariant_of-self c = rw c.reframe.ensures (fillers_normal c.self.inside.packets c.self.invariant)

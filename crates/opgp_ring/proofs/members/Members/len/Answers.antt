@@ -1,6 +1,0 @@
-use Rattle.std.proofs.Common.{sym}
-use Rattle.opgp_ring.proofs.Packing.{count}
-use Rattle.opgp_ring.proofs.members.Members.len.Goals as goal
-
-pub returns : goal.returns
-returns c = sym (count c.args.self.now.bodies.now c.args.self.now.headers.now)

@@ -266,7 +266,8 @@ static int said(int status, const char *text)
 /* What the command line asks for. */
 struct task {
     const char *name; /* of the keyring, or of the document; NULL or -: standard input */
-    const char *policy, *require, *jobs, *at, *malformed;
+    const char *policy, *require, *jobs, *at, *malformed, *hints;
+    bool is_quiet;         /* no line for people */
     bool wants_states;     /* how the parts of the keyring stand, in place of its signatures */
     bool wants_verdicts;   /* a file of verdicts on them: by arithmetic alone, and for this keyring alone */
     const char *signature; /* the file of the signatures over the document; NULL: those of the keyring, or */
@@ -603,6 +604,10 @@ static const char help[] =
     "      --require <WHAT>   good: end with 1 where no signature is good [possible values: good]\n"
     "      --malformed <HOW>  keep or refuse keyrings with malformed signatures, by which nothing is ever\n"
     "                         believed [default: keep] [possible values: keep, refuse]\n"
+    "      --hints <WHEN>     when to say what a refused input seems to be, and why a key isn't believed: auto is\n"
+    "                         where standard error is a terminal [default: auto] [possible values: auto, always,\n"
+    "                         never]\n"
+    "      --quiet            the same as '--hints never'\n"
     "      --jobs <N>         how many threads verify a keyring, 1 to 64 [default: as many as there are\n"
     "                         processors]\n"
     "  -V, --version          Print the version\n"
@@ -716,6 +721,7 @@ static int take_option(struct task *task, char ***words)
         {"--require", "--require <WHAT>", {"good", NULL}, NULL, NULL, &task->require},
         {"--malformed", "--malformed <HOW>", {"keep", "refuse", NULL}, NULL, NULL, &task->malformed},
         {"--jobs", "--jobs <N>", {NULL, NULL}, is_jobs, "is not in 1..=64", &task->jobs},
+        {"--hints", "--hints <WHEN>", {"auto", "always", "never"}, NULL, NULL, &task->hints},
         {"--at", "--at <TIME>", {NULL, NULL}, is_time, "is no time: seconds since 1970 or a date, 2026-11-20T08:30:00Z", &task->at},
         {"--signature", "--signature <SIG>", {NULL, NULL}, NULL, NULL, &task->signature},
         {"--output", "--output <FILE>", {NULL, NULL}, NULL, NULL, &task->output},
@@ -724,7 +730,10 @@ static int take_option(struct task *task, char ***words)
     const struct {
         const char *name;
         bool *is_there;
-    } alone[] = {{"--state", &task->wants_states}, {"--verdicts", &task->wants_verdicts}, {"--cleartext", &task->is_message}};
+    } alone[] = {{"--state", &task->wants_states},
+                 {"--verdicts", &task->wants_verdicts},
+                 {"--cleartext", &task->is_message},
+                 {"--quiet", &task->is_quiet}};
     for (size_t i = 0; i < sizeof alone / sizeof *alone; i++) {
         if (strcmp(**words, alone[i].name) == 0) {
             bool is_second = *alone[i].is_there;
@@ -847,6 +856,11 @@ static int done(struct task *task, char **words)
     int status = take_words(task, words);
     if (status != 0) {
         return status;
+    }
+    if (task->is_quiet || task->hints) {
+        bool is_always = !task->is_quiet && strcmp(task->hints, "always") == 0;
+        bool is_auto = !task->is_quiet && strcmp(task->hints, "auto") == 0;
+        set_hints(is_always ? HINTS_ALWAYS : is_auto ? HINTS_AUTO : HINTS_NEVER);
     }
     if (!arithmetic_stands()) {
         return said(3, "out of memory");

@@ -1,12 +1,11 @@
 /* Why the key of a good signature isn't believed, in words. */
-#define _POSIX_C_SOURCE 200809L /* for isatty */
 #include "verify-causes.h"
 
+#include "verify-hints.h"
 #include "verify-words.h"
 
 #include <inttypes.h>
 #include <stdio.h>
-#include <unistd.h>
 
 /* A word and a number, or - for none. */
 static void print_number(FILE *file, const char *word, uint64_t number)
@@ -70,7 +69,7 @@ static struct fact fact_of(const opgp_cause *cause)
 
 void explain_cause(const char *program, const opgp_cause *cause)
 {
-    if (isatty(STDERR_FILENO)) {
+    if (shows_hints()) {
         char date[TIME_ROOM] = "";
         struct fact fact = fact_of(cause);
         if (fact.behind && cause->date != OPGP_NONE) {

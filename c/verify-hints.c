@@ -1,11 +1,13 @@
 /* Lines for people. Of octets that were refused only begin lines of armor are looked at, and the octet that begins the packet at fault.
  * Section numbers are those of RFC 9580. */
+#define _POSIX_C_SOURCE 200809L /* for isatty */
 #include "verify-hints.h"
 
 #include "verify-words.h"
 
 #include <inttypes.h>
 #include <string.h>
+#include <unistd.h>
 
 static const char begin[] = "-----BEGIN PGP ";
 
@@ -118,6 +120,18 @@ static bool has_armor_behind(const uint8_t *octets, size_t size, const opgp_faul
     return at < size;
 }
 
+static enum hints hints = HINTS_AUTO;
+
+void set_hints(enum hints when)
+{
+    hints = when;
+}
+
+bool shows_hints(void)
+{
+    return hints == HINTS_ALWAYS || (hints == HINTS_AUTO && isatty(STDERR_FILENO));
+}
+
 void hint_of_fault(const char *program, enum intake intake, const uint8_t *octets, size_t size, const opgp_fault *fault)
 {
     static const char *const ways[] = {
@@ -126,6 +140,9 @@ void hint_of_fault(const char *program, enum intake intake, const uint8_t *octet
         [INTAKE_OPTIONS] = "by a --keyring of its own",
         [INTAKE_OPERANDS] = "as an argument of its own",
     };
+    if (!shows_hints()) {
+        return;
+    }
     if (has_secret_key(octets, size, fault)) {
         say(program, "a secret key; don't pass it on (gpg --export writes the public key)");
     } else if (ways[intake] && has_armor_behind(octets, size, fault)) {

@@ -5,6 +5,8 @@
 
 #include <opgp.h>
 
+#include <stdbool.h>
+
 /* How a program takes keyrings, for what it says of several in one file. */
 enum intake {
     INTAKE_OPTIONS = 0, /* by --keyring for each */
@@ -12,6 +14,15 @@ enum intake {
     INTAKE_ONE,         /* one file alone */
     INTAKE_NONE         /* the file is of signatures */
 };
+
+/* When a line for people is written: where standard error is a terminal, always, or never. */
+enum hints { HINTS_AUTO = 0, HINTS_ALWAYS, HINTS_NEVER };
+
+/* Says when, before the first line. */
+void set_hints(enum hints when);
+
+/* Whether one is written. */
+bool shows_hints(void);
 
 /* Says a second line on standard error about octets that were refused with this fault, if there is something to say: that they have a
  * secret key, or that armor is behind packets. */

@@ -254,10 +254,10 @@ def fault_page(name: str, octets: bytes, fault: opgp.Fault, is_secret: bool) -> 
 
 
 def tell(line: str, octets: bytes) -> bool:
-    """Writes this line to standard error, unless it is empty, and behind it that the input has a secret key, if it has one. Whether it has
-    one."""
+    """Writes this line to standard error, unless it is empty, and behind it, on a terminal, that the input has a secret key, if it has one.
+    Whether it has one."""
     is_secret = has_secret_key(octets)
-    for it in [line] * bool(line) + [SECRET_KEY] * is_secret:
+    for it in [line] * bool(line) + [SECRET_KEY] * (is_secret and sys.stderr.isatty()):
         print(f"opgp: {it}", file=sys.stderr)
     return is_secret
 

@@ -125,7 +125,7 @@ def _revoke(told: argparse.Namespace) -> tuple[int, bytes]:
     try:
         made = everyday.revoked(keyring, revocation)
     except opgp.Fault as fault:
-        raise _End(1, f"opgp: {name}: {_said(fault, revocation)}") from fault
+        raise _End(1, f"opgp: {name}: {_said(told, fault, revocation)}") from fault
     except ValueError as why:
         raise _End(1, f"opgp: {name}: {why}") from why
     verdicts = _verified(told, made, must_be=True)
@@ -200,7 +200,7 @@ def _judged(
     """The keyring in a file, or on standard input, and the verdicts on its signatures; None: nothing is verified. A certificate that is
     there twice is merged: one copy may lack a revocation."""
     octets = _read(path)
-    if not octets:
+    if not octets and _shows_hints(told):
         _tell("opgp: the input is empty")
     keyring = everyday.once(_keyring(told, octets))
     if told.verdicts is not None:
@@ -213,17 +213,24 @@ def _keyring(told: argparse.Namespace, octets: bytes) -> opgp.Keyring:
     try:
         keyring = opgp.read(octets, _limits(told), told.mode)
     except opgp.Fault as fault:
-        raise _End(1, _said(fault, octets)) from fault
+        raise _End(1, _said(told, fault, octets)) from fault
     if count := keyring.skipped():
         _tell(f"opgp: {count} octets outside of armored blocks were skipped; read a binary file by itself")
-        if has_secret_key(octets):
+        if _shows_hints(told) and has_secret_key(octets):
             _tell(f"opgp: {SECRET_KEY}")
     return keyring
 
 
-def _said(fault: opgp.Fault, octets: bytes) -> str:
-    """A fault's line; and another one, if the input has a secret key."""
-    return f"{fault}\nopgp: {SECRET_KEY}" if has_secret_key(octets) else str(fault)
+def _said(told: argparse.Namespace, fault: opgp.Fault, octets: bytes) -> str:
+    """A fault's line; and another one, if the input has a secret key and a line for people is wanted."""
+    return f"{fault}\nopgp: {SECRET_KEY}" if _shows_hints(told) and has_secret_key(octets) else str(fault)
+
+
+def _shows_hints(told: argparse.Namespace) -> bool:
+    """Whether a line for people is written: where standard error is a terminal, always, or never."""
+    if told.hints == "auto":
+        return sys.stderr is not None and sys.stderr.isatty()
+    return bool(told.hints == "always")
 
 
 def _limits(told: argparse.Namespace) -> opgp.Limits:
@@ -308,6 +315,7 @@ def _within(least: int, most: int) -> Any:
 
 def _add_limits(it: Any) -> None:
     """How the input is read, by the options of `opgp`."""
+    it.add_argument("--hints", choices=("auto", "always", "never"), default="auto", help="when to say what to do: auto is on a terminal")
     it.add_argument("--mode", choices=("auto", "armor", "binary"), default="auto", help="how to read the input")
     it.add_argument("--outside", choices=("skip", "refuse"), default="skip", help="what to do with lines outside of armored blocks")
     it.add_argument("--malformed", choices=("refuse", "keep"), default="refuse", help="what to do with malformed signatures")

@@ -911,9 +911,10 @@ def wrong_words(made):
     ended = command("emails", "/")
     verdict("a folder", ended == (3, b"", "opgp: read failed: /: Is a directory\n"), ended)
     for words, status, out in ((("audit",), 1, b""), (("emails",), 0, b""), (("hkp",), 0, b"info:1:0\n")):
-        ended = command(*words, "--unverified")
-        said = "opgp: the input is empty\n" + "opgp: the keyring has no certificate\n" * (words[0] == "audit")
-        verdict(f"an empty input to {words}", ended == (status, out, said), ended)
+        said = "opgp: the keyring has no certificate\n" * (words[0] == "audit")
+        for how, more in (((), ""), (("--hints", "never"), ""), (("--hints", "always"), "opgp: the input is empty\n")):
+            ended = command(*words, "--unverified", *how)
+            verdict(f"an empty input to {words}", ended == (status, out, more + said), ended)
     verdict("the JSON of nothing", json.loads(command("json", "--unverified")[1])["certificates"] == [])
 
 
@@ -974,20 +975,22 @@ def secrets(made):
     verdict("the words are those of opgp", words and f"opgp: {words[1]}\n" == secret_keys.SAID, words)
     named = 0
     for what, octets in secret_keys.inputs():
-        ended = command("emails", "--unverified", given=octets)
+        ended = command("emails", "--unverified", "--hints", "always", given=octets)
         fault, *more = ended[2].splitlines(keepends=True)
         refused = ended[0] == 1 and re.match("(input|armor|framing|body|composition): ", fault)
         kept = ended[0] == 0 and "skipped" in fault  # behind an armored key
         verdict(f"a secret key, {what}", (refused or kept) and more == [secret_keys.SAID] and not secret_keys.shown(ended[1]), ended)
+        bare = command("emails", "--unverified", given=octets)
+        verdict(f"{what}, in a pipe", bare == (*ended[:2], fault), bare)
         theirs = run(PROGRAM, "list", "--hints", "always", input=octets) if os.path.exists(PROGRAM) else None
         verdict(f"{what}: the fault is that of opgp", not theirs or theirs.stderr.decode().splitlines(keepends=True)[0] == fault, (theirs, fault))
         named += bool(theirs) and theirs.stderr.decode().endswith(secret_keys.SAID)
     verdict("opgp names some of them", named > 5 or not os.path.exists(PROGRAM), named)
     octets = model.armor(made.of_dave) + secret_keys.certificate(made.dave)
-    ended = command("emails", "--unverified", given=octets)
+    ended = command("emails", "--unverified", "--hints", "always", given=octets)
     verdict("a secret key that is skipped", ended[0] == 0 and ended[2].endswith(f"were skipped; read a binary file by itself\n{secret_keys.SAID}"), ended)
     path = put(f"{ENV['ROOM']}/secret", model.armor(secret_keys.certificate(made.dave), b"PRIVATE KEY BLOCK"))
-    ended = command("revoke", "--unverified", "--revocation", path, given=made.of_dave)
+    ended = command("revoke", "--unverified", "--hints", "always", "--revocation", path, given=made.of_dave)
     verdict("a secret key for a revocation", ended[:2] == (1, b"") and ended[2].endswith(secret_keys.SAID), ended)
     has_secret_key = importlib.import_module("opgp.secret").has_secret_key
     rng = random.Random(68)

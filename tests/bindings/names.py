@@ -14,6 +14,7 @@ counts what was tried.
 import argparse
 import collections
 import os
+import pty
 import random
 import re
 import resource
@@ -72,6 +73,27 @@ def run(name, *words, given=b"", pass_fds=(), env=None, started=None, **how):
     told = ended.stderr.decode(errors="replace")
     lines = causes.without(told).replace(f"{name}: ", "").splitlines()
     return Ended(ended.returncode, ended.stdout.decode(errors="surrogateescape"), told, lines)
+
+
+def on_terminal(name, *words, given=b""):
+    """The same where standard error is a terminal."""
+    ours, theirs = pty.openpty()
+    with open(theirs, "wb") as errors:
+        ended = subprocess.run([f"{ROOM}/{name}", *words], input=given, stdout=subprocess.PIPE, stderr=errors, check=False, timeout=SECONDS)
+    told = b""
+    while piece := read_terminal(ours):
+        told += piece
+    os.close(ours)
+    told = told.replace(b"\r\n", b"\n").decode(errors="replace")
+    return Ended(ended.returncode, ended.stdout.decode(errors="surrogateescape"), told, causes.without(told).replace(f"{name}: ", "").splitlines())
+
+
+def read_terminal(end):
+    """What comes next; nothing, if the other end is closed."""
+    try:
+        return os.read(end, 4096)
+    except OSError:
+        return b""
 
 
 # ---- What is tried of each name
@@ -414,9 +436,15 @@ def secret_keys():
     ):  # fmt: skip
         ring = kept("secret", octets)
         for name, words, given, status, _ in ways_to(ring):
-            ended = run(name, *words, given=given)
+            ended, bare = on_terminal(name, *words, given=given), run(name, *words, given=given)
             fits = (ended.status, ended.out, ended.lines[1:]) == (status, "", [SECRET]) and ": " in "".join(ended.lines[:1])
             verdict(f"{name} {words[0]}: a secret key, {title}", fits, ended)
+            verdict(f"{name} {words[0]}: a secret key in a pipe, {title}", (bare.status, bare.out, bare.lines) == (status, "", ended.lines[:1]), bare)
+            if name == "opgp-verify" and words[0] == "--state":
+                for how, count in ((["--hints", "always"], 2), (["--hints=auto"], 1), (["--hints", "never"], 1), (["--quiet"], 1), (["--quiet", "--hints=always"], 1)):
+                    verdict(f"{how}: {title}", run(name, *how, *words).lines == ended.lines[:count], how)
+                for how, count in ((["--hints", "always"], 2), (["--hints=auto"], 2), (["--hints", "never"], 1), (["--quiet"], 1)):
+                    verdict(f"{how} on a terminal: {title}", on_terminal(name, *how, *words).lines == ended.lines[:count], how)
     literal = packet(11, b"b\0\0\0\0\0text")
     for title, octets in (
         ("a message", model.armor(literal, b"MESSAGE")), ("a literal", literal), ("a literal with a public label", model.armor(literal)),
@@ -427,14 +455,14 @@ def secret_keys():
     ):  # fmt: skip
         ring = kept("other", octets)
         for name, words, given, status, _ in ways_to(ring):
-            ended = run(name, *words, given=given)
+            ended = on_terminal(name, *words, given=given)
             verdict(f"{name} {words[0]}: no secret key, {title}", (ended.status, ended.out, len(ended.lines)) == (status, "", 1), ended)
     # Also where it is given in place of the signatures.
     _, ring, document = files_of([good])
     for octets in (model.armor(packet(5, secret), b"PRIVATE KEY BLOCK"), packet(5, secret), model.armor(packet(5, secret), b"SIGNATURE")):
         path = kept("secret", octets)
         for name, words in (("opgp-sqv", ["--keyring", ring, path, document]), ("opgp-verify", ["--signature", path, "--keyring", ring, document])):
-            ended = run(name, *words)
+            ended = on_terminal(name, *words)
             verdict(f"{name}: a secret key for signatures", (ended.status, ended.out, ended.lines[1:]) == (1, "", [SECRET]), ended)
 
 
@@ -446,14 +474,14 @@ def several_in_one():
                           ("packets and a block, twice", other.ring + armored + other.ring + armored)):
         ring = kept("mixed", octets)
         for name, words, given, status, way in ways_to(ring):
-            ended = run(name, *words, given=given)
+            ended = on_terminal(name, *words, given=given)
             told = f"armored text behind packets; read each file by itself, {way}"
             verdict(f"{name} {words[0]}: {title}", (ended.status, ended.out, ended.lines[1:]) == (status, "", [told]), ended)
     for title, octets in (("a begin line in a user ID", good.ring + packet(13, b"a\n-----BEGIN PGP PUBLIC KEY BLOCK-----\n") + b"\n"),
                           ("zeros behind packets", good.ring + bytes(9)), ("text behind packets", good.ring + b"text -----BEGIN PGP \n")):
         ring = kept("other", octets)
         for name, words, given, status, _ in ways_to(ring):
-            ended = run(name, *words, given=given)
+            ended = on_terminal(name, *words, given=given)
             verdict(f"{name} {words[0]}: {title}", (ended.status, ended.out, len(ended.lines)) == (status, "", 1), ended)
     for title, octets, count in (
         ("packets behind a block", armored + other.ring, len(other.ring)), ("an octet", armored + b"\n\x01\n" + armored, 3), ("no octets", armored, 0),

@@ -81,12 +81,19 @@ def run(*words):
     return subprocess.run([sys.executable, PAGE, *words], capture_output=True, check=False, timeout=120, env=env)
 
 
+class Terminal(io.TextIOWrapper):
+    """What takes itself for a terminal."""
+
+    def isatty(self):
+        return True
+
+
 def called(path):
-    """The same by a call in this process, which takes less: its status, output and errors."""
+    """The same by a call in this process, which takes less, on a terminal: its status, output and errors."""
     sys.path.insert(0, os.path.dirname(PAGE))
     page = importlib.import_module("page")
     sys.path.remove(os.path.dirname(PAGE))
-    out, err = (io.TextIOWrapper(io.BytesIO(), "utf-8") for _ in range(2))
+    out, err = (Terminal(io.BytesIO(), "utf-8") for _ in range(2))
     with unittest.mock.patch.multiple(sys, argv=[PAGE, path], stdout=out, stderr=err):
         status = page.main()
         out.flush()
@@ -406,8 +413,7 @@ def strangers(_):
 def fault_fits(opgp, what, path, fault):
     """The page of a refused input: its line, and its place."""
     ended = run(path)
-    more = secret_keys.SAID if path.endswith(("standard/a4.asc", "standard/a5.asc")) else ""
-    verdict(f"{what}: refused", (ended.returncode, ended.stderr.decode()) == (1, f"{fault}\n{more}"), ended)
+    verdict(f"{what}: refused", (ended.returncode, ended.stderr.decode()) == (1, f"{fault}\n"), ended)
     shape, data = shaped(what, ended.stdout)
     verdict(f"{what}: the line is there", str(fault) in shape.text and fault.reason in shape.text)
     return shape, data
@@ -461,18 +467,19 @@ def faults(opgp):
 
 
 def secrets(opgp):
-    """A page of an input with a secret key has no octet of it, whatever it is refused for; and standard error names it."""
+    """A page of an input with a secret key has no octet of it, whatever it is refused for; and a terminal is told of it."""
     is_shown = secret_keys.shown(packet(5, secret_keys.SECRET)) and secret_keys.shown(base64.b64encode(secret_keys.SECRET))
     verdict("what is shown is found", is_shown and secret_keys.shown(secret_keys.SECRET.hex(" ", -2).upper().encode()))
     for what, octets in secret_keys.inputs():
         path = kept("secret", octets)
-        ended = run(path) if what.startswith("EdDSA: its own") else called(path)
+        is_told = not what.startswith("EdDSA: its own")
+        ended, more = (called(path), secret_keys.SAID) if is_told else (run(path), "")
         try:
             opgp.read(octets)
-            verdict(f"{what}: skipped", ended.returncode == 0 and ended.stderr.decode().endswith(f"were skipped; read a binary file by itself\n{secret_keys.SAID}"), ended.stderr)
+            verdict(f"{what}: skipped", ended.returncode == 0 and ended.stderr.decode().endswith(f"were skipped; read a binary file by itself\n{more}"), ended.stderr)
             shaped(what, ended.stdout)
         except opgp.Fault as fault:
-            verdict(f"{what}: named", (ended.returncode, ended.stderr.decode()) == (1, f"{fault}\n{secret_keys.SAID}"), ended.stderr)
+            verdict(f"{what}: named", (ended.returncode, ended.stderr.decode()) == (1, f"{fault}\n{more}"), ended.stderr)
             shape, data = shaped(what, ended.stdout)
             verdict(f"{what}: the fault is there", str(fault) in shape.text and "No octet of it is shown" in shape.text, shape.text[:300])
             verdict(f"{what}: no octets and no text", data["octets"] == "" and not data["nodes"] and "<mark>" not in ended.stdout.decode(), data)

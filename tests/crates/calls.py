@@ -27,6 +27,7 @@ import model  # noqa: E402
 from inputs import number  # noqa: E402
 from model import armor  # noqa: E402
 from running import HERE  # noqa: E402
+from vectors import worked_rows  # noqa: E402
 
 PROGRAM = f"{HERE}/crates/opgp_calls/out/opgp_calls"
 EXAMPLES = f"{HERE}/crates/opgp_examples/out/opgp_examples"
@@ -363,7 +364,7 @@ def run_row(action, octets):
 
 
 def runs():
-    """Each action as the program runs it."""
+    """Each action as the program runs it, and as tests/vectors/rows.txt has it."""
     some = [new5(13, letters(it)) + new5(17, subpacket(1, letters(it))) for it in (0, 1, 255, 4097, 65_537, 70_000, 1 << 20)]
     many = [KEY[:3] + number(4, it) + KEY[7:] + NAME + EDDSA for it in range(300)]
     rings = [b"".join(SIGNED_KEY + parts) for parts in ([], [NAME, EDDSA], some, many, [NAME, NAME] + SIGNED_KEY)]
@@ -372,6 +373,9 @@ def runs():
         for octets in literals if "literal" in it else rings:
             row = run_row(action, octets)
             yield row if row[2] is not None or "--except" in it else (*row[:2], b"no output of opgp " + it.encode())
+    for words, octets, (status, out, _) in worked_rows():
+        if words in ACTIONS:
+            yield "run", bytes([ACTIONS.index(words)]) + octets, out if status == 0 else None
 
 
 # Each call once, in which each allocation fails in turn.

@@ -158,7 +158,7 @@ def builds(room, uses):
     os.symlink(f"{room}/tree/opgp", f"{room}/link")
     said = run(room, "list", program="link", path="bin")
     verdict("through a link", said == (0, "list\n", ""), said)
-    for path in ("crates/opgp_ring/specs/New.antt", "crates.txt"):
+    for path in ("crates/opgp_keyring/specs/New.antt", "crates.txt"):
         later = time.time() + 2
         with open(f"{room}/tree/{path}", "a", encoding="utf-8"):
             os.utime(f"{room}/tree/{path}", (later, later))

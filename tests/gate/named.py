@@ -25,7 +25,17 @@ TYPE = re.compile(r"^ *(?:pub(?:\([a-z ]+\))? )?(struct|enum|trait|type|const) (
 BLOCK = re.compile(r"^(?:pub(?:\([a-z ]+\))? )?(?:unsafe )?(impl|trait|struct|enum)\b")
 CLAUSE = re.compile(r"^ *(?:ensures|requires) (\w+) \{")
 GHOST = re.compile(r"^ *(?:pub )?ghost (?!use\b)(\w+)(?: =|:)")
-LIBRARIES = ("base64", "memchr", "sha1", "sha2", "hex", "thiserror", "clap", "byteorder")
+# Each library with what it is for: the files that call it for that, and how.
+LIBRARIES = {
+    "base64": {"opgp_armor/src/letters.rt": r"STANDARD\.decode", "opgp_armor/src/writing.rt": r"STANDARD\.encode"},
+    "memchr": {"opgp_armor/src/reader.rt": r"memchr\(b'\\n'", "opgp_armor/src/lines.rt": r"memchr\(b':'"},
+    "sha1": {"opgp_hash/src/hashers.rt": r"\bSha1\b"},
+    "sha2": {"opgp_hash/src/digesting.rt": r"digest_by::<Sha512>"},
+    "hex": {"opgp_octets/src/hexadecimal.rt": r"hex::encode_to_slice\("},
+    "thiserror": {"opgp_codec/src/engine_error.rt": r"derive\([^)]*\bError\b"},
+    "clap": {"opgp_words/src/command.rt": r"\bArg::new\(", "opgp_tool/src/task.rt": r"try_get_matches_from"},
+    "byteorder": {"opgp_tests/src/report.rt": r"BigEndian::write_u"},
+}
 PLAIN = ("Err", "Send")  # of std
 MEASURED = "opgp_bench"  # the crate that bench/ makes
 DEFINED = re.compile(r"^(?: *abbrev |unfoldable |)pub (?:(?:record|data) )?(\w+)")
@@ -364,6 +374,10 @@ def in_crates():
         users = [crate for crate, below in stands_on().items() if library in below]
         where = f"named by a crate that calls it ({', '.join(users) or 'no crate names it'})"
         found.tell(any(is_called(crate, library) for crate in users), library, where)
+        for path, use in LIBRARIES[library].items():
+            found.tell(re.search(use, read(f"crates/{path}")), library, f"called in crates/{path} for what it is for")
+    digits = [path for path in files("crates/*/src/*.rt") if re.search("0123456789abcdef", read(path), re.I)]
+    found.tell(not digits, "hex", f"what writes digits, and no table of {digits}")
     return [found]
 
 
@@ -389,7 +403,7 @@ def in_facade():
     """Each name that a library below `opgp` makes public, and each of its files of definitions that others may name, is one of `opgp`'s too."""
     page, found = "crates/opgp/src/lib.rt", Claims("crates/opgp", "")
     for crate in stands_on()["opgp"]:
-        room = crate.removeprefix("opgp_")
+        room = {"opgp_keyring": "ring"}.get(crate, crate.removeprefix("opgp_"))
         text = re.sub(r"//.*", "", read(f"crates/{crate}/src/lib.rt"))
         paths = [it for it in re.findall(r"^pub use ([^;]*);", text, re.M) if not it.startswith("opgp_")]
         names = {name for it in paths for name in re.findall(r"\w+", it.partition("{")[2] or it.split("::")[-1])}

@@ -9,7 +9,6 @@ counts the runs.
 """
 
 import argparse
-import base64
 import collections
 import datetime
 import hashlib
@@ -27,10 +26,8 @@ import model  # noqa: E402
 from inputs import fingerprint, key_id, number  # noqa: E402
 from model import armor, meaning, quoted, said  # noqa: E402
 from running import HERE, Runner, built  # noqa: E402
+from vectors import KEY, LINE_OF_THE_KEY, VECTORS, file_octets, letters_of, lines_of, named, octets_of, rows_of, worked_rows  # noqa: E402
 
-VECTORS = f"{HERE}/tests/vectors"
-KEY = bytes.fromhex("C6330453F35F0B16092B06010401DA470F010107403F098994BDD916ED4053197934E4A87C80733A1280D62F8010992E43EE3B2406")
-LINE_OF_THE_KEY = "pub v4 alg 22 created 1408458507 C959BDBAFA32A2F89A153B678CFDE12197965A9A 8CFDE12197965A9A"
 BLOCK = b"PUBLIC KEY BLOCK"
 COMMANDS = (
     "show", "list", "check", "octets --row 0", "octets --row 0 --of literal", "write", "write --out binary",
@@ -40,83 +37,12 @@ COMMANDS = (
 )  # fmt: skip
 DAYS = {"-": "-", "7": "1970-01-01T00:00:07Z", "1234567890": "2009-02-13T23:31:30Z"}
 LARGE = 1 << 20  # inputs past so many octets are not run by every command
+IN_PIECES = "0 worked row"  # the name of rows that are run in pieces of one octet too
 DIGITS = "0123456789"  # nor are beginnings and the like, whose names begin with a number
 
 
 # What is wanted of the lines that are written: what a function makes of them.
 Lines = collections.namedtuple("Lines", "of wanted")
-
-
-# The rows of files.
-
-
-def lines_of(name):
-    with open(f"{VECTORS}/{name}", encoding="ascii") as it:
-        return [line for line in it.read().split("\n") if line and not line.startswith("#")]
-
-
-TOKEN = re.compile(r'\s+|"([^"]*)"|\[([A-Z ]+):|(\])|((?:[0-9A-F]{2})+)(?:\*(\d+))?|<([a-z0-9_]+)>(?:\*(\d+))?')
-
-
-def file_octets(path):
-    with open(path, "rb") as it:
-        return it.read()
-
-
-def letters_of(text):
-    """The octets of an armored text of one block without headers."""
-    return base64.b64decode(b"".join(it for it in text.split(b"\n")[2:] if it[:1] not in (b"=", b"-")))
-
-
-def named(name):
-    """The octets that an input calls so; a1 to a12 are the texts of samples of RFC 9580, and disputed certificates have their own."""
-    if name == "certificate":
-        return letters_of(named("a3"))
-    if name in ("a1", "a3"):
-        return file_octets(f"{HERE}/examples/rfc9580-{name}.asc")
-    if os.path.exists(f"{VECTORS}/standard/{name}.asc"):
-        return file_octets(f"{VECTORS}/standard/{name}.asc")
-    if os.path.exists(f"{VECTORS}/disputed/{name}.gpg"):
-        return file_octets(f"{VECTORS}/disputed/{name}.gpg")
-    text = armor(KEY)
-    return {"key": KEY, "begin": text[:37], "letters": text[38:-35], "end": text[-35:]}[name]
-
-
-def octets_of(written):
-    """The octets of an input, as tests/vectors/README.md has them written."""
-    at, out, label = 0, b"", b""
-    while at < len(written):
-        found = TOKEN.match(written, at)
-        if not found:
-            raise ValueError(f"tests/program/tables.py: {written[at:]!r} is no input")
-        text, begun, ended, digits, times, name, copies = found.groups()
-        if text is not None:
-            out += text.encode().decode("unicode_escape").encode("latin-1")
-        elif begun:
-            before, out, label = out, b"", begun.encode()
-        elif ended:
-            out = before + armor(out, label)
-        elif digits:
-            out += bytes.fromhex(digits) * int(times or 1)
-        elif name:
-            out += named(name) * int(copies or 1)
-        at = found.end()
-    return out
-
-
-def answer_of(written):
-    """The status, the standard output and the standard error that an answer names; None for a text that isn't told."""
-    if written == "2":
-        return 2, b"", None
-    if written[0] == "!":
-        return 1, b"", written[2:].encode() + b"\n"
-    if written[0] == ">":
-        return 0, octets_of(written[2:]), b""
-    lines = []
-    for line in written[2:].split(" ; ") if written[2:] else []:
-        line, _, times = line.partition("*") if line.startswith("<") else (line, "", "")
-        lines += [LINE_OF_THE_KEY if line == "<line of the key>" else line] * int(times or 1)
-    return 0, "".join(f"{it}\n" for it in lines).encode(), b""
 
 
 def refused(line):
@@ -125,12 +51,6 @@ def refused(line):
 
 def written_lines(lines):
     return 0, "".join(f"{it}\n" for it in lines).encode(), b""
-
-
-def rows_of(name):
-    for line in lines_of(name):
-        words, written, answer = (it.strip() for it in line.split("|"))
-        yield name, words, written, answer_of(answer)
 
 
 def reasons():
@@ -1180,6 +1100,7 @@ def rows():
     yield from reasons()
     for name in ("limits.txt", "armor.txt", "layers.txt"):
         yield from rows_of(name)
+    yield from ((IN_PIECES, *row) for row in worked_rows())
     for it in (
         packet_types, key_algorithms, signature_algorithms, other_versions, hash_algorithms, signature_types, subpackets,
         values, literals, dates, named_keys, key_sizes, stated, first_octets, octets_before_armor,
@@ -1219,6 +1140,10 @@ def try_row(order):
     wrong = differing(runner.run(words.split(), octets), wanted)
     wrong = [f"{name}: opgp {words}: {wrong}"] if wrong else []
     runs = 1
+    if name == IN_PIECES:
+        found = differing(runner.run_in_pieces(words.split(), [octets[at : at + 1] for at in range(len(octets))]), wanted)
+        wrong += [f"{name}: opgp {words}, in pieces of one octet: {found}"] if found else []
+        runs += 1
     for command in COMMANDS if len(octets) <= LARGE and name[0] not in DIGITS else ():
         ended = runner.run(command.split(), octets)
         runs += 1

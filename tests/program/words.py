@@ -279,7 +279,8 @@ TEXTS = {
     "octets": "error: the following required arguments were not provided:\n  <--row <N>|--all>\n\nFor more information, try '--help'.\n",
     "octets --all --row 0": "error: the argument '--row <N>' cannot be used with '--all'\n\nFor more information, try '--help'.\n",
     "octets --of literal --all": "error: the argument '--of literal' cannot be used with '--all'\n\nFor more information, try '--help'.\n",
-    "digest": "error: the following required arguments were not provided:\n  --signatures <FILE>\n\nFor more information, try '--help'.\n",
+    **{words: f"error: the following required arguments were not provided:\n  {lacking}\n\nUsage: opgp {words} {lacking}\n\n"
+              "For more information, try '--help'.\n" for words, lacking in (("digest", "--signatures <FILE>"), ("state", "--at <TIME>"), ("diff", "--old <FILE>"))},
     f"digest --salt {SIGNATURE}": "error: the argument '--salt' wants '--octets <N>'\n\nFor more information, try '--help'.\n",
     "split --key 97965A9A": "error: invalid value '97965A9A' for '--key <KEY>': a fingerprint has 40 or 64 hexadecimal digits, a key ID 16"
                             "\n\nFor more information, try '--help'.\n",

@@ -42,9 +42,9 @@ show                                                          231          234  
 list                                                          233          238     240      231
 list --values                                                 239          244     246      237
 check                                                         239          246     249      233
-state --at 0                                                  261          274     283      245
-state --at 2026-11-20 --policy any                            268          281     290      252
-state --at 0 --values                                         266          279     289      249
+state --at 0                                                  262          275     284      246
+state --at 2026-11-20 --policy any                            269          282     291      253
+state --at 0 --values                                         267          280     290      250
 check --fingerprints                                          247          254     257      240
 check --places                                                245          254     257      239
 octets --row 0                                                252          259     261      249

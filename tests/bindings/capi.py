@@ -986,7 +986,7 @@ def words(program, env):
         (["--require", "bad"], "invalid value 'bad' for '--require <WHAT>'"),
         (["--require=good", "--require", "good"], "the argument '--require <WHAT>' cannot be used multiple times"),
         (["--requires=good"], "unexpected argument '--requires=good' found"),
-        (["--quiet"], "unexpected argument '--quiet' found"),
+        (["--loud"], "unexpected argument '--loud' found"),
         (["--policyx"], "unexpected argument '--policyx' found"),
         (["-x"], "unexpected argument '-x' found"),
         (["a", "b"], "unexpected argument 'b' found"),

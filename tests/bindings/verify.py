@@ -794,6 +794,8 @@ def command_lines():
         ("--jobs -1", "a value is required for '--jobs <N>' but none was supplied"), ("--jobs --jobs", "a value is required for '--jobs"),
         ("--jobs 4 --jobs 4", "the argument '--jobs <N>' cannot be used multiple times"), ("--job 4", "unexpected argument '--job' found"),
         ("--jobs4", "unexpected argument '--jobs4' found"), ("-j 4", "unexpected argument '-j' found"),
+        ("--hints", "a value is required for '--hints <WHEN>' but none was supplied"), ("--hints odd", "invalid value 'odd' for '--hints <WHEN>'"),
+        ("--quiet --quiet", "the argument '--quiet' cannot be used multiple times"), ("--quiet=1", "unexpected argument '--quiet=1' found"),
     ):
         ended = run(*words.split())
         verdict(f"words {words}", ended[:2] == (2, "") and f"error: {said}" in ended[2], ended)
@@ -802,7 +804,7 @@ def command_lines():
     verdict("the help", (status, out) == (2, "") and "\nOf a keyring good is arithmetic: " in told and f"[FILE]\n{usage}\n" in told, told)
     verdict("the help of --signature", run("--signature", "x", "-h") == (2, "", told))
     shown = re.findall(r"^ +(?:-\w, )?--(\w+)(?: <\w+>)?  +\w", told, re.M)
-    verdict("the options in the help", shown == ["signature", "cleartext", "output", "keyring", "state", "verdicts", "at", "policy", "require", "malformed", "jobs", "version", "help"], shown)
+    verdict("the options in the help", shown == ["signature", "cleartext", "output", "keyring", "state", "verdicts", "at", "policy", "require", "malformed", "hints", "quiet", "jobs", "version", "help"], shown)
 
 
 def refused():
